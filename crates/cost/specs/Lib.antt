@@ -1,0 +1,2 @@
+pub mod DistanceOrder
+pub mod Distances

@@ -1,0 +1,7 @@
+pub mod Faults
+pub mod Words
+pub mod Numbers
+pub mod Typed
+pub mod Parameters
+pub mod Heads
+pub mod Sections

@@ -1,0 +1,127 @@
+//! What is wrong with a planning text.
+
+ghost use Rattle.std.specs.Prelude.{◌≡◌, ◌↔◌, IsTrue, List, Some, None, []};
+ghost use Rattle.pddl_syntax.specs.declared.fault.Fault.{Fault};
+ghost use Rattle.pddl_syntax.specs.Faults.{number, precedes, earlier, first_of, faults_if, IsFirst};
+
+/// Which of the two texts of a planning task a fault stands in.
+#[derive(Clone, Copy, Debug, PartialEq, Eq)]
+pub enum PlanningFile {
+    Domain,
+    Problem,
+}
+
+/// What a task may have only so many of.
+#[derive(Clone, Copy, Debug, PartialEq, Eq)]
+pub enum LimitedTable {
+    /// 4,096 objects, constants among them.
+    Objects,
+    /// 512 predicates.
+    Predicates,
+    /// 512 functions, `total-cost` only where it is declared.
+    Functions,
+    /// 512 action schemas.
+    Schemas,
+    /// 16 parameters of a schema, or arguments of a predicate or a function.
+    Arguments,
+    /// 256 literals of a schema's precondition and effect together.
+    Literals,
+    /// 16 increases of a schema.
+    Increases,
+    /// 1,000,000 items of `:init`.
+    Init,
+}
+
+/// What is wrong at a place.
+#[derive(Clone, Copy, Debug, PartialEq, Eq)]
+pub enum FaultKind {
+    /// F10: a list or a word that is not of the form that stands here, or something that is missing.
+    Shape,
+    /// F11: a word of PDDL that is not read; it is the word at the place.
+    Unsupported,
+    /// F12: a predicate, function, object, type or variable that is not declared.
+    UnknownName,
+    /// F13: a predicate or function with another number of arguments.
+    Arity,
+    /// F14: declared, or stated, a second time and differently.
+    TwiceDeclared,
+    /// F15: a type that lies on a cycle of supertypes.
+    TypeCycle,
+    /// F16: a number with a fraction.
+    NotWhole,
+    /// F17: a cost below 0 or past 2147483647.
+    CostRange,
+    /// F18: the first item past a limit.
+    Limit(LimitedTable),
+    /// F19: a goal literal whose opposite stood before it.
+    GoalBothWays,
+}
+
+/// A fault and its place: the byte, counted from 0, at which the word or list at fault begins; for
+/// something missing, that of the list that lacks it.
+#[derive(Clone, Copy, Debug, PartialEq, Eq)]
+pub struct Fault {
+    pub at: usize,
+    pub kind: FaultKind,
+}
+
+/// The number under which a fault is known.
+pub fn number(kind: FaultKind) -> u32
+    ensures { result ≡ number kind }
+{
+    match kind {
+        FaultKind::Shape => 10,
+        FaultKind::Unsupported => 11,
+        FaultKind::UnknownName => 12,
+        FaultKind::Arity => 13,
+        FaultKind::TwiceDeclared => 14,
+        FaultKind::TypeCycle => 15,
+        FaultKind::NotWhole => 16,
+        FaultKind::CostRange => 17,
+        FaultKind::Limit(_) => 18,
+        FaultKind::GoalBothWays => 19,
+    }
+}
+
+/// Whether the first goes before the second.
+fn precedes(first: Fault, second: Fault) -> bool
+    ensures { result ≡ precedes first second }
+{
+    first.at < second.at || first.at == second.at && number(first.kind) < number(second.kind)
+}
+
+/// Notes a fault, of which the earliest is kept.
+pub fn blame(first: &mut Option<Fault>, at: usize, kind: FaultKind)
+    ensures { first.new ≡ earlier first.old (record { at = at; kind = kind }) }
+{
+    let fault = Fault { at, kind };
+    match *first {
+        Some(known) => {
+            if precedes(fault, known) {
+                *first = Some(fault);
+            }
+        }
+        None => *first = Some(fault),
+    }
+}
+
+/// Notes a fault where there is one.
+#[tactic(auto, unfolding(crate::specs::Faults::first_of))]
+pub fn blame_if(is_fault: bool, first: &mut Option<Fault>, at: usize, kind: FaultKind)
+    ensures { (fs : List Fault) → first_of first.old (faults_if is_fault (record { at = at; kind = kind }) fs) ≡ first_of first.new fs }
+{
+    if is_fault {
+        blame(first, at, kind);
+    }
+}
+
+/// A law: of faults that are noted one by one the first is kept.
+pub fn kept_is_first()
+    ensures { (fs : List Fault) (e : Fault) → first_of None fs ≡ Some e → IsFirst fs e }
+{}
+
+/// A law: where no fault is kept there is none.
+#[tactic(auto, using(crate::proofs::Firsts::none_kept))]
+pub fn none_kept()
+    ensures { (fs : List Fault) → first_of None fs ≡ None → fs ≡ [] }
+{}

@@ -1,0 +1,76 @@
+//! Predicates and functions as they are declared.
+
+ghost use Rattle.std.specs.Prelude.{◌≡◌, OnOk};
+ghost use Rattle.pddl_syntax.specs.Heads.{no_heads, arity_of, with_head};
+
+use names::Names;
+use std::alloc::{AllocError, Global};
+use std::marker::Model;
+
+/// Names of predicates or of functions, each with the number of its parameters.
+#[derive(Debug, Drop)]
+pub struct Heads {
+    names: Names,
+    arities: Vec<usize>,
+}
+
+impl Model for Heads {
+    ghost use Rattle.pddl_syntax.specs.Heads as spec;
+
+    ghost Value = { spec.Heads };
+
+    ghost view = { λ h. record { names = h.names; arities = h.arities.items } };
+}
+
+impl Heads {
+    pub fn new(alloc: Global) -> Heads
+        ensures { result ≡ no_heads }
+    {
+        Heads {
+            names: Names::new(alloc),
+            arities: Vec::new(alloc),
+        }
+    }
+
+    /// The names, in the order of their first declarations.
+    pub fn names(&self) -> &Names
+        ensures { result.now ≡ self.now.names }
+    {
+        &self.names
+    }
+
+    /// The number of parameters of each, in the order of the names.
+    pub fn arities(&self) -> &[usize]
+        ensures { result.now ≡ self.now.arities }
+    {
+        &self.arities
+    }
+
+    /// How many parameters the head of a name has, or `None` where it is not declared.
+    pub fn arity_of(&self, name: &str) -> Option<usize>
+        ensures { result ≡ arity_of self.now name.now }
+    {
+        let number = self.names.place_of(name)?;
+        self.arities.get(number).copied()
+    }
+
+    /// Adds a head; one whose name is there already changes nothing. An `Err` is of too little memory,
+    /// and leaves the heads as they were.
+    pub fn add(&mut self, alloc: Global, name: &str, arity: usize) -> Result<(), AllocError>
+        ensures ok { OnOk result (self.new ≡ with_head self.old name.now arity) }
+    {
+        if !self.names.contains(name) {
+            self.arities.reserve(1)?;
+            self.names.add(alloc, name)?;
+            self.arities.push(arity)?;
+        }
+        Ok(())
+    }
+
+    /// The names, where the numbers of parameters are no longer wanted.
+    pub fn into_names(self) -> Names
+        ensures { result ≡ self.names }
+    {
+        self.names
+    }
+}

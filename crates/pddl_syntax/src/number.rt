@@ -1,0 +1,97 @@
+//! Words in the place of a number.
+
+ghost use Rattle.std.specs.Prelude.{◌≡◌, ◌==◌, ◌≤◌};
+ghost use Rattle.std.specs.List.{list_all};
+ghost use Rattle.pddl_syntax.specs.Numbers.{is_digit, in_range, after_point, after_digits, unsigned, number_of};
+
+const MAX: u64 = 2_147_483_647;
+
+/// What a word says in the place of a number.
+#[derive(Clone, Copy, Debug, PartialEq, Eq)]
+pub enum Number {
+    Whole(u64),
+    Fraction,
+    OutOfRange,
+    NoNumber,
+}
+
+fn in_range(n: u64) -> Number
+    ensures { result ≡ in_range n }
+{
+    if n <= MAX {
+        Number::Whole(n)
+    } else {
+        Number::OutOfRange
+    }
+}
+
+fn are_zeros(bytes: &[u8]) -> bool
+    ensures { result ≡ list_all (λ b. b == 48) bytes.now }
+{
+    bytes.iter().all(|b| *b == b'0')
+}
+
+fn is_digit(b: u8) -> bool
+    ensures { result ≡ is_digit b }
+{
+    b >= b'0' && b <= b'9'
+}
+
+fn are_digits(bytes: &[u8]) -> bool
+    ensures { result ≡ list_all is_digit bytes.now }
+{
+    bytes.iter().all(|b| is_digit(*b))
+}
+
+fn after_point(n: u64, bytes: &[u8]) -> Number
+    ensures { result ≡ after_point n bytes.now }
+{
+    match bytes {
+        [] => Number::NoNumber,
+        _ if are_zeros(bytes) => in_range(n),
+        _ if are_digits(bytes) => Number::Fraction,
+        _ => Number::NoNumber,
+    }
+}
+
+fn after_digits(digits: u64, bytes: &[u8]) -> Number
+    requires { digits ≤ 9 }
+    ensures { result ≡ after_digits digits bytes.now }
+{
+    let mut n = digits;
+    for (i, b) in bytes.iter().enumerate() {
+        let b = *b;
+        if is_digit(b) {
+            // past the limit one number is as good as another
+            if n <= MAX {
+                n = n * 10 + u64::from(b - b'0');
+            }
+        } else if b == b'.' {
+            return after_point(n, &bytes[i + 1..]);
+        } else {
+            return Number::NoNumber;
+        }
+    }
+    in_range(n)
+}
+
+fn unsigned(bytes: &[u8]) -> Number
+    ensures { result ≡ unsigned bytes.now }
+{
+    match bytes {
+        [b @ b'0'..=b'9', rest @ ..] => after_digits(u64::from(*b - b'0'), rest),
+        _ => Number::NoNumber,
+    }
+}
+
+pub fn number_of(word: &str) -> Number
+    ensures { result ≡ number_of word.now }
+{
+    match word.as_bytes() {
+        [b'-', rest @ ..] => match unsigned(rest) {
+            Number::Whole(_) | Number::OutOfRange => Number::OutOfRange,
+            Number::Fraction | Number::NoNumber => Number::NoNumber,
+        },
+        bytes => unsigned(bytes),
+    }
+}
