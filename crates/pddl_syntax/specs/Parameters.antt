@@ -1,5 +1,5 @@
 -- Typed variables: the parameters of an action, a predicate or a function.
-use Rattle.std.specs.Prelude.{ℕ, ◌+◌, nat_le, Bool, true, List, [], ◌∷◌, ◌++◌, map, length, unwrap_or}
+use Rattle.std.specs.Prelude.{ℕ, ◌+◌, nat_le, Bool, true, List, [], ◌∷◌, ◌++◌, map}
 use Rattle.std.specs.Option.{option_map_or}
 use Rattle.sexp.specs.Forms.{Forms}
 use Rattle.names.specs.Names.{is_there, with_name, number_of}

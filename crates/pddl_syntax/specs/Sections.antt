@@ -1,5 +1,6 @@
 -- The heads of a text, `(define (domain NAME) SECTION ..)`, and where its sections stand.
-use Rattle.std.specs.Prelude.{ℕ, ◌&&◌, not, Bool, true, false, if◌then◌else◌, List, [], ◌∷◌, ◌++◌, Option, Some, None, is_some, option_to_list, codes}
+use Rattle.std.specs.Prelude.{ℕ, ◌&&◌, not, Bool, false, if◌then◌else◌, List, [], ◌∷◌, ◌++◌, Option, Some, None, is_some, option_to_list, codes}
+pub use Rattle.sexp.specs.Forms.{behind, start_of}
 use Rattle.sexp.specs.Forms.{Forms, none, word, group, views}
 use Rattle.pddl_syntax.specs.declared.sections.Section.{Section}
 use Rattle.names.specs.Names.{same_text, is_there, with_name}
@@ -15,23 +16,11 @@ pub record Part : Type 0 where
   pub at : ℕ
   pub inside : Forms
 
--- what stands behind the first expression
-abbrev pub behind : Forms → Forms
-behind none = none
-behind (word s e t f) = f
-behind (group s e i f) = f
-
 -- what stands in the list
 abbrev pub root_parts : Forms → Forms
 root_parts none = none
 root_parts (word s e t f) = none
 root_parts (group s e i f) = i
-
--- where the first expression stands
-abbrev pub root_place : Forms → ℕ
-root_place none = 0
-root_place (word s e t f) = s
-root_place (group s e i f) = s
 
 -- the sections of a text, behind `define` and the title
 abbrev pub sections : Forms → Forms

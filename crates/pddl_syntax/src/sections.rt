@@ -111,12 +111,9 @@ pub fn all_sections<'a>(
 // ---- the faults of the heads
 
 fn start_of(tree: &Tree) -> usize
-    ensures { (rest : Forms) → result ≡ spec.root_place (before tree.now rest) }
+    ensures { (rest : Forms) → result ≡ spec.start_of (before tree.now rest) }
 {
-    match tree {
-        Tree::Word { text: _, span } => span.start,
-        Tree::List { items: _, span } => span.start,
-    }
+    tree.span().start
 }
 
 fn is_name(tree: &Tree) -> bool

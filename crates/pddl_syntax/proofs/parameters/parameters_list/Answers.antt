@@ -1,4 +1,4 @@
-use Rattle.std.proofs.Common.{true, false, [], List, sym, ap, ◌∙◌}
+use Rattle.std.proofs.Common.{true, [], List, sym, ap, ◌∙◌}
 use Rattle.std.specs.Prelude.{Option}
 use Rattle.sexp.specs.Forms.{views}
 use Rattle.names.specs.Names.{is_there}

@@ -1,4 +1,4 @@
-use Rattle.std.proofs.Common.{◌≡◌, ◌++◌, ℕ, List, map, drop, length}
+use Rattle.std.proofs.Common.{◌≡◌, ◌++◌, List, map, drop, length}
 use Rattle.pddl_syntax.specs.Faults.{first_of}
 use Rattle.pddl_syntax.specs.Typed.{Declared, spread_run, with_type, parent_text}
 use Rattle.pddl_syntax.specs.Parameters.{names_with, variable_faults}

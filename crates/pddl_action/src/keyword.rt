@@ -1,0 +1,229 @@
+//! What stands behind an action's name: keywords, each with a list.
+
+ghost use Rattle.std.specs.Prelude.{◌≡◌, ◌++◌, ℕ, List, Option, map, find, None, [], option_to_list, IfOk, OnOk};
+ghost use Rattle.std.specs.Option.{option_map};
+ghost use Rattle.sexp.specs.Forms.{Forms, before, views, alone};
+ghost use Rattle.pddl_syntax.specs.Faults.{first_of};
+ghost use Rattle.pddl_syntax.specs.Sections.{root_parts, start_of};
+ghost use Rattle.pddl_action.specs.Keywords as spec;
+
+use pddl_syntax::{Fault, FaultKind, blame, blame_if};
+use sexp::Tree;
+use std::alloc::{AllocError, Global};
+
+/// A word behind which a part of an action stands.
+#[derive(Clone, Copy, Debug, PartialEq, Eq)]
+pub enum Keyword {
+    Parameters,
+    Precondition,
+    Effect,
+}
+
+/// Which keywords stood in the action so far.
+#[derive(Clone, Copy)]
+pub struct Seen {
+    pub parameters: bool,
+    pub precondition: bool,
+    pub effect: bool,
+}
+
+/// A keyword and the list behind it.
+#[derive(Clone, Copy)]
+pub struct Part<'a> {
+    pub keyword: Keyword,
+    pub value: &'a Tree,
+}
+
+fn keyword_of(word: &str) -> Option<Keyword>
+    ensures { result ≡ spec.keyword_of word.now }
+{
+    if word == ":parameters" {
+        Some(Keyword::Parameters)
+    } else if word == ":precondition" {
+        Some(Keyword::Precondition)
+    } else if word == ":effect" {
+        Some(Keyword::Effect)
+    } else {
+        None
+    }
+}
+
+fn is_same(keyword: Keyword, other: Keyword) -> bool
+    ensures { result ≡ spec.same_keyword keyword other }
+{
+    match (keyword, other) {
+        (Keyword::Parameters, Keyword::Parameters)
+        | (Keyword::Precondition, Keyword::Precondition)
+        | (Keyword::Effect, Keyword::Effect) => true,
+        _ => false,
+    }
+}
+
+impl Seen {
+    fn contains(self, keyword: Keyword) -> bool
+        ensures { result ≡ spec.is_seen self keyword }
+    {
+        match keyword {
+            Keyword::Parameters => self.parameters,
+            Keyword::Precondition => self.precondition,
+            Keyword::Effect => self.effect,
+        }
+    }
+
+    fn add(&mut self, keyword: Keyword)
+        ensures { self.new ≡ spec.with_keyword self.old keyword }
+    {
+        match keyword {
+            Keyword::Parameters => self.parameters = true,
+            Keyword::Precondition => self.precondition = true,
+            Keyword::Effect => self.effect = true,
+        }
+    }
+}
+
+/// The parts of an action that were read.
+#[derive(Drop)]
+struct PartList<'a> {
+    seen: Seen,
+    /// The keyword whose value comes next.
+    waiting: Option<Keyword>,
+    parts: Vec<Part<'a>>,
+}
+
+impl<'a> PartList<'a> {
+    fn new(alloc: Global) -> PartList<'a>
+        ensures seen { result.seen ≡ spec.none_seen }
+        ensures waiting { result.waiting ≡ None }
+        ensures parts { result.parts.items ≡ [] }
+    {
+        PartList {
+            seen: Seen {
+                parameters: false,
+                precondition: false,
+                effect: false,
+            },
+            waiting: None,
+            parts: Vec::new(alloc),
+        }
+    }
+
+    /// Reads a word at a place.
+    #[tactic(auto, unfolding(pddl_syntax::specs::Faults::first_of))]
+    fn read_word(&mut self, word: &str, at: usize, first: &mut Option<Fault>)
+        ensures seen { self.new.seen ≡ spec.seen_after self.old.waiting self.old.seen (spec.keyword_of word.now) }
+        ensures waiting { self.new.waiting ≡ spec.waiting_after self.old.waiting (spec.keyword_of word.now) }
+        ensures parts { self.new.parts.items ≡ self.old.parts.items }
+        ensures faults { first.new ≡ first_of first.old (spec.word_faults self.old.waiting self.old.seen at (spec.keyword_of word.now)) }
+    {
+        let keyword = keyword_of(word);
+        match (self.waiting, keyword) {
+            (Some(_), _) => {
+                blame(first, at, FaultKind::Shape);
+                self.waiting = None;
+            }
+            (None, Some(keyword)) => {
+                blame_if(
+                    self.seen.contains(keyword),
+                    first,
+                    at,
+                    FaultKind::TwiceDeclared,
+                );
+                self.seen.add(keyword);
+                self.waiting = Some(keyword);
+            }
+            (None, None) => blame(first, at, FaultKind::Shape),
+        }
+    }
+
+    /// Reads a list at a place.
+    #[tactic(auto, unfolding(pddl_syntax::specs::Faults::first_of))]
+    fn read_list(
+        &mut self,
+        value: &'a Tree,
+        at: usize,
+        first: &mut Option<Fault>,
+    ) -> Result<(), AllocError>
+        ensures seen { OnOk result (self.new.seen ≡ self.old.seen) }
+        ensures waiting { OnOk result (self.new.waiting ≡ None) }
+        ensures parts { OnOk result (map spec.part_of self.new.parts.items
+            ≡ map spec.part_of self.old.parts.items ++ option_to_list (option_map (λ k. record { keyword = k; value = alone value.now }) self.old.waiting)) }
+        ensures faults { OnOk result (first.new ≡ first_of first.old (spec.list_faults self.old.waiting at)) }
+    {
+        match self.waiting {
+            Some(keyword) => self.parts.push(Part { keyword, value })?,
+            None => blame(first, at, FaultKind::Shape),
+        }
+        self.waiting = None;
+        Ok(())
+    }
+
+    #[tactic(auto, using(sexp::proofs::Walking::walking, pddl_syntax::proofs::Trees::noting, crate::proofs::Noted::appending), unfolding(pddl_syntax::specs::Faults::first_of))]
+    fn read(&mut self, tree: &'a Tree, first: &mut Option<Fault>) -> Result<(), AllocError>
+        ensures parts { (rest : Forms) → OnOk result (
+            map spec.part_of self.old.parts.items ++ spec.parts self.old.waiting (before tree.now rest) ≡ map spec.part_of self.new.parts.items ++ spec.parts self.new.waiting rest) }
+        ensures faults { (home : ℕ) (rest : Forms) → OnOk result (
+            first_of first.old (spec.keyword_faults home self.old.seen self.old.waiting (before tree.now rest)) ≡ first_of first.new (spec.keyword_faults home self.new.seen self.new.waiting rest)) }
+    {
+        match tree {
+            Tree::Word { text, span } => self.read_word(text.as_str(), span.start, first),
+            Tree::List { span, .. } => self.read_list(tree, span.start, first)?,
+        }
+        Ok(())
+    }
+}
+
+/// Reads what stands behind an action's name, in the action at the byte `home`, and notes the faults of the
+/// keywords: F10 at what is no keyword, and at a word in the place of a keyword's list; F14 at a keyword that comes
+/// again; F10 at the action where the last keyword has nothing behind it. An `Err` is of too little memory.
+#[tactic(auto, unfolding(pddl_syntax::specs::Faults::first_of))]
+pub fn parts<'a>(
+    alloc: Global,
+    home: usize,
+    items: &'a [Tree],
+    first: &mut Option<Fault>,
+) -> Result<Vec<Part<'a>>, AllocError>
+    ensures meaning { IfOk result (λ ps. map spec.part_of ps.items ≡ spec.parts None (views items.now)) }
+    ensures faults { OnOk result (first.new ≡ first_of first.old (spec.keyword_faults home spec.none_seen None (views items.now))) }
+{
+    let mut list = PartList::new(alloc);
+    for tree in items {
+        list.read(tree, first)?;
+    }
+    if list.waiting.is_some() {
+        blame(first, home, FaultKind::Shape);
+    }
+    Ok(list.parts)
+}
+
+/// The first part of a keyword.
+pub fn find_part<'a>(parts: &[Part<'a>], keyword: Keyword) -> Option<Part<'a>>
+    ensures { option_map spec.part_of result ≡ find (λ p. spec.same_keyword p.keyword keyword) (map spec.part_of parts.now) }
+{
+    for part in parts {
+        if is_same(part.keyword, keyword) {
+            return Some(*part);
+        }
+    }
+    None
+}
+
+/// Where a tree stands.
+#[tactic(auto, using(sexp::proofs::Walking::walking))]
+pub fn start_of(tree: &Tree) -> usize
+    ensures { (rest : Forms) → result ≡ start_of (before tree.now rest) }
+{
+    match tree {
+        Tree::Word { span, .. } | Tree::List { span, .. } => span.start,
+    }
+}
+
+/// What stands in a list; nothing stands in a word.
+#[tactic(auto, using(sexp::proofs::Walking::walking))]
+pub fn items_of(tree: &Tree) -> &[Tree]
+    ensures { views result.now ≡ root_parts (alone tree.now) }
+{
+    match tree {
+        Tree::Word { .. } => &[],
+        Tree::List { items, .. } => items,
+    }
+}

@@ -1,0 +1,4 @@
+pub mod Ancestors
+pub mod TypeSteps
+pub mod ObjectSteps
+pub mod HeadItems

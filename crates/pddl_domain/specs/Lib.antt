@@ -1,0 +1,4 @@
+pub mod Cycles
+pub mod Types
+pub mod Objects
+pub mod DeclaredHeads

@@ -1,0 +1,458 @@
+//! The sections of the predicates and of the functions.
+
+ghost use Rattle.std.specs.Prelude.{◌≡◌, ◌<◌, ◌≤◌, ◌+◌, ℕ, Bool, true, false, List, length, IfOk, OnOk, codes};
+ghost use Rattle.sexp.specs.Forms.{Forms, views, before, group, word};
+ghost use Rattle.names.specs.Names.{is_there, same_text};
+ghost use Rattle.pddl_syntax.specs.declared.fault.Fault.{Fault};
+ghost use Rattle.pddl_syntax.specs.Faults.{first_of};
+ghost use Rattle.pddl_syntax.specs.Words.{word_kind};
+ghost use Rattle.pddl_syntax.specs.Heads.{no_heads, Heads as DeclaredHeads};
+ghost use Rattle.pddl_syntax.specs.Typed.{declared, is_either, either_at, type_group_faults};
+ghost use Rattle.pddl_syntax.specs.Parameters.{parameters_faults};
+ghost use Rattle.pddl_domain.specs.DeclaredHeads as spec;
+ghost use Rattle.pddl_domain.specs.DeclaredHeads.{with_item, past_limit, item_faults, predicate_heads, predicates_faults, function_heads, functions_faults, faults_behind, heads_from, faults_from};
+
+use pddl_syntax::{
+    Fault, FaultKind, Heads, LimitedTable, Types, WordKind, blame, blame_if, parameters_list,
+    word_kind,
+};
+use sexp::Tree;
+use std::alloc::{AllocError, Global};
+
+const MAX_HEADS: usize = 512;
+
+/// An item `(HEAD PARAMETERS)`, whose head is a word, and the bytes at which it and its head begin.
+#[derive(Clone, Copy)]
+struct Item<'a> {
+    at: usize,
+    head_at: usize,
+    head: &'a str,
+    parameters: &'a [Tree],
+}
+
+/// The predicates or functions that were read, and how many items these were.
+#[derive(Drop)]
+struct Declarations {
+    heads: Heads,
+    count: usize,
+}
+
+fn is_equals(head: &str) -> bool
+    ensures { result ≡ spec.is_equals head.now }
+{
+    head == "="
+}
+
+impl Declarations {
+    fn new(alloc: Global) -> Declarations
+        ensures heads { result.heads ≡ no_heads }
+        ensures count { result.count ≡ 0 }
+    {
+        Declarations {
+            heads: Heads::new(alloc),
+            count: 0,
+        }
+    }
+
+    /// Counts an item, and notes whether it is past the limit.
+    fn count_item(&mut self, table: LimitedTable, at: usize, first: &mut Option<Fault>)
+        requires { self.old.count < usize.MAX }
+        ensures heads { self.new.heads ≡ self.old.heads }
+        ensures count { self.new.count ≡ self.old.count + 1 }
+        ensures faults { (rest : List Fault) → first_of first.old (past_limit table self.old.count at rest) ≡ first_of first.new rest }
+    {
+        blame_if(self.count >= MAX_HEADS, first, at, FaultKind::Limit(table));
+        self.count += 1;
+    }
+
+    /// Reads an item.
+    #[tactic(auto, unfolding(pddl_syntax::specs::Faults::first_of))]
+    fn read_item(
+        &mut self,
+        alloc: Global,
+        types: &Types,
+        table: LimitedTable,
+        item: Item,
+        first: &mut Option<Fault>,
+    ) -> Result<(), AllocError>
+        requires { self.old.count < usize.MAX }
+        ensures heads { OnOk result (self.new.heads ≡ with_item (word_kind item.entry.head.now) self.old.heads item.entry.head.now (views item.entry.parameters.now)) }
+        ensures count { OnOk result (self.new.count ≡ self.old.count + 1) }
+        ensures faults { OnOk result (first.new ≡ first_of first.old (item_faults (is_there types.now.names) table self.old.heads self.old.count
+            item.entry.at item.entry.head_at (word_kind item.entry.head.now) item.entry.head.now (views item.entry.parameters.now))) }
+    {
+        self.count_item(table, item.at, first);
+        if word_kind(item.head) != WordKind::Name {
+            blame(first, item.head_at, FaultKind::Shape);
+            let _arity = arity_of(alloc, item.parameters, types, item.at, first)?;
+            return Ok(());
+        }
+        blame_if(
+            self.heads.names().contains(item.head),
+            first,
+            item.head_at,
+            FaultKind::TwiceDeclared,
+        );
+        let arity = arity_of(alloc, item.parameters, types, item.at, first)?;
+        self.heads.add(alloc, item.head, arity)
+    }
+}
+
+/// How many variables are declared, whose faults are noted.
+fn arity_of(
+    alloc: Global,
+    parameters: &[Tree],
+    types: &Types,
+    home: usize,
+    first: &mut Option<Fault>,
+) -> Result<usize, AllocError>
+    ensures arity { IfOk result (λ n. n ≡ length (declared true (views parameters.now))) }
+    ensures faults { OnOk result (first.new ≡ first_of first.old (parameters_faults (is_there types.now.names) home (views parameters.now))) }
+{
+    let parameters = parameters_list(alloc, parameters, types, home, first)?;
+    Ok(parameters.types.len())
+}
+
+// ---- predicates
+
+/// Reads what stands in an item of the predicates behind its parenthesis: a head and parameters.
+fn read_predicate_head(
+    alloc: Global,
+    types: &Types,
+    predicates: &mut Declarations,
+    head: &Tree,
+    parameters: &[Tree],
+    at: usize,
+    first: &mut Option<Fault>,
+) -> Result<(), AllocError>
+    requires { predicates.old.count < usize.MAX }
+    ensures count { OnOk result (predicates.new.count ≤ predicates.old.count + 1) }
+    ensures heads { OnOk result ((end : ℕ) (rest : Forms) → predicate_heads predicates.old.heads (group at end (before head.now (views parameters.now)) rest) ≡ predicate_heads predicates.new.heads rest) }
+    ensures faults { OnOk result ((end : ℕ) (rest : Forms) → first_of first.old (predicates_faults (is_there types.now.names) predicates.old.heads predicates.old.count (group at end (before head.now (views parameters.now)) rest))
+        ≡ first_of first.new (predicates_faults (is_there types.now.names) predicates.new.heads predicates.new.count rest)) }
+{
+    match head {
+        Tree::Word { text, span } => {
+            let name = text.as_str();
+            if is_equals(name) {
+                return Ok(());
+            }
+            let item = Item {
+                at,
+                head_at: span.start,
+                head: name,
+                parameters,
+            };
+            predicates.read_item(alloc, types, LimitedTable::Predicates, item, first)
+        }
+        Tree::List { items: _, span } => {
+            predicates.count_item(LimitedTable::Predicates, at, first);
+            blame(first, span.start, FaultKind::Shape);
+            Ok(())
+        }
+    }
+}
+
+/// Reads a list among the predicates.
+#[tactic(auto, unfolding(pddl_syntax::specs::Faults::first_of))]
+fn read_predicate(
+    alloc: Global,
+    types: &Types,
+    predicates: &mut Declarations,
+    items: &[Tree],
+    at: usize,
+    first: &mut Option<Fault>,
+) -> Result<(), AllocError>
+    requires { predicates.old.count < usize.MAX }
+    ensures count { OnOk result (predicates.new.count ≤ predicates.old.count + 1) }
+    ensures heads { OnOk result ((end : ℕ) (rest : Forms) → predicate_heads predicates.old.heads (group at end (views items.now) rest) ≡ predicate_heads predicates.new.heads rest) }
+    ensures faults { OnOk result ((end : ℕ) (rest : Forms) → first_of first.old (predicates_faults (is_there types.now.names) predicates.old.heads predicates.old.count (group at end (views items.now) rest))
+        ≡ first_of first.new (predicates_faults (is_there types.now.names) predicates.new.heads predicates.new.count rest)) }
+{
+    match items {
+        [] => {
+            blame(first, at, FaultKind::Shape);
+            Ok(())
+        }
+        [head, parameters @ ..] => read_predicate_head(
+            alloc, types, predicates, head, parameters, at, first,
+        ),
+    }
+}
+
+/// Reads the next tree of the predicates.
+fn read_predicates_tree(
+    alloc: Global,
+    types: &Types,
+    predicates: &mut Declarations,
+    tree: &Tree,
+    first: &mut Option<Fault>,
+) -> Result<(), AllocError>
+    requires { predicates.old.count < usize.MAX }
+    ensures count { OnOk result (predicates.new.count ≤ predicates.old.count + 1) }
+    ensures heads { OnOk result ((rest : Forms) → predicate_heads predicates.old.heads (before tree.now rest) ≡ predicate_heads predicates.new.heads rest) }
+    ensures faults { OnOk result ((rest : Forms) → first_of first.old (predicates_faults (is_there types.now.names) predicates.old.heads predicates.old.count (before tree.now rest))
+        ≡ first_of first.new (predicates_faults (is_there types.now.names) predicates.new.heads predicates.new.count rest)) }
+{
+    match tree {
+        Tree::Word { text: _, span } => {
+            blame(first, span.start, FaultKind::Shape);
+            Ok(())
+        }
+        Tree::List { items, span } => read_predicate(
+            alloc, types, predicates, items, span.start, first,
+        ),
+    }
+}
+
+/// Reads the section of the predicates, the items behind its head, and notes its faults.
+///
+/// An item named `=` is read over, since `=` is there by itself. A predicate that is declared twice keeps the number of parameters
+/// of its first declaration (Fox and Long 2003; McDermott and others 1998). An `Err` is of too little memory.
+#[tactic(auto, unfolding(pddl_syntax::specs::Faults::first_of))]
+pub fn predicates_section(
+    alloc: Global,
+    items: &[Tree],
+    types: &Types,
+    first: &mut Option<Fault>,
+) -> Result<Heads, AllocError>
+    ensures meaning { IfOk result (λ heads. heads ≡ predicate_heads no_heads (views items.now)) }
+    ensures faults { OnOk result (first.new ≡ first_of first.old (predicates_faults (is_there types.now.names) no_heads 0 (views items.now))) }
+{
+    let mut predicates = Declarations::new(alloc);
+    for tree in items {
+        read_predicates_tree(alloc, types, &mut predicates, tree, first)?;
+    }
+    Ok(predicates.heads)
+}
+
+// ---- functions
+
+/// The part of the section of the functions that was read.
+#[derive(Drop)]
+struct Functions {
+    declarations: Declarations,
+    /// Whether the run so far, behind the last number, has no item.
+    is_empty: bool,
+    wants_number: bool,
+}
+
+fn is_number(text: &str) -> bool
+    ensures { result ≡ same_text text.now (codes "number") }
+{
+    text == "number"
+}
+
+fn is_either(text: &str) -> bool
+    ensures { result ≡ is_either text.now }
+{
+    text == "either"
+}
+
+/// Where the word `either` stands, if it is this tree.
+fn either_at(tree: &Tree) -> Option<usize>
+    ensures { (rest : Forms) → result ≡ either_at (before tree.now rest) }
+{
+    match tree {
+        Tree::Word { text, span } => {
+            if is_either(text.as_str()) {
+                Some(span.start)
+            } else {
+                None
+            }
+        }
+        Tree::List { .. } => None,
+    }
+}
+
+fn head_either_at(items: &[Tree]) -> Option<usize>
+    ensures { result ≡ either_at (views items.now) }
+{
+    match items {
+        [] => None,
+        [head, ..] => either_at(head),
+    }
+}
+
+/// A list where `number` is wanted.
+#[tactic(auto, unfolding(pddl_syntax::specs::Faults::first_of))]
+fn blame_number_list(items: &[Tree], at: usize, first: &mut Option<Fault>)
+    ensures { first.new ≡ first_of first.old (type_group_faults at (views items.now)) }
+{
+    match head_either_at(items) {
+        Some(place) => blame(first, place, FaultKind::Unsupported),
+        None => blame(first, at, FaultKind::Shape),
+    }
+}
+
+/// A tree where `number` is wanted.
+fn blame_number(tree: &Tree, first: &mut Option<Fault>)
+    ensures { (known : List ℕ → Bool) (home : ℕ) (heads : DeclaredHeads) (count : ℕ) (rest : Forms) →
+        first_of first.old (faults_behind known home heads count (before tree.now rest)) ≡ first_of first.new (functions_faults known home true heads count rest) }
+{
+    match tree {
+        Tree::Word { text, span } => blame_if(
+            !is_number(text.as_str()),
+            first,
+            span.start,
+            FaultKind::Unsupported,
+        ),
+        Tree::List { items, span } => blame_number_list(items, span.start, first),
+    }
+}
+
+impl Functions {
+    fn new(alloc: Global) -> Functions
+        ensures heads { result.declarations.heads ≡ no_heads }
+        ensures count { result.declarations.count ≡ 0 }
+        ensures is_empty { result.is_empty ≡ true }
+        ensures wants { result.wants_number ≡ false }
+    {
+        Functions {
+            declarations: Declarations::new(alloc),
+            is_empty: true,
+            wants_number: false,
+        }
+    }
+
+    /// Reads a word where an item is wanted.
+    #[tactic(auto, unfolding(pddl_syntax::specs::Faults::first_of))]
+    fn read_word(&mut self, text: &str, at: usize, first: &mut Option<Fault>)
+        requires { self.old.wants_number ≡ false }
+        ensures declarations { self.new.declarations ≡ self.old.declarations }
+        ensures heads { (end : ℕ) (rest : Forms) → function_heads self.old.declarations.heads (word at end text.now rest)
+            ≡ heads_from self.new.wants_number self.old.declarations.heads rest }
+        ensures faults { (known : List ℕ → Bool) (home end : ℕ) (heads : DeclaredHeads) (count : ℕ) (rest : Forms) →
+            first_of first.old (functions_faults known home self.old.is_empty heads count (word at end text.now rest))
+            ≡ first_of first.new (faults_from self.new.wants_number known home self.new.is_empty heads count rest) }
+    {
+        if word_kind(text) == WordKind::Dash {
+            blame_if(self.is_empty, first, at, FaultKind::Shape);
+            self.wants_number = true;
+        } else {
+            blame(first, at, FaultKind::Shape);
+        }
+    }
+
+    /// Reads what stands in an item behind its parenthesis: a head and parameters.
+    fn read_head(
+        &mut self,
+        alloc: Global,
+        types: &Types,
+        head: &Tree,
+        parameters: &[Tree],
+        at: usize,
+        first: &mut Option<Fault>,
+    ) -> Result<(), AllocError>
+        requires { self.old.declarations.count < usize.MAX }
+        ensures count { OnOk result (self.new.declarations.count ≤ self.old.declarations.count + 1) }
+        ensures wants { OnOk result (self.new.wants_number ≡ self.old.wants_number) }
+        ensures heads { OnOk result ((end : ℕ) (rest : Forms) → function_heads self.old.declarations.heads (group at end (before head.now (views parameters.now)) rest) ≡ function_heads self.new.declarations.heads rest) }
+        ensures faults { OnOk result ((home end : ℕ) (rest : Forms) →
+            first_of first.old (functions_faults (is_there types.now.names) home self.old.is_empty self.old.declarations.heads self.old.declarations.count (group at end (before head.now (views parameters.now)) rest))
+            ≡ first_of first.new (functions_faults (is_there types.now.names) home self.new.is_empty self.new.declarations.heads self.new.declarations.count rest)) }
+    {
+        self.is_empty = false;
+        match head {
+            Tree::Word { text, span } => {
+                let item = Item {
+                    at,
+                    head_at: span.start,
+                    head: text.as_str(),
+                    parameters,
+                };
+                self.declarations
+                    .read_item(alloc, types, LimitedTable::Functions, item, first)
+            }
+            Tree::List { items: _, span } => {
+                self.declarations
+                    .count_item(LimitedTable::Functions, at, first);
+                blame(first, span.start, FaultKind::Shape);
+                Ok(())
+            }
+        }
+    }
+
+    /// Reads a list where an item is wanted.
+    #[tactic(auto, unfolding(pddl_syntax::specs::Faults::first_of))]
+    fn read_list(
+        &mut self,
+        alloc: Global,
+        types: &Types,
+        items: &[Tree],
+        at: usize,
+        first: &mut Option<Fault>,
+    ) -> Result<(), AllocError>
+        requires { self.old.declarations.count < usize.MAX }
+        ensures count { OnOk result (self.new.declarations.count ≤ self.old.declarations.count + 1) }
+        ensures wants { OnOk result (self.new.wants_number ≡ self.old.wants_number) }
+        ensures heads { OnOk result ((end : ℕ) (rest : Forms) → function_heads self.old.declarations.heads (group at end (views items.now) rest) ≡ function_heads self.new.declarations.heads rest) }
+        ensures faults { OnOk result ((home end : ℕ) (rest : Forms) →
+            first_of first.old (functions_faults (is_there types.now.names) home self.old.is_empty self.old.declarations.heads self.old.declarations.count (group at end (views items.now) rest))
+            ≡ first_of first.new (functions_faults (is_there types.now.names) home self.new.is_empty self.new.declarations.heads self.new.declarations.count rest)) }
+    {
+        match items {
+            [] => {
+                blame(first, at, FaultKind::Shape);
+                Ok(())
+            }
+            [head, parameters @ ..] => self.read_head(alloc, types, head, parameters, at, first),
+        }
+    }
+
+    /// Reads the next tree.
+    fn read(
+        &mut self,
+        alloc: Global,
+        types: &Types,
+        tree: &Tree,
+        first: &mut Option<Fault>,
+    ) -> Result<(), AllocError>
+        requires { self.old.declarations.count < usize.MAX }
+        ensures count { OnOk result (self.new.declarations.count ≤ self.old.declarations.count + 1) }
+        ensures heads { OnOk result ((rest : Forms) → heads_from self.old.wants_number self.old.declarations.heads (before tree.now rest)
+            ≡ heads_from self.new.wants_number self.new.declarations.heads rest) }
+        ensures faults { OnOk result ((home : ℕ) (rest : Forms) →
+            first_of first.old (faults_from self.old.wants_number (is_there types.now.names) home self.old.is_empty self.old.declarations.heads self.old.declarations.count (before tree.now rest))
+            ≡ first_of first.new (faults_from self.new.wants_number (is_there types.now.names) home self.new.is_empty self.new.declarations.heads self.new.declarations.count rest)) }
+    {
+        if self.wants_number {
+            blame_number(tree, first);
+            self.wants_number = false;
+            self.is_empty = true;
+            return Ok(());
+        }
+        match tree {
+            Tree::Word { text, span } => {
+                self.read_word(text.as_str(), span.start, first);
+                Ok(())
+            }
+            Tree::List { items, span } => self.read_list(alloc, types, items, span.start, first),
+        }
+    }
+}
+
+/// Reads the section of the functions, the items behind its head, and notes its faults. The section stands at a place.
+///
+/// Behind items `- number` may stand, which says nothing more (Fox and Long 2003). A function that is declared twice keeps the
+/// number of parameters of its first declaration. An `Err` is of too little memory.
+#[tactic(auto, unfolding(pddl_syntax::specs::Faults::first_of))]
+pub fn functions_section(
+    alloc: Global,
+    items: &[Tree],
+    types: &Types,
+    home: usize,
+    first: &mut Option<Fault>,
+) -> Result<Heads, AllocError>
+    ensures meaning { IfOk result (λ heads. heads ≡ function_heads no_heads (views items.now)) }
+    ensures faults { OnOk result (first.new ≡ first_of first.old (functions_faults (is_there types.now.names) home true no_heads 0 (views items.now))) }
+{
+    let mut functions = Functions::new(alloc);
+    for tree in items {
+        functions.read(alloc, types, tree, first)?;
+    }
+    if functions.wants_number {
+        blame(first, home, FaultKind::Shape);
+    }
+    Ok(functions.declarations.heads)
+}

@@ -1,0 +1,222 @@
+//! The sections of the objects.
+
+ghost use Rattle.std.specs.Prelude.{◌≡◌, ◌++◌, ◌∷◌, ◌<◌, [], ℕ, List, Option, length, OnOk, IfOk, false};
+ghost use Rattle.std.specs.Option.{option_map, IfSome};
+ghost use Rattle.sexp.specs.Forms.{views};
+ghost use Rattle.pddl_syntax.specs.declared.fault.Fault.{Fault};
+ghost use Rattle.std.specs.String.{string_bytes};
+ghost use Rattle.pddl_syntax.specs.Faults.{first_of};
+ghost use Rattle.pddl_syntax.specs.Typed.{Declared, declared, spread, spread_run, with_type, parent_text};
+ghost use Rattle.pddl_domain.specs.Objects as spec;
+ghost use Rattle.pddl_domain.specs.Objects.{Objects as DeclaredObjects, IsTextOf, objects_with, with_entry, declaration_faults, object_faults, objects_faults};
+
+use crate::types::differs;
+use names::Names;
+use pddl_syntax::{Fault, FaultKind, LimitedTable, Named, Run, Types, blame_if, typed_list};
+use sexp::Tree;
+use std::alloc::{AllocError, Global};
+use std::marker::Model;
+
+const MAX_OBJECTS: usize = 4096;
+
+/// The objects of a task, in the order of their first declarations, each with its type there.
+///
+/// The names of the types have numbers of their own here, since a type that is not declared has none among the types: so two
+/// declarations of an object are compared by numbers, and not by their texts.
+#[derive(Debug, Drop)]
+pub struct Objects {
+    names: Names,
+    types: Vec<usize>,
+    /// The names of types that stood behind objects.
+    texts: Names,
+    /// The number among these of each object's type at its first declaration, where it can be read.
+    firsts: Vec<Option<usize>>,
+}
+
+impl Model for Objects {
+    ghost use Rattle.pddl_domain.specs.Objects as spec;
+
+    ghost Value = { spec.Objects };
+
+    ghost view = { λ o. record { names = o.names; types = o.types.items; texts = o.texts; firsts = o.firsts.items } };
+
+    ghost invariant = { λ o. spec.AreTexts o.texts o.firsts.items };
+}
+
+/// How the objects of a run are declared: the number of their type, and that of its text, where it can be read.
+#[derive(Clone, Copy)]
+struct DeclaredType {
+    number: usize,
+    text: Option<usize>,
+}
+
+impl Objects {
+    /// No objects. It allocates nothing until the first is declared.
+    pub fn new(alloc: Global) -> Objects
+        ensures { result ≡ spec.no_objects }
+    {
+        Objects {
+            names: Names::new(alloc),
+            types: Vec::new(alloc),
+            texts: Names::new(alloc),
+            firsts: Vec::new(alloc),
+        }
+    }
+
+    /// The names, in the order of their first declarations.
+    pub fn names(&self) -> &Names
+        ensures { result.now ≡ self.now.names }
+    {
+        &self.names
+    }
+
+    /// The number of the type of each, in the order of the names: as many as there are types for one that is not declared, and 0,
+    /// which is `object`, for one that cannot be read.
+    pub fn types(&self) -> &[usize]
+        ensures { result.now ≡ self.now.types }
+    {
+        &self.types
+    }
+
+    /// The names and the types, where no more objects come.
+    pub fn into_parts(self) -> (Names, Vec<usize>)
+        ensures names { result.0 ≡ self.names }
+        ensures types { result.1.items ≡ self.types }
+    {
+        (self.names, self.types)
+    }
+
+    /// The number of the text of the type at a name's first declaration.
+    fn first_text(&self, name: &str) -> Option<usize>
+        ensures { result ≡ spec.first_text self.now name.now }
+    {
+        let number = self.names.place_of(name)?;
+        *self.firsts.get(number)?
+    }
+
+    /// The type of a run, whose text gets a number.
+    fn type_of(
+        &mut self,
+        alloc: Global,
+        types: &Types,
+        run: &Run,
+    ) -> Result<DeclaredType, AllocError>
+        ensures objects { OnOk result (self.new ≡ spec.with_text self.old (parent_text run.now)) }
+        ensures number { IfOk result (λ d. d.number ≡ spec.number_of_type types.now.names (parent_text run.now)) }
+        ensures text { IfOk result (λ d. spec.IsTextOf self.new.texts (parent_text run.now) d.text) }
+    {
+        match &run.parent {
+            Some(parent) => Ok(DeclaredType {
+                number: types.names.number_of(parent.as_str()),
+                text: Some(self.texts.add(alloc, parent.as_str())?),
+            }),
+            None => Ok(DeclaredType {
+                number: 0,
+                text: None,
+            }),
+        }
+    }
+
+    /// Adds an object that is not there yet.
+    fn add(&mut self, alloc: Global, name: &str, declared: DeclaredType) -> Result<(), AllocError>
+        requires { IfSome declared.text (λ n. n < length self.old.texts) }
+        ensures { OnOk result (self.new ≡ with_entry self.old name.now declared.number declared.text) }
+    {
+        if !self.names.contains(name) {
+            self.names.add(alloc, name)?;
+            self.types.push(declared.number)?;
+            self.firsts.push(declared.text)?;
+        }
+        Ok(())
+    }
+
+    /// Whether a name has another type at its first declaration than that of a text.
+    fn is_other_type(&self, name: &str, text: Option<usize>) -> bool
+        ensures { (p : Option (List ℕ)) → IsTextOf self.now.texts p text → result ≡ spec.differs_text (spec.first_type self.now name.now) p }
+    {
+        self.texts.are_distinct();
+        differs(self.first_text(name), text)
+    }
+
+    /// Declares an object, and notes whether it had another type or is one too many.
+    fn declare(
+        &mut self,
+        alloc: Global,
+        named: &Named,
+        declared: DeclaredType,
+        first: &mut Option<Fault>,
+    ) -> Result<(), AllocError>
+        requires { IfSome declared.text (λ n. n < length self.old.texts) }
+        ensures objects { OnOk result (self.new ≡ with_entry self.old (string_bytes named.now.name) declared.number declared.text) }
+        ensures faults { OnOk result ((p : Option (List ℕ)) (rest : List Fault) → IsTextOf self.old.texts p declared.text
+            → first_of first.old (declaration_faults self.old (with_type p named.now) rest) ≡ first_of first.new rest) }
+    {
+        let name = named.name.as_str();
+        blame_if(
+            self.is_other_type(name, declared.text),
+            first,
+            named.at,
+            FaultKind::TwiceDeclared,
+        );
+        blame_if(
+            !self.names.contains(name) && self.names.len() >= MAX_OBJECTS,
+            first,
+            named.at,
+            FaultKind::Limit(LimitedTable::Objects),
+        );
+        self.add(alloc, name, declared)
+    }
+
+    /// Declares the objects of a run.
+    fn declare_run(
+        &mut self,
+        alloc: Global,
+        types: &Types,
+        run: &Run,
+        first: &mut Option<Fault>,
+    ) -> Result<(), AllocError>
+        ensures objects { OnOk result (self.new ≡ objects_with types.now.names self.old (spread_run run.now)) }
+        ensures faults { OnOk result ((rest : List Declared) → first_of first.old (object_faults types.now.names self.old (spread_run run.now ++ rest))
+            ≡ first_of first.new (object_faults types.now.names self.new rest)) }
+    {
+        if run.names.is_empty() {
+            return Ok(());
+        }
+        let declared = self.type_of(alloc, types, run)?;
+        for named in &run.names {
+            self.declare(alloc, named, declared, first)?;
+        }
+        Ok(())
+    }
+}
+
+/// A law: where each object has a type, each has one behind further declarations too.
+#[tactic(auto, using(crate::proofs::ObjectSteps::types_count))]
+pub fn each_object_has_a_type()
+    ensures { (types : List (List ℕ)) (o : DeclaredObjects) (ds : List Declared) → length o.types ≡ length o.names
+        → length (objects_with types o ds).types ≡ length (objects_with types o ds).names }
+{}
+
+/// Reads a section of objects, the items behind its head, adds the objects, and notes the faults. The section stands at a place.
+///
+/// The constants of a domain and the objects of its problem are one table: an object that is declared twice, under types of
+/// different names, is at fault at the later place, and so is each past the 4,096th (Fox and Long 2003).
+/// An `Err` is of too little memory, and the objects are then of no more use.
+#[tactic(auto, unfolding(pddl_syntax::specs::Faults::first_of))]
+pub fn objects_section(
+    alloc: Global,
+    items: &[Tree],
+    types: &Types,
+    home: usize,
+    objects: &mut Objects,
+    first: &mut Option<Fault>,
+) -> Result<(), AllocError>
+    ensures objects { OnOk result (objects.new ≡ objects_with types.now.names objects.old (declared false (views items.now))) }
+    ensures faults { OnOk result (first.new ≡ first_of first.old (objects_faults types.now.names objects.old home (views items.now))) }
+{
+    let runs = typed_list(alloc, items, false, false, types, home, first)?;
+    for run in &runs {
+        objects.declare_run(alloc, types, run, first)?;
+    }
+    Ok(())
+}

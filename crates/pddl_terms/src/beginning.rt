@@ -1,0 +1,81 @@
+//! What the head of a list begins.
+
+ghost use Rattle.std.specs.Prelude.{◌≡◌};
+ghost use Rattle.pddl_syntax.specs.Words.{is_one_of};
+ghost use Rattle.pddl_terms.specs.Beginnings.{unsupported_heads, other_beginning, beginning};
+
+use pddl_syntax::{WordKind, word_kind};
+
+/// Where a list stands: in a condition or a goal, in an effect, or in the initial state.
+#[derive(Clone, Copy, Debug, PartialEq, Eq)]
+pub enum Setting {
+    InCondition,
+    InEffect,
+    InInitial,
+}
+
+/// What a list is by its head.
+#[derive(Clone, Copy, Debug, PartialEq, Eq)]
+pub enum Beginning {
+    /// `and`
+    Conjunction,
+    /// `not`
+    Negation,
+    /// `=`
+    Equality,
+    /// `increase`
+    Increasing,
+    /// A word of PDDL that is not read here, as `forall`.
+    Unread,
+    /// Any other name: a predicate.
+    Atom,
+    /// A word that is no name.
+    NoName,
+}
+
+fn is_unsupported(head: &str) -> bool
+    ensures { result ≡ is_one_of unsupported_heads head.now }
+{
+    head == "or"
+        || head == "imply"
+        || head == "forall"
+        || head == "exists"
+        || head == "when"
+        || head == "preference"
+        || head == "<"
+        || head == ">"
+        || head == "<="
+        || head == ">="
+        || head == "assign"
+        || head == "decrease"
+        || head == "scale-up"
+        || head == "scale-down"
+}
+
+fn other_beginning(head: &str) -> Beginning
+    ensures { result ≡ other_beginning head.now }
+{
+    if head == "not" {
+        return Beginning::Negation;
+    }
+    if is_unsupported(head) {
+        return Beginning::Unread;
+    }
+    match word_kind(head) {
+        WordKind::Name => Beginning::Atom,
+        WordKind::Dash | WordKind::Variable | WordKind::Other => Beginning::NoName,
+    }
+}
+
+/// What a list with this head is, in a setting. `and` and `=` are predicates like others in the initial state.
+pub fn beginning_of(setting: Setting, head: &str) -> Beginning
+    ensures { result ≡ beginning setting head.now }
+{
+    match setting {
+        Setting::InCondition if head == "and" => Beginning::Conjunction,
+        Setting::InCondition if head == "=" => Beginning::Equality,
+        Setting::InEffect if head == "and" => Beginning::Conjunction,
+        Setting::InEffect if head == "increase" => Beginning::Increasing,
+        _ => other_beginning(head),
+    }
+}

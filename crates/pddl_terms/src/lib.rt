@@ -1,0 +1,11 @@
+//! What every expression of a PDDL text is made of: terms, predicates and functions with their terms, and what the head
+//! of a list begins.
+#![tactic(auto)]
+
+mod beginning;
+mod scope;
+mod reading;
+
+pub use beginning::{Beginning, Setting, beginning_of};
+pub use scope::Scope;
+pub use reading::{lifted, term, terms};

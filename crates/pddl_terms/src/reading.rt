@@ -1,0 +1,144 @@
+//! Terms, and predicates and functions with their terms.
+
+ghost use Rattle.std.specs.Prelude.{◌≡◌, ℕ, List, Option, Some, IfOk, OnOk};
+ghost use Rattle.std.specs.Option.{option_map};
+ghost use Rattle.sexp.specs.Forms.{Forms, before, views};
+ghost use Rattle.pddl_syntax.specs.Faults.{first_of};
+ghost use Rattle.pddl_terms.specs.Terms as spec;
+
+use crate::scope::Scope;
+use pddl_syntax::{Fault, FaultKind, Heads, WordKind, blame, blame_if, word_kind};
+use planning::{LiftedAtom, Term};
+use sexp::Tree;
+use std::alloc::{AllocError, Global};
+
+/// A word as a term, if it is a declared variable or object.
+fn term_of(scope: &Scope, word: &str) -> Option<Term>
+    ensures { result ≡ spec.term_of scope.now word.now }
+{
+    match word_kind(word) {
+        WordKind::Variable => scope.variables.place_of(word).map(Term::Parameter),
+        WordKind::Name => scope.objects.place_of(word).map(Term::Object),
+        WordKind::Dash | WordKind::Other => None,
+    }
+}
+
+/// Notes the fault of a word where a term is wanted.
+#[tactic(auto, unfolding(pddl_syntax::specs::Faults::first_of))]
+fn blame_term(scope: &Scope, word: &str, at: usize, first: &mut Option<Fault>)
+    ensures { first.new ≡ first_of first.old (spec.term_faults scope.now at word.now) }
+{
+    match word_kind(word) {
+        WordKind::Variable => blame_if(
+            !scope.variables.contains(word),
+            first,
+            at,
+            FaultKind::UnknownName,
+        ),
+        WordKind::Name => blame_if(
+            !scope.objects.contains(word),
+            first,
+            at,
+            FaultKind::UnknownName,
+        ),
+        WordKind::Dash | WordKind::Other => blame(first, at, FaultKind::Shape),
+    }
+}
+
+/// A tree as a term.
+#[tactic(auto, using(sexp::proofs::Walking::walking, pddl_syntax::proofs::Trees::noting), unfolding(pddl_syntax::specs::Faults::first_of))]
+pub fn term(scope: &Scope, tree: &Tree, first: &mut Option<Fault>) -> Option<Term>
+    ensures meaning { (rest : Forms) → result ≡ spec.first_term scope.now (before tree.now rest) }
+    ensures faults { (rest : Forms) → first.new ≡ first_of first.old (spec.first_term_faults scope.now (before tree.now rest)) }
+{
+    match tree {
+        Tree::Word { text, span } => {
+            blame_term(scope, text.as_str(), span.start, first);
+            term_of(scope, text.as_str())
+        }
+        Tree::List { span, .. } => {
+            blame(first, span.start, FaultKind::Shape);
+            None
+        }
+    }
+}
+
+/// Reads terms and notes their faults. Where one is at fault there are none. An `Err` is of too little memory.
+#[tactic(auto, using(sexp::proofs::Walking::walking, pddl_syntax::proofs::Trees::noting, crate::proofs::TermSteps::steps, crate::proofs::TermSteps::reading), unfolding(pddl_syntax::specs::Faults::first_of))]
+pub fn terms(
+    alloc: Global,
+    scope: &Scope,
+    items: &[Tree],
+    first: &mut Option<Fault>,
+) -> Result<Option<Vec<Term>>, AllocError>
+    ensures meaning { IfOk result (λ ts. option_map (λ v. v.items) ts ≡ spec.terms scope.now (views items.now)) }
+    ensures faults { OnOk result (first.new ≡ first_of first.old (spec.terms_faults scope.now (views items.now))) }
+{
+    let mut terms = Vec::new(alloc);
+    let mut are_read = true;
+    for tree in items {
+        match term(scope, tree, first) {
+            Some(term) => terms.push(term)?,
+            None => are_read = false,
+        }
+    }
+    Ok(if are_read { Some(terms) } else { None })
+}
+
+/// A head by its number, with as many terms as it has parameters.
+fn lifted_of(
+    number: Option<usize>,
+    arity: Option<usize>,
+    terms: Option<Vec<Term>>,
+) -> Option<LiftedAtom>
+    ensures { result ≡ spec.lifted_of number arity (option_map (λ v. v.items) terms) }
+{
+    match (number, arity, terms) {
+        (Some(predicate), Some(arity), Some(terms)) if arity == terms.len() => {
+            Some(LiftedAtom { predicate, terms })
+        }
+        _ => None,
+    }
+}
+
+/// Notes that a head is not known, or has another number of parameters than it is given terms.
+#[tactic(auto, unfolding(pddl_syntax::specs::Faults::first_of))]
+fn blame_arity(
+    arity: Option<usize>,
+    home: usize,
+    head_at: usize,
+    given: usize,
+    first: &mut Option<Fault>,
+)
+    ensures { first.new ≡ first_of first.old (spec.arity_faults arity home head_at given) }
+{
+    match arity {
+        None => blame(first, head_at, FaultKind::UnknownName),
+        Some(arity) => blame_if(arity != given, first, home, FaultKind::Arity),
+    }
+}
+
+/// Reads a predicate or a function, one of the heads, with its terms, and notes their faults. The list around stands at
+/// the byte `home`, and the head at the byte `head_at`, both counted from 0.
+///
+/// F12 where a head or a term is not declared, F13 at the list where the head has another number of parameters, F10 where a
+/// term is of another form. An `Err` is of too little memory.
+#[tactic(auto, using(crate::proofs::TermSteps::count_views, pddl_syntax::proofs::Trees::noting), unfolding(pddl_syntax::specs::Faults::first_of))]
+pub fn lifted(
+    alloc: Global,
+    heads: &Heads,
+    scope: &Scope,
+    home: usize,
+    head: &str,
+    head_at: usize,
+    items: &[Tree],
+    first: &mut Option<Fault>,
+) -> Result<Option<LiftedAtom>, AllocError>
+    ensures meaning { IfOk result (λ a. a ≡ spec.lifted heads.now scope.now head.now (views items.now)) }
+    ensures faults { OnOk result (first.new ≡ first_of first.old (spec.lifted_faults heads.now scope.now home head_at head.now (views items.now))) }
+{
+    let arity = heads.arity_of(head);
+    blame_arity(arity, home, head_at, items.len(), first);
+    let terms = terms(alloc, scope, items, first)?;
+    Ok(lifted_of(heads.names().place_of(head), arity, terms))
+}

@@ -1,0 +1,28 @@
+//! What is declared where an expression stands.
+
+use names::Names;
+use pddl_syntax::Heads;
+use std::marker::Model;
+
+/// What an expression may name.
+#[derive(Drop)]
+pub struct Scope<'a> {
+    pub predicates: &'a Heads,
+    pub functions: &'a Heads,
+    /// The parameters of the action; none where no action is around.
+    pub variables: &'a Names,
+    pub objects: &'a Names,
+}
+
+impl<'a> Model for Scope<'a> {
+    ghost use Rattle.pddl_terms.specs.Terms as spec;
+
+    ghost Value = { spec.Scope };
+
+    ghost view = { λ s. record {
+      predicates = s.predicates.now;
+      functions = s.functions.now;
+      variables = s.variables.now;
+      objects = s.objects.now;
+    } };
+}

@@ -1,0 +1,5 @@
+pub mod Atoms
+pub mod Examples
+pub mod Lifted
+pub mod Planning
+pub mod Plans

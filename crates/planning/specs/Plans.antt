@@ -1,0 +1,43 @@
+-- The plans of a planning task: lists of ground actions, and the sets of atoms that they lead to.
+use Rattle.std.specs.Prelude.{◌≡◌, ℕ, ◌≤◌, Bool, true, ◌&&◌, ◌||◌, not, if◌then◌else◌, List, [], ◌∷◌, Option, Some, None, IsSomeAnd, sum_by, All}
+use Rattle.planning.specs.Atoms.{State, contains, satisfies}
+use Rattle.planning.specs.Planning.{PlanningTask, Action, IsActionOf}
+
+-- every literal of the action's precondition holds in the state
+abbrev pub is_applicable : State → Action → Bool
+is_applicable state a = satisfies state a.precondition
+
+-- the state without the deleted atoms, and with the added ones: an atom that is both is true
+abbrev pub next_state : State → Action → State
+next_state state a p = contains a.adds p || (state p && not (contains a.deletes p))
+
+-- the state after the actions, if each applies in turn
+abbrev pub state_after : State → List Action → Option State
+state_after state [] = Some state
+state_after state (a ∷ plan) = if is_applicable state a then state_after (next_state state a) plan else None
+
+-- each action applies in turn, and then every goal holds
+abbrev pub LeadsToGoal : PlanningTask → State → List Action → Type 0
+LeadsToGoal task state plan = IsSomeAnd (state_after state plan) (λ s. satisfies s task.goal ≡ true)
+
+-- ground actions of the task that lead from its initial atoms to a state that satisfies its goal
+pub record IsValidPlan (task : PlanningTask) (plan : List Action) : Type 0 where
+  pub actions : All (IsActionOf task) plan
+  pub goal : LeadsToGoal task (contains task.initial) plan
+
+-- the state is the one after some list of ground actions
+pub record IsReachedBy (task : PlanningTask) (plan : List Action) (state : State) : Type 0 where
+  pub actions : All (IsActionOf task) plan
+  pub run : state_after (contains task.initial) plan ≡ Some state
+
+-- the sum of the costs of the actions
+abbrev pub total_cost : List Action → ℕ
+total_cost plan = sum_by (λ a. a.cost) plan
+
+-- every valid plan costs at least this
+abbrev pub EveryValidPlanCostsAtLeast : PlanningTask → ℕ → Type 0
+EveryValidPlanCostsAtLeast task bound = (plan : List Action) → IsValidPlan task plan → bound ≤ total_cost plan
+
+-- no list of actions is a valid plan
+abbrev pub HasNoValidPlan : PlanningTask → Type 0
+HasNoValidPlan task = (plan : List Action) → IsValidPlan task plan → ⊥

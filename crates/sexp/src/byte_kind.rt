@@ -1,0 +1,35 @@
+//! What each byte is.
+
+ghost use Rattle.std.specs.Prelude.{◌≡◌};
+ghost use Rattle.sexp.specs.Bytes.{kind};
+
+/// What a byte is outside comments.
+#[derive(Clone, Copy, Debug, PartialEq, Eq)]
+pub enum ByteKind {
+    /// Tab, line feed, carriage return or space.
+    Blank,
+    /// A comment begins, and goes on to the next line feed or to the end of the text.
+    Semicolon,
+    /// `(`.
+    Open,
+    /// `)`.
+    Close,
+    /// Any other byte from 33 to 126.
+    Letter,
+    /// No byte of a text.
+    Strange,
+}
+
+/// The kind of a byte.
+pub fn kind_of(b: u8) -> ByteKind
+    ensures { result ≡ kind b }
+{
+    match b {
+        b'\t' | b'\n' | b'\r' | b' ' => ByteKind::Blank,
+        b';' => ByteKind::Semicolon,
+        b'(' => ByteKind::Open,
+        b')' => ByteKind::Close,
+        33..=126 => ByteKind::Letter,
+        _ => ByteKind::Strange,
+    }
+}

@@ -1,0 +1,1 @@
+(define (problem p) (:objects d) (:init) (:goal (in)))

@@ -1,0 +1,8 @@
+(define (domain drive)
+ (:requirements :typing)
+ (:types loc)
+ (:predicates (at ?x - loc) (road ?x ?y - loc))
+ (:functions (total-cost) - number (len ?x ?y - loc) - number)
+ (:action go :parameters (?x ?y - loc)
+  :precondition (and (at ?x) (road ?x ?y))
+  :effect (and (not (at ?x)) (at ?y) (increase (total-cost) (len ?x ?y)))))

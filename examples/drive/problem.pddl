@@ -1,0 +1,5 @@
+(define (problem d1) (:domain drive)
+ (:objects a b c - loc)
+ (:init (at a) (road a b) (road b c) (road a c)
+  (= (len a b) 3) (= (len b c) 4) (= (len a c) 8))
+ (:goal (at c)) (:metric minimize (total-cost)))

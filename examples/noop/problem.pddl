@@ -1,0 +1,1 @@
+(define (problem n1) (:domain other) (:init) (:goal (P)) (:metric minimize (total-cost))) ; end
