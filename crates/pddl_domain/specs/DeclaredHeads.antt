@@ -110,10 +110,12 @@ abbrev mutual
 
 -- ---- the state of the code, which wants an item or a number
 
+-- the heads with those of what is left, where a number is wanted or not
 abbrev pub heads_from : Bool → Heads → Forms → Heads
 heads_from false heads f = function_heads heads f
 heads_from true heads f = heads_behind heads f
 
+-- the faults of what is left, where a number is wanted or not
 abbrev pub faults_from : Bool → (List ℕ → Bool) → ℕ → Bool → Heads → ℕ → Forms → List Fault
 faults_from false known home empty heads count f = functions_faults known home empty heads count f
 faults_from true known home empty heads count f = faults_behind known home heads count f

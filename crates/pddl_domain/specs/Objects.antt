@@ -19,6 +19,7 @@ pub record Objects : Type 0 where
   pub texts : List (List ℕ)
   pub firsts : List (Option ℕ)
 
+-- none yet
 abbrev pub no_objects : Objects
 no_objects = record { names = []; types = []; texts = []; firsts = [] }
 
@@ -41,6 +42,7 @@ abbrev pub with_object : List (List ℕ) → Objects → Declared → Objects
 with_object types o d =
     with_entry (with_text o d.parent) d.name (number_of_type types d.parent) (option_map (number_of (with_parent o.texts d.parent)) d.parent)
 
+-- the objects with those of declarations
 abbrev pub objects_with : List (List ℕ) → Objects → List Declared → Objects
 objects_with types o [] = o
 objects_with types o (d ∷ ds) = objects_with types (with_object types o d) ds
@@ -53,6 +55,7 @@ first_text o t = option_and_then (λ n. option_and_then (λ text. text) (slice_g
 abbrev pub first_type : Objects → List ℕ → Option (List ℕ)
 first_type o t = option_and_then (slice_get o.texts) (first_text o t)
 
+-- two texts that are there and are different
 abbrev pub differs_text : Option (List ℕ) → Option (List ℕ) → Bool
 differs_text (Some a) (Some b) = not (same_text a b)
 differs_text (Some a) None = false

@@ -13,6 +13,7 @@ use Rattle.pddl_domain.specs.Cycles.{lies_on_cycle}
 
 -- ---- the meaning
 
+-- the names with that of a supertype, where it can be read
 abbrev pub with_parent : List (List ℕ) → Option (List ℕ) → List (List ℕ)
 with_parent names None = names
 with_parent names (Some t) = with_name names t
@@ -30,6 +31,7 @@ type_names ds = all_types (codes "object" ∷ []) ds
 abbrev pub numbered : List (List ℕ) → Declared → Subtype
 numbered names d = record { name = number_of names d.name; at = d.at; parent = option_map (number_of names) d.parent }
 
+-- the declarations of a section in numbers
 abbrev pub subtypes : List Declared → List Subtype
 subtypes ds = map (numbered (type_names ds)) ds
 
@@ -41,6 +43,7 @@ first_of_name ds n = find (λ d. d.name == n) ds
 abbrev pub first_parent : Option Subtype → ℕ
 first_parent first = option_map_or (λ d. unwrap_or d.parent 0) first 0
 
+-- the supertype of a type
 abbrev pub parent_of : List Subtype → ℕ → ℕ
 parent_of ds n = first_parent (first_of_name ds n)
 
@@ -54,6 +57,7 @@ supertypes ds = parents (subtypes ds) (length (type_names ds))
 
 -- ---- the faults
 
+-- two numbers that are there and are different
 abbrev pub differs : Option ℕ → Option ℕ → Bool
 differs (Some a) (Some b) = not (a == b)
 differs (Some a) None = false

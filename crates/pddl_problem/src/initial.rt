@@ -1,0 +1,286 @@
+//! The section of the initial state.
+
+ghost use Rattle.std.specs.Prelude.{◌≡◌, ◌++◌, ℕ, ◌+◌, List, [], false, option_to_list, IfOk, OnOk};
+ghost use Rattle.sexp.specs.Forms.{Forms, before, views, start_of};
+ghost use Rattle.pddl_syntax.specs.Faults.{first_of, fault, faults_if};
+ghost use Rattle.pddl_syntax.specs.declared.fault.Fault.{Fault as FaultAt};
+ghost use Rattle.pddl_syntax.specs.declared.fault.FaultKind.TheVariants.{TwiceDeclared as Twice};
+ghost use Rattle.pddl_problem.specs.Initial as spec;
+
+use crate::grounding::ground;
+use crate::value::{keep_value, read_value};
+use indexmap::IndexMap;
+use pddl_syntax::{Fault, FaultKind, LimitedTable, blame, blame_if, blame_more};
+use pddl_terms::{Beginning, Scope, Setting, beginning_of, lifted};
+use planning::{GroundAtom, LiftedAtom};
+use sexp::Tree;
+use std::alloc::{AllocError, Global};
+
+// The section may have so many items.
+const MOST_ITEMS: usize = 1_000_000;
+
+/// What an item of the section is by its head and the rest.
+#[derive(Clone, Copy, Debug, PartialEq, Eq)]
+pub enum ItemKind {
+    /// An atom that is true.
+    TrueAtom,
+    /// The value of a function.
+    Value,
+    /// An atom that is not true, which says nothing new.
+    Negated,
+    /// A form of PDDL that is not read here, as a timed literal.
+    NotRead,
+    /// A list whose head is no name.
+    Nothing,
+}
+
+/// What is true at first, and the values of functions.
+#[derive(Drop)]
+pub struct Initial {
+    /// The atoms that are true, in the order of the text.
+    pub atoms: Vec<GroundAtom>,
+    /// The value of each function at objects that is stated.
+    pub values: IndexMap<GroundAtom, u64>,
+}
+
+impl Initial {
+    fn new(alloc: Global) -> Initial
+        ensures atoms { result.atoms.items ≡ [] }
+        ensures values { result.values.entries ≡ [] }
+    {
+        Initial {
+            atoms: Vec::new(alloc),
+            values: IndexMap::new(alloc),
+        }
+    }
+
+    fn keep_atom(&mut self, alloc: Global, atom: Option<LiftedAtom>) -> Result<(), AllocError>
+        ensures atoms { OnOk result (self.new.atoms.items ≡ self.old.atoms.items ++ option_to_list (spec.atom_of atom)) }
+        ensures values { OnOk result (self.new.values.entries ≡ self.old.values.entries) }
+    {
+        if let Some(atom) = ground(alloc, atom)? {
+            self.atoms.push(atom)?;
+        }
+        Ok(())
+    }
+}
+
+#[tactic(auto, using(sexp::proofs::Walking::walking))]
+fn is_list(tree: &Tree, otherwise: bool) -> bool
+    ensures { (rest : Forms) → spec.ends_in_list result rest ≡ spec.ends_in_list otherwise (before tree.now rest) }
+{
+    match tree {
+        Tree::Word { .. } => false,
+        Tree::List { .. } => true,
+    }
+}
+
+/// Whether the last of the items is a list.
+#[tactic(auto, using(sexp::proofs::Walking::walking))]
+fn ends_in_list(items: &[Tree]) -> bool
+    ensures { result ≡ spec.ends_in_list false (views items.now) }
+{
+    let mut ends_in_list = false;
+    for item in items {
+        ends_in_list = is_list(item, ends_in_list);
+    }
+    ends_in_list
+}
+
+fn item_kind(head: &str, items: &[Tree]) -> ItemKind
+    ensures { result ≡ spec.item_kind head.now (views items.now) }
+{
+    match beginning_of(Setting::InInitial, head) {
+        Beginning::Negation => ItemKind::Negated,
+        Beginning::Unread => ItemKind::NotRead,
+        Beginning::NoName => ItemKind::Nothing,
+        _ if head == "=" => ItemKind::Value,
+        _ if head == "at" && ends_in_list(items) => ItemKind::NotRead,
+        _ => ItemKind::TrueAtom,
+    }
+}
+
+/// The negation of a list with a head, which stands at a place, behind the word `not` at another.
+#[tactic(auto, using(sexp::proofs::Walking::walking, pddl_syntax::proofs::Trees::noting), unfolding(pddl_syntax::specs::Faults::first_of))]
+fn blame_negated_list(
+    alloc: Global,
+    scope: &Scope,
+    home: usize,
+    not_at: usize,
+    head: &Tree,
+    terms: &[Tree],
+    first: &mut Option<Fault>,
+) -> Result<(), AllocError>
+    ensures { OnOk result (first.new ≡ first_of first.old (spec.negated_inside_faults scope.now not_at home (before head.now (views terms.now)))) }
+{
+    match head {
+        Tree::List { .. } => blame(first, not_at, FaultKind::Unsupported),
+        Tree::Word { text, span } => match beginning_of(Setting::InInitial, text.as_str()) {
+            Beginning::Atom => {
+                lifted(
+                    alloc,
+                    scope.predicates,
+                    scope,
+                    home,
+                    text.as_str(),
+                    span.start,
+                    terms,
+                    first,
+                )?;
+            }
+            _ => blame(first, not_at, FaultKind::Unsupported),
+        },
+    }
+    Ok(())
+}
+
+/// The negation of a tree, behind the word `not` at a place.
+#[tactic(auto, using(sexp::proofs::Walking::walking, pddl_syntax::proofs::Trees::noting), unfolding(pddl_syntax::specs::Faults::first_of))]
+fn blame_negated_tree(
+    alloc: Global,
+    scope: &Scope,
+    not_at: usize,
+    tree: &Tree,
+    first: &mut Option<Fault>,
+) -> Result<(), AllocError>
+    ensures { (rest : Forms) → OnOk result (first.new ≡ first_of first.old (spec.first_negated_faults scope.now not_at (before tree.now rest))) }
+{
+    match tree {
+        Tree::Word { .. } => blame(first, not_at, FaultKind::Unsupported),
+        Tree::List { items, span } => match items.as_slice() {
+            [] => blame(first, not_at, FaultKind::Unsupported),
+            [head, terms @ ..] => blame_negated_list(
+                alloc, scope, span.start, not_at, head, terms, first,
+            )?,
+        },
+    }
+    Ok(())
+}
+
+/// Notes the faults behind the word `not` at a place, in the list at another.
+#[tactic(auto, using(sexp::proofs::Walking::walking, pddl_syntax::proofs::Trees::noting, crate::proofs::Steps::negated_step), unfolding(pddl_syntax::specs::Faults::first_of))]
+fn blame_negated(
+    alloc: Global,
+    scope: &Scope,
+    home: usize,
+    not_at: usize,
+    items: &[Tree],
+    first: &mut Option<Fault>,
+) -> Result<(), AllocError>
+    ensures { OnOk result (first.new ≡ first_of first.old (spec.negated_item_faults scope.now home not_at (views items.now))) }
+{
+    match items {
+        [] => blame(first, home, FaultKind::Shape),
+        [one, more @ ..] => {
+            blame_negated_tree(alloc, scope, not_at, one, first)?;
+            blame_more(more, first);
+        }
+    }
+    Ok(())
+}
+
+/// Reads a list with a head, which stands at a place.
+#[tactic(auto, using(sexp::proofs::Walking::walking, pddl_syntax::proofs::Trees::noting, crate::proofs::Steps::appending), unfolding(pddl_syntax::specs::Faults::first_of))]
+fn headed(
+    alloc: Global,
+    scope: &Scope,
+    home: usize,
+    head: &Tree,
+    parts: &[Tree],
+    state: &mut Initial,
+    first: &mut Option<Fault>,
+) -> Result<(), AllocError>
+    ensures atoms { OnOk result (state.new.atoms.items ≡ state.old.atoms.items ++ option_to_list (spec.atom_inside scope.now (before head.now (views parts.now)))) }
+    ensures values { OnOk result (
+        spec.values_of state.new.values.entries ≡ spec.with_value (spec.values_of state.old.values.entries) (spec.value_inside scope.now (before head.now (views parts.now)))) }
+    ensures faults { (fs : List FaultAt) → OnOk result (
+        first_of first.old (spec.inside_faults scope.now home (before head.now (views parts.now))
+        ++ faults_if (spec.is_restated (spec.values_of state.old.values.entries) (spec.value_inside scope.now (before head.now (views parts.now)))) (fault Twice home) fs)
+        ≡ first_of first.new fs) }
+{
+    match head {
+        Tree::List { span, .. } => blame(first, span.start, FaultKind::Shape),
+        Tree::Word { text, span } => match item_kind(text.as_str(), parts) {
+            ItemKind::Negated => blame_negated(alloc, scope, home, span.start, parts, first)?,
+            ItemKind::NotRead => blame(first, span.start, FaultKind::Unsupported),
+            ItemKind::Nothing => blame(first, span.start, FaultKind::Shape),
+            ItemKind::Value => {
+                let stated = read_value(alloc, scope, home, parts, first)?;
+                keep_value(&mut state.values, stated, home, first)?
+            }
+            ItemKind::TrueAtom => {
+                let atom = lifted(
+                    alloc,
+                    scope.predicates,
+                    scope,
+                    home,
+                    text.as_str(),
+                    span.start,
+                    parts,
+                    first,
+                )?;
+                state.keep_atom(alloc, atom)?
+            }
+        },
+    }
+    Ok(())
+}
+
+/// Reads a tree as an item, adds what it means, and notes its faults.
+#[tactic(auto, using(sexp::proofs::Walking::walking, pddl_syntax::proofs::Trees::noting, crate::proofs::Steps::appending), unfolding(pddl_syntax::specs::Faults::first_of))]
+fn read_item(
+    alloc: Global,
+    scope: &Scope,
+    tree: &Tree,
+    state: &mut Initial,
+    first: &mut Option<Fault>,
+) -> Result<(), AllocError>
+    ensures atoms { (rest : Forms) → OnOk result (
+        state.old.atoms.items ++ spec.initial_atoms scope.now (before tree.now rest) ≡ state.new.atoms.items ++ spec.initial_atoms scope.now rest) }
+    ensures values { (rest : Forms) → OnOk result (
+        spec.stated_values scope.now (spec.values_of state.old.values.entries) (before tree.now rest)
+        ≡ spec.stated_values scope.now (spec.values_of state.new.values.entries) rest) }
+    ensures faults { (n : ℕ) (rest : Forms) → OnOk result (
+        first_of first.old (spec.initial_faults scope.now n (spec.values_of state.old.values.entries) (before tree.now rest))
+        ≡ first_of first.new (spec.past_limit n (start_of (before tree.now rest)) (spec.initial_faults scope.now (n + 1) (spec.values_of state.new.values.entries) rest))) }
+{
+    match tree {
+        Tree::Word { span, .. } => blame(first, span.start, FaultKind::Shape),
+        Tree::List { items, span } => match items.as_slice() {
+            [] => blame(first, span.start, FaultKind::Shape),
+            [head, parts @ ..] => headed(alloc, scope, span.start, head, parts, state, first)?,
+        },
+    }
+    Ok(())
+}
+
+/// Reads the items of the section `:init` behind its head, and notes their faults. What cannot be read means nothing.
+///
+/// An item is an atom, the negation of one, which means nothing, or `(= function number)`, of which the first for a term
+/// counts (McDermott and others 1998; Fox and Long 2003). F10 is an item of another form; F11 a form of PDDL that is not
+/// read, as a timed literal, or a total cost above 0; F12 a name that is not declared; F13 one with another number of
+/// objects; F14 a second value for a term; F16 and F17 a number with a fraction, or out of range; F18 the item
+/// 1,000,001. An `Err` is of too little memory.
+#[tactic(auto, using(sexp::proofs::Walking::walking), unfolding(pddl_syntax::specs::Faults::first_of))]
+pub fn initial_section(
+    alloc: Global,
+    scope: &Scope,
+    items: &[Tree],
+    first: &mut Option<Fault>,
+) -> Result<Initial, AllocError>
+    ensures atoms { IfOk result (λ i. i.atoms.items ≡ spec.initial_atoms scope.now (views items.now)) }
+    ensures values { IfOk result (λ i. spec.values_of i.values.entries ≡ spec.stated_values scope.now [] (views items.now)) }
+    ensures faults { OnOk result (first.new ≡ first_of first.old (spec.initial_faults scope.now 0 [] (views items.now))) }
+{
+    let mut state = Initial::new(alloc);
+    for (count, item) in items.iter().enumerate() {
+        read_item(alloc, scope, item, &mut state, first)?;
+        blame_if(
+            count == MOST_ITEMS,
+            first,
+            item.span().start,
+            FaultKind::Limit(LimitedTable::Init),
+        );
+    }
+    Ok(state)
+}

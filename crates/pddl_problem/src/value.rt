@@ -1,0 +1,295 @@
+//! Initial values of functions.
+
+ghost use Rattle.std.specs.Prelude.{◌≡◌, not, List, IfOk, OnOk};
+ghost use Rattle.sexp.specs.Forms.{Forms, before, views};
+ghost use Rattle.pddl_syntax.specs.Faults.{first_of, fault, faults_if};
+ghost use Rattle.pddl_syntax.specs.declared.fault.Fault.{Fault as FaultAt};
+ghost use Rattle.pddl_syntax.specs.declared.fault.FaultKind.TheVariants.{TwiceDeclared as Twice};
+ghost use Rattle.pddl_syntax.specs.Words.{word_kind};
+ghost use Rattle.pddl_syntax.specs.Numbers.{number_of};
+ghost use Rattle.pddl_terms.specs.Terms.{is_total_cost, not_empty};
+ghost use Rattle.pddl_problem.specs.Initial as spec;
+
+use crate::grounding::ground;
+use indexmap::IndexMap;
+use pddl_syntax::{
+    Fault, FaultKind, Number, WordKind, blame, blame_if, blame_more, number_of, word_kind,
+};
+use pddl_terms::{Scope, lifted};
+use planning::GroundAtom;
+use sexp::Tree;
+use std::alloc::{AllocError, Global};
+use std::marker::Model;
+
+/// The initial value of a function at objects.
+#[derive(Drop)]
+pub struct StatedValue {
+    pub function: GroundAtom,
+    pub value: u64,
+}
+
+impl Model for StatedValue {
+    ghost use Rattle.planning.specs.Planning.{FunctionValue};
+
+    ghost Value = { FunctionValue };
+
+    ghost view = { λ v. record { function = v.function; value = v.value } };
+}
+
+/// A word at a place where a number is wanted.
+#[tactic(auto, unfolding(pddl_syntax::specs::Faults::first_of))]
+fn number_word(word: &str, at: usize, first: &mut Option<Fault>) -> Option<u64>
+    ensures meaning { result ≡ spec.whole (number_of word.now) }
+    ensures faults { first.new ≡ first_of first.old (spec.number_word_faults at (number_of word.now)) }
+{
+    match number_of(word) {
+        Number::Whole(n) => Some(n),
+        Number::Fraction => {
+            blame(first, at, FaultKind::NotWhole);
+            None
+        }
+        Number::OutOfRange => {
+            blame(first, at, FaultKind::CostRange);
+            None
+        }
+        Number::NoNumber => {
+            blame(first, at, FaultKind::Shape);
+            None
+        }
+    }
+}
+
+/// A tree as a whole number.
+#[tactic(auto, using(sexp::proofs::Walking::walking, pddl_syntax::proofs::Trees::noting), unfolding(pddl_syntax::specs::Faults::first_of))]
+fn number(tree: &Tree, first: &mut Option<Fault>) -> Option<u64>
+    ensures meaning { (rest : Forms) → result ≡ spec.first_number (before tree.now rest) }
+    ensures faults { (rest : Forms) → first.new ≡ first_of first.old (spec.first_number_faults (before tree.now rest)) }
+{
+    match tree {
+        Tree::Word { text, span } => number_word(text.as_str(), span.start, first),
+        Tree::List { span, .. } => {
+            blame(first, span.start, FaultKind::Shape);
+            None
+        }
+    }
+}
+
+/// A whole number, alone, in the list at a place.
+#[tactic(auto, using(sexp::proofs::Walking::walking, pddl_syntax::proofs::Trees::noting, crate::proofs::Steps::numbers), unfolding(pddl_syntax::specs::Faults::first_of))]
+fn number_alone(home: usize, items: &[Tree], first: &mut Option<Fault>) -> Option<u64>
+    ensures meaning { result ≡ spec.number_alone (views items.now) }
+    ensures faults { first.new ≡ first_of first.old (spec.number_faults home (views items.now)) }
+{
+    match items {
+        [] => {
+            blame(first, home, FaultKind::Shape);
+            None
+        }
+        [one] => number(one, first),
+        [one, extra, ..] => {
+            number(one, first);
+            blame(first, extra.span().start, FaultKind::Shape);
+            None
+        }
+    }
+}
+
+/// Whether a tree is a whole number above 0.
+#[tactic(auto, using(sexp::proofs::Walking::walking))]
+fn is_positive_number(tree: &Tree) -> bool
+    ensures { (rest : Forms) → result ≡ spec.is_positive (before tree.now rest) }
+{
+    match tree {
+        Tree::Word { text, .. } => match number_of(text.as_str()) {
+            Number::Whole(n) => n != 0,
+            Number::Fraction | Number::OutOfRange | Number::NoNumber => false,
+        },
+        Tree::List { .. } => false,
+    }
+}
+
+/// Whether a whole number above 0 stands first.
+#[tactic(auto, using(sexp::proofs::Walking::walking))]
+fn is_positive(items: &[Tree]) -> bool
+    ensures { result ≡ spec.is_positive (views items.now) }
+{
+    match items {
+        [] => false,
+        [one, ..] => is_positive_number(one),
+    }
+}
+
+pub fn is_total_cost(word: &str) -> bool
+    ensures { result ≡ is_total_cost word.now }
+{
+    word == "total-cost"
+}
+
+/// Whether there is nothing in the list.
+#[tactic(auto, using(sexp::proofs::Walking::walking, crate::proofs::Steps::not_empty_before))]
+pub fn is_nothing(items: &[Tree]) -> bool
+    ensures { result ≡ not (not_empty (views items.now)) }
+{
+    match items {
+        [] => true,
+        [_one, ..] => false,
+    }
+}
+
+/// A function's word at a place with its terms, in the list at another, and what stands behind it. The total cost has no
+/// value of its own: it may be stated as 0.
+#[tactic(auto, using(pddl_syntax::proofs::Trees::noting), unfolding(pddl_syntax::specs::Faults::first_of))]
+fn function_term(
+    alloc: Global,
+    scope: &Scope,
+    home: usize,
+    word: &str,
+    at: usize,
+    terms: &[Tree],
+    behind: &[Tree],
+    first: &mut Option<Fault>,
+) -> Result<Option<GroundAtom>, AllocError>
+    ensures meaning { IfOk result (λ a. a ≡ spec.function_by_kind scope.now word.now (views terms.now) (word_kind word.now)) }
+    ensures faults { OnOk result (first.new ≡ first_of first.old (spec.function_faults scope.now home at word.now (views terms.now) (views behind.now) (word_kind word.now))) }
+{
+    if word_kind(word) != WordKind::Name {
+        blame(first, at, FaultKind::Shape);
+        return Ok(None);
+    }
+    if is_total_cost(word) {
+        blame_if(!is_nothing(terms), first, home, FaultKind::Arity);
+        blame_if(is_positive(behind), first, at, FaultKind::Unsupported);
+        return Ok(None);
+    }
+    let function = lifted(alloc, scope.functions, scope, home, word, at, terms, first)?;
+    ground(alloc, function)
+}
+
+/// A list with a head, at a place, as a function with its terms.
+#[tactic(auto, using(sexp::proofs::Walking::walking, pddl_syntax::proofs::Trees::noting), unfolding(pddl_syntax::specs::Faults::first_of))]
+fn function_list(
+    alloc: Global,
+    scope: &Scope,
+    home: usize,
+    head: &Tree,
+    terms: &[Tree],
+    behind: &[Tree],
+    first: &mut Option<Fault>,
+) -> Result<Option<GroundAtom>, AllocError>
+    ensures meaning { IfOk result (λ a. a ≡ spec.function_inside scope.now (before head.now (views terms.now))) }
+    ensures faults { OnOk result (first.new ≡ first_of first.old (spec.function_inside_faults scope.now home (views behind.now) (before head.now (views terms.now)))) }
+{
+    match head {
+        Tree::List { span, .. } => {
+            blame(first, span.start, FaultKind::Shape);
+            Ok(None)
+        }
+        Tree::Word { text, span } => function_term(
+            alloc,
+            scope,
+            home,
+            text.as_str(),
+            span.start,
+            terms,
+            behind,
+            first,
+        ),
+    }
+}
+
+/// A tree as a function with its terms, and what stands behind it.
+#[tactic(auto, using(sexp::proofs::Walking::walking, pddl_syntax::proofs::Trees::noting), unfolding(pddl_syntax::specs::Faults::first_of))]
+fn function(
+    alloc: Global,
+    scope: &Scope,
+    tree: &Tree,
+    behind: &[Tree],
+    first: &mut Option<Fault>,
+) -> Result<Option<GroundAtom>, AllocError>
+    ensures meaning { (rest : Forms) → IfOk result (λ a. a ≡ spec.first_function scope.now (before tree.now rest)) }
+    ensures faults { OnOk result (first.new ≡ first_of first.old (spec.first_function_faults scope.now (before tree.now (views behind.now)))) }
+{
+    match tree {
+        Tree::Word { text, span } => function_term(
+            alloc,
+            scope,
+            span.start,
+            text.as_str(),
+            span.start,
+            &[],
+            behind,
+            first,
+        ),
+        Tree::List { items, span } => match items.as_slice() {
+            [] => {
+                blame(first, span.start, FaultKind::Shape);
+                Ok(None)
+            }
+            [head, terms @ ..] => function_list(
+                alloc, scope, span.start, head, terms, behind, first,
+            ),
+        },
+    }
+}
+
+fn value_by(function: Option<GroundAtom>, number: Option<u64>) -> Option<StatedValue>
+    ensures { result ≡ spec.value_by function number }
+{
+    match (function, number) {
+        (Some(function), Some(value)) => Some(StatedValue { function, value }),
+        _ => None,
+    }
+}
+
+/// Reads `(= function number)`, where the word `=` stands before the items, in the list at a place.
+#[tactic(auto, using(sexp::proofs::Walking::walking, pddl_syntax::proofs::Trees::noting, crate::proofs::Steps::values), unfolding(pddl_syntax::specs::Faults::first_of))]
+pub fn read_value(
+    alloc: Global,
+    scope: &Scope,
+    home: usize,
+    items: &[Tree],
+    first: &mut Option<Fault>,
+) -> Result<Option<StatedValue>, AllocError>
+    ensures meaning { IfOk result (λ v. v ≡ spec.stated scope.now (views items.now)) }
+    ensures faults { OnOk result (first.new ≡ first_of first.old (spec.value_faults scope.now home (views items.now))) }
+{
+    match items {
+        [] => {
+            blame(first, home, FaultKind::Shape);
+            Ok(None)
+        }
+        [one, behind @ ..] => {
+            let function = function(alloc, scope, one, behind, first)?;
+            let number = number_alone(home, behind, first);
+            Ok(value_by(function, number))
+        }
+    }
+}
+
+/// Adds a value, where there is one, unless the term has a value; notes one that differs, stated in the list at a place.
+#[tactic(auto, using(crate::proofs::Values::kept_values), unfolding(pddl_syntax::specs::Faults::first_of))]
+pub fn keep_value(
+    values: &mut IndexMap<GroundAtom, u64>,
+    stated: Option<StatedValue>,
+    home: usize,
+    first: &mut Option<Fault>,
+) -> Result<(), AllocError>
+    ensures values { OnOk result (spec.values_of values.new.entries ≡ spec.with_value (spec.values_of values.old.entries) stated) }
+    ensures faults { (fs : List FaultAt) → OnOk result (
+        first_of first.old (faults_if (spec.is_restated (spec.values_of values.old.entries) stated) (fault Twice home) fs) ≡ first_of first.new fs) }
+{
+    if let Some(stated) = stated {
+        match values.get(&stated.function) {
+            Some(known) => blame_if(
+                *known != stated.value,
+                first,
+                home,
+                FaultKind::TwiceDeclared,
+            ),
+            None => {
+                values.insert(stated.function, stated.value)?;
+            }
+        }
+    }
+    Ok(())
+}

@@ -1,0 +1,5 @@
+pub mod PlanLaws
+pub mod CostLaws
+pub mod StateLaws
+pub mod VerdictLaws
+pub mod VerdictTheorem

@@ -1,0 +1,6 @@
+pub mod Steps
+pub mod PlanTexts
+pub mod States
+pub mod Verdicts
+pub mod Validation
+pub mod Written

@@ -1,0 +1,17 @@
+-- The set of the true atoms, as the code holds it.
+use Rattle.std.specs.Prelude.{◌||◌, ◌&&◌, not}
+use Rattle.std.specs.HashSet.{contains as has}
+use Rattle.planning.specs.Atoms.{Atom, State, same_atom}
+use Rattle.validate.specs.declared.state.AtomSet.{AtomSet}
+
+-- the set as a test
+abbrev pub holds_in : AtomSet → State
+holds_in s p = has same_atom s.atoms p
+
+-- with one atom more
+abbrev pub added : State → Atom → State
+added state q p = same_atom p q || state p
+
+-- without an atom
+abbrev pub without : State → Atom → State
+without state q p = state p && not (same_atom p q)

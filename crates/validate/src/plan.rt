@@ -1,0 +1,94 @@
+//! Plans by their words.
+
+ghost use Rattle.std.specs.Prelude.{◌≡◌, ◌≤◌, length};
+ghost use Rattle.validate.specs.declared.plan.PlanFault.TheVariants.{OutOfMemory};
+
+use sexp::SexpFault;
+use std::alloc::{AllocError, AllocFailed};
+use std::marker::Model;
+use thiserror::Error;
+
+/// A step of a plan: the name of an action schema, and the names of the objects for its parameters, in lower case.
+#[derive(Debug, Drop)]
+pub struct Step {
+    pub name: String,
+    pub arguments: Vec<String>,
+}
+
+impl Model for Step {
+    ghost use Rattle.std.specs.Prelude.{string_bytes};
+    ghost use Rattle.names.specs.Names.{texts_of};
+    ghost use Rattle.validate.specs.Steps.{Step as Words};
+
+    ghost Value = { Words };
+
+    ghost view = { λ s. record { name = string_bytes s.name; arguments = texts_of s.arguments.items } };
+}
+
+/// A plan: its steps in order, as many as a plan may have, 1,048,576 at most.
+#[derive(Debug, Drop)]
+pub struct Plan {
+    steps: Vec<Step>,
+}
+
+impl Model for Plan {
+    ghost use Rattle.std.specs.Prelude.{List, ◌≤◌, length};
+    ghost use Rattle.validate.specs.Steps.{Step as Words};
+    ghost use Rattle.validate.specs.PlanTexts.{step_limit};
+
+    ghost Value = { List Words };
+
+    ghost view = { λ p. p.steps.items };
+
+    ghost invariant = { λ p. length p.steps.items ≤ step_limit };
+}
+
+/// Why a text is no plan.
+#[derive(Clone, Copy, Debug, PartialEq, Eq, Error)]
+pub enum PlanFault {
+    #[error("out of memory")]
+    OutOfMemory,
+    /// The text is no list of expressions.
+    #[error("{0}")]
+    Tree(SexpFault),
+    /// F25: a word outside a list, an empty list, or a list inside one, at a byte counted from 0.
+    #[error("at byte {0} stands something else than a list of words")]
+    PlanShape(usize),
+    /// F26: more than 1,048,576 steps.
+    #[error("the plan has too many steps")]
+    PlanLimit,
+}
+
+impl From<AllocError> for PlanFault {
+    ghost from_gives = { λ _ e. e ≡ OutOfMemory };
+
+    fn from(_e: AllocError) -> PlanFault {
+        PlanFault::OutOfMemory
+    }
+}
+
+impl<T: Drop> From<AllocFailed<T>> for PlanFault {
+    ghost from_gives = { λ _ e. e ≡ OutOfMemory };
+
+    fn from(_e: AllocFailed<T>) -> PlanFault {
+        PlanFault::OutOfMemory
+    }
+}
+
+impl Plan {
+    /// The plan of these steps.
+    pub fn new(steps: Vec<Step>) -> Plan
+        requires { length steps.items ≤ 1048576 }
+        ensures { result ≡ steps.items }
+    {
+        Plan { steps }
+    }
+
+    /// The steps in order.
+    pub fn steps(&self) -> &[Step]
+        ensures steps { result.now ≡ self.now }
+        ensures few { length self.now ≤ 1048576 }
+    {
+        &self.steps
+    }
+}
