@@ -67,10 +67,11 @@ impl Heads {
         Ok(())
     }
 
-    /// The names, where the numbers of parameters are no longer wanted.
-    pub fn into_names(self) -> Names
-        ensures { result ≡ self.names }
+    /// The names and the numbers of parameters, where no more heads come.
+    pub fn into_parts(self) -> (Names, Vec<usize>)
+        ensures names { result.0 ≡ self.names }
+        ensures arities { result.1.items ≡ self.arities }
     {
-        self.names
+        (self.names, self.arities)
     }
 }
