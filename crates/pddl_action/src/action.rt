@@ -10,18 +10,17 @@ ghost use Rattle.pddl_action.specs.Effects.{effects, increases};
 ghost use Rattle.pddl_action.specs.Keywords as keywords;
 ghost use Rattle.pddl_action.specs.Actions as spec;
 
-use pddl_terms::Setting;
 use crate::condition::read_condition;
 use crate::effect::{Effects, read_effect};
 use crate::keyword::{Keyword, Part, find_part, items_of, parts, start_of};
 use crate::literal::{Places, add_places};
 use crate::scope::Declarations;
-use pddl_terms::Scope;
 use names::Names;
 use pddl_syntax::{
     Fault, FaultKind, LimitedTable, Parameters, Section, Types, WordKind, blame, blame_if,
     parameters_list, word_kind,
 };
+use pddl_terms::{Scope, Setting};
 use planning::{ActionSchema, Condition};
 use sexp::Tree;
 use std::alloc::{AllocError, Global};

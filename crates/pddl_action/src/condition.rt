@@ -5,11 +5,9 @@ ghost use Rattle.sexp.specs.Forms.{Forms, before, views, group};
 ghost use Rattle.pddl_syntax.specs.Faults.{first_of};
 ghost use Rattle.pddl_action.specs.Conditions as spec;
 
-use pddl_terms::{Beginning, Setting, beginning_of};
 use crate::negation::{equality, negated};
-use pddl_terms::Scope;
-use pddl_terms::lifted;
 use pddl_syntax::{Fault, FaultKind, blame};
+use pddl_terms::{Beginning, Scope, Setting, beginning_of, lifted};
 use planning::Condition;
 use sexp::Tree;
 use std::alloc::{AllocError, Global};

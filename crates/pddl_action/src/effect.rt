@@ -7,12 +7,10 @@ ghost use Rattle.sexp.specs.Forms.{Forms, before, views, group};
 ghost use Rattle.pddl_syntax.specs.Faults.{first_of};
 ghost use Rattle.pddl_action.specs.Effects as spec;
 
-use pddl_terms::{Beginning, Setting, beginning_of};
 use crate::increase::read_increase;
 use crate::negation::negated;
-use pddl_terms::Scope;
-use pddl_terms::lifted;
 use pddl_syntax::{Fault, FaultKind, blame};
+use pddl_terms::{Beginning, Scope, Setting, beginning_of, lifted};
 use planning::{Condition, Increase, LiftedAtom, LiftedEffect};
 use sexp::Tree;
 use std::alloc::{AllocError, Global};

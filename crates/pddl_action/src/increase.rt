@@ -7,11 +7,10 @@ ghost use Rattle.pddl_syntax.specs.Words.{word_kind};
 ghost use Rattle.pddl_syntax.specs.Numbers.{number_of};
 ghost use Rattle.pddl_action.specs.Effects as spec;
 
-use pddl_terms::Scope;
-use pddl_terms::lifted;
 use pddl_syntax::{
     Fault, FaultKind, Number, WordKind, blame, blame_if, blame_more, number_of, word_kind,
 };
+use pddl_terms::{Scope, lifted};
 use planning::Increase;
 use sexp::Tree;
 use std::alloc::{AllocError, Global};

@@ -6,11 +6,9 @@ ghost use Rattle.pddl_syntax.specs.Faults.{first_of};
 ghost use Rattle.pddl_terms.specs.Terms.{terms};
 ghost use Rattle.pddl_action.specs.Conditions as spec;
 
-use pddl_terms::{Beginning, Setting, beginning_of};
 use crate::keyword::start_of;
-use pddl_terms::Scope;
-use pddl_terms::{lifted, term};
 use pddl_syntax::{Fault, FaultKind, blame, blame_more};
+use pddl_terms::{Beginning, Scope, Setting, beginning_of, lifted, term};
 use planning::{Condition, Term};
 use sexp::Tree;
 use std::alloc::{AllocError, Global};

@@ -3,9 +3,9 @@
 #![tactic(auto)]
 
 mod beginning;
-mod scope;
 mod reading;
+mod scope;
 
 pub use beginning::{Beginning, Setting, beginning_of};
-pub use scope::Scope;
 pub use reading::{lifted, term, terms};
+pub use scope::Scope;
