@@ -1,4 +1,4 @@
-//! What is declared where an expression stands.
+//! What a domain declares for its actions.
 
 ghost use Rattle.std.specs.Prelude.{◌≡◌};
 

@@ -9,3 +9,6 @@ mod scope;
 pub use beginning::{Beginning, Setting, beginning_of};
 pub use reading::{lifted, term, terms};
 pub use scope::Scope;
+
+#[cfg(test)]
+mod tests;
