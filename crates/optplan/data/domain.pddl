@@ -1,0 +1,7 @@
+(define (domain road)
+ (:requirements :typing)
+ (:types loc)
+ (:predicates (at ?x - loc) (road ?x ?y - loc))
+ (:action go :parameters (?x ?y - loc)
+  :precondition (and (at ?x) (road ?x ?y))
+  :effect (and (not (at ?x)) (at ?y))))
