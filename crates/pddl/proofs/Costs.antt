@@ -1,5 +1,5 @@
 -- What the actions of a task cost at most, where no schema's sum is too great.
-use Rattle.std.proofs.Common.{◌≡◌, ℕ, zero, suc, ◌≤◌, ◌<◌, ◌+◌, Bool, true, false, cond, List, [], ◌∷◌, length, refl, sym, ap, subst, ◌∙◌, arith}
+use Rattle.std.proofs.Common.{◌≡◌, ℕ, zero, suc, ◌≤◌, Bool, true, false, cond, List, [], ◌∷◌, length, refl, ap, subst, arith}
 use Rattle.std.specs.Prelude.{Option, Some, None, ◌==◌, ◌&&◌, nat_lt, if◌then◌else◌, find, slice_get, sum_by, unwrap_or}
 use Rattle.std.specs.Option.{option_map}
 use Rattle.std.proofs.lemmas.Bool.Decides.{nat_tests}
@@ -9,13 +9,12 @@ use Rattle.planning.specs.Atoms.{Atom, Literal, same_atom}
 use Rattle.planning.specs.declared.schema.Increase.{Increase}
 use Rattle.planning.specs.declared.schema.Increase.TheVariants.{Amount, Value}
 use Rattle.planning.specs.Planning.{PlanningTask, Schema, FunctionValue, Action, IsActionOf, has_instance, value_of, ground_atom, cost_of_schema, sum_of_increases}
-use Rattle.planning.specs.Lifted.{Lifted}
 use Rattle.planning.proofs.AtomLaws.{same_atom_true}
 use Rattle.pddl_syntax.specs.declared.fault.Fault.{Fault}
 use Rattle.pddl_syntax.specs.declared.fault.FaultKind.TheVariants.{CostRange}
 use Rattle.pddl_syntax.specs.Faults.{fault, faults_if, first_of}
 use Rattle.pddl_syntax.proofs.Firsts.{none_kept}
-use Rattle.pddl.specs.Sums.{greater_of, greatest_value, most_of, most_cost, sum_faults}
+use Rattle.pddl.specs.Sums.{greater_of, greatest_value, most_of, sum_faults, stated_sum_faults}
 use Rattle.pddl.specs.Texts.{sums_pass}
 
 greater_by : (b : Bool) (value known : ℕ) → known ≤ (if b && nat_lt known value then value else known)
@@ -76,18 +75,19 @@ rest_nil : (b : Bool) (f : Fault) (fs : List Fault) → faults_if b f fs ≡ [] 
 rest_nil true f fs e = absurd cc
 rest_nil false f fs e = e
 
-each_within : (values : List FunctionValue) (schemas : List Schema) (places : List ℕ) → length schemas ≡ length places → sum_faults values schemas places ≡ []
-    → (i : ℕ) (s : Schema) → slice_get schemas i ≡ Some s → nat_lt 2147483647 (most_cost values s.increases) ≡ false
+each_within : (values : List FunctionValue) (schemas : List Schema) (places : List ℕ) → length schemas ≡ length places → sum_faults (most_of values) schemas places ≡ []
+    → (i : ℕ) (s : Schema) → slice_get schemas i ≡ Some s → nat_lt 2147483647 (sum_by (most_of values) s.increases) ≡ false
 each_within values [] places long none i s at = absurd cc
 each_within values (r ∷ schemas) [] long none i s at = absurd (omega (arith, long))
 each_within values (r ∷ schemas) (place ∷ places) long none zero s at =
     let same : r ≡ s = cc in
-    subst (λ (x : Schema). nat_lt 2147483647 (most_cost values x.increases) ≡ false) same (fault_not_nil _ (fault CostRange place) _ none)
+    subst (λ (x : Schema). nat_lt 2147483647 (sum_by (most_of values) x.increases) ≡ false) same (fault_not_nil _ (fault CostRange place) _ none)
 each_within values (r ∷ schemas) (place ∷ places) long none (suc i) s at =
     each_within values schemas places (omega (arith, long)) (rest_nil _ (fault CostRange place) _ none) i s at
 
 sums_nil : (metric : Bool) (values : List FunctionValue) (schemas : List Schema) (places : List ℕ) → first_of None (sums_pass metric values schemas places).faults ≡ None
-    → metric ≡ true → sum_faults values schemas places ≡ []
+    → metric ≡ true → sum_faults (most_of values) schemas places ≡ []
+unfolding stated_sum_faults
 sums_nil true values schemas places clean is = none_kept _ clean
 sums_nil false values schemas places clean is = absurd cc
 
@@ -110,7 +110,7 @@ costs_within task places long clean a h =
         let same : record { schema = a.schema; objects = a.objects; precondition = precondition; adds = adds; deletes = deletes; cost = cost_of_schema task a.objects schema.increases } ≡ a = cc in
         let cost : cost_of_schema task a.objects schema.increases ≡ a.cost = ap (λ (x : Action). x.cost) same in
         let sum = sum_by-le-sum_by (λ (i : Increase). unwrap_or (value_of task a.objects i) 0) (most_of task.values) schema.increases (value_within task a.objects) in
-        let bound = cost_by task.metric (sum_of_increases task a.objects schema.increases) (most_cost task.values schema.increases) (λ m. sum)
+        let bound = cost_by task.metric (sum_of_increases task a.objects schema.increases) (sum_by (most_of task.values) schema.increases) (λ m. sum)
         (λ m. each_within task.values task.schemas places long (sums_nil task.metric task.values task.schemas places clean m) a.schema schema at) in
         subst (λ (n : ℕ). n ≤ 2147483647) cost bound
     go schema at false precondition adds deletes e = absurd cc

@@ -1,5 +1,5 @@
 -- Which two texts spell which planning task, and which fault goes first where they spell none.
-use Rattle.std.specs.Prelude.{◌≡◌, ◌≢◌, ℕ, ◌⊎◌, Bool, true, false, if◌then◌else◌, is_some, List, [], ◌∷◌, ◌++◌, map, Option, Some, None, codes}
+use Rattle.std.specs.Prelude.{◌≡◌, ℕ, ◌⊎◌, Bool, true, false, if◌then◌else◌, is_some, List, [], ◌∷◌, ◌++◌, map, Option, Some, None, codes}
 use Rattle.sexp.specs.Forms.{Forms, IsOne, none}
 use Rattle.sexp.specs.Grammar.{SpellsAll}
 use Rattle.sexp.specs.Faults.{IsFirstFault}
@@ -23,7 +23,7 @@ use Rattle.pddl_problem.specs.Goals.{goal_literals, goal_faults, metric_faults}
 use Rattle.pddl.specs.declared.fault.PddlFault.{PddlFault}
 use Rattle.pddl.specs.declared.fault.PddlFault.TheVariants.{OutOfMemory, Tree, Section}
 use Rattle.pddl.specs.Passes.{Pass, FileFault, first_pass}
-use Rattle.pddl.specs.Sums.{sum_faults}
+use Rattle.pddl.specs.Sums.{stated_sum_faults}
 
 -- what stands in a section, and nothing where it is missing
 abbrev pub inside : Option Part → Forms
@@ -180,7 +180,7 @@ task_of d p = task_with (declarations_of d) (constants_of d) (schemas_of d) (sch
 
 -- with the metric no action may cost too much: schemas with their places, and the values
 abbrev pub sums_pass : Bool → List FunctionValue → List Schema → List ℕ → Pass
-sums_pass metric values schemas places = pass Domain (if metric then sum_faults values schemas places else [])
+sums_pass metric values schemas places = pass Domain (if metric then stated_sum_faults values schemas places else [])
 
 -- the passes behind the problem's tree
 abbrev pub passes_with : Declarations → Objects → List Schema → List ℕ → Forms → List Pass

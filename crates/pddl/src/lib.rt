@@ -3,10 +3,15 @@
 
 mod domain;
 mod fault;
+mod laws;
 mod parts;
 mod problem;
 mod reading;
 mod sums;
 
 pub use fault::PddlFault;
+pub use laws::{one_refusal, one_task, spelled_not_refused, spelled_or_refused};
 pub use reading::read_task;
+
+#[cfg(test)]
+mod tests;

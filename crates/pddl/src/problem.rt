@@ -174,23 +174,35 @@ pub fn read_problem(
 
 /// Notes the schemas whose actions may cost too much, under the metric.
 #[tactic(auto, unfolding(pddl_syntax::specs::Faults::first_of))]
-fn read_sums(problem: &Problem, actions: &Actions, first: &mut Option<Fault>)
+fn read_sums(
+    alloc: Global,
+    problem: &Problem,
+    actions: &Actions,
+    first: &mut Option<Fault>,
+) -> Result<(), AllocError>
     requires { length actions.now.schemas.items ≡ length actions.now.places.items }
-    ensures { first.new ≡ first_of first.old (spec.sums_pass problem.now.metric (values_of problem.now.values.entries) actions.now.schemas.items actions.now.places.items).faults }
+    ensures { OnOk result (first.new ≡ first_of first.old (spec.sums_pass problem.now.metric (values_of problem.now.values.entries) actions.now.schemas.items actions.now.places.items).faults) }
 {
     if problem.metric {
-        blame_sums(&problem.values, &actions.schemas, &actions.places, first);
+        blame_sums(
+            alloc,
+            &problem.values,
+            &actions.schemas,
+            &actions.places,
+            first,
+        )?;
     }
+    Ok(())
 }
 
 /// Ends with the schemas whose actions may cost too much, under the metric.
-fn sums_pass(problem: &Problem, actions: &Actions) -> Result<(), PddlFault>
+fn sums_pass(alloc: Global, problem: &Problem, actions: &Actions) -> Result<(), PddlFault>
     requires { length actions.now.schemas.items ≡ length actions.now.places.items }
     ensures clean { OnOk result (first_of None (spec.sums_pass problem.now.metric (values_of problem.now.values.entries) actions.now.schemas.items actions.now.places.items).faults ≡ None) }
     ensures fault { IfErr result (λ e. Fails e (spec.sums_pass problem.now.metric (values_of problem.now.values.entries) actions.now.schemas.items actions.now.places.items)) }
 {
     let mut first = None;
-    read_sums(problem, actions, &mut first);
+    read_sums(alloc, problem, actions, &mut first)?;
     judge(PlanningFile::Domain, first)
 }
 
@@ -218,5 +230,5 @@ pub fn with_problem(
         &mut domain.objects,
         problem,
     )?;
-    sums_pass(problem, &domain.actions)
+    sums_pass(alloc, problem, &domain.actions)
 }

@@ -5,7 +5,8 @@ ghost use Rattle.sexp.specs.Forms.{alone};
 ghost use Rattle.pddl_syntax.specs.Faults.{first_of};
 ghost use Rattle.pddl_domain.specs.Objects.{no_objects};
 ghost use Rattle.pddl_problem.specs.Initial.{values_of};
-ghost use Rattle.planning.specs.Planning.{Action, IsActionOf, has_small_costs};
+ghost use Rattle.planning.specs.Planning.{PlanningTask, Action, IsActionOf, has_small_costs};
+ghost use Rattle.pddl.specs.declared.fault.PddlFault.{PddlFault};
 ghost use Rattle.pddl.specs.Assembled.{task_in};
 ghost use Rattle.pddl.specs.Texts.{SpellTask, IsTaskRefusal, IsTree, IsTreeFault, sums_pass};
 
@@ -96,6 +97,9 @@ fn assembled(domain: Domain, problem: Problem) -> Task
 pub fn read_task(alloc: Global, domain: &[u8], problem: &[u8]) -> Result<Task, PddlFault>
     // What is read is spelled so.
     ensures found { IfOk result (λ t. SpellTask domain.now problem.now t) }
+    // What is spelled so is read, unless memory runs out.
+    ensures only { (t : PlanningTask) → SpellTask domain.now problem.now t → IfOk result (λ r. r ≡ t) }
+    ensures never_refused { (t : PlanningTask) → SpellTask domain.now problem.now t → IfErr result (λ e. e ≡ PddlFault.OutOfMemory) }
     // No cost passes 64 bits.
     ensures small { IfOk result (λ t. IsTrue (has_small_costs t)) }
     // Each action costs at most so much.
@@ -117,14 +121,6 @@ pub fn read_task(alloc: Global, domain: &[u8], problem: &[u8]) -> Result<Task, P
         &mut parts.problem,
     ) {
         Err(fault) => Err(fault),
-        Ok(()) => {
-            let task = assembled(parts.domain, parts.problem);
-            if task.has_small_costs() {
-                Ok(task)
-            } else {
-                // The numbers of a text and the limit on increases keep this from being reached; that is not proved.
-                Err(PddlFault::OutOfMemory)
-            }
-        }
+        Ok(()) => Ok(assembled(parts.domain, parts.problem)),
     }
 }

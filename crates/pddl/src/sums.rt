@@ -1,6 +1,6 @@
 //! What the actions cost at most.
 
-ghost use Rattle.std.specs.Prelude.{◌≡◌, length, nat_lt};
+ghost use Rattle.std.specs.Prelude.{◌≡◌, ◌==◌, ◌&&◌, if◌then◌else◌, ℕ, length, nat_lt, sum_by, IfOk, OnOk};
 ghost use Rattle.pddl_syntax.specs.Faults.{first_of};
 ghost use Rattle.pddl_problem.specs.Initial.{values_of};
 ghost use Rattle.pddl.specs.Sums as spec;
@@ -8,39 +8,62 @@ ghost use Rattle.pddl.specs.Sums as spec;
 use indexmap::IndexMap;
 use pddl_syntax::{Fault, FaultKind, blame_if};
 use planning::{ActionSchema, GroundAtom, Increase};
+use std::alloc::{AllocError, Global};
 
 /// No action may cost more.
 const MAX_COST: u64 = 2_147_483_647;
 
-/// The greatest value that is stated for a function, and 0 where none is.
-fn greatest_value(values: &IndexMap<GroundAtom, u64>, number: usize) -> u64
-    ensures { result ≡ spec.greatest_value number (values_of values.now.entries) 0 }
+/// The greatest value so far of each function that has one.
+type GreatestValues = IndexMap<usize, u64>;
+
+/// The greatest value of a function, and 0 where it has none.
+fn value_of(greatest: &GreatestValues, function: usize) -> u64
+    ensures { result ≡ spec.known_value greatest.now.entries function }
 {
-    let mut greatest = 0;
-    for (function, value) in values {
-        if function.predicate == number && greatest < *value {
-            greatest = *value;
-        }
-    }
-    greatest
+    greatest.get(&function).copied().unwrap_or(0)
 }
 
-fn most_of(values: &IndexMap<GroundAtom, u64>, increase: &Increase) -> u64
-    ensures { result ≡ spec.most_of (values_of values.now.entries) increase.now }
+/// Keeps the value of a function if it is the greatest so far.
+fn keep_value(greatest: &mut GreatestValues, function: usize, value: u64) -> Result<(), AllocError>
+    ensures { (other : ℕ) → OnOk result (spec.known_value greatest.new.entries other
+        ≡ (if function == other && nat_lt (spec.known_value greatest.old.entries other) value then value else spec.known_value greatest.old.entries other)) }
+{
+    if value_of(greatest, function) < value {
+        greatest.insert(function, value)?;
+    }
+    Ok(())
+}
+
+/// The greatest value that is stated for each function: one pass over the values, however many schemas there are.
+fn greatest_values(
+    alloc: Global,
+    values: &IndexMap<GroundAtom, u64>,
+) -> Result<GreatestValues, AllocError>
+    ensures { IfOk result (λ g. spec.AreGreatest g.entries (values_of values.now.entries)) }
+{
+    let mut greatest = IndexMap::new(alloc);
+    for (function, value) in values {
+        keep_value(&mut greatest, function.predicate, *value)?;
+    }
+    Ok(greatest)
+}
+
+fn most_of(greatest: &GreatestValues, increase: &Increase) -> u64
+    ensures { result ≡ spec.most_known greatest.now.entries increase.now }
 {
     match increase {
         Increase::Amount(amount) => *amount,
-        Increase::Value(function) => greatest_value(values, function.predicate),
+        Increase::Value(function) => value_of(greatest, function.predicate),
     }
 }
 
 /// Whether the increases may add to more than an action may cost. No sum is formed past that.
-fn cost_too_much(values: &IndexMap<GroundAtom, u64>, increases: &[Increase]) -> bool
-    ensures { result ≡ nat_lt 2147483647 (spec.most_cost (values_of values.now.entries) increases.now) }
+fn cost_too_much(greatest: &GreatestValues, increases: &[Increase]) -> bool
+    ensures { result ≡ nat_lt 2147483647 (sum_by (spec.most_known greatest.now.entries) increases.now) }
 {
     let mut left = MAX_COST;
     for increase in increases {
-        let most = most_of(values, increase);
+        let most = most_of(greatest, increase);
         if left < most {
             return true;
         }
@@ -51,21 +74,37 @@ fn cost_too_much(values: &IndexMap<GroundAtom, u64>, increases: &[Increase]) -> 
 
 /// Notes the schemas whose actions may cost too much, each at its place.
 #[tactic(auto, unfolding(pddl_syntax::specs::Faults::first_of))]
-pub fn blame_sums(
-    values: &IndexMap<GroundAtom, u64>,
+fn blame_schemas(
+    greatest: &GreatestValues,
     schemas: &[ActionSchema],
     places: &[usize],
     first: &mut Option<Fault>,
 )
     requires { length schemas.now ≡ length places.now }
-    ensures { first.new ≡ first_of first.old (spec.sum_faults (values_of values.now.entries) schemas.now places.now) }
+    ensures { first.new ≡ first_of first.old (spec.sum_faults (spec.most_known greatest.now.entries) schemas.now places.now) }
 {
     for (schema, place) in schemas.iter().zip(places) {
         blame_if(
-            cost_too_much(values, &schema.increases),
+            cost_too_much(greatest, &schema.increases),
             first,
             *place,
             FaultKind::CostRange,
         );
     }
+}
+
+/// The same by all values, in time linear in the values, the schemas and their increases. An `Err` is of too little memory.
+pub fn blame_sums(
+    alloc: Global,
+    values: &IndexMap<GroundAtom, u64>,
+    schemas: &[ActionSchema],
+    places: &[usize],
+    first: &mut Option<Fault>,
+) -> Result<(), AllocError>
+    requires { length schemas.now ≡ length places.now }
+    ensures { OnOk result (first.new ≡ first_of first.old (spec.stated_sum_faults (values_of values.now.entries) schemas.now places.now)) }
+{
+    let greatest = greatest_values(alloc, values)?;
+    blame_schemas(&greatest, schemas, places, first);
+    Ok(())
 }

@@ -204,7 +204,7 @@ fn objects(rt: HostRuntime) {
 }
 
 #[test]
-fn heads(rt: HostRuntime) {
+fn predicates(rt: HostRuntime) {
     let predicates = [
         ("(:predicates (p) (q ?x ?y - t) (= ?x ?x ()))", None),
         (
@@ -231,6 +231,10 @@ fn heads(rt: HostRuntime) {
             Err(_) => assert!(rt; false),
         }
     }
+}
+
+#[test]
+fn functions(rt: HostRuntime) {
     let functions = [
         ("(:functions (f) (g ?x - t) - number (h))", None),
         ("(:functions (=))", None),
@@ -259,6 +263,10 @@ fn heads(rt: HostRuntime) {
             Err(_) => assert!(rt; false),
         }
     }
+}
+
+#[test]
+fn heads_and_arities(rt: HostRuntime) {
     match predicates_of(
         rt.alloc(),
         "(:predicates (p ?x ?y ?x) (= ?x) (q) (p ?x) (?r))",
@@ -276,6 +284,10 @@ fn heads(rt: HostRuntime) {
         }
         Err(_) => assert!(rt; false),
     }
+}
+
+#[test]
+fn most_predicates(rt: HostRuntime) {
     for (count, expected) in [
         (512, None),
         (513, fault(FaultKind::Limit(LimitedTable::Predicates), 3487)),

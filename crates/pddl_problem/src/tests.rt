@@ -147,16 +147,37 @@ fn read_goal(
 }
 
 #[test]
-fn initial_sections(rt: HostRuntime) -> Result<(), Fail> {
+fn initial_atoms(rt: HostRuntime) -> Result<(), Fail> {
     let alloc = rt.alloc();
     let declarations = declared(alloc)?;
     for (text, fault, meaning) in [
         ("(:init)", None, ""),
+        ("(:init (q ?x))", Some((FaultKind::UnknownName, 10)), ""),
+        ("(:init (q ?))", Some((FaultKind::Shape, 10)), ""),
+        ("(:init (q b))", Some((FaultKind::UnknownName, 10)), ""),
+        ("(:init (q))", Some((FaultKind::Arity, 7)), ""),
+        ("(:init ())", Some((FaultKind::Shape, 7)), ""),
+        ("(:init p)", Some((FaultKind::Shape, 7)), ""),
+        ("(:init ((p)))", Some((FaultKind::Shape, 8)), ""),
+        ("(:init (:p))", Some((FaultKind::Shape, 8)), ""),
         (
-            "(:init (p) (q a) (= (f) 3) (= (g a) 0) (= total-cost 0))",
-            None,
-            "(p)(q a)(f)=3(g a)=0",
+            "(:init (zap) (q ?) (p))",
+            Some((FaultKind::UnknownName, 8)),
+            "(p)",
         ),
+    ] {
+        let (found, spelled) = read_initial(alloc, &declarations, text)?;
+        assert!(rt; is_fault(found, fault), "the fault of {text}");
+        assert_eq!(rt; spelled.as_str(), meaning, "the meaning of {text}");
+    }
+    Ok(())
+}
+
+#[test]
+fn initial_forms(rt: HostRuntime) -> Result<(), Fail> {
+    let alloc = rt.alloc();
+    let declarations = declared(alloc)?;
+    for (text, fault, meaning) in [
         ("(:init (and (p)))", Some((FaultKind::UnknownName, 8)), ""),
         ("(:init (or a))", Some((FaultKind::Unsupported, 8)), ""),
         ("(:init (not p))", Some((FaultKind::Unsupported, 8)), ""),
@@ -166,11 +187,6 @@ fn initial_sections(rt: HostRuntime) -> Result<(), Fail> {
             "",
         ),
         ("(:init (not (p)) (p))", None, "(p)"),
-        (
-            "(:init (not (= a a)))",
-            Some((FaultKind::UnknownName, 13)),
-            "",
-        ),
         ("(:init (not))", Some((FaultKind::Shape, 7)), ""),
         ("(:init (not (p) (p)))", Some((FaultKind::Shape, 16)), ""),
         (
@@ -187,6 +203,29 @@ fn initial_sections(rt: HostRuntime) -> Result<(), Fail> {
             "(:init (not (at (at 5))))",
             Some((FaultKind::Shape, 16)),
             "",
+        ),
+        (
+            "(:init (not (= a a)))",
+            Some((FaultKind::UnknownName, 13)),
+            "",
+        ),
+    ] {
+        let (found, spelled) = read_initial(alloc, &declarations, text)?;
+        assert!(rt; is_fault(found, fault), "the fault of {text}");
+        assert_eq!(rt; spelled.as_str(), meaning, "the meaning of {text}");
+    }
+    Ok(())
+}
+
+#[test]
+fn initial_numbers(rt: HostRuntime) -> Result<(), Fail> {
+    let alloc = rt.alloc();
+    let declarations = declared(alloc)?;
+    for (text, fault, meaning) in [
+        (
+            "(:init (p) (q a) (= (f) 3) (= (g a) 0) (= total-cost 0))",
+            None,
+            "(p)(q a)(f)=3(g a)=0",
         ),
         ("(:init (= (f) +1))", Some((FaultKind::Shape, 14)), ""),
         ("(:init (= (f) -0))", Some((FaultKind::CostRange, 14)), ""),
@@ -217,6 +256,19 @@ fn initial_sections(rt: HostRuntime) -> Result<(), Fail> {
             Some((FaultKind::Shape, 23)),
             "",
         ),
+    ] {
+        let (found, spelled) = read_initial(alloc, &declarations, text)?;
+        assert!(rt; is_fault(found, fault), "the fault of {text}");
+        assert_eq!(rt; spelled.as_str(), meaning, "the meaning of {text}");
+    }
+    Ok(())
+}
+
+#[test]
+fn initial_functions(rt: HostRuntime) -> Result<(), Fail> {
+    let alloc = rt.alloc();
+    let declarations = declared(alloc)?;
+    for (text, fault, meaning) in [
         (
             "(:init (= (total-cost) 7))",
             Some((FaultKind::Unsupported, 11)),
@@ -235,19 +287,6 @@ fn initial_sections(rt: HostRuntime) -> Result<(), Fail> {
         ("(:init (= (g) 1))", Some((FaultKind::Arity, 10)), ""),
         ("(:init (= (h) 1))", Some((FaultKind::UnknownName, 11)), ""),
         ("(:init (= ?f 1))", Some((FaultKind::Shape, 10)), ""),
-        ("(:init (q ?x))", Some((FaultKind::UnknownName, 10)), ""),
-        ("(:init (q ?))", Some((FaultKind::Shape, 10)), ""),
-        ("(:init (q b))", Some((FaultKind::UnknownName, 10)), ""),
-        ("(:init (q))", Some((FaultKind::Arity, 7)), ""),
-        ("(:init ())", Some((FaultKind::Shape, 7)), ""),
-        ("(:init p)", Some((FaultKind::Shape, 7)), ""),
-        ("(:init ((p)))", Some((FaultKind::Shape, 8)), ""),
-        ("(:init (:p))", Some((FaultKind::Shape, 8)), ""),
-        (
-            "(:init (zap) (q ?) (p))",
-            Some((FaultKind::UnknownName, 8)),
-            "(p)",
-        ),
     ] {
         let (found, spelled) = read_initial(alloc, &declarations, text)?;
         assert!(rt; is_fault(found, fault), "the fault of {text}");

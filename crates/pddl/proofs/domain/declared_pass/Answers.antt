@@ -1,17 +1,4 @@
-use Rattle.std.proofs.Common.{rules, ◌≡◌, [], None, Err, map, codes, true, IfErr, OnOk, ℕ, ◌+◌, ◌-◌, ◌*◌, ◌<◌, ◌≤◌, length, ◌/◌, ◌%◌, Bool, false, nat_eq, nat_lt, List, ◌∷◌, ◌++◌, slice_index_or, slice_set, bit_and, bit_or, Fits, w8, w32, w64, Bor, MutBor}
-use Rattle.sexp.specs.Forms.{alone}
-use Rattle.names.specs.Names.{is_there}
-use Rattle.pddl_syntax.specs.declared.fault.PlanningFile.TheVariants.{Domain as DomainFile}
-use Rattle.pddl_syntax.specs.Faults.{first_of}
-use Rattle.pddl_syntax.specs.Heads.{no_heads}
-use Rattle.pddl_syntax.specs.Sections.{requirement_faults}
-use Rattle.pddl_domain.specs.Types.{types_faults}
-use Rattle.pddl_domain.specs.Objects.{no_objects, objects_faults}
-use Rattle.pddl_domain.specs.DeclaredHeads.{predicates_faults, functions_faults}
-use Rattle.pddl_action.specs.Actions as meaning
-use Rattle.pddl.specs.Texts as spec
-use Rattle.pddl.specs.Texts.{inside_of, place_in, pass}
-use Rattle.pddl.specs.Passes.{Fails, AllFail, first_pass}
+use Rattle.std.proofs.Common.{rules, ◌≡◌, Err}
 use Rattle.pddl.proofs.Composing.{fails_here, fails_later, clean_later, no_pass, if_err}
 use Rattle.pddl.proofs.domain.declared_pass.Goals as goal
 

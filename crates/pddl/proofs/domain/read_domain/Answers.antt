@@ -1,9 +1,7 @@
-use Rattle.std.proofs.Common.{rules, ◌≡◌, [], ◌∷◌, None, Err}
+use Rattle.std.proofs.Common.{rules, ◌≡◌, [], ◌∷◌, Err}
 use Rattle.sexp.specs.Forms.{alone}
 use Rattle.pddl_syntax.proofs.Trees.{on_ok}
 use Rattle.pddl.specs.Texts as spec
-use Rattle.pddl.specs.Passes.{first_pass}
-use Rattle.pddl_syntax.specs.Faults.{first_of}
 use Rattle.pddl.proofs.Composing.{fails_early, if_err, if_err_behind, clean_behind}
 use Rattle.pddl.proofs.domain.read_domain.Goals as goal
 

@@ -1,4 +1,4 @@
-use Rattle.std.proofs.Common.{rules, ◌≡◌, [], ◌∷◌, None, Err}
+use Rattle.std.proofs.Common.{rules, ◌≡◌, Err}
 use Rattle.sexp.specs.Forms.{alone}
 use Rattle.pddl.specs.Passes.{Fails}
 use Rattle.pddl.specs.Texts as spec

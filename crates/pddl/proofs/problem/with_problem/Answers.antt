@@ -1,4 +1,4 @@
-use Rattle.std.proofs.Common.{rules, ◌≡◌, [], ◌∷◌, ap, subst, ◌∙◌, Bool, List}
+use Rattle.std.proofs.Common.{rules, ◌≡◌, [], ap, subst, ◌∙◌, Bool, List}
 use Rattle.std.specs.Prelude.{Err, IfErr, OnOk, codes}
 use Rattle.sexp.specs.Forms.{alone}
 use Rattle.planning.specs.Planning.{FunctionValue}
