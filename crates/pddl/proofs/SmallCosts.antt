@@ -30,8 +30,8 @@ use Rattle.pddl_terms.specs.declared.beginning.Beginning.TheVariants.{Conjunctio
 use Rattle.pddl_terms.specs.declared.beginning.Setting.TheVariants.{InEffect}
 use Rattle.pddl_terms.specs.Beginnings.{beginning}
 use Rattle.pddl_terms.specs.Terms.{Scope, lifted, is_total_cost, not_empty}
-use Rattle.pddl_action.specs.Effects.{function_value, amount_of_word, amount_inside, amount_of, increase_of, group_increases, increases}
-use Rattle.pddl_action.specs.Literals as places
+use Rattle.pddl_effect.specs.Effects.{function_value, amount_of_word, amount_inside, amount_of, increase_of, group_increases, increases}
+use Rattle.pddl_effect.specs.Literals as places
 use Rattle.pddl_action.specs.declared.keyword.Keyword.{Keyword}
 use Rattle.pddl_action.specs.declared.keyword.Keyword.TheVariants.{Parameters, Precondition, Effect}
 use Rattle.pddl_action.specs.Keywords.{KeywordPart, parts, value_of, same_keyword, keyword_faults, none_seen}

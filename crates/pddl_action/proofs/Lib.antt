@@ -1,3 +1,2 @@
 pub mod Noted
-pub mod Steps
 pub mod Schemas

@@ -14,8 +14,8 @@ use Rattle.pddl_action.specs.Domains.{Declarations}
 use Rattle.pddl_action.specs.declared.keyword.Keyword.TheVariants.{Parameters, Precondition}
 use Rattle.pddl_action.specs.declared.keyword.Keyword.TheVariants as keyword
 use Rattle.pddl_terms.specs.Terms.{Scope}
-use Rattle.pddl_action.specs.Conditions.{conditions}
-use Rattle.pddl_action.specs.Effects.{effects, increases}
+use Rattle.pddl_effect.specs.Conditions.{conditions}
+use Rattle.pddl_effect.specs.Effects.{effects, increases}
 use Rattle.pddl_action.specs.Keywords.{KeywordPart, parts, value_of}
 use Rattle.pddl_action.specs.Actions.{scope_of, parameters_of, schema_in, schema_behind}
 

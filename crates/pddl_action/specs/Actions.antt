@@ -16,9 +16,9 @@ use Rattle.pddl_action.specs.declared.keyword.Keyword.{Keyword}
 use Rattle.pddl_action.specs.declared.keyword.Keyword.TheVariants.{Parameters, Precondition, Effect}
 use Rattle.pddl_action.specs.Domains.{Declarations}
 use Rattle.pddl_terms.specs.Terms.{Scope}
-use Rattle.pddl_action.specs.Conditions.{conditions, conditions_faults}
-use Rattle.pddl_action.specs.Effects.{effects, increases, effects_faults}
-use Rattle.pddl_action.specs.Literals.{literal_places, increase_places}
+use Rattle.pddl_effect.specs.Conditions.{conditions, conditions_faults}
+use Rattle.pddl_effect.specs.Effects.{effects, increases, effects_faults}
+use Rattle.pddl_effect.specs.Literals.{literal_places, increase_places}
 use Rattle.pddl_action.specs.Keywords.{KeywordPart, parts, value_of, keyword_faults, none_seen}
 
 -- what an action of these parameters may name

@@ -1,6 +1,3 @@
 pub mod Domains
-pub mod Conditions
-pub mod Effects
-pub mod Literals
 pub mod Keywords
 pub mod Actions

@@ -5,17 +5,15 @@ ghost use Rattle.sexp.specs.Forms.{Forms, before, views, alone};
 ghost use Rattle.pddl_syntax.specs.Faults.{first_of};
 ghost use Rattle.pddl_syntax.specs.Parameters.{parameter_types, parameter_names};
 ghost use Rattle.pddl_syntax.specs.Sections.{part_of, behind};
-ghost use Rattle.pddl_action.specs.Conditions.{conditions};
-ghost use Rattle.pddl_action.specs.Effects.{effects, increases};
+ghost use Rattle.pddl_effect.specs.Conditions.{conditions};
+ghost use Rattle.pddl_effect.specs.Effects.{effects, increases};
 ghost use Rattle.pddl_action.specs.Keywords as keywords;
 ghost use Rattle.pddl_action.specs.Actions as spec;
 
-use crate::condition::read_condition;
-use crate::effect::{Effects, read_effect};
-use crate::keyword::{Keyword, Part, find_part, items_of, parts, start_of};
-use crate::literal::{Places, add_places};
+use crate::keyword::{Keyword, Part, find_part, items_of, parts};
 use crate::scope::Declarations;
 use names::Names;
+use pddl_effect::{Effects, Places, add_places, read_condition, read_effect};
 use pddl_syntax::{
     Fault, FaultKind, LimitedTable, Parameters, Section, Types, WordKind, blame, blame_if,
     parameters_list, word_kind,
@@ -94,7 +92,7 @@ fn blame_value(
 {
     match part.keyword {
         Keyword::Parameters => {
-            let place = start_of(part.value);
+            let place = part.value.span().start;
             parameters_list(alloc, items_of(part.value), types, place, first)?;
         }
         Keyword::Precondition => {
@@ -138,7 +136,7 @@ fn add_part(part: Part, places: &mut Places) -> Result<(), AllocError>
 }
 
 /// The places of the literals and increases of all parts.
-#[tactic(auto, using(crate::proofs::Noted::appending))]
+#[tactic(auto, using(pddl_effect::proofs::Steps::appending))]
 fn places_of(alloc: Global, parts: &[Part]) -> Result<Places, AllocError>
     ensures literals { IfOk result (λ p. p.literals.items ≡ spec.all_literals (map keywords.part_of parts.now)) }
     ensures increases { IfOk result (λ p. p.increases.items ≡ spec.all_increases (map keywords.part_of parts.now)) }
@@ -355,7 +353,7 @@ fn blame_sections(sections: &[Section], first: &mut Option<Fault>)
 /// `forall`; F12 at what is not declared; F13 at a list with another number of terms than its head has parameters; F14 at
 /// a name, a parameter or a keyword that was there before; F16 and F17 at a number by which no cost grows; F18 at the
 /// first action past 512, literal past 256, increase past 16 and parameter past 16. An `Err` is of too little memory.
-#[tactic(auto, using(pddl_syntax::proofs::Trees::noting, crate::proofs::Noted::appending), unfolding(pddl_syntax::specs::Faults::first_of))]
+#[tactic(auto, using(pddl_syntax::proofs::Trees::noting, pddl_effect::proofs::Steps::appending), unfolding(pddl_syntax::specs::Faults::first_of))]
 pub fn read_actions(
     alloc: Global,
     declarations: &Declarations,

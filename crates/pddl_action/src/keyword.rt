@@ -4,7 +4,7 @@ ghost use Rattle.std.specs.Prelude.{◌≡◌, ◌++◌, ℕ, List, Option, map,
 ghost use Rattle.std.specs.Option.{option_map};
 ghost use Rattle.sexp.specs.Forms.{Forms, before, views, alone};
 ghost use Rattle.pddl_syntax.specs.Faults.{first_of};
-ghost use Rattle.pddl_syntax.specs.Sections.{root_parts, start_of};
+ghost use Rattle.pddl_syntax.specs.Sections.{root_parts};
 ghost use Rattle.pddl_action.specs.Keywords as spec;
 
 use pddl_syntax::{Fault, FaultKind, blame, blame_if};
@@ -157,7 +157,7 @@ impl<'a> PartList<'a> {
         Ok(())
     }
 
-    #[tactic(auto, using(sexp::proofs::Walking::walking, pddl_syntax::proofs::Trees::noting, crate::proofs::Noted::appending), unfolding(pddl_syntax::specs::Faults::first_of))]
+    #[tactic(auto, using(sexp::proofs::Walking::walking, pddl_syntax::proofs::Trees::noting, pddl_effect::proofs::Steps::appending), unfolding(pddl_syntax::specs::Faults::first_of))]
     fn read(&mut self, tree: &'a Tree, first: &mut Option<Fault>) -> Result<(), AllocError>
         ensures parts { (rest : Forms) → OnOk result (
             map spec.part_of self.old.parts.items ++ spec.parts self.old.waiting (before tree.now rest) ≡ map spec.part_of self.new.parts.items ++ spec.parts self.new.waiting rest) }
@@ -205,16 +205,6 @@ pub fn find_part<'a>(parts: &[Part<'a>], keyword: Keyword) -> Option<Part<'a>>
         }
     }
     None
-}
-
-/// Where a tree stands.
-#[tactic(auto, using(sexp::proofs::Walking::walking))]
-pub fn start_of(tree: &Tree) -> usize
-    ensures { (rest : Forms) → result ≡ start_of (before tree.now rest) }
-{
-    match tree {
-        Tree::Word { span, .. } | Tree::List { span, .. } => span.start,
-    }
 }
 
 /// What stands in a list; nothing stands in a word.

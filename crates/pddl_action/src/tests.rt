@@ -1,46 +1,55 @@
+use crate::keyword::items_of;
 use crate::{Actions, Declarations, read_actions};
 use names::Names;
 use pddl_syntax::{Fault, FaultKind, Heads, Types, all_sections};
 use planning::{Condition, Increase, Term};
-use sexp::{Tree, read};
+use sexp::read;
+use std::alloc::{AllocError, Global};
 use std::test::*;
 
-/// Actions over the types `object` and `t`, the predicates `p` without and `q` with two parameters, the functions
-/// `total-cost` and `f` with one, and the constant `c`.
-fn actions_of(rt: &HostRuntime, text: &str, first: &mut Option<Fault>) -> Result<Actions, Fail> {
-    let alloc = rt.alloc();
-    let mut types = Types {
+/// Declares the type `t`, the predicates `p` without and `q` with two parameters, the functions `total-cost` and `f`
+/// with one, and the constant `c`.
+fn declare(alloc: Global, declarations: &mut Declarations) -> Result<(), AllocError> {
+    declarations.types.names.add(alloc, "object")?;
+    declarations.types.names.add(alloc, "t")?;
+    declarations.predicates.add(alloc, "p", 0)?;
+    declarations.predicates.add(alloc, "q", 2)?;
+    declarations.functions.add(alloc, "total-cost", 0)?;
+    declarations.functions.add(alloc, "f", 1)?;
+    declarations.objects.add(alloc, "c")?;
+    Ok(())
+}
+
+fn actions_in(
+    alloc: Global,
+    declarations: &Declarations,
+    text: &str,
+    first: &mut Option<Fault>,
+) -> Result<Actions, Fail> {
+    let tree = read(alloc, text.as_bytes())?;
+    let sections = all_sections(alloc, items_of(&tree), ":action")?;
+    Ok(read_actions(alloc, declarations, &sections, first)?)
+}
+
+/// The actions that a list of sections spells.
+fn actions_of(alloc: Global, text: &str, first: &mut Option<Fault>) -> Result<Actions, Fail> {
+    let types = Types {
         names: Names::new(alloc),
         supertypes: Vec::new(alloc),
     };
-    types.names.add(alloc, "object")?;
-    types.names.add(alloc, "t")?;
-    let mut predicates = Heads::new(alloc);
-    predicates.add(alloc, "p", 0)?;
-    predicates.add(alloc, "q", 2)?;
-    let mut functions = Heads::new(alloc);
-    functions.add(alloc, "total-cost", 0)?;
-    functions.add(alloc, "f", 1)?;
-    let mut objects = Names::new(alloc);
-    objects.add(alloc, "c")?;
-    let declarations = Declarations {
+    let mut declarations = Declarations {
         types,
-        predicates,
-        functions,
-        objects,
+        predicates: Heads::new(alloc),
+        functions: Heads::new(alloc),
+        objects: Names::new(alloc),
     };
-    match read(alloc, text.as_bytes())? {
-        Tree::Word { .. } => Ok(read_actions(alloc, &declarations, &[], first)?),
-        Tree::List { items, .. } => {
-            let sections = all_sections(alloc, &items, ":action")?;
-            Ok(read_actions(alloc, &declarations, &sections, first)?)
-        }
-    }
+    declare(alloc, &mut declarations)?;
+    actions_in(alloc, &declarations, text, first)
 }
 
-fn fault_of(rt: &HostRuntime, text: &str) -> Result<Option<Fault>, Fail> {
+fn fault_of(alloc: Global, text: &str) -> Result<Option<Fault>, Fail> {
     let mut first = None;
-    actions_of(rt, text, &mut first)?;
+    actions_of(alloc, text, &mut first)?;
     Ok(first)
 }
 
@@ -59,6 +68,24 @@ fn keywords(rt: HostRuntime) -> Result<(), Fail> {
             FaultKind::TwiceDeclared,
         ),
         ("((:action b) (:action b))", 22, FaultKind::TwiceDeclared),
+    ] {
+        assert_eq!(rt;
+            fault_of(rt.alloc(), text)?,
+            Some(Fault { at, kind }),
+            "in {text}"
+        );
+    }
+    assert_eq!(rt;
+        fault_of(rt.alloc(), "((:action b :precondition () :effect (and)))")?,
+        None
+    );
+    Ok(())
+}
+
+/// The first of two lists behind one keyword counts, and the parameters are known before each other part.
+#[test]
+fn order_of_keywords(rt: HostRuntime) -> Result<(), Fail> {
+    for (text, at, kind) in [
         (
             "((:action b :parameters (?x) :parameters (?y) :effect (q ?x ?y)))",
             29,
@@ -80,83 +107,11 @@ fn keywords(rt: HostRuntime) -> Result<(), Fail> {
             FaultKind::UnknownName,
         ),
     ] {
-        assert_eq!(rt; fault_of(&rt, text)?, Some(Fault { at, kind }));
-    }
-    Ok(())
-}
-
-#[test]
-fn conditions(rt: HostRuntime) -> Result<(), Fail> {
-    for (text, at, kind) in [
-        ("((:action b :precondition (= c)))", 26, FaultKind::Shape),
-        (
-            "((:action b :precondition (= c c c)))",
-            33,
-            FaultKind::Shape,
-        ),
-        ("((:action b :precondition (not)))", 26, FaultKind::Shape),
-        (
-            "((:action b :precondition (not (or))))",
-            27,
-            FaultKind::Unsupported,
-        ),
-        (
-            "((:action b :precondition (and (p) (not (= c d)))))",
-            45,
-            FaultKind::UnknownName,
-        ),
-        ("((:action b :precondition (p c)))", 26, FaultKind::Arity),
-        ("((:action b :effect (= c c)))", 21, FaultKind::UnknownName),
-    ] {
-        assert_eq!(rt; fault_of(&rt, text)?, Some(Fault { at, kind }));
-    }
-    assert_eq!(rt;
-        fault_of(&rt, "((:action b :precondition () :effect (and)))")?,
-        None
-    );
-    Ok(())
-}
-
-#[test]
-fn increases(rt: HostRuntime) -> Result<(), Fail> {
-    for (text, at, kind) in [
-        (
-            "((:action b :effect (increase (f) 1)))",
-            21,
-            FaultKind::Unsupported,
-        ),
-        (
-            "((:action b :effect (increase (total-cost) (total-cost))))",
-            44,
-            FaultKind::Unsupported,
-        ),
-        (
-            "((:action b :effect (increase (total-cost a) 1)))",
-            30,
-            FaultKind::Arity,
-        ),
-        (
-            "((:action b :effect (increase (total-cost) 1.5)))",
-            43,
-            FaultKind::NotWhole,
-        ),
-        (
-            "((:action b :effect (increase (total-cost) -1)))",
-            43,
-            FaultKind::CostRange,
-        ),
-        (
-            "((:action b :effect (increase (total-cost) ?x)))",
-            43,
-            FaultKind::Shape,
-        ),
-        (
-            "((:action b :effect (increase (total-cost) 1e3)))",
-            43,
-            FaultKind::UnknownName,
-        ),
-    ] {
-        assert_eq!(rt; fault_of(&rt, text)?, Some(Fault { at, kind }));
+        assert_eq!(rt;
+            fault_of(rt.alloc(), text)?,
+            Some(Fault { at, kind }),
+            "in {text}"
+        );
     }
     Ok(())
 }
@@ -166,7 +121,7 @@ fn schemas(rt: HostRuntime) -> Result<(), Fail> {
     let mut first = None;
     let text =
         "((:action a :parameters (?x - t ?y) :precondition (and (p) (not (= ?x c))) :effect (and (not (q ?y c)) (increase (total-cost) (f ?x)))))";
-    let actions = actions_of(&rt, text, &mut first)?;
+    let actions = actions_of(rt.alloc(), text, &mut first)?;
     assert_eq!(rt; first, None);
     assert_eq!(rt; actions.places.as_slice(), [10].as_slice());
     match actions.schemas.as_slice() {

@@ -7,7 +7,8 @@ use Rattle.pddl_syntax.specs.declared.sections.Section.{Section}
 use Rattle.pddl_syntax.specs.Faults.{first_of}
 use Rattle.pddl_syntax.specs.Sections.{part_of}
 use Rattle.pddl_action.specs.Actions.{schema_of, place_of, with_action_name, names_with, action_faults, each_faults, past_faults}
-use Rattle.pddl_action.proofs.Noted.{noted_step, grown_step, drop_at}
+use Rattle.pddl_syntax.proofs.ParameterSteps.{listed_at}
+use Rattle.pddl_action.proofs.Noted.{noted_step, grown_step}
 use Rattle.pddl_syntax.proofs.Trees.{first_of_append}
 use Rattle.pddl_action.proofs.action.read_actions.Goals as goal
 
@@ -15,7 +16,7 @@ pub loop-section-preserved : goal.loop-section-preserved
 loop-section-preserved c =
     let d = c.args.declarations.now in let s = c.section-item.result in let old = c.loop-section.actions in
     let rest = map part_of (drop (c.loop-section.section-index + 1) c.args.sections.now) in
-    let e = drop_at c.args.sections.now c.loop-section.section-index s (omega arith) c.section-item.is in
+    let e = listed_at c.args.sections.now c.loop-section.section-index s (omega arith) c.section-item.is in
     record {
       schemas = grown_step old.schemas.items _ _ (map (schema_of d) rest) (schema_of d (part_of s)) c.in_ok-read.ensures.schemas
           (ap (λ (ss : List Section). old.schemas.items ++ map (schema_of d) (map part_of ss)) (sym e) ∙ c.loop-section.invariant.schemas);

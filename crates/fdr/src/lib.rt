@@ -1,0 +1,11 @@
+//! Finite-domain tasks (SAS+: Bäckström and Nebel 1995): variables with their values, and operators that change them.
+#![tactic(auto)]
+
+mod fact;
+mod operator;
+mod task;
+
+pub use fact::Fact;
+pub use operator::Operator;
+pub use task::{FdrTask, TaskLimit};
+

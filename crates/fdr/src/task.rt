@@ -1,0 +1,187 @@
+//! Tasks.
+
+ghost use Rattle.std.specs.Prelude.{◌≡◌, All, length, unwrap_or, IfOk, IfErr, OnOk};
+ghost use Rattle.fdr.specs.Tasks as spec;
+ghost use Rattle.fdr.specs.Tasks.{IsTask, IsWithinLimits, IsState};
+
+use crate::fact::{Fact, all_hold, set_values};
+use crate::operator::Operator;
+use cost::Cost;
+use std::marker::Model;
+
+/// How many variables a task may have.
+const MAX_VARIABLES: usize = 65_536;
+
+/// How many values a variable may have.
+const MAX_VALUES: usize = 65_536;
+
+/// How many operators a task may have.
+const MAX_OPERATORS: usize = 4_294_967_295;
+
+/// A table of a task that is too long.
+#[derive(Clone, Copy, Debug, PartialEq, Eq)]
+pub enum TaskLimit {
+    /// More than 65,536 variables.
+    Variables,
+    /// More than 65,536 values of one variable.
+    Values,
+    /// More than 4,294,967,295 operators.
+    Operators,
+}
+
+/// A finite-domain task. Its values are in range, and each condition and each effect names a variable at most once.
+#[derive(Drop)]
+pub struct FdrTask {
+    metric: bool,
+    value_names: Vec<Vec<String>>,
+    initial: Vec<u32>,
+    goal: Vec<Fact>,
+    operators: Vec<Operator>,
+}
+
+impl Model for FdrTask {
+    ghost use Rattle.fdr.specs.Tasks.{FiniteDomainTask, IsTask, task_of};
+
+    ghost Value = { FiniteDomainTask };
+
+    ghost view = { λ t. task_of t.metric t.value_names.items t.initial.items t.goal.items t.operators.items };
+
+    ghost invariant = { λ t. IsTask (task_of t.metric t.value_names.items t.initial.items t.goal.items t.operators.items) };
+}
+
+/// Whether a variable has more values than it may have.
+fn has_long_range(value_names: &[Vec<String>]) -> bool
+    ensures { result ≡ spec.has_long_range (spec.names_in value_names.now) }
+{
+    for names in value_names {
+        if names.len() > MAX_VALUES {
+            return true;
+        }
+    }
+    false
+}
+
+impl FdrTask {
+    /// A task of these parts, of which the variables are given by the names of their values.
+    ///
+    /// An `Err` says which table is too long: variables before values, and these before operators.
+    pub fn new(
+        metric: bool,
+        value_names: Vec<Vec<String>>,
+        initial: Vec<u32>,
+        goal: Vec<Fact>,
+        operators: Vec<Operator>,
+    ) -> Result<FdrTask, TaskLimit>
+        requires { IsTask (spec.task_of metric value_names.items initial.items goal.items operators.items) }
+        ensures task { IfOk result (λ t. t ≡ spec.task_of metric value_names.items initial.items goal.items operators.items) }
+        ensures within { OnOk result (IsWithinLimits (spec.task_of metric value_names.items initial.items goal.items operators.items)) }
+        ensures past { IfErr result (λ limit. spec.IsPastLimit (spec.task_of metric value_names.items initial.items goal.items operators.items) limit) }
+    {
+        if value_names.len() > MAX_VARIABLES {
+            return Err(TaskLimit::Variables);
+        }
+        if has_long_range(&value_names) {
+            return Err(TaskLimit::Values);
+        }
+        if operators.len() > MAX_OPERATORS {
+            return Err(TaskLimit::Operators);
+        }
+        Ok(FdrTask {
+            metric,
+            value_names,
+            initial,
+            goal,
+            operators,
+        })
+    }
+
+    /// Whether operators cost what they say; else each costs 1.
+    pub fn has_metric(&self) -> bool
+        ensures { result ≡ self.now.metric }
+    {
+        self.metric
+    }
+
+    /// How many variables there are.
+    pub fn variable_count(&self) -> usize
+        ensures { result ≡ length self.now.value_names }
+    {
+        self.value_names.len()
+    }
+
+    /// How many operators there are.
+    pub fn operator_count(&self) -> usize
+        ensures { result ≡ length self.now.operators }
+    {
+        self.operators.len()
+    }
+
+    /// The initial state.
+    pub fn initial(&self) -> &[u32]
+        ensures value { result.now ≡ self.now.initial }
+        ensures state { IsState (spec.ranges self.now) result.now }
+    {
+        &self.initial
+    }
+
+    /// The goal's facts, at most one for each variable.
+    pub fn goal(&self) -> &[Fact]
+        ensures value { result.now ≡ self.now.goal }
+        ensures assignment { spec.IsAssignment (spec.ranges self.now) result.now }
+    {
+        &self.goal
+    }
+
+    /// The operators, by their numbers.
+    pub fn operators(&self) -> &[Operator]
+        ensures value { result.now ≡ self.now.operators }
+        ensures operators { All (spec.IsOperator (spec.ranges self.now)) result.now }
+    {
+        &self.operators
+    }
+
+    /// Whether the goal holds in the state.
+    pub fn is_goal(&self, state: &[u32]) -> bool
+        requires { length state.now ≡ length self.now.value_names }
+        ensures { result ≡ spec.is_goal_state self.now state.now }
+    {
+        all_hold(&self.goal, state)
+    }
+
+    /// Whether an operator, given by its number, applies in the state.
+    pub fn applies(&self, operator: usize, state: &[u32]) -> bool
+        requires { length state.now ≡ length self.now.value_names }
+        ensures { result ≡ spec.applies_at self.now operator state.now }
+    {
+        match self.operators.get(operator) {
+            Some(operator) => all_hold(&operator.precondition, state),
+            None => false,
+        }
+    }
+
+    /// Makes of a state the one that an operator leads to, if it exists and applies; else the state stays as it is.
+    pub fn apply(&self, operator: usize, state: &mut [u32]) -> bool
+        requires { length state.old ≡ length self.now.value_names }
+        ensures applied { result ≡ spec.applies_at self.now operator state.old }
+        ensures state { state.new ≡ unwrap_or (spec.step self.now state.old operator) state.old }
+    {
+        match self.operators.get(operator) {
+            Some(operator) if all_hold(&operator.precondition, state) => {
+                set_values(&operator.effect, state);
+                true
+            }
+            _ => false,
+        }
+    }
+
+    /// What an operator, given by its number, costs: 1 without the metric, and 0 where there is no such operator.
+    pub fn cost(&self, operator: usize) -> Cost
+        ensures { result ≡ spec.cost_of self.now operator }
+    {
+        match self.operators.get(operator) {
+            Some(operator) if self.metric => operator.cost,
+            Some(_) => Cost::ONE,
+            None => Cost::ZERO,
+        }
+    }
+}

@@ -1,0 +1,116 @@
+-- Conditions: what they mean, and their faults.
+use Rattle.std.specs.Prelude.{ℕ, Bool, true, false, if◌then◌else◌, List, [], ◌∷◌, ◌++◌, Option, Some, None, option_to_list}
+use Rattle.std.specs.Option.{option_map}
+use Rattle.sexp.specs.Forms.{Forms, none, word, group}
+use Rattle.planning.specs.declared.schema.Term.{Term}
+use Rattle.planning.specs.declared.schema.Condition.{Condition}
+use Rattle.planning.specs.declared.schema.Condition.TheVariants.{Positive, Negative, Equal, Different}
+use Rattle.pddl_syntax.specs.declared.fault.Fault.{Fault}
+use Rattle.pddl_syntax.specs.declared.fault.FaultKind.TheVariants.{Shape, Unsupported}
+use Rattle.pddl_syntax.specs.Faults.{fault}
+use Rattle.pddl_syntax.specs.Sections.{behind, more_faults}
+use Rattle.pddl_terms.specs.declared.beginning.Beginning.{Beginning}
+use Rattle.pddl_terms.specs.declared.beginning.Beginning.TheVariants.{Conjunction, Negation, Equality, Unread, Atom}
+use Rattle.pddl_terms.specs.declared.beginning.Setting.{Setting}
+use Rattle.pddl_terms.specs.declared.beginning.Setting.TheVariants.{InCondition}
+use Rattle.pddl_terms.specs.Beginnings.{beginning}
+use Rattle.pddl_terms.specs.Terms.{Scope, terms, first_term_faults, lifted, lifted_faults}
+
+-- ---- the meaning
+
+abbrev pub equality_of : Bool → Option Term → Option Term → List Condition
+equality_of positive (Some a) (Some b) = (if positive then Equal a b else Different a b) ∷ []
+equality_of positive (Some a) None = []
+equality_of positive None b = []
+
+-- two terms that are to be the same, or different
+abbrev pub equality : Bool → Option (List Term) → List Condition
+equality positive None = []
+equality positive (Some []) = []
+equality positive (Some (a ∷ [])) = []
+equality positive (Some (a ∷ b ∷ [])) = (if positive then Equal a b else Different a b) ∷ []
+equality positive (Some (a ∷ b ∷ c ∷ ts)) = []
+
+abbrev pub negated_condition : Scope → List ℕ → Forms → Beginning → List Condition
+negated_condition scope t f Atom = option_to_list (option_map Negative (lifted scope.predicates scope t f))
+negated_condition scope t f Equality = equality false (terms scope f)
+negated_condition scope t f other = []
+
+-- what stands in a list, negated
+abbrev pub negated_inside : Setting → Scope → Forms → List Condition
+negated_inside setting scope none = []
+negated_inside setting scope (word s e t f) = negated_condition scope t f (beginning setting t)
+negated_inside setting scope (group s e i f) = []
+
+-- what stands behind `not`, negated
+abbrev pub negated_conditions : Setting → Scope → Forms → List Condition
+negated_conditions setting scope none = []
+negated_conditions setting scope (word s e t f) = []
+negated_conditions setting scope (group s e i f) = negated_inside setting scope i
+
+abbrev pub group_conditions : Scope → List ℕ → Forms → Beginning → List Condition → List Condition
+group_conditions scope t f Conjunction parts = parts
+group_conditions scope t f Equality parts = equality true (terms scope f)
+group_conditions scope t f Negation parts = negated_conditions InCondition scope f
+group_conditions scope t f Atom parts = option_to_list (option_map Positive (lifted scope.predicates scope t f))
+group_conditions scope t f other parts = []
+
+-- the conditions that the expressions spell, in the order of the text
+abbrev pub conditions : Scope → Forms → List Condition
+conditions scope none = []
+conditions scope (word s e t f) = conditions scope f
+conditions scope (group s e none f) = conditions scope f
+conditions scope (group s e (group hs he h i) f) = conditions scope f
+conditions scope (group s e (word hs he t i) f) = group_conditions scope t i (beginning InCondition t) (conditions scope i) ++ conditions scope f
+
+-- ---- the faults
+
+-- the second, with nothing behind it
+abbrev pub second_term_faults : Scope → ℕ → Forms → List Fault
+second_term_faults scope home none = fault Shape home ∷ []
+second_term_faults scope home f = first_term_faults scope f ++ more_faults (behind f)
+
+-- two terms in the list at a place
+abbrev pub two_terms_faults : Scope → ℕ → Forms → List Fault
+two_terms_faults scope home none = fault Shape home ∷ []
+two_terms_faults scope home f = first_term_faults scope f ++ second_term_faults scope home (behind f)
+
+-- what may stand behind `not`: an atom, and in a condition an equality
+abbrev pub negated_group_faults : Scope → ℕ → ℕ → ℕ → List ℕ → Forms → Beginning → List Fault
+negated_group_faults scope not_at home hs t f Atom = lifted_faults scope.predicates scope home hs t f
+negated_group_faults scope not_at home hs t f Equality = two_terms_faults scope home f
+negated_group_faults scope not_at home hs t f other = fault Unsupported not_at ∷ []
+
+-- what stands in a list at a place, behind the word `not` at another
+abbrev pub negated_inside_faults : Setting → Scope → ℕ → ℕ → Forms → List Fault
+negated_inside_faults setting scope not_at home none = fault Unsupported not_at ∷ []
+negated_inside_faults setting scope not_at home (word s e t f) = negated_group_faults scope not_at home s t f (beginning setting t)
+negated_inside_faults setting scope not_at home (group s e i f) = fault Unsupported not_at ∷ []
+
+-- the first expression behind the word `not` at a place
+abbrev pub first_negated_faults : Setting → Scope → ℕ → Forms → List Fault
+first_negated_faults setting scope not_at none = []
+first_negated_faults setting scope not_at (word s e t f) = fault Unsupported not_at ∷ []
+first_negated_faults setting scope not_at (group s e i f) = negated_inside_faults setting scope not_at s i
+
+-- behind the word `not` at a place, in the list at another
+abbrev pub negated_faults : Setting → Scope → ℕ → ℕ → Forms → List Fault
+negated_faults setting scope home not_at none = fault Shape home ∷ []
+negated_faults setting scope home not_at f = first_negated_faults setting scope not_at f ++ more_faults (behind f)
+
+abbrev pub group_faults : Scope → ℕ → ℕ → List ℕ → Forms → Beginning → List Fault → List Fault
+group_faults scope home hs t f Conjunction parts = parts
+group_faults scope home hs t f Equality parts = two_terms_faults scope home f
+group_faults scope home hs t f Negation parts = negated_faults InCondition scope home hs f
+group_faults scope home hs t f Unread parts = fault Unsupported hs ∷ []
+group_faults scope home hs t f Atom parts = lifted_faults scope.predicates scope home hs t f
+group_faults scope home hs t f other parts = fault Shape hs ∷ []
+
+-- each of the expressions is to be a condition
+abbrev pub conditions_faults : Scope → Forms → List Fault
+conditions_faults scope none = []
+conditions_faults scope (word s e t f) = fault Shape s ∷ conditions_faults scope f
+conditions_faults scope (group s e none f) = conditions_faults scope f
+conditions_faults scope (group s e (group hs he h i) f) = fault Shape hs ∷ conditions_faults scope f
+conditions_faults scope (group s e (word hs he t i) f) =
+    group_faults scope s hs t i (beginning InCondition t) (conditions_faults scope i) ++ conditions_faults scope f

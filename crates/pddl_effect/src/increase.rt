@@ -1,0 +1,256 @@
+//! What a cost grows by.
+
+ghost use Rattle.std.specs.Prelude.{◌≡◌, IfOk, OnOk};
+ghost use Rattle.sexp.specs.Forms.{Forms, before, views};
+ghost use Rattle.pddl_syntax.specs.Faults.{first_of};
+ghost use Rattle.pddl_syntax.specs.Words.{word_kind};
+ghost use Rattle.pddl_syntax.specs.Numbers.{number_of};
+ghost use Rattle.pddl_effect.specs.Effects as spec;
+
+use pddl_syntax::{
+    Fault, FaultKind, Number, WordKind, blame, blame_if, blame_more, number_of, word_kind,
+};
+use pddl_terms::{Scope, lifted};
+use planning::Increase;
+use sexp::Tree;
+use std::alloc::{AllocError, Global};
+
+fn is_total_cost(word: &str) -> bool
+    ensures { result ≡ spec.is_total_cost word.now }
+{
+    word == "total-cost"
+}
+
+/// Whether it is the total cost, and has terms.
+#[tactic(auto, using(sexp::proofs::Walking::walking, crate::proofs::Steps::not_empty_before))]
+fn has_terms(word: &str, items: &[Tree]) -> bool
+    ensures { result ≡ spec.has_terms word.now (views items.now) }
+{
+    match items {
+        [] => false,
+        [_term, ..] => is_total_cost(word),
+    }
+}
+
+/// Notes that a word, in a list that begins with the word `increase` at a place, is not the total cost.
+#[tactic(auto, unfolding(pddl_syntax::specs::Faults::first_of))]
+fn blame_increased_word(word: &str, at: usize, increase_at: usize, first: &mut Option<Fault>)
+    ensures { first.new ≡ first_of first.old (spec.increased_word_faults increase_at at word.now (word_kind word.now)) }
+{
+    match word_kind(word) {
+        WordKind::Name => blame_if(
+            !is_total_cost(word),
+            first,
+            increase_at,
+            FaultKind::Unsupported,
+        ),
+        WordKind::Dash | WordKind::Variable | WordKind::Other => {
+            blame(first, at, FaultKind::Shape)
+        }
+    }
+}
+
+/// What is increased, a list with a head at a place.
+#[tactic(auto, using(sexp::proofs::Walking::walking, pddl_syntax::proofs::Trees::noting), unfolding(pddl_syntax::specs::Faults::first_of))]
+fn blame_increased_list(
+    home: usize,
+    head: &Tree,
+    parts: &[Tree],
+    increase_at: usize,
+    first: &mut Option<Fault>,
+)
+    ensures { first.new ≡ first_of first.old (spec.increased_inside_faults increase_at home (before head.now (views parts.now))) }
+{
+    match head {
+        Tree::List { span, .. } => blame(first, span.start, FaultKind::Shape),
+        Tree::Word { text, span } => {
+            blame_increased_word(text.as_str(), span.start, increase_at, first);
+            blame_if(
+                has_terms(text.as_str(), parts),
+                first,
+                home,
+                FaultKind::Arity,
+            );
+        }
+    }
+}
+
+/// What is increased, behind the word `increase` at a place.
+#[tactic(auto, using(sexp::proofs::Walking::walking, pddl_syntax::proofs::Trees::noting), unfolding(pddl_syntax::specs::Faults::first_of))]
+fn blame_increased(tree: &Tree, increase_at: usize, first: &mut Option<Fault>)
+    ensures { (rest : Forms) → first.new ≡ first_of first.old (spec.increased_faults increase_at (before tree.now rest)) }
+{
+    match tree {
+        Tree::Word { text, span } => {
+            blame_increased_word(text.as_str(), span.start, increase_at, first)
+        }
+        Tree::List { items, span } => match items.as_slice() {
+            [] => blame(first, span.start, FaultKind::Shape),
+            [head, parts @ ..] => blame_increased_list(span.start, head, parts, increase_at, first),
+        },
+    }
+}
+
+/// The value of a function of this name with terms, in the list at a place.
+#[tactic(auto, unfolding(pddl_syntax::specs::Faults::first_of))]
+fn function_value(
+    alloc: Global,
+    scope: &Scope,
+    home: usize,
+    name: &str,
+    name_at: usize,
+    items: &[Tree],
+    first: &mut Option<Fault>,
+) -> Result<Option<Increase>, AllocError>
+    ensures meaning { IfOk result (λ i. i ≡ spec.function_value scope.now name.now (views items.now) (word_kind name.now)) }
+    ensures faults { OnOk result (first.new ≡ first_of first.old (spec.function_faults scope.now home name_at name.now (views items.now) (word_kind name.now))) }
+{
+    if word_kind(name) != WordKind::Name {
+        blame(first, name_at, FaultKind::Shape);
+        return Ok(None);
+    }
+    if is_total_cost(name) {
+        blame(first, name_at, FaultKind::Unsupported);
+        return Ok(None);
+    }
+    let function = lifted(
+        alloc,
+        scope.functions,
+        scope,
+        home,
+        name,
+        name_at,
+        items,
+        first,
+    )?;
+    Ok(function.map(Increase::Value))
+}
+
+/// A word at a place as what a cost grows by: a number, or a function without terms.
+#[tactic(auto, using(sexp::proofs::Walking::walking), unfolding(pddl_syntax::specs::Faults::first_of))]
+fn amount_of_word(
+    alloc: Global,
+    scope: &Scope,
+    word: &str,
+    at: usize,
+    first: &mut Option<Fault>,
+) -> Result<Option<Increase>, AllocError>
+    ensures meaning { IfOk result (λ i. i ≡ spec.amount_of_word scope.now word.now (number_of word.now)) }
+    ensures faults { OnOk result (first.new ≡ first_of first.old (spec.amount_word_faults scope.now at word.now (number_of word.now))) }
+{
+    match number_of(word) {
+        Number::Whole(n) => Ok(Some(Increase::Amount(n))),
+        Number::Fraction => {
+            blame(first, at, FaultKind::NotWhole);
+            Ok(None)
+        }
+        Number::OutOfRange => {
+            blame(first, at, FaultKind::CostRange);
+            Ok(None)
+        }
+        Number::NoNumber => function_value(alloc, scope, at, word, at, &[], first),
+    }
+}
+
+/// A list with a head as what a cost grows by.
+#[tactic(auto, using(sexp::proofs::Walking::walking, pddl_syntax::proofs::Trees::noting), unfolding(pddl_syntax::specs::Faults::first_of))]
+fn amount_of_list(
+    alloc: Global,
+    scope: &Scope,
+    home: usize,
+    head: &Tree,
+    parts: &[Tree],
+    first: &mut Option<Fault>,
+) -> Result<Option<Increase>, AllocError>
+    ensures meaning { IfOk result (λ i. i ≡ spec.amount_inside scope.now (before head.now (views parts.now))) }
+    ensures faults { OnOk result (first.new ≡ first_of first.old (spec.amount_inside_faults scope.now home (before head.now (views parts.now)))) }
+{
+    match head {
+        Tree::List { span, .. } => {
+            blame(first, span.start, FaultKind::Shape);
+            Ok(None)
+        }
+        Tree::Word { text, span } => function_value(
+            alloc,
+            scope,
+            home,
+            text.as_str(),
+            span.start,
+            parts,
+            first,
+        ),
+    }
+}
+
+/// A tree as what a cost grows by.
+#[tactic(auto, using(sexp::proofs::Walking::walking, pddl_syntax::proofs::Trees::noting), unfolding(pddl_syntax::specs::Faults::first_of))]
+fn amount_of(
+    alloc: Global,
+    scope: &Scope,
+    tree: &Tree,
+    first: &mut Option<Fault>,
+) -> Result<Option<Increase>, AllocError>
+    ensures meaning { (rest : Forms) → IfOk result (λ i. i ≡ spec.amount_of scope.now (before tree.now rest)) }
+    ensures faults { (rest : Forms) → OnOk result (first.new ≡ first_of first.old (spec.first_amount_faults scope.now (before tree.now rest))) }
+{
+    match tree {
+        Tree::Word { text, span } => amount_of_word(alloc, scope, text.as_str(), span.start, first),
+        Tree::List { items, span } => match items.as_slice() {
+            [] => {
+                blame(first, span.start, FaultKind::Shape);
+                Ok(None)
+            }
+            [head, parts @ ..] => amount_of_list(alloc, scope, span.start, head, parts, first),
+        },
+    }
+}
+
+/// What a cost grows by, alone, in the list at a place.
+#[tactic(auto, using(sexp::proofs::Walking::walking, pddl_syntax::proofs::Trees::noting, crate::proofs::Steps::steps), unfolding(pddl_syntax::specs::Faults::first_of))]
+fn amount(
+    alloc: Global,
+    scope: &Scope,
+    home: usize,
+    items: &[Tree],
+    first: &mut Option<Fault>,
+) -> Result<Option<Increase>, AllocError>
+    ensures meaning { IfOk result (λ i. i ≡ spec.amount_of scope.now (views items.now)) }
+    ensures faults { OnOk result (first.new ≡ first_of first.old (spec.amount_faults scope.now home (views items.now))) }
+{
+    match items {
+        [] => {
+            blame(first, home, FaultKind::Shape);
+            Ok(None)
+        }
+        [amount, more @ ..] => {
+            let increase = amount_of(alloc, scope, amount, first)?;
+            blame_more(more, first);
+            Ok(increase)
+        }
+    }
+}
+
+/// What stands behind the word `increase` at a place, in the list at another.
+#[tactic(auto, using(sexp::proofs::Walking::walking, pddl_syntax::proofs::Trees::noting, crate::proofs::Steps::steps), unfolding(pddl_syntax::specs::Faults::first_of))]
+pub fn read_increase(
+    alloc: Global,
+    scope: &Scope,
+    home: usize,
+    increase_at: usize,
+    items: &[Tree],
+    first: &mut Option<Fault>,
+) -> Result<Option<Increase>, AllocError>
+    ensures meaning { IfOk result (λ i. i ≡ spec.increase_of scope.now (views items.now)) }
+    ensures faults { OnOk result (first.new ≡ first_of first.old (spec.increase_faults scope.now home increase_at (views items.now))) }
+{
+    match items {
+        [] => {
+            blame(first, home, FaultKind::Shape);
+            Ok(None)
+        }
+        [increased, rest @ ..] => {
+            blame_increased(increased, increase_at, first);
+            amount(alloc, scope, home, rest, first)
+        }
+    }
+}
