@@ -4,7 +4,7 @@ ghost use Rattle.std.specs.Prelude.{◌≡◌, ◌++◌, ◌∷◌, [], ℕ, Lis
 ghost use Rattle.sexp.specs.Forms.{Forms, before, views, alone};
 ghost use Rattle.pddl_syntax.specs.Faults.{first_of};
 ghost use Rattle.pddl_syntax.specs.Parameters.{parameter_types, parameter_names};
-ghost use Rattle.pddl_syntax.specs.Sections.{part_of, behind};
+ghost use Rattle.pddl_syntax.specs.Sections.{part_of};
 ghost use Rattle.pddl_effect.specs.Conditions.{conditions};
 ghost use Rattle.pddl_effect.specs.Effects.{effects, increases};
 ghost use Rattle.pddl_action.specs.Keywords as keywords;
@@ -16,7 +16,7 @@ use names::Names;
 use pddl_effect::{Effects, Places, add_places, read_condition, read_effect};
 use pddl_syntax::{
     Fault, FaultKind, LimitedTable, Parameters, Section, Types, WordKind, blame, blame_if,
-    parameters_list, word_kind,
+    parameters_list, without_first, word_kind,
 };
 use pddl_terms::{Scope, Setting};
 use planning::{ActionSchema, Condition};
@@ -288,16 +288,6 @@ fn read_name(
             Ok(home)
         }
         [name, ..] => read_name_at(alloc, name, names, first),
-    }
-}
-
-#[tactic(auto, using(sexp::proofs::Walking::walking))]
-fn without_first(items: &[Tree]) -> &[Tree]
-    ensures { views result.now ≡ behind (views items.now) }
-{
-    match items {
-        [] => &[],
-        [_first, rest @ ..] => rest,
     }
 }
 

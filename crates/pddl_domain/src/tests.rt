@@ -3,6 +3,7 @@ use names::Names;
 use pddl_syntax::{Fault, FaultKind, Heads, LimitedTable, Types};
 use sexp::{Tree, read};
 use std::alloc::{AllocError, Global};
+use std::process::Abort;
 use std::test::*;
 
 fn fault(kind: FaultKind, at: usize) -> Option<Fault> {
@@ -87,29 +88,24 @@ fn many(
     Ok(text)
 }
 
+/// The first fault of a section of types.
+fn expect_types(rt: &impl Abort, alloc: Global, text: &str, expected: Option<Fault>) {
+    match types_of(alloc, text) {
+        Ok((_, first)) => assert_eq!(rt; first, expected),
+        Err(_) => assert!(rt; false),
+    }
+}
+
 #[test]
 fn types(rt: HostRuntime) {
     let table = [
         ("(:types)", None),
         ("(:types a b - c d)", None),
-        ("(:types object a - object)", None),
-        ("(:types a - object object)", None),
         ("(:types a - t a - t)", None),
-        ("(:types a - b b - a)", fault(FaultKind::TypeCycle, 8)),
-        (
-            "(:types c - a a - b b - a)",
-            fault(FaultKind::TypeCycle, 14),
-        ),
-        ("(:types a - a)", fault(FaultKind::TypeCycle, 8)),
         (
             "(:types a - b a - c c - a)",
             fault(FaultKind::TwiceDeclared, 14),
         ),
-        (
-            "(:types a - object object - a)",
-            fault(FaultKind::TypeCycle, 8),
-        ),
-        ("(:types object - a)", fault(FaultKind::TypeCycle, 8)),
         ("(:types - a)", fault(FaultKind::Shape, 8)),
         ("(:types a - b - c)", fault(FaultKind::Shape, 14)),
         (
@@ -122,17 +118,54 @@ fn types(rt: HostRuntime) {
         ("(:types (x) a -)", fault(FaultKind::Shape, 0)),
         ("(:types ())", fault(FaultKind::Shape, 8)),
     ];
-    for (text, expected) in &table {
-        match types_of(rt.alloc(), text) {
-            Ok((_, first)) => assert_eq!(rt; first, *expected),
-            Err(_) => assert!(rt; false),
-        }
+    for (text, expected) in table {
+        expect_types(&rt, rt.alloc(), text, expected);
     }
+}
+
+#[test]
+fn cycles_of_types(rt: HostRuntime) {
+    let table = [
+        ("(:types object a - object)", None),
+        ("(:types a - object object)", None),
+        ("(:types a - b b - a)", fault(FaultKind::TypeCycle, 8)),
+        (
+            "(:types c - a a - b b - a)",
+            fault(FaultKind::TypeCycle, 14),
+        ),
+        ("(:types a - a)", fault(FaultKind::TypeCycle, 8)),
+        (
+            "(:types a - object object - a)",
+            fault(FaultKind::TypeCycle, 8),
+        ),
+        ("(:types object - a)", fault(FaultKind::TypeCycle, 8)),
+    ];
+    for (text, expected) in table {
+        expect_types(&rt, rt.alloc(), text, expected);
+    }
+}
+
+#[test]
+fn supertypes(rt: HostRuntime) {
     match types_of(rt.alloc(), "(:types a b - c a - (d) c - e f)") {
         Ok((types, _)) => {
             assert_eq!(rt; types.names.number_of("e"), 4);
             assert_eq!(rt; types.supertypes.as_slice(), [0, 2, 4, 2, 0, 0].as_slice());
         }
+        Err(_) => assert!(rt; false),
+    }
+}
+
+/// The first fault of a section of constants and one of objects.
+fn expect_objects(
+    rt: &impl Abort,
+    alloc: Global,
+    constants: &str,
+    text: &str,
+    expected: Option<Fault>,
+) {
+    match objects_of(alloc, constants, text) {
+        Ok((_, first)) => assert_eq!(rt; first, expected),
         Err(_) => assert!(rt; false),
     }
 }
@@ -159,24 +192,28 @@ fn objects(rt: HostRuntime) {
             "(:objects a - t a - u a - t)",
             fault(FaultKind::TwiceDeclared, 16),
         ),
+        (none, "(:objects a ?b)", fault(FaultKind::Shape, 12)),
+    ];
+    for (constants, text, expected) in table {
+        expect_objects(&rt, rt.alloc(), constants, text, expected);
+    }
+}
+
+#[test]
+fn types_of_objects(rt: HostRuntime) {
+    let table = [
         (
-            none,
             "(:objects a - t a - (x) a - u)",
             fault(FaultKind::Shape, 20),
         ),
-        (none, "(:objects a - no)", fault(FaultKind::UnknownName, 14)),
+        ("(:objects a - no)", fault(FaultKind::UnknownName, 14)),
         (
-            none,
             "(:objects a - no a - nil)",
             fault(FaultKind::UnknownName, 14),
         ),
-        (none, "(:objects a ?b)", fault(FaultKind::Shape, 12)),
     ];
-    for (constants, text, expected) in &table {
-        match objects_of(rt.alloc(), constants, text) {
-            Ok((_, first)) => assert_eq!(rt; first, *expected),
-            Err(_) => assert!(rt; false),
-        }
+    for (text, expected) in table {
+        expect_objects(&rt, rt.alloc(), "(:constants)", text, expected);
     }
     match objects_of(
         rt.alloc(),
@@ -189,15 +226,16 @@ fn objects(rt: HostRuntime) {
         }
         Err(_) => assert!(rt; false),
     }
+}
+
+#[test]
+fn most_objects(rt: HostRuntime) {
     for (count, expected) in [
         (4095, None),
         (4098, fault(FaultKind::Limit(LimitedTable::Objects), 31660)),
     ] {
         match many(rt.alloc(), "(:objects", count, " o", " a") {
-            Ok(text) => match objects_of(rt.alloc(), none, text.as_str()) {
-                Ok((_, first)) => assert_eq!(rt; first, expected),
-                Err(_) => assert!(rt; false),
-            },
+            Ok(text) => expect_objects(&rt, rt.alloc(), "(:constants)", text.as_str(), expected),
             Err(_) => assert!(rt; false),
         }
     }

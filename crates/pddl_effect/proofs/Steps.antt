@@ -21,7 +21,6 @@ use Rattle.pddl_terms.specs.Terms.{Scope, lifted, with_term, first_term_faults}
 use Rattle.pddl_effect.specs.Conditions.{equality, equality_of, negated_condition, negated_inside, negated_conditions, two_terms_faults, second_term_faults, first_negated_faults, negated_faults}
 use Rattle.pddl_terms.specs.Beginnings.{beginning, by_kind}
 use Rattle.pddl_effect.specs.Effects.{amount_of, first_amount_faults, amount_faults, increased_faults, increase_faults, effect_of, negated_atom, negated_effect, negated_effects}
-use Rattle.pddl_terms.specs.Terms.{not_empty}
 use Rattle.pddl_effect.specs.Effects as effect
 use Rattle.pddl_terms.proofs.TermSteps.{terms_step, terms_faults_step}
 use Rattle.sexp.proofs.Walking.{at_tree}
@@ -43,9 +42,6 @@ amount_step scope home = at_tree (λ f g. amount_faults scope home f ≡ first_a
 pub increase_step : (scope : Scope) (home inc : ℕ) (t : Tree) (g : Forms) → increase_faults scope home inc (before t g) ≡ increased_faults inc (before t g) ++ amount_faults scope home g
 increase_step scope home inc =
     at_tree (λ f g. increase_faults scope home inc f ≡ increased_faults inc f ++ amount_faults scope home g) (λ s e text g. refl) (λ s e inner g. refl)
-
-pub not_empty_before : (t : Tree) (g : Forms) → not_empty (before t g) ≡ true
-not_empty_before = at_tree (λ f g. not_empty f ≡ true) (λ s e text g. refl) (λ s e inner g. refl)
 
 -- two terms and nothing else
 pub equality_two : (positive : Bool) (x y : Option Term) → equality positive (with_term x (with_term y (Some []))) ≡ equality_of positive x y

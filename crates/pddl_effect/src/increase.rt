@@ -10,19 +10,13 @@ ghost use Rattle.pddl_effect.specs.Effects as spec;
 use pddl_syntax::{
     Fault, FaultKind, Number, WordKind, blame, blame_if, blame_more, number_of, word_kind,
 };
-use pddl_terms::{Scope, lifted};
+use pddl_terms::{Scope, is_total_cost, lifted};
 use planning::Increase;
 use sexp::Tree;
 use std::alloc::{AllocError, Global};
 
-fn is_total_cost(word: &str) -> bool
-    ensures { result ≡ spec.is_total_cost word.now }
-{
-    word == "total-cost"
-}
-
 /// Whether it is the total cost, and has terms.
-#[tactic(auto, using(sexp::proofs::Walking::walking, crate::proofs::Steps::not_empty_before))]
+#[tactic(auto, using(sexp::proofs::Walking::walking, pddl_terms::proofs::TermSteps::not_empty_before))]
 fn has_terms(word: &str, items: &[Tree]) -> bool
     ensures { result ≡ spec.has_terms word.now (views items.now) }
 {

@@ -1,8 +1,9 @@
 -- The atoms of the literals so far.
-use Rattle.std.proofs.Common.{◌≡◌, Bool, true, false, ◌||◌, ◌&&◌, not, List, [], ◌∷◌, ◌++◌, map, take, drop, length, get_or, ℕ, ◌+◌, ◌<◌, suc, drop-cons, arith, if◌then◌else◌, refl, sym, ap, ◌∙◌}
+use Rattle.std.proofs.Common.{◌≡◌, Bool, true, false, ◌||◌, ◌&&◌, not, List, [], ◌∷◌, ◌++◌, map, take, drop, length, get_or, ℕ, ◌+◌, ◌<◌, if◌then◌else◌, refl, sym, ap, ◌∙◌}
 use Rattle.std.proofs.Math.Path.{fun_ext}
 use Rattle.std.proofs.lemmas.List.{map-append, take_more}
 use Rattle.std.specs.Prelude.{Option}
+use Rattle.pddl_syntax.proofs.ParameterSteps.{listed_at}
 use Rattle.pddl_syntax.specs.declared.fault.Fault.{Fault}
 use Rattle.pddl_syntax.specs.declared.fault.FaultKind.TheVariants.{GoalBothWays}
 use Rattle.pddl_syntax.specs.Faults.{first_of, fault, faults_if}
@@ -33,10 +34,6 @@ excludes_at (k ∷ ks) l p =
 
 pub excludes_push : (ls : List Literal) (l : Literal) → excludes (ls ++ l ∷ []) ≡ also_excluded (excludes ls) l
 excludes_push ls l = fun_ext (λ p. excludes_at ls l p)
-
-drop_item : {X : Type 0} (ts : List X) (i : ℕ) (t : X) → i < length ts → t ≡ get_or ts i t → drop i ts ≡ t ∷ drop (i + 1) ts
-drop_item {X = X} ts i t lt is =
-    drop-cons ts i t lt ∙ ap (λ (u : X). u ∷ drop (suc i) ts) (sym is) ∙ ap (λ (k : ℕ). t ∷ drop k ts) (let e : suc i ≡ i + 1 = omega arith in e)
 
 -- the literals before a place
 abbrev pub known_before : List Placed → ℕ → List Literal
@@ -75,4 +72,4 @@ faults_more old new known ls i l b lt is w x e noted =
     ap (λ (ks : List Literal). first_of new (opposite_faults ks later)) (known_more ls i l lt is)
     ∙ sym (noted (opposite_faults (before ++ l.literal ∷ []) later))
     ∙ ap (λ (c : Bool). first_of old (faults_if c (fault GoalBothWays l.at) (opposite_faults (before ++ l.literal ∷ []) later))) (e ∙ opposite_step known before l.literal w x)
-    ∙ ap (λ (ks : List Placed). first_of old (opposite_faults before ks)) (sym (drop_item ls i l lt is))
+    ∙ ap (λ (ks : List Placed). first_of old (opposite_faults before ks)) (sym (listed_at ls i l lt is))

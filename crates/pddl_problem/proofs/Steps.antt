@@ -3,20 +3,17 @@ use Rattle.std.proofs.Common.{◌≡◌, ℕ, Bool, true, false, ◌&&◌, not, 
 use Rattle.std.proofs.lemmas.List.{map-append, append-nil}
 use Rattle.std.specs.Prelude.{None}
 use Rattle.sexp.specs.declared.tree.Tree.{Tree}
-use Rattle.sexp.specs.Forms.{Forms, none, word, group, before, start_of, alone, IsOne, ◌then◌}
+use Rattle.sexp.specs.Forms.{Forms, none, word, group, before, alone, IsOne, ◌then◌}
 use Rattle.sexp.proofs.Trees.{before_then}
 use Rattle.sexp.proofs.Walking.{at_tree, one_alone}
-use Rattle.pddl_syntax.specs.declared.fault.FaultKind.TheVariants.{Shape}
-use Rattle.pddl_syntax.specs.Faults.{fault}
 use Rattle.pddl_syntax.specs.Sections.{more_faults}
-use Rattle.pddl_terms.specs.Terms.{Scope, not_empty}
+use Rattle.pddl_syntax.proofs.HeadSteps.{more_step}
+use Rattle.pddl_terms.specs.Terms.{Scope}
+use Rattle.pddl_terms.proofs.TermSteps.{not_empty_before}
 use Rattle.pddl_problem.specs.Initial.{number_alone, first_number, number_faults, first_number_faults, value_faults, first_function_faults, negated_item_faults}
 use Rattle.pddl_problem.specs.Initial as initial
 use Rattle.pddl_problem.specs.Goals.{goals, goals_faults, goal_faults, opposite_faults, first_alone, negated_goals_faults}
 use Rattle.pddl_problem.specs.Goals as goal
-
-pub not_empty_before : (t : Tree) (g : Forms) → not_empty (before t g) ≡ true
-not_empty_before = at_tree (λ f g. not_empty f ≡ true) (λ s e text g. refl) (λ s e inner g. refl)
 
 -- ---- numbers
 
@@ -33,9 +30,6 @@ pub number_step : (home : ℕ) (t : Tree) (g : Forms) → number_faults home (be
 number_step home = at_tree (λ f g. number_faults home f ≡ first_number_faults f ++ more_faults g) (λ s e text g. refl) (λ s e inner g. refl)
 
 -- what is told of the first expression alone does not hang on what stands behind it
-pub more_step : (t : Tree) (g : Forms) → more_faults (before t g) ≡ fault Shape (start_of (before t g)) ∷ []
-more_step = at_tree (λ f g. more_faults f ≡ fault Shape (start_of f) ∷ []) (λ s e text g. refl) (λ s e inner g. refl)
-
 pub more_none : more_faults none ≡ []
 more_none = refl
 

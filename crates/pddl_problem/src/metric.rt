@@ -6,8 +6,9 @@ ghost use Rattle.pddl_syntax.specs.Sections.{has_head};
 ghost use Rattle.pddl_syntax.specs.Faults.{first_of};
 ghost use Rattle.pddl_problem.specs.Goals as spec;
 
-use crate::value::{is_nothing, is_total_cost};
+use crate::value::is_nothing;
 use pddl_syntax::{Fault, FaultKind, blame};
+use pddl_terms::is_total_cost;
 use sexp::Tree;
 
 #[tactic(auto, using(sexp::proofs::Walking::walking))]

@@ -5,6 +5,7 @@ use pddl_terms::Scope;
 use planning::{GroundAtom, GroundLiteral};
 use sexp::{Tree, read};
 use std::alloc::{AllocError, Global};
+use std::process::Abort;
 use std::test::*;
 
 #[derive(Drop)]
@@ -146,11 +147,39 @@ fn read_goal(
     Ok((first, spell_goal(alloc, declarations, &literals)?))
 }
 
+/// The first fault of each section, and what it means.
+fn expect_initial(
+    rt: &impl Abort,
+    alloc: Global,
+    lines: &[(&str, Option<(FaultKind, usize)>, &str)],
+) -> Result<(), Fail> {
+    let declarations = declared(alloc)?;
+    for (text, fault, meaning) in lines {
+        let (found, spelled) = read_initial(alloc, &declarations, text)?;
+        assert!(rt; is_fault(found, *fault), "the fault of {text}");
+        assert_eq!(rt; spelled.as_str(), *meaning, "the meaning of {text}");
+    }
+    Ok(())
+}
+
+/// The first fault of each section, and what it means.
+fn expect_goals(
+    rt: &impl Abort,
+    alloc: Global,
+    lines: &[(&str, Option<(FaultKind, usize)>, &str)],
+) -> Result<(), Fail> {
+    let declarations = declared(alloc)?;
+    for (text, fault, meaning) in lines {
+        let (found, spelled) = read_goal(alloc, &declarations, text)?;
+        assert!(rt; is_fault(found, *fault), "the fault of {text}");
+        assert_eq!(rt; spelled.as_str(), *meaning, "the meaning of {text}");
+    }
+    Ok(())
+}
+
 #[test]
 fn initial_atoms(rt: HostRuntime) -> Result<(), Fail> {
-    let alloc = rt.alloc();
-    let declarations = declared(alloc)?;
-    for (text, fault, meaning) in [
+    let lines = [
         ("(:init)", None, ""),
         ("(:init (q ?x))", Some((FaultKind::UnknownName, 10)), ""),
         ("(:init (q ?))", Some((FaultKind::Shape, 10)), ""),
@@ -165,19 +194,13 @@ fn initial_atoms(rt: HostRuntime) -> Result<(), Fail> {
             Some((FaultKind::UnknownName, 8)),
             "(p)",
         ),
-    ] {
-        let (found, spelled) = read_initial(alloc, &declarations, text)?;
-        assert!(rt; is_fault(found, fault), "the fault of {text}");
-        assert_eq!(rt; spelled.as_str(), meaning, "the meaning of {text}");
-    }
-    Ok(())
+    ];
+    expect_initial(&rt, rt.alloc(), &lines)
 }
 
 #[test]
 fn initial_forms(rt: HostRuntime) -> Result<(), Fail> {
-    let alloc = rt.alloc();
-    let declarations = declared(alloc)?;
-    for (text, fault, meaning) in [
+    let lines = [
         ("(:init (and (p)))", Some((FaultKind::UnknownName, 8)), ""),
         ("(:init (or a))", Some((FaultKind::Unsupported, 8)), ""),
         ("(:init (not p))", Some((FaultKind::Unsupported, 8)), ""),
@@ -209,24 +232,36 @@ fn initial_forms(rt: HostRuntime) -> Result<(), Fail> {
             Some((FaultKind::UnknownName, 13)),
             "",
         ),
-    ] {
-        let (found, spelled) = read_initial(alloc, &declarations, text)?;
-        assert!(rt; is_fault(found, fault), "the fault of {text}");
-        assert_eq!(rt; spelled.as_str(), meaning, "the meaning of {text}");
-    }
-    Ok(())
+    ];
+    expect_initial(&rt, rt.alloc(), &lines)
 }
 
 #[test]
-fn initial_numbers(rt: HostRuntime) -> Result<(), Fail> {
-    let alloc = rt.alloc();
-    let declarations = declared(alloc)?;
-    for (text, fault, meaning) in [
+fn initial_values(rt: HostRuntime) -> Result<(), Fail> {
+    let lines = [
         (
             "(:init (p) (q a) (= (f) 3) (= (g a) 0) (= total-cost 0))",
             None,
             "(p)(q a)(f)=3(g a)=0",
         ),
+        ("(:init (= (f) 007) (= f 7.00))", None, "(f)=7"),
+        (
+            "(:init (= (f) 1) (= (f) 2) (= (f) 1))",
+            Some((FaultKind::TwiceDeclared, 17)),
+            "(f)=1",
+        ),
+        (
+            "(:init (= (total-cost a) 0))",
+            Some((FaultKind::Arity, 10)),
+            "",
+        ),
+    ];
+    expect_initial(&rt, rt.alloc(), &lines)
+}
+
+#[test]
+fn initial_numbers(rt: HostRuntime) -> Result<(), Fail> {
+    let lines = [
         ("(:init (= (f) +1))", Some((FaultKind::Shape, 14)), ""),
         ("(:init (= (f) -0))", Some((FaultKind::CostRange, 14)), ""),
         (
@@ -240,35 +275,18 @@ fn initial_numbers(rt: HostRuntime) -> Result<(), Fail> {
             Some((FaultKind::CostRange, 14)),
             "",
         ),
-        ("(:init (= (f) 007) (= f 7.00))", None, "(f)=7"),
-        (
-            "(:init (= (f) 1) (= (f) 2) (= (f) 1))",
-            Some((FaultKind::TwiceDeclared, 17)),
-            "(f)=1",
-        ),
-        (
-            "(:init (= (total-cost a) 0))",
-            Some((FaultKind::Arity, 10)),
-            "",
-        ),
         (
             "(:init (= (total-cost) x))",
             Some((FaultKind::Shape, 23)),
             "",
         ),
-    ] {
-        let (found, spelled) = read_initial(alloc, &declarations, text)?;
-        assert!(rt; is_fault(found, fault), "the fault of {text}");
-        assert_eq!(rt; spelled.as_str(), meaning, "the meaning of {text}");
-    }
-    Ok(())
+    ];
+    expect_initial(&rt, rt.alloc(), &lines)
 }
 
 #[test]
 fn initial_functions(rt: HostRuntime) -> Result<(), Fail> {
-    let alloc = rt.alloc();
-    let declarations = declared(alloc)?;
-    for (text, fault, meaning) in [
+    let lines = [
         (
             "(:init (= (total-cost) 7))",
             Some((FaultKind::Unsupported, 11)),
@@ -287,19 +305,13 @@ fn initial_functions(rt: HostRuntime) -> Result<(), Fail> {
         ("(:init (= (g) 1))", Some((FaultKind::Arity, 10)), ""),
         ("(:init (= (h) 1))", Some((FaultKind::UnknownName, 11)), ""),
         ("(:init (= ?f 1))", Some((FaultKind::Shape, 10)), ""),
-    ] {
-        let (found, spelled) = read_initial(alloc, &declarations, text)?;
-        assert!(rt; is_fault(found, fault), "the fault of {text}");
-        assert_eq!(rt; spelled.as_str(), meaning, "the meaning of {text}");
-    }
-    Ok(())
+    ];
+    expect_initial(&rt, rt.alloc(), &lines)
 }
 
 #[test]
 fn goal_sections(rt: HostRuntime) -> Result<(), Fail> {
-    let alloc = rt.alloc();
-    let declarations = declared(alloc)?;
-    for (text, fault, meaning) in [
+    let lines = [
         ("(:goal)", Some((FaultKind::Shape, 0)), ""),
         ("(:goal p)", Some((FaultKind::Shape, 7)), ""),
         ("(:goal (p) (q a))", Some((FaultKind::Shape, 11)), "+(p)"),
@@ -310,13 +322,51 @@ fn goal_sections(rt: HostRuntime) -> Result<(), Fail> {
         ),
         ("(:goal (and () (and) (and (and (p)))))", None, "+(p)"),
         ("(:goal ())", None, ""),
+        ("(:goal (and p))", Some((FaultKind::Shape, 12)), ""),
+    ];
+    expect_goals(&rt, rt.alloc(), &lines)
+}
+
+#[test]
+fn goal_forms(rt: HostRuntime) -> Result<(), Fail> {
+    let lines = [
+        ("(:goal (= a a))", Some((FaultKind::Unsupported, 8)), ""),
+        ("(:goal (or a))", Some((FaultKind::Unsupported, 8)), ""),
+        ("(:goal (zap))", Some((FaultKind::UnknownName, 8)), ""),
+        ("(:goal ((p)))", Some((FaultKind::Shape, 8)), ""),
+        (
+            "(:goal (and (increase) (q ?)))",
+            Some((FaultKind::UnknownName, 13)),
+            "",
+        ),
+    ];
+    expect_goals(&rt, rt.alloc(), &lines)
+}
+
+#[test]
+fn negated_goals(rt: HostRuntime) -> Result<(), Fail> {
+    let lines = [
+        ("(:goal (not p))", Some((FaultKind::Unsupported, 8)), ""),
+        ("(:goal (not (and)))", Some((FaultKind::Unsupported, 8)), ""),
+        ("(:goal (not))", Some((FaultKind::Shape, 7)), ""),
+        (
+            "(:goal (not (p) (p)))",
+            Some((FaultKind::Shape, 16)),
+            "-(p)",
+        ),
+        ("(:goal (not (q)))", Some((FaultKind::Arity, 12)), ""),
         (
             "(:goal (not (= a a)))",
             Some((FaultKind::Unsupported, 13)),
             "",
         ),
-        ("(:goal (= a a))", Some((FaultKind::Unsupported, 8)), ""),
-        ("(:goal (or a))", Some((FaultKind::Unsupported, 8)), ""),
+    ];
+    expect_goals(&rt, rt.alloc(), &lines)
+}
+
+#[test]
+fn goals_both_ways(rt: HostRuntime) -> Result<(), Fail> {
+    let lines = [
         (
             "(:goal (and (p) (not (p))))",
             Some((FaultKind::GoalBothWays, 16)),
@@ -328,29 +378,8 @@ fn goal_sections(rt: HostRuntime) -> Result<(), Fail> {
             "-(q a)+(p)+(q a)-(p)",
         ),
         ("(:goal (and (p) (p)))", None, "+(p)+(p)"),
-        ("(:goal (not p))", Some((FaultKind::Unsupported, 8)), ""),
-        ("(:goal (not (and)))", Some((FaultKind::Unsupported, 8)), ""),
-        ("(:goal (not))", Some((FaultKind::Shape, 7)), ""),
-        (
-            "(:goal (not (p) (p)))",
-            Some((FaultKind::Shape, 16)),
-            "-(p)",
-        ),
-        ("(:goal (not (q)))", Some((FaultKind::Arity, 12)), ""),
-        ("(:goal (zap))", Some((FaultKind::UnknownName, 8)), ""),
-        ("(:goal (and p))", Some((FaultKind::Shape, 12)), ""),
-        ("(:goal ((p)))", Some((FaultKind::Shape, 8)), ""),
-        (
-            "(:goal (and (increase) (q ?)))",
-            Some((FaultKind::UnknownName, 13)),
-            "",
-        ),
-    ] {
-        let (found, spelled) = read_goal(alloc, &declarations, text)?;
-        assert!(rt; is_fault(found, fault), "the fault of {text}");
-        assert_eq!(rt; spelled.as_str(), meaning, "the meaning of {text}");
-    }
-    Ok(())
+    ];
+    expect_goals(&rt, rt.alloc(), &lines)
 }
 
 #[test]

@@ -7,7 +7,7 @@ ghost use Rattle.pddl_syntax.specs.declared.fault.Fault.{Fault as FaultAt};
 ghost use Rattle.pddl_syntax.specs.declared.fault.FaultKind.TheVariants.{TwiceDeclared as Twice};
 ghost use Rattle.pddl_syntax.specs.Words.{word_kind};
 ghost use Rattle.pddl_syntax.specs.Numbers.{number_of};
-ghost use Rattle.pddl_terms.specs.Terms.{is_total_cost, not_empty};
+ghost use Rattle.pddl_terms.specs.Terms.{not_empty};
 ghost use Rattle.pddl_problem.specs.Initial as spec;
 
 use crate::grounding::ground;
@@ -15,7 +15,7 @@ use indexmap::IndexMap;
 use pddl_syntax::{
     Fault, FaultKind, Number, WordKind, blame, blame_if, blame_more, number_of, word_kind,
 };
-use pddl_terms::{Scope, lifted};
+use pddl_terms::{Scope, is_total_cost, lifted};
 use planning::GroundAtom;
 use sexp::Tree;
 use std::alloc::{AllocError, Global};
@@ -119,14 +119,8 @@ fn is_positive(items: &[Tree]) -> bool
     }
 }
 
-pub fn is_total_cost(word: &str) -> bool
-    ensures { result ≡ is_total_cost word.now }
-{
-    word == "total-cost"
-}
-
 /// Whether there is nothing in the list.
-#[tactic(auto, using(sexp::proofs::Walking::walking, crate::proofs::Steps::not_empty_before))]
+#[tactic(auto, using(sexp::proofs::Walking::walking, pddl_terms::proofs::TermSteps::not_empty_before))]
 pub fn is_nothing(items: &[Tree]) -> bool
     ensures { result ≡ not (not_empty (views items.now)) }
 {

@@ -19,7 +19,9 @@ pub use heads::Heads;
 pub use number::{Number, number_of};
 pub use parameters::{Parameters, parameters_list};
 pub use requirements::requirements_section;
-pub use sections::{Section, all_sections, blame_more, find_section, read_heads, sections_of};
+pub use sections::{
+    Section, all_sections, blame_more, find_section, read_heads, sections_of, without_first,
+};
 pub use typed::{Named, Run, Types, typed_list};
 pub use word::{WordKind, word_kind};
 

@@ -40,7 +40,8 @@ fn has_head(items: &[Tree], wanted: &str) -> bool
     }
 }
 
-fn without_first(items: &[Tree]) -> &[Tree]
+/// All items but the first.
+pub fn without_first(items: &[Tree]) -> &[Tree]
     ensures { views result.now ≡ spec.behind (views items.now) }
 {
     if items.is_empty() { &[] } else { &items[1..] }

@@ -7,7 +7,7 @@ use Rattle.sexp.specs.declared.tree.Tree.{Tree}
 use Rattle.sexp.specs.Forms.{Forms, before, views}
 use Rattle.sexp.proofs.Walking.{at_tree}
 use Rattle.planning.specs.declared.schema.Term.{Term}
-use Rattle.pddl_terms.specs.Terms.{Scope, with_term, terms, first_term, terms_faults, first_term_faults, count}
+use Rattle.pddl_terms.specs.Terms.{Scope, with_term, terms, first_term, terms_faults, first_term_faults, count, not_empty}
 
 pub terms_step : (scope : Scope) (t : Tree) (g : Forms) → terms scope (before t g) ≡ with_term (first_term scope (before t g)) (terms scope g)
 terms_step scope = at_tree (λ f g. terms scope f ≡ with_term (first_term scope f) (terms scope g)) (λ s e text g. refl) (λ s e inner g. refl)
@@ -16,6 +16,9 @@ pub terms_faults_step : (scope : Scope) (t : Tree) (g : Forms) → terms_faults 
 terms_faults_step scope = at_tree (λ f g. terms_faults scope f ≡ first_term_faults scope f ++ terms_faults scope g) (λ s e text g. refl) (λ s e inner g. refl)
 
 pub ruleset steps = (terms_step, terms_faults_step)
+
+pub not_empty_before : (t : Tree) (g : Forms) → not_empty (before t g) ≡ true
+not_empty_before = at_tree (λ f g. not_empty f ≡ true) (λ s e text g. refl) (λ s e inner g. refl)
 
 -- ---- terms that were read, and those behind them
 

@@ -1,5 +1,5 @@
 -- What the head of a list begins.
-use Rattle.std.specs.Prelude.{ℕ, Bool, if◌then◌else◌, List, [], ◌∷◌, codes}
+use Rattle.std.specs.Prelude.{ℕ, if◌then◌else◌, List, [], ◌∷◌, codes}
 use Rattle.names.specs.Names.{same_text}
 use Rattle.pddl_syntax.specs.declared.word.WordKind.{WordKind}
 use Rattle.pddl_syntax.specs.declared.word.WordKind.TheVariants.{Name}

@@ -3,6 +3,7 @@
 ghost use Rattle.std.specs.Prelude.{◌≡◌};
 ghost use Rattle.pddl_syntax.specs.Words.{is_one_of};
 ghost use Rattle.pddl_terms.specs.Beginnings.{unsupported_heads, other_beginning, beginning};
+ghost use Rattle.pddl_terms.specs.Terms.{is_total_cost};
 
 use pddl_syntax::{WordKind, word_kind};
 
@@ -78,4 +79,11 @@ pub fn beginning_of(setting: Setting, head: &str) -> Beginning
         Setting::InEffect if head == "increase" => Beginning::Increasing,
         _ => other_beginning(head),
     }
+}
+
+/// Whether the word is the name of the total cost.
+pub fn is_total_cost(word: &str) -> bool
+    ensures { result ≡ is_total_cost word.now }
+{
+    word == "total-cost"
 }

@@ -6,7 +6,7 @@ mod beginning;
 mod reading;
 mod scope;
 
-pub use beginning::{Beginning, Setting, beginning_of};
+pub use beginning::{Beginning, Setting, beginning_of, is_total_cost};
 pub use reading::{lifted, term, terms};
 pub use scope::Scope;
 

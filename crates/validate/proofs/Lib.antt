@@ -3,3 +3,4 @@ pub mod CostLaws
 pub mod StateLaws
 pub mod VerdictLaws
 pub mod VerdictTheorem
+pub mod LowCosts

@@ -4,3 +4,4 @@ pub mod States
 pub mod Verdicts
 pub mod Validation
 pub mod Written
+pub mod LowCosts
