@@ -4,8 +4,8 @@ use Rattle.std.specs.Prelude.{Option, Some, None, IsSomeAnd}
 use Rattle.std.specs.Option.{option_map}
 use Rattle.optplan.specs.declared.fault.Fault.{Fault}
 use Rattle.optplan.specs.declared.fault.Fault.TheVariants.{OutOfMemory, CannotRead, CannotWrite, Task, Plan}
-use Rattle.optplan.specs.Events.{Event, HasRead, HasPut, Adds}
-use Rattle.optplan.specs.Answers.{IsAnswer, fault_status}
+use Rattle.optplan.specs.Events.{Event, HasPut, Adds}
+use Rattle.optplan.specs.Answers.{fault_status}
 use Rattle.optplan.specs.Runs.{reads, IsQuiet, IsAnswerFault, HasAnswered, HasRefused, Validates}
 
 -- three files were read, and a line was put out

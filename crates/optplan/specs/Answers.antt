@@ -1,5 +1,6 @@
 -- What is answered for the three texts of a domain, a problem and a plan.
-use Rattle.std.specs.Prelude.{◌≡◌, ◌≢◌, ℕ, List}
+use Rattle.std.specs.Prelude.{◌≡◌, ◌≢◌, ℕ, List, string_bytes}
+use Rattle.std.specs.Option.{option_map}
 use Rattle.planning.specs.Planning.{PlanningTask}
 use Rattle.pddl.specs.Texts.{SpellTask, IsTaskRefusal}
 use Rattle.pddl.specs.declared.fault.PddlFault.TheVariants as task_fault
@@ -10,6 +11,7 @@ use Rattle.validate.specs.Written.{verdict_line_of}
 use Rattle.validate.specs.declared.verdict.Verdict.{Verdict}
 use Rattle.validate.specs.declared.verdict.Verdict.TheVariants.{Valid, NoSuchAction, NotApplicable, GoalOpen}
 use Rattle.validate.specs.declared.plan.PlanFault.TheVariants as plan_fault
+use Rattle.optplan.specs.Words.{word_of_fault}
 use Rattle.optplan.specs.declared.fault.Fault.{Fault}
 use Rattle.optplan.specs.declared.fault.Fault.TheVariants.{OutOfMemory, CannotRead, CannotWrite, Task, Plan}
 
@@ -39,10 +41,11 @@ pub record IsAnswer (domain problem plan line : List ℕ) (status : ℕ) : Type 
   pub line_is : line ≡ verdict_line_of task verdict
   pub status_is : status ≡ verdict_status verdict
 
--- The texts are refused: the first two for their first fault, or the plan for its own where they spell a task.
+-- The texts are refused: the first two for their first fault, with the word that it names, or the plan for its own
+-- where they spell a task.
 abbrev pub IsRefusal : List ℕ → List ℕ → List ℕ → Fault → Type 0
 IsRefusal domain problem plan OutOfMemory = Unit {0}
 IsRefusal domain problem plan (CannotRead file) = ⊥
 IsRefusal domain problem plan (CannotWrite file) = ⊥
-IsRefusal domain problem plan (Task e word) = (e ≢ task_fault.OutOfMemory) × IsTaskRefusal domain problem e
+IsRefusal domain problem plan (Task e word) = (e ≢ task_fault.OutOfMemory) × IsTaskRefusal domain problem e × (option_map string_bytes word ≡ word_of_fault domain problem e)
 IsRefusal domain problem plan (Plan e) = (e ≢ plan_fault.OutOfMemory) × (task : PlanningTask) × SpellTask domain problem task × IsPlanFault plan e

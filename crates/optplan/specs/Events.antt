@@ -1,5 +1,5 @@
 -- What passes between the program and its surroundings.
-use Rattle.std.specs.Prelude.{◌≡◌, ℕ, ◌+◌, List, [], ◌∷◌, ◌++◌, Option, Some, None}
+use Rattle.std.specs.Prelude.{◌≡◌, ℕ, List, [], ◌∷◌, ◌++◌, Option}
 use Rattle.std.specs.Option.{option_map}
 use Rattle.optplan.specs.declared.device.DeviceFault.{DeviceFault}
 use Rattle.optplan.specs.declared.device.DeviceFault.TheVariants.{Memory, Failed}

@@ -1,4 +1,5 @@
 pub mod Events
+pub mod Words
 pub mod Answers
 pub mod Runs
 pub mod Memory

@@ -1,5 +1,5 @@
 -- The events that a device in memory recorded.
-use Rattle.std.specs.Prelude.{ℕ, List, string_bytes}
+use Rattle.std.specs.Prelude.{string_bytes}
 use Rattle.optplan.specs.declared.memory.Recorded.{Recorded}
 use Rattle.optplan.specs.declared.memory.Recorded.TheVariants.{Read, Written, Put, Reported}
 use Rattle.optplan.specs.Events.{Event, HasRead, HasWritten, HasPut, HasReported}

@@ -1,5 +1,5 @@
 -- Runs of the program: the words that it is started with, and what it does.
-use Rattle.std.specs.Prelude.{◌≡◌, ◌≢◌, ℕ, ◌+◌, ◌⊎◌, ◌==◌, not, Bool, true, List, [], ◌∷◌, ◌++◌, codes}
+use Rattle.std.specs.Prelude.{◌≡◌, ℕ, ◌+◌, ◌⊎◌, ◌==◌, not, Bool, true, List, [], ◌∷◌, ◌++◌, codes}
 use Rattle.optplan.specs.declared.fault.Fault.{Fault}
 use Rattle.optplan.specs.declared.fault.Fault.TheVariants.{OutOfMemory, CannotRead, CannotWrite, Task, Plan}
 use Rattle.optplan.specs.Events.{Event, HasRead, HasWritten, HasPut, HasReported}

@@ -3,6 +3,7 @@
 ghost use Rattle.std.specs.Prelude.{◌≡◌};
 ghost use Rattle.optplan.specs.declared.fault.Fault.TheVariants.{OutOfMemory};
 ghost use Rattle.optplan.specs.Answers.{fault_status};
+ghost use Rattle.optplan.specs.Words.{file_text, table_text};
 
 use pddl::PddlFault;
 use pddl_syntax::{Fault as TextFault, FaultKind, LimitedTable, PlanningFile};
@@ -65,7 +66,9 @@ impl Fault {
 }
 
 impl FileWord {
-    fn as_str(self) -> &'static str {
+    fn as_str(self) -> &'static str
+        ensures { result.now ≡ file_text self }
+    {
         match self {
             FileWord::Domain => "domain",
             FileWord::Problem => "problem",
@@ -75,16 +78,20 @@ impl FileWord {
     }
 }
 
-impl From<PlanningFile> for FileWord {
-    fn from(file: PlanningFile) -> FileWord {
-        match file {
-            PlanningFile::Domain => FileWord::Domain,
-            PlanningFile::Problem => FileWord::Problem,
-        }
+/// The word of a file of a planning task.
+fn file_word(file: PlanningFile) -> FileWord
+    ensures domain { file ≡ PlanningFile.Domain → result ≡ FileWord.Domain }
+    ensures problem { file ≡ PlanningFile.Problem → result ≡ FileWord.Problem }
+{
+    match file {
+        PlanningFile::Domain => FileWord::Domain,
+        PlanningFile::Problem => FileWord::Problem,
     }
 }
 
-fn table_word(table: LimitedTable) -> &'static str {
+fn table_word(table: LimitedTable) -> &'static str
+    ensures { result.now ≡ table_text table }
+{
     match table {
         LimitedTable::Objects => "objects",
         LimitedTable::Predicates => "predicates",
@@ -158,14 +165,14 @@ impl fmt::Display for Fault {
                 write!(f, "F71 CannotWrite {file}")
             }
             Fault::Task(PddlFault::Tree(file, fault), _) => {
-                write_tree_fault(f, *fault, FileWord::from(*file))
+                write_tree_fault(f, *fault, file_word(*file))
             }
             Fault::Task(PddlFault::Section(file, fault), word) => {
                 let word = match word {
                     Some(word) => word.as_str(),
                     None => "",
                 };
-                write_text_fault(f, *fault, FileWord::from(*file), word)
+                write_text_fault(f, *fault, file_word(*file), word)
             }
             Fault::Plan(PlanFault::Tree(fault)) => write_tree_fault(f, *fault, FileWord::Plan),
             Fault::Plan(PlanFault::PlanShape(at)) => write!(f, "F25 PlanShape plan {at}"),

@@ -1,6 +1,6 @@
 //! The files and streams of the process.
 
-ghost use Rattle.std.specs.Prelude.{◌≡◌, ◌+◌, None};
+ghost use Rattle.std.specs.Prelude.{◌≡◌, ◌≢◌, ◌<◌, ◌-◌, ◌+◌, ◌^◌, None};
 ghost use Rattle.optplan.specs.Events.{failure_of};
 
 use crate::device::{Device, DeviceFault};
@@ -18,13 +18,16 @@ pub struct ProcessDevice<'a, R: Files + Print + Eprint + AllocGlobal> {
 
 impl<'a, R: Files + Print + Eprint + AllocGlobal> ProcessDevice<'a, R> {
     /// The device of the process that this runtime stands for.
-    pub fn new(rt: &'a R) -> ProcessDevice<'a, R> {
+    pub fn new(rt: &'a R) -> ProcessDevice<'a, R>
+        ensures { result.failures ≡ 0 }
+    {
         ProcessDevice { rt, failures: 0 }
     }
 
     /// Counts a failure, unless it is want of memory, or the count is full.
     fn fault_of(&mut self, kind: ErrorKind) -> DeviceFault
-        ensures { self.new.failures ≡ self.old.failures + failure_of result }
+        ensures counted { self.new.failures ≡ self.old.failures + failure_of result }
+        ensures failed { kind ≢ ErrorKind.OutOfMemory → self.old.failures < 2 ^ 64 - 1 → result ≡ DeviceFault.Failed }
     {
         if kind == ErrorKind::OutOfMemory || self.failures == u64::MAX {
             return DeviceFault::Memory;

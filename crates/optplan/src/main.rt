@@ -6,6 +6,8 @@ mod fault;
 mod files;
 mod memory;
 mod run;
+#[cfg(test)]
+mod tests;
 mod validation;
 mod verdict;
 

@@ -1,6 +1,6 @@
 //! A device in memory, which tells what passes and fails at a call of the caller's choice. The tests use it.
 
-ghost use Rattle.std.specs.Prelude.{◌≡◌, ◌+◌, ◌∷◌, [], ◌++◌, if◌then◌else◌, Some, map, string_bytes, IfOk, IfErr, OnOk, OnErr};
+ghost use Rattle.std.specs.Prelude.{◌≡◌, ◌<◌, ◌-◌, ◌^◌, true, ◌+◌, ◌∷◌, [], ◌++◌, if◌then◌else◌, Some, map, string_bytes, IfOk, IfErr, OnOk, OnErr};
 ghost use Rattle.optplan.specs.Events.{failure_of};
 ghost use Rattle.optplan.specs.Memory.{event_of};
 
@@ -28,11 +28,10 @@ pub struct MemoryDevice<'a> {
 
 impl<'a> MemoryDevice<'a> {
     /// A device that holds these files, and fails its calls once so many went well.
-    pub fn new(
-        alloc: Global,
-        files: &'a [(&'a str, &'a [u8])],
-        calls_left: u64,
-    ) -> MemoryDevice<'a> {
+    pub fn new(alloc: Global, files: &'a [(&'a str, &'a [u8])], calls_left: u64) -> MemoryDevice<'a>
+        ensures events { result.events.items ≡ [] }
+        ensures failures { result.failures ≡ 0 }
+    {
         MemoryDevice {
             alloc,
             files,
@@ -43,7 +42,9 @@ impl<'a> MemoryDevice<'a> {
     }
 
     /// What passed so far.
-    pub fn events(&self) -> &[Recorded] {
+    pub fn events(&self) -> &[Recorded]
+        ensures { result.now ≡ self.now.events.items }
+    {
         &self.events
     }
 
@@ -51,6 +52,7 @@ impl<'a> MemoryDevice<'a> {
     fn fails(&mut self) -> bool
         ensures events { self.new.events ≡ self.old.events }
         ensures counted { self.new.failures ≡ (if result then self.old.failures + 1 else self.old.failures) }
+        ensures failed { self.old.calls_left ≡ 0 → self.old.failures < 2 ^ 64 - 1 → result ≡ true }
     {
         if self.calls_left == 0 && self.failures < u64::MAX {
             self.failures += 1;
@@ -66,6 +68,7 @@ impl<'a> MemoryDevice<'a> {
     fn refusal(&mut self) -> DeviceFault
         ensures events { self.new.events ≡ self.old.events }
         ensures counted { self.new.failures ≡ self.old.failures + failure_of result }
+        ensures failed { self.old.failures < 2 ^ 64 - 1 → result ≡ DeviceFault.Failed }
     {
         if self.failures == u64::MAX {
             return DeviceFault::Memory;

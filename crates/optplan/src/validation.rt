@@ -143,6 +143,7 @@ pub fn run_validation<D: Device>(
 
 /// Puts a text out that is no answer, as help is. Gives the exit status.
 pub fn put_text<D: Device>(alloc: Global, device: &mut D, text: &str) -> u8
+    ensures told { result ≡ 0 → Adds (D.history device.old) (D.history device.new) (HasPut text.now) }
     ensures counted { result ≡ 7 → D.failure_count device.old + 1 ≤ D.failure_count device.new }
 {
     match put(device, text) {

@@ -1,7 +1,6 @@
-use Rattle.std.proofs.Common.{◌≡◌, ◌≤◌, ◌≢◌, ◌++◌, sym, subst, ap, ◌∙◌, arith, refl}
-use Rattle.std.specs.Prelude.{Option, Some}
+use Rattle.std.proofs.Common.{◌≡◌, ◌≤◌, ◌≢◌, ◌++◌, sym, ◌∙◌, arith}
 use Rattle.optplan.specs.Answers.{fault_status}
-use Rattle.optplan.proofs.Histories.{no_failure, failure_counted, not_memory, answered_validates, refused_validates}
+use Rattle.optplan.proofs.Histories.{no_failure, failure_counted, not_memory, refused_validates}
 use Rattle.optplan.proofs.validation.run_validation.Goals as goal
 
 pub returns-in-Err-clause-done : goal.returns-in-Err-clause-done

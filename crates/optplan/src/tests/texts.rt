@@ -1,0 +1,94 @@
+//! Tasks that several rows share.
+
+use std::alloc::{AllocError, Global};
+
+/// Goes along roads; each step costs 1.
+pub const ROAD_DOMAIN: &str = "(define (domain road)
+ (:requirements :typing)
+ (:types loc)
+ (:predicates (at ?x - loc) (road ?x ?y - loc))
+ (:action go :parameters (?x ?y - loc)
+  :precondition (and (at ?x) (road ?x ?y))
+  :effect (and (not (at ?x)) (at ?y))))
+";
+
+/// From a over b to c.
+pub const ROAD_PROBLEM: &str = "(define (problem r1) (:domain road)
+ (:objects a b c - loc)
+ (:init (at a) (road a b) (road b c))
+ (:goal (at c)))
+";
+
+/// The roads of `ROAD_PROBLEM`, with the goal where one begins.
+pub const ROAD_PROBLEM_AT_ITS_GOAL: &str = "(define (problem r1) (:domain road)
+ (:objects a b c - loc)
+ (:init (at a) (road a b) (road b c))
+ (:goal (at a)))
+";
+
+/// Goes along roads; a step costs the road's length.
+pub const DRIVE_DOMAIN: &str = "(define (domain drive)
+ (:requirements :typing)
+ (:types loc)
+ (:predicates (at ?x - loc) (road ?x ?y - loc))
+ (:functions (total-cost) - number (len ?x ?y - loc) - number)
+ (:action go :parameters (?x ?y - loc)
+  :precondition (and (at ?x) (road ?x ?y))
+  :effect (and (not (at ?x)) (at ?y) (increase (total-cost) (len ?x ?y)))))
+";
+
+/// From a to c, over b or straight.
+pub const DRIVE_PROBLEM: &str = "(define (problem d1) (:domain drive)
+ (:objects a b c - loc)
+ (:init (at a) (road a b) (road b c) (road a c)
+  (= (len a b) 3) (= (len b c) 4) (= (len a c) 8))
+ (:goal (at c)) (:metric minimize (total-cost)))
+";
+
+/// `DRIVE_PROBLEM` with a road whose length is not stated.
+pub const DRIVE_PROBLEM_WITHOUT_A_LENGTH: &str = "(define (problem d1) (:domain drive)
+ (:objects a b c - loc)
+ (:init (at a) (road a b) (road b c) (road a c)
+  (= (len a b) 3) (= (len a c) 8))
+ (:goal (at c)) (:metric minimize (total-cost)))
+";
+
+/// Enters by a door that is not locked.
+pub const DOOR_DOMAIN: &str = "(define (domain door)
+ (:predicates (in) (locked ?d))
+ (:action enter :parameters (?d)
+  :precondition (not (locked ?d)) :effect (in)))
+";
+
+/// Picks balls up and drops them in two rooms.
+pub const GRIP_DOMAIN: &str = "(define (domain grip)
+ (:predicates (room ?r) (ball ?b) (here ?r) (in ?b ?r) (free) (held ?b))
+ (:action move :parameters (?f ?t)
+  :precondition (and (room ?f) (room ?t) (here ?f) (not (= ?f ?t)))
+  :effect (and (here ?t) (not (here ?f))))
+ (:action pick :parameters (?b ?r)
+  :precondition (and (ball ?b) (room ?r) (here ?r) (in ?b ?r) (free))
+  :effect (and (held ?b) (not (in ?b ?r)) (not (free))))
+ (:action drop :parameters (?b ?r)
+  :precondition (and (ball ?b) (room ?r) (here ?r) (held ?b))
+  :effect (and (in ?b ?r) (free) (not (held ?b)))))
+";
+
+/// Two balls that are to go from p to q.
+pub const GRIP_PROBLEM: &str = "(define (problem g1) (:domain grip) (:objects p q x y)
+ (:init (room p) (room q) (ball x) (ball y) (here p) (in x p) (in y p) (free))
+ (:goal (and (in x q) (in y q))))
+";
+
+/// A domain in upper case, whose one action adds (p) and has these increases. Its name stands at byte 72, and the
+/// first number at byte 132.
+pub fn noop_domain(alloc: Global, increases: &str) -> Result<String, AllocError> {
+    format!(in alloc;
+        "(DEFINE (DOMAIN N) (:PREDICATES (P)) (:FUNCTIONS (TOTAL-COST)) \
+         (:ACTION NOOP :PARAMETERS () :EFFECT (AND (P) {increases})))\n"
+    )
+}
+
+/// Wants (p) at the least total cost.
+pub const NOOP_PROBLEM: &str =
+    "(define (problem n1) (:domain other) (:init) (:goal (P)) (:metric minimize (total-cost))) ; end";
