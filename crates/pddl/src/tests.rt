@@ -1,6 +1,7 @@
 use crate::{PddlFault, read_task};
 use pddl_syntax::{Fault, FaultKind, PlanningFile};
 use sexp::SexpFault;
+use std::process::Abort;
 use std::test::*;
 
 const DRIVE: &str =
@@ -37,7 +38,13 @@ const NO_PREDICATE: &str = "(define (domain d) (:action a :effect (q)))";
 const COSTLY: &str =
     "(define (domain d) (:functions (total-cost)) (:action a :effect (and (increase (total-cost) 2147483647) (increase (total-cost) 1))))";
 
+const TWO_SHAPES: &str = "(define (domain d) (:types (a)) (:requirements x))";
+
 const EMPTY: &str = "(define (domain d))";
+
+const NO_OBJECT: &str = "(define (problem p) (:domain d) (:init (q)) (:goal (r)) (:objects (a)))";
+
+const NO_ATOM: &str = "(define (problem p) (:domain d) (:goal (r)) (:init (q)))";
 
 const FREE: &str = "(define (problem p) (:domain d) (:init) (:goal ()))";
 
@@ -51,54 +58,47 @@ const fn section(file: PlanningFile, at: usize, kind: FaultKind) -> PddlFault {
     PddlFault::Section(file, Fault { at, kind })
 }
 
+fn expect_faults<R: Abort + AllocGlobal>(rt: &R, rows: &[(&str, &str, PddlFault)]) {
+    for (domain, problem, fault) in rows {
+        let read = read_task(rt.alloc(), domain.as_bytes(), problem.as_bytes());
+        assert_eq!(rt; read.err(), Some(*fault), "at {domain} {problem}");
+    }
+}
+
 // The passes go in their order, whatever stands earlier in the text.
 #[test]
-fn the_fault_that_goes_first(rt: HostRuntime) {
-    let domain = PlanningFile::Domain;
-    let problem = PlanningFile::Problem;
-    for (domain_text, problem_text, fault) in [
-        (
-            "(define (domain d)",
-            ")",
-            PddlFault::Tree(domain, SexpFault::Unclosed(0)),
-        ),
-        (
-            NO_PREDICATE,
-            ")",
-            section(domain, 39, FaultKind::UnknownName),
-        ),
-        (
-            EMPTY,
-            ")",
-            PddlFault::Tree(problem, SexpFault::StrayClose(0)),
-        ),
-        (
-            "(define (domain d) (:types (a)) (:requirements x))",
-            FREE,
-            section(domain, 47, FaultKind::Shape),
-        ),
-        (NO_TYPE, FREE, section(domain, 64, FaultKind::UnknownName)),
-        (
-            EMPTY,
-            "(define (problem p) (:domain d) (:init (q)) (:goal (r)) (:objects (a)))",
-            section(problem, 66, FaultKind::Shape),
-        ),
-        (
-            EMPTY,
-            "(define (problem p) (:domain d) (:goal (r)) (:init (q)))",
-            section(problem, 52, FaultKind::UnknownName),
-        ),
-        (COSTLY, METRIC, section(domain, 54, FaultKind::CostRange)),
+fn faults_of_domains(rt: HostRuntime) {
+    let file = PlanningFile::Domain;
+    let unclosed = PddlFault::Tree(file, SexpFault::Unclosed(0));
+    let rows = [
+        ("(define (domain d)", ")", unclosed),
+        (NO_PREDICATE, ")", section(file, 39, FaultKind::UnknownName)),
+        (TWO_SHAPES, FREE, section(file, 47, FaultKind::Shape)),
+        (NO_TYPE, FREE, section(file, 64, FaultKind::UnknownName)),
+        (COSTLY, METRIC, section(file, 54, FaultKind::CostRange)),
+    ];
+    expect_faults(&rt, &rows);
+}
+
+#[test]
+fn faults_of_problems(rt: HostRuntime) {
+    let file = PlanningFile::Problem;
+    let stray = PddlFault::Tree(file, SexpFault::StrayClose(0));
+    let rows = [
+        (EMPTY, ")", stray),
+        (EMPTY, NO_OBJECT, section(file, 66, FaultKind::Shape)),
+        (EMPTY, NO_ATOM, section(file, 52, FaultKind::UnknownName)),
         (
             COSTLY,
             WRONG_METRIC,
-            section(problem, 60, FaultKind::Unsupported),
+            section(file, 60, FaultKind::Unsupported),
         ),
-    ] {
-        let read = read_task(rt.alloc(), domain_text.as_bytes(), problem_text.as_bytes());
-        assert_eq!(rt; read.err(), Some(fault), "at {domain_text} {problem_text}");
-    }
-    // Without the metric no sum is at fault.
+    ];
+    expect_faults(&rt, &rows);
+}
+
+#[test]
+fn no_sum_is_at_fault_without_the_metric(rt: HostRuntime) {
     assert!(rt;
         read_task(rt.alloc(), COSTLY.as_bytes(), FREE.as_bytes()).is_ok(),
         "without metric"
