@@ -8,4 +8,3 @@ mod task;
 pub use fact::Fact;
 pub use operator::Operator;
 pub use task::{FdrTask, TaskLimit};
-

@@ -1,6 +1,6 @@
 //! Tasks.
 
-ghost use Rattle.std.specs.Prelude.{◌≡◌, All, length, unwrap_or, IfOk, IfErr, OnOk};
+ghost use Rattle.std.specs.Prelude.{◌≡◌, ◌<◌, All, length, slice_index, unwrap_or, IfOk, IfErr, OnOk};
 ghost use Rattle.fdr.specs.Tasks as spec;
 ghost use Rattle.fdr.specs.Tasks.{IsTask, IsWithinLimits, IsState};
 
@@ -107,6 +107,14 @@ impl FdrTask {
         ensures { result ≡ length self.now.value_names }
     {
         self.value_names.len()
+    }
+
+    /// How many values a variable has.
+    pub fn range(&self, variable: usize) -> usize
+        requires { variable < length self.now.value_names }
+        ensures { result ≡ slice_index (spec.ranges self.now) variable }
+    {
+        self.value_names[variable].len()
     }
 
     /// How many operators there are.

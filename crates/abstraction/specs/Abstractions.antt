@@ -1,0 +1,36 @@
+-- Abstractions of a finite-domain task (Helmert, Haslum and Hoffmann 2007), and tables of lower bounds on them.
+use Rattle.std.specs.Prelude.{◌≡◌, ℕ, ◌<◌, ◌≤◌, Bool, true, List, length, Option, Some, None, IfSome}
+use Rattle.cost.specs.Distances.{Distance, Finite, ◌≤ᵈ◌, ◌+ᵈ◌}
+use Rattle.fdr.specs.Tasks.{FiniteDomainTask, ranges, IsState, step, is_goal_state}
+
+-- the abstract states are the numbers below the size; `transition i o` is where operator o leads from i, if it does
+pub record Abstraction : Type 0 where
+  pub size : ℕ
+  pub index : List ℕ → ℕ
+  pub transition : ℕ → ℕ → Option ℕ
+  pub is_goal : ℕ → Bool
+
+-- each step of the task is a transition, goals stay goals, and only the task's operators lead on
+pub record IsAbstractionOf (task : FiniteDomainTask) (a : Abstraction) : Type 0 where
+  pub indices : (s : List ℕ) → IsState (ranges task) s → a.index s < a.size
+  pub transitions : (i o : ℕ) → i < a.size → IfSome (a.transition i o) (λ j. j < a.size)
+  pub steps : (s : List ℕ) (o : ℕ) → IsState (ranges task) s
+      → IfSome (step task s o) (λ t. a.transition (a.index s) o ≡ Some (a.index t))
+  pub goals : (s : List ℕ) → IsState (ranges task) s → is_goal_state task s ≡ true → a.is_goal (a.index s) ≡ true
+  pub operators : (i o : ℕ) → length task.operators ≤ o → a.transition i o ≡ None
+
+-- what the table counts each operator for, and a distance for each abstract state
+pub record Table : Type 0 where
+  pub abstraction : Abstraction
+  pub share : ℕ → ℕ
+  pub value : ℕ → Distance
+
+-- abstract goals have the value 0, and a transition lowers the value by no more than its operator's share
+pub record IsConsistent (t : Table) : Type 0 where
+  pub goals : (i : ℕ) → i < t.abstraction.size → t.abstraction.is_goal i ≡ true → t.value i ≡ Finite 0
+  pub steps : (i o : ℕ) → i < t.abstraction.size
+      → IfSome (t.abstraction.transition i o) (λ j. t.value i ≤ᵈ Finite (t.share o) +ᵈ t.value j)
+
+-- the table's value at a state
+abbrev pub value_at : List ℕ → Table → Distance
+value_at state t = t.value (t.abstraction.index state)

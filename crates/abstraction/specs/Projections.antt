@@ -1,0 +1,78 @@
+-- The projection of a task to a pattern, a list of its variables (Culberson and Schaeffer 1998; Edelkamp 2001).
+use Rattle.std.specs.Prelude.{ℕ, ◌+◌, ◌*◌, ◌/◌, ◌%◌, ◌^◌, ◌<◌, ◌≤◌, Bool, true, ◌==◌, if◌then◌else◌, List, [], ◌∷◌, length, take, Option, Some, None, option_and_then, slice_get, slice_index, fold, All}
+use Rattle.std.specs.List.{list_all}
+use Rattle.std.specs.List.Sorted.{IsStrictlyIncreasing}
+use Rattle.fdr.specs.declared.fact.Fact.{Fact}
+use Rattle.fdr.specs.Tasks.{FiniteDomainTask, Operator, ranges, IsTask}
+use Rattle.abstraction.specs.Abstractions.{Abstraction}
+use Rattle.abstraction.specs.declared.fault.ProjectionFault.{ProjectionFault}
+use Rattle.abstraction.specs.declared.fault.ProjectionFault.TheVariants.{OutOfMemory, UnknownVariable, TableTooLarge}
+
+-- the product of the ranges
+abbrev pub size_of : List ℕ → List ℕ → ℕ
+size_of ranges [] = 1
+size_of ranges (p ∷ ps) = slice_index ranges p * size_of ranges ps
+
+-- the values as the places of one number, the first variable's lowest
+abbrev pub index_of : List ℕ → List ℕ → List ℕ → ℕ
+index_of ranges [] state = 0
+index_of ranges (p ∷ ps) state = slice_index state p + slice_index ranges p * index_of ranges ps state
+
+-- the same as a sum: each value times the product of the ranges before it, which is the weight
+abbrev pub weighted_sum : List ℕ → List ℕ → List ℕ → ℕ → ℕ
+weighted_sum ranges [] state weight = 0
+weighted_sum ranges (p ∷ ps) state weight =
+    slice_index state p * weight + weighted_sum ranges ps state (weight * slice_index ranges p)
+
+-- the fact holds in the abstract state, or is on no variable of the pattern
+abbrev pub agrees : List ℕ → List ℕ → ℕ → Fact → Bool
+agrees ranges [] i f = true
+agrees ranges (p ∷ ps) i f =
+    if p == f.variable then i % slice_index ranges p == f.value
+    else agrees ranges ps (i / slice_index ranges p) f
+
+-- the value that the effect leaves the variable with
+abbrev pub value_after : List Fact → ℕ → ℕ → ℕ
+value_after effect v x = fold (λ y f. if f.variable == v then f.value else y) x effect
+
+-- the abstract state that the effect leads to
+abbrev pub index_after : List ℕ → List ℕ → ℕ → List Fact → ℕ
+index_after ranges [] i effect = 0
+index_after ranges (p ∷ ps) i effect =
+    value_after effect p (i % slice_index ranges p)
+    + slice_index ranges p * index_after ranges ps (i / slice_index ranges p) effect
+
+-- where the operator leads from the abstract state, if its precondition agrees
+abbrev pub transition_of : List ℕ → List ℕ → ℕ → Operator → Option ℕ
+transition_of ranges pattern i op =
+    if list_all (agrees ranges pattern i) op.precondition then Some (index_after ranges pattern i op.effect)
+    else None
+
+abbrev pub projection : FiniteDomainTask → List ℕ → Abstraction
+projection task pattern =
+    record {
+      size = size_of (ranges task) pattern;
+      index = index_of (ranges task) pattern;
+      transition = λ i o. option_and_then (transition_of (ranges task) pattern i) (slice_get task.operators o);
+      is_goal = λ i. list_all (agrees (ranges task) pattern i) task.goal;
+    }
+
+-- the variables exist
+abbrev pub AllExist : List ℕ → List ℕ → Type 0
+AllExist ranges pattern = All (λ v. v < length ranges) pattern
+
+-- the projection of a task to variables, each below the next, with at most 2^24 abstract states
+pub record Projection : Type 0 where
+  pub task : FiniteDomainTask
+  pub pattern : List ℕ
+  pub is_task : IsTask task
+  pub increasing : IsStrictlyIncreasing pattern
+  pub exist : AllExist (ranges task) pattern
+  pub small : size_of (ranges task) pattern ≤ 2 ^ 24
+
+-- the first variable that does not exist, by its place in the pattern; else too many abstract states
+abbrev pub IsFaultOf : FiniteDomainTask → List ℕ → ProjectionFault → Type 0
+IsFaultOf task pattern OutOfMemory = Unit {0}
+IsFaultOf task pattern (UnknownVariable k) =
+    (k < length pattern) × (length (ranges task) ≤ slice_index pattern k) × AllExist (ranges task) (take k pattern)
+IsFaultOf task pattern TableTooLarge = AllExist (ranges task) pattern × (2 ^ 24 < size_of (ranges task) pattern)

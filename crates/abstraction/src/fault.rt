@@ -1,0 +1,25 @@
+//! Why there is no projection to a pattern.
+
+use std::alloc::AllocError;
+
+/// Why there is no projection to a pattern.
+#[derive(Clone, Copy, Debug, PartialEq, Eq)]
+pub enum ProjectionFault {
+    /// Memory ran out.
+    OutOfMemory,
+    /// The pattern names a variable that the task does not have; this is the first such place in the pattern, from 0.
+    UnknownVariable(usize),
+    /// The projection has more than 2^24 abstract states.
+    TableTooLarge,
+}
+
+impl From<AllocError> for ProjectionFault {
+    ghost use Rattle.std.specs.Prelude.{◌≡◌};
+    ghost use Rattle.abstraction.specs.declared.fault.ProjectionFault.TheVariants.{OutOfMemory};
+
+    ghost from_gives = { λ e fault. fault ≡ OutOfMemory };
+
+    fn from(_: AllocError) -> ProjectionFault {
+        ProjectionFault::OutOfMemory
+    }
+}

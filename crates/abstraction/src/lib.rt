@@ -1,0 +1,21 @@
+//! Abstractions of finite-domain tasks, and lower bounds on the costs of plans that tables on them give.
+#![tactic(auto)]
+
+mod abstraction;
+mod digit;
+mod fault;
+mod laws;
+mod projection;
+
+pub use abstraction::Abstraction;
+pub use fault::ProjectionFault;
+pub use laws::{
+    finished_list_implies_bound, finished_lists_exist, heuristic_is_lower_bound,
+    projection_is_abstraction,
+};
+pub use projection::Projection;
+
+#[cfg(test)]
+mod sample;
+#[cfg(test)]
+mod tests;

@@ -1,0 +1,247 @@
+//! Projections.
+
+ghost use Rattle.std.specs.Prelude.{◌≡◌, ◌^◌, ◌<◌, ◌≤◌, All, length, take, slice_index, IfOk, IfErr, OnOk, IfSome, IfNone};
+ghost use Rattle.std.specs.List.{list_all};
+ghost use Rattle.std.specs.List.Sorted.{IsStrictlyIncreasing};
+ghost use Rattle.fdr.specs.Tasks.{ranges, IsTask, IsInRange};
+ghost use Rattle.abstraction.specs.Digits.{digit_of, with_fact, IsDigitBelow, digits_from};
+ghost use Rattle.abstraction.specs.Projections.{size_of, AllExist, IsFaultOf};
+ghost use Rattle.abstraction.specs.Projections as spec;
+
+use crate::abstraction::Abstraction;
+use crate::digit::Digit;
+use crate::fault::ProjectionFault;
+use fdr::{Fact, FdrTask};
+use std::alloc::Global;
+use std::marker::Model;
+
+/// How many abstract states a projection may have.
+const MAX_SIZE: usize = 16_777_216;
+
+/// The projection of a task to a pattern, some of its variables (Culberson and Schaeffer 1998): an abstract state is
+/// what a state says of the pattern's variables. Its number is the sum of their values, each times the product of
+/// the ranges of the pattern's variables before it.
+#[derive(Drop)]
+pub struct Projection<'a> {
+    task: &'a FdrTask,
+    pattern: Vec<usize>,
+    digits: Vec<Digit>,
+    size: usize,
+    ghost is_task: { IsTask task.now },
+    ghost increasing: { IsStrictlyIncreasing pattern.items },
+    ghost exist: { AllExist (ranges task.now) pattern.items },
+    ghost small: { size_of (ranges task.now) pattern.items ≤ 2 ^ 24 },
+}
+
+impl<'a> Model for Projection<'a> {
+    ghost use Rattle.std.specs.Prelude.{◌≡◌};
+    ghost use Rattle.fdr.specs.Tasks.{ranges};
+    ghost use Rattle.abstraction.specs.Digits.{digits_from};
+    ghost use Rattle.abstraction.specs.Projections as spec;
+
+    ghost Value = { spec.Projection };
+
+    ghost view = { λ p. record {
+      task = p.task.now;
+      pattern = p.pattern.items;
+      is_task = p.is_task;
+      increasing = p.increasing;
+      exist = p.exist;
+      small = p.small;
+    } };
+
+    ghost invariant = { λ p.
+        (p.digits.items ≡ digits_from (ranges p.task.now) 1 p.pattern.items) ×
+        (p.size ≡ spec.size_of (ranges p.task.now) p.pattern.items) };
+}
+
+/// Recalls what holds of every task.
+fn recall_task(task: &FdrTask)
+    ensures { IsTask task.now }
+{
+    task.initial();
+    task.goal();
+    task.operators();
+}
+
+/// The first place in the pattern with a variable that the task does not have.
+fn first_unknown(task: &FdrTask, pattern: &[usize]) -> Option<usize>
+    ensures unknown { IfSome result (λ k. IsFaultOf task.now pattern.now (ProjectionFault.UnknownVariable k)) }
+    ensures exist { IfNone result (AllExist (ranges task.now) pattern.now) }
+{
+    for place in 0..pattern.len() {
+        if pattern[place] >= task.variable_count() {
+            return Some(place);
+        }
+    }
+    None
+}
+
+/// The place of a variable in a pattern, if it is there.
+fn place_of(pattern: &[usize], variable: usize) -> Option<usize>
+    requires { IsStrictlyIncreasing pattern.now }
+    ensures found { IfSome result (λ k. (k < length pattern.now) × (slice_index pattern.now k ≡ variable)) }
+    ensures absent { IfNone result (All (λ p. p ≡ variable → ⊥) pattern.now) }
+{
+    match pattern.binary_search(&variable) {
+        Ok(place) => Some(place),
+        Err(_) => None,
+    }
+}
+
+/// The digits of the pattern's variables, and how many abstract states there are.
+fn digits_of(
+    alloc: Global,
+    task: &FdrTask,
+    pattern: &[usize],
+) -> Result<(Vec<Digit>, usize), ProjectionFault>
+    requires task { IsTask task.now }
+    requires exist { AllExist (ranges task.now) pattern.now }
+    ensures digits { IfOk result (λ made. made.0.items ≡ digits_from (ranges task.now) 1 pattern.now) }
+    ensures size { IfOk result (λ made. made.1 ≡ size_of (ranges task.now) pattern.now) }
+    ensures small { IfOk result (λ made. made.1 ≤ 2 ^ 24) }
+    ensures fault { IfErr result (λ fault. IsFaultOf task.now pattern.now fault) }
+{
+    let mut digits = Vec::new(alloc);
+    let mut size = 1;
+    for place in 0..pattern.len() {
+        let range = task.range(pattern[place]);
+        if range > MAX_SIZE / size {
+            return Err(ProjectionFault::TableTooLarge);
+        }
+        let digit = Digit {
+            weight: size,
+            range,
+        };
+        if digits.push(digit).is_err() {
+            return Err(ProjectionFault::OutOfMemory);
+        }
+        size *= range;
+    }
+    Ok((digits, size))
+}
+
+impl<'a> Projection<'a> {
+    /// The projection of the task to the pattern, whose variables each come before the next.
+    ///
+    /// An `Err` says that a variable does not exist, by the first such place; else that there are more than 2^24 abstract
+    /// states; or that memory ran out, in place of any other answer.
+    pub fn new(
+        alloc: Global,
+        task: &'a FdrTask,
+        pattern: &[usize],
+    ) -> Result<Projection<'a>, ProjectionFault>
+        requires { IsStrictlyIncreasing pattern.now }
+        ensures projection { IfOk result (λ p. (p.task ≡ task.now) × (p.pattern ≡ pattern.now)) }
+        ensures within { OnOk result
+            (AllExist (ranges task.now) pattern.now × (size_of (ranges task.now) pattern.now ≤ 2 ^ 24)) }
+        ensures fault { IfErr result (λ fault. IsFaultOf task.now pattern.now fault) }
+    {
+        if let Some(place) = first_unknown(task, pattern) {
+            return Err(ProjectionFault::UnknownVariable(place));
+        }
+        recall_task(task);
+        let (digits, size) = digits_of(alloc, task, pattern)?;
+        let pattern = Vec::from_slice(alloc, pattern)?;
+        Ok(Projection {
+            task,
+            pattern,
+            digits,
+            size,
+        })
+    }
+
+    /// The digit of a variable, if it is in the pattern.
+    fn digit(&self, variable: usize) -> Option<Digit>
+        ensures digit { result ≡ digit_of (ranges self.now.task) self.now.pattern variable }
+        ensures below { IfSome result (IsDigitBelow (2 ^ 24)) }
+        ensures range { IfSome result (λ digit. digit.range ≡ slice_index (ranges self.now.task) variable) }
+    {
+        match place_of(&self.pattern, variable) {
+            Some(place) => Some(self.digits[place]),
+            None => None,
+        }
+    }
+
+    /// Whether the fact holds in the abstract state, or is on no variable of the pattern.
+    fn agrees(&self, abstract_state: usize, fact: Fact) -> bool
+        ensures { result ≡ spec.agrees (ranges self.now.task) self.now.pattern abstract_state fact }
+    {
+        match self.digit(fact.variable) {
+            Some(digit) => digit.value(abstract_state) == fact.value as usize,
+            None => true,
+        }
+    }
+
+    /// Whether each fact agrees.
+    fn all_agree(&self, abstract_state: usize, facts: &[Fact]) -> bool
+        ensures { result ≡ list_all (spec.agrees (ranges self.now.task) self.now.pattern abstract_state) facts.now }
+    {
+        facts.iter().all(|fact| self.agrees(abstract_state, *fact))
+    }
+
+    /// The abstract state with the fact's value, if its variable is in the pattern.
+    fn with_fact(&self, abstract_state: usize, fact: Fact) -> usize
+        requires state { abstract_state < size_of (ranges self.now.task) self.now.pattern }
+        requires fact { IsInRange (ranges self.now.task) fact }
+        ensures value { result ≡ with_fact (ranges self.now.task) self.now.pattern abstract_state fact }
+        ensures below { result < size_of (ranges self.now.task) self.now.pattern }
+    {
+        match self.digit(fact.variable) {
+            Some(digit) => digit.with_value(abstract_state, fact.value as usize),
+            None => abstract_state,
+        }
+    }
+
+    /// The abstract state that the effect leads to.
+    fn index_after(&self, abstract_state: usize, effect: &[Fact]) -> usize
+        requires state { abstract_state < size_of (ranges self.now.task) self.now.pattern }
+        requires effect { All (IsInRange (ranges self.now.task)) effect.now }
+        ensures value { result ≡ spec.index_after (ranges self.now.task) self.now.pattern abstract_state effect.now }
+        ensures below { result < size_of (ranges self.now.task) self.now.pattern }
+    {
+        let mut next = abstract_state;
+        for fact in effect {
+            next = self.with_fact(next, *fact);
+        }
+        next
+    }
+}
+
+impl<'a> Abstraction for Projection<'a> {
+    ghost use Rattle.abstraction.specs.Projections as spec;
+    ghost use Rattle.abstraction.specs.ProjectionLaws.{projection_abstracts};
+
+    ghost task = { λ p. p.task };
+
+    ghost abstraction = { λ p. spec.projection p.task p.pattern };
+
+    ghost abstracts = { λ p. projection_abstracts p.task p.is_task p.pattern p.exist };
+
+    ghost is_small = { λ p. p.small };
+
+    fn size(&self) -> usize {
+        self.size
+    }
+
+    fn index(&self, state: &[u32]) -> usize {
+        let mut index = 0;
+        for place in 0..self.pattern.len() {
+            index += state[self.pattern[place]] as usize * self.digits[place].weight;
+        }
+        index
+    }
+
+    fn transition(&self, abstract_state: usize, operator: usize) -> Option<usize> {
+        let operator = self.task.operators().get(operator)?;
+        if self.all_agree(abstract_state, &operator.precondition) {
+            Some(self.index_after(abstract_state, &operator.effect))
+        } else {
+            None
+        }
+    }
+
+    fn is_goal(&self, abstract_state: usize) -> bool {
+        self.all_agree(abstract_state, self.task.goal())
+    }
+}
