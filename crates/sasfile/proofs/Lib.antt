@@ -1,0 +1,15 @@
+pub mod Cuts
+pub mod Digits
+pub mod Loops
+pub mod Texts
+pub mod Endings
+pub mod Steps
+pub mod Assignments
+pub mod Whole
+pub mod Numbers
+pub mod Sound
+pub mod SoundBody
+pub mod SoundWhole
+pub mod Complete
+pub mod CompleteWhole
+pub mod Promises

@@ -1,0 +1,30 @@
+-- What values of the code stand for.
+use Rattle.std.specs.Prelude.{ℕ, List}
+use Rattle.sasfile.specs.declared.variables.Variables.{Variables}
+use Rattle.sasfile.specs.declared.lines.Lines.{Lines}
+use Rattle.sasfile.specs.declared.effects.Halves.{Halves as KeptHalves}
+use Rattle.sasfile.specs.declared.reading.Head.{Head as KeptHead}
+use Rattle.sasfile.specs.declared.reading.Body.{Body as KeptBody}
+use Rattle.fdr.specs.Tasks.{names_in}
+use Rattle.sasfile.specs.Lines.{lines}
+use Rattle.sasfile.specs.Reading.{Remaining, Halves, Head, Body}
+
+abbrev pub remaining : Lines → Remaining
+remaining l = record { number = l.number; lines = lines l.rest.now }
+
+abbrev pub halves : KeptHalves → Halves
+halves h = record { precondition = h.precondition.items; effect = h.effect.items }
+
+-- the names of the variables' values
+abbrev pub names_of : Variables → List (List (List ℕ))
+names_of v = names_in v.value_names.items
+
+-- how many values each variable has, as it is kept
+abbrev pub ranges_of : Variables → List ℕ
+ranges_of v = v.ranges.items
+
+abbrev pub head : KeptHead → Head
+head h = record { metric = h.metric; variables = names_of h.variables }
+
+abbrev pub body : KeptBody → Body
+body b = record { initial = b.initial.items; goal = b.goal.items; operators = b.operators.items }

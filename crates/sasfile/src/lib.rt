@@ -1,0 +1,23 @@
+//! Texts of finite-domain tasks: `output.sas`, version 3, as Fast Downward's translator writes it (Helmert 2009).
+//!
+//! What is read is what the text spells, and what is not read has a first fault, whose kind and line are told.
+#![tactic(auto)]
+
+mod effects;
+mod facts;
+mod fault;
+mod laws;
+mod line_forms;
+mod lines;
+mod number;
+mod operators;
+mod pieces;
+mod reading;
+mod variables;
+
+pub use fault::SasFault;
+pub use laws::{no_fault, one_reading, spelled_or_not};
+pub use reading::read_sas;
+
+#[cfg(test)]
+mod tests;
