@@ -3,6 +3,7 @@ use names::Names;
 use pddl_syntax::{Fault, FaultKind, Heads};
 use planning::{LiftedAtom, Term};
 use sexp::{Tree, read};
+use std::alloc::{AllocError, Global};
 use std::test::*;
 
 #[test]
@@ -25,50 +26,105 @@ fn beginnings(rt: HostRuntime) {
     }
 }
 
-/// A list as an atom over the predicates `p` without and `q` with two parameters, the variable `?x` and the object `c`.
-/// The items behind the head are also read as terms, and the first of them as a term.
-fn atom_of(
-    rt: &HostRuntime,
-    text: &str,
+/// What is declared around the texts.
+#[derive(Drop)]
+struct Declared {
+    predicates: Heads,
+    functions: Heads,
+    variables: Names,
+    objects: Names,
+}
+
+impl Declared {
+    fn new(alloc: Global) -> Declared {
+        Declared {
+            predicates: Heads::new(alloc),
+            functions: Heads::new(alloc),
+            variables: Names::new(alloc),
+            objects: Names::new(alloc),
+        }
+    }
+
+    /// Declares the predicates `p` without and `q` with two parameters, the variable `?x` and the object `c`.
+    fn declare(&mut self, alloc: Global) -> Result<(), AllocError> {
+        self.predicates.add(alloc, "p", 0)?;
+        self.predicates.add(alloc, "q", 2)?;
+        self.variables.add(alloc, "?x")?;
+        self.objects.add(alloc, "c")?;
+        Ok(())
+    }
+
+    fn scope<'a>(&'a self) -> Scope<'a> {
+        Scope {
+            predicates: &self.predicates,
+            functions: &self.functions,
+            variables: &self.variables,
+            objects: &self.objects,
+        }
+    }
+}
+
+/// What a list is as an atom, and what stands behind its head as terms, and first of them as a term.
+#[derive(Drop)]
+struct Spelled {
+    atom: Option<LiftedAtom>,
+    all: Option<Vec<Term>>,
+    one: Option<Term>,
+}
+
+fn read_parts(
+    alloc: Global,
+    scope: &Scope,
+    parts: &[Tree],
+    spelled: &mut Spelled,
+) -> Result<(), AllocError> {
+    spelled.all = terms(alloc, scope, parts, &mut None)?;
+    if let [one, ..] = parts {
+        spelled.one = term(scope, one, &mut None);
+    }
+    Ok(())
+}
+
+fn read_list(
+    alloc: Global,
+    scope: &Scope,
+    items: &[Tree],
+    spelled: &mut Spelled,
     first: &mut Option<Fault>,
-) -> Result<(Option<LiftedAtom>, Option<Vec<Term>>, Option<Term>), Fail> {
-    let alloc = rt.alloc();
-    let mut predicates = Heads::new(alloc);
-    predicates.add(alloc, "p", 0)?;
-    predicates.add(alloc, "q", 2)?;
-    let functions = Heads::new(alloc);
-    let mut variables = Names::new(alloc);
-    variables.add(alloc, "?x")?;
-    let mut objects = Names::new(alloc);
-    objects.add(alloc, "c")?;
-    let scope = Scope {
-        predicates: &predicates,
-        functions: &functions,
-        variables: &variables,
-        objects: &objects,
-    };
-    match read(alloc, text.as_bytes())? {
-        Tree::Word { .. } => Ok((None, None, None)),
-        Tree::List { items, span } => match items.as_slice() {
-            [Tree::Word { text, span: head }, parts @ ..] => {
-                let atom = lifted(
-                    alloc,
-                    &predicates,
-                    &scope,
-                    span.start,
-                    text.as_str(),
-                    head.start,
-                    parts,
-                    first,
-                )?;
-                let all = terms(alloc, &scope, parts, &mut None)?;
-                match parts {
-                    [] => Ok((atom, all, None)),
-                    [one, ..] => Ok((atom, all, term(&scope, one, &mut None))),
-                }
-            }
-            _ => Ok((None, None, None)),
-        },
+) -> Result<(), AllocError> {
+    if let [Tree::Word { text, span }, parts @ ..] = items {
+        let word = text.as_str();
+        spelled.atom = lifted(
+            alloc,
+            scope.predicates,
+            scope,
+            0,
+            word,
+            span.start,
+            parts,
+            first,
+        )?;
+        read_parts(alloc, scope, parts, spelled)?;
+    }
+    Ok(())
+}
+
+/// Reads a text, which is a list at 0, and gives the first fault.
+fn read_atom(alloc: Global, text: &str, spelled: &mut Spelled) -> Result<Option<Fault>, Fail> {
+    let mut declared = Declared::new(alloc);
+    declared.declare(alloc)?;
+    let mut first = None;
+    if let Tree::List { items, .. } = &read(alloc, text.as_bytes())? {
+        read_list(alloc, &declared.scope(), items, spelled, &mut first)?;
+    }
+    Ok(first)
+}
+
+fn nothing() -> Spelled {
+    Spelled {
+        atom: None,
+        all: None,
+        one: None,
     }
 }
 
@@ -83,22 +139,22 @@ fn faults(rt: HostRuntime) -> Result<(), Fail> {
         ("(q ?x (c))", 6, FaultKind::Shape),
         ("(q ?x :c)", 6, FaultKind::Shape),
     ] {
-        let mut first = None;
-        let (atom, _all, _one) = atom_of(&rt, text, &mut first)?;
+        let mut spelled = nothing();
+        let first = read_atom(rt.alloc(), text, &mut spelled)?;
         assert_eq!(rt; first, Some(Fault { at, kind }), "at {text}");
-        assert!(rt; atom.is_none());
+        assert!(rt; spelled.atom.is_none());
     }
     Ok(())
 }
 
 #[test]
 fn atoms(rt: HostRuntime) -> Result<(), Fail> {
-    let mut first = None;
-    let want = [Term::Parameter(0), Term::Object(0)];
-    let (atom, all, one) = atom_of(&rt, "(q ?x c)", &mut first)?;
+    let mut spelled = nothing();
+    let first = read_atom(rt.alloc(), "(q ?x c)", &mut spelled)?;
     assert_eq!(rt; first, None);
-    assert_eq!(rt; one, Some(Term::Parameter(0)));
-    match (atom, all) {
+    assert_eq!(rt; spelled.one, Some(Term::Parameter(0)));
+    let want = [Term::Parameter(0), Term::Object(0)];
+    match (&spelled.atom, &spelled.all) {
         (Some(atom), Some(all)) => {
             assert_eq!(rt; atom.predicate, 1);
             assert_eq!(rt; atom.terms.as_slice(), want.as_slice());
