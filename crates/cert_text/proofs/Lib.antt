@@ -1,0 +1,15 @@
+pub mod PieceLaws
+pub mod NumberLaws
+pub mod AtomLaws
+pub mod Repeating
+pub mod Steps
+pub mod Widths
+pub mod Appends
+pub mod Decimals
+pub mod Joining
+pub mod Found
+pub mod FoundLines
+pub mod FoundAll
+pub mod Again
+pub mod AgainAll
+pub mod Promises

@@ -1,0 +1,6 @@
+use Rattle.std.proofs.Common.{◌≡◌, ◌++◌, map, take}
+use Rattle.cert_text.specs.Spelling as text
+use Rattle.cert_text.proofs.writing.push_states.Given as goal
+
+abbrev pub invariant-loop-index : goal.invariant-loop-index
+invariant-loop-index l = l.out.items ≡ l.fn.out.items ++ text.text_of (map text.entry_line (take l.index l.closed))

@@ -1,0 +1,96 @@
+-- Which certificates have a text: each number is within its limit, and what must increase does.
+use Rattle.std.specs.Prelude.{◌≡◌, ◌≢◌, ℕ, ◌<◌, ◌≤◌, ◌^◌, List, [], ◌∷◌, length, map}
+use Rattle.std.specs.List.{AllByRecursion}
+use Rattle.cost.specs.Distances.{Distance, IsWithin}
+use Rattle.certificates.specs.declared.table.Share.{Share}
+use Rattle.certificates.specs.Certificates.{Kind, FiniteDomain, Planning, Variable, Table, Entry, CertificateValue}
+
+-- a count, or the number of a variable, an operator or a value
+abbrev pub IsShort : ℕ → Type 0
+IsShort n = n < 2 ^ 32
+
+abbrev pub IsIncreasing : List ℕ → Type 0
+IsIncreasing [] = Unit {0}
+IsIncreasing (n ∷ []) = Unit {0}
+IsIncreasing (m ∷ n ∷ ns) = (m < n) × IsIncreasing (n ∷ ns)
+
+-- no blank, and no other byte that is not printed
+abbrev pub IsPrinted : ℕ → Type 0
+IsPrinted b = (33 ≤ b) × (b ≤ 126)
+
+pub record IsAtomWord (w : List ℕ) : Type 0 where
+  pub some : w ≢ []
+  pub printed : AllByRecursion IsPrinted w
+
+pub record IsAtom (atom : List (List ℕ)) : Type 0 where
+  pub some : atom ≢ []
+  pub each_word : AllByRecursion IsAtomWord atom
+
+-- of so many atoms
+pub record IsVariable (count : ℕ) (v : Variable) : Type 0 where
+  pub some : v.atoms ≢ []
+  pub few : IsShort (length v.atoms)
+  pub atoms : AllByRecursion (λ a. a < count) v.atoms
+  pub increasing : IsIncreasing v.atoms
+
+pub record ArePlanningParts (atoms : List (List (List ℕ))) (variables : List Variable) : Type 0 where
+  pub few_atoms : IsShort (length atoms)
+  pub each_atom : AllByRecursion IsAtom atoms
+  pub few_variables : IsShort (length variables)
+  pub each_variable : AllByRecursion (IsVariable (length atoms)) variables
+
+abbrev pub IsLawfulKind : Kind → Type 0
+IsLawfulKind FiniteDomain = Unit {0}
+IsLawfulKind (Planning atoms variables) = ArePlanningParts atoms variables
+
+pub record IsShare (s : Share) : Type 0 where
+  pub operator : IsShort s.operator
+  pub least : 1 ≤ s.amount
+  pub most : s.amount < 2 ^ 31
+
+pub record IsPattern (pattern : List ℕ) : Type 0 where
+  pub some : pattern ≢ []
+  pub few : IsShort (length pattern)
+  pub variables : AllByRecursion IsShort pattern
+  pub increasing : IsIncreasing pattern
+
+pub record AreShares (shares : List Share) : Type 0 where
+  pub few : IsShort (length shares)
+  pub each : AllByRecursion IsShare shares
+  pub increasing : IsIncreasing (map (λ s. s.operator) shares)
+
+pub record AreValues (values : List Distance) : Type 0 where
+  pub few : length values ≤ 2 ^ 24
+  pub each : AllByRecursion (IsWithin (2 ^ 55)) values
+
+pub record IsTable (t : Table) : Type 0 where
+  pub pattern : IsPattern t.pattern
+  pub shares : AreShares t.shares
+  pub values : AreValues t.values
+
+pub record IsColumn (column : List Table) : Type 0 where
+  pub some : column ≢ []
+  pub few : length column ≤ 64
+  pub tables : AllByRecursion IsTable column
+
+pub record AreColumns (columns : List (List Table)) : Type 0 where
+  pub few : length columns ≤ 64
+  pub each : AllByRecursion IsColumn columns
+
+-- of so many values
+pub record IsEntry (width : ℕ) (e : Entry) : Type 0 where
+  pub cost : e.cost ≤ 2 ^ 62
+  pub as_wide : length e.state ≡ width
+  pub values : AllByRecursion IsShort e.state
+
+-- all of one width
+pub record AreEntries (entries : List Entry) : Type 0 where
+  pub few : IsShort (length entries)
+  pub width : ℕ
+  pub each : AllByRecursion (IsEntry width) entries
+
+pub record IsLawful (c : CertificateValue) : Type 0 where
+  pub kind : IsLawfulKind c.kind
+  pub bound : IsWithin (2 ^ 62) c.bound
+  pub columns : AreColumns c.columns
+  pub closed : AreEntries c.closed

@@ -1,0 +1,363 @@
+-- Reading line by line, as a function on lists, with the first fault that is met. On one line a missing line feed goes
+-- before all else, a wrong form before a wrong number, and a wrong number before a wrong order.
+use Rattle.std.specs.Prelude.{◌≡◌, ℕ, zero, suc, ◌+◌, ◌*◌, ◌-◌, ◌^◌, Bool, true, false, not, ◌==◌, ◌&&◌, nat_le, nat_lt, if◌then◌else◌, List, [], ◌∷◌, ◌++◌, length, map, Option, Some, None, option_map, Result, Ok, Err, codes}
+use Rattle.std.specs.Str.{bytes_eq}
+use Rattle.std.specs.List.{list_all}
+use Rattle.cost.specs.Distances.{Distance, Finite, Infinite}
+use Rattle.cert_text.specs.declared.fault.CertFault.{CertFault}
+use Rattle.cert_text.specs.declared.fault.CertFault.TheVariants as fault
+use Rattle.certificates.specs.declared.table.Share.{Share}
+use Rattle.certificates.specs.Certificates.{Kind, FiniteDomain, Planning, Variable, Table, Entry, CertificateValue, width_of}
+use Rattle.cert_text.specs.Pieces.{pieces}
+
+-- reading fails with this error, unless memory ran out
+abbrev pub Fails : {Y : Type 0} → CertFault → Result Y CertFault → Type 0
+Fails fault.OutOfMemory read = Unit {0}
+Fails e read = read ≡ Err e
+
+-- what a function returned, seen by a view, is what reading gives, unless memory ran out
+abbrev pub Gives : {X Y : Type 0} → (X → Y) → Result X CertFault → Result Y CertFault → Type 0
+Gives view (Ok x) read = read ≡ Ok (view x)
+Gives view (Err e) read = Fails e read
+
+infixl 10 ◌>>=◌
+-- a result, and what is made of it
+abbrev pub ◌>>=◌ : {A B : Type 0} → Result A CertFault → (A → Result B CertFault) → Result B CertFault
+(Ok x) >>= f = f x
+(Err e) >>= f = Err e
+
+-- ---- lines
+
+-- The pieces between line feeds that are still to be read, and the number of the first of them, counted from 1. The last
+-- piece has no line feed behind it, so it is no line.
+pub record Remaining : Type 0 where
+  pub number : ℕ
+  pub lines : List (List ℕ)
+
+abbrev pub first_of : ℕ → List (List ℕ) → Result (List ℕ × Remaining) CertFault
+first_of number [] = Err fault.Truncated
+first_of number (l ∷ []) = Err fault.Truncated
+first_of number (l ∷ m ∷ ms) = Ok (l, record { number = number + 1; lines = m ∷ ms })
+
+-- a line and what follows it
+unfoldable pub line_at : Remaining → Result (List ℕ × Remaining) CertFault
+line_at r = first_of r.number r.lines
+
+-- a step of reading, so many times
+unfoldable pub repeated : {S : Type 0} → (S → Remaining → Result (S × Remaining) CertFault) → ℕ → S → Remaining → Result (S × Remaining) CertFault
+repeated step zero s r = Ok (s, r)
+repeated step (suc n) s r = step s r >>= λ x. repeated step n x.0 x.1
+
+-- ---- numbers
+
+abbrev pub is_digit : ℕ → Bool
+is_digit b = nat_le 48 b && nat_le b 57
+
+-- the number of digits that follow those of a number
+unfoldable pub digits_after : ℕ → List ℕ → Option ℕ
+digits_after n [] = Some n
+digits_after n (d ∷ ds) = if is_digit d then digits_after (n * 10 + (d - 48)) ds else None
+
+-- the number that a word spells, by digits of which the first is 0 only where it is alone
+abbrev pub number : List ℕ → Option ℕ
+number [] = None
+number (d ∷ []) = digits_after 0 (d ∷ [])
+number (d ∷ e ∷ ds) = if d == 48 then None else digits_after 0 (d ∷ e ∷ ds)
+
+-- a number from the least on and below the end
+abbrev pub between : ℕ → ℕ → Option ℕ → Option ℕ
+between least end None = None
+between least end (Some n) = if nat_le least n && nat_lt n end then Some n else None
+
+abbrev pub number_in : ℕ → ℕ → List ℕ → Option ℕ
+number_in least end word = between least end (number word)
+
+infixl 10 ◌>>?◌
+-- an option, and what is made of it
+abbrev pub ◌>>?◌ : {A B : Type 0} → Option A → (A → Option B) → Option B
+None >>? f = None
+(Some x) >>? f = f x
+
+-- these numbers and those of the words, each below the end
+unfoldable pub numbers_behind : ℕ → List ℕ → List (List ℕ) → Option (List ℕ)
+numbers_behind end ns [] = Some ns
+numbers_behind end ns (w ∷ ws) = number_in 0 end w >>? λ n. numbers_behind end (ns ++ n ∷ []) ws
+
+abbrev pub numbers_in : ℕ → List (List ℕ) → Option (List ℕ)
+numbers_in end words = numbers_behind end [] words
+
+-- a number or `inf`
+unfoldable pub distance_in : ℕ → List ℕ → Option Distance
+distance_in end word = if bytes_eq word (codes "inf") then Some Infinite else option_map Finite (number_in 0 end word)
+
+unfoldable pub distances_behind : ℕ → List Distance → List (List ℕ) → Option (List Distance)
+distances_behind end ds [] = Some ds
+distances_behind end ds (w ∷ ws) = distance_in end w >>? λ d. distances_behind end (ds ++ d ∷ []) ws
+
+abbrev pub distances_in : ℕ → List (List ℕ) → Option (List Distance)
+distances_in end words = distances_behind end [] words
+
+-- an operator and its share
+unfoldable pub share_in : List ℕ → List ℕ → Option Share
+share_in operator amount = number_in 0 (2 ^ 32) operator >>? λ o. number_in 1 (2 ^ 31) amount >>? λ a. Some (record { operator = o; amount = a })
+
+unfoldable pub shares_behind : List Share → List (List ℕ) → Option (List Share)
+shares_behind ss [] = Some ss
+shares_behind ss (o ∷ []) = None
+shares_behind ss (o ∷ a ∷ ws) = share_in o a >>? λ s. shares_behind (ss ++ s ∷ []) ws
+
+abbrev pub shares_in : List (List ℕ) → Option (List Share)
+shares_in words = shares_behind [] words
+
+-- each is greater than the one before it, and the first is the least or more
+unfoldable pub increases_from : ℕ → List ℕ → Bool
+increases_from least [] = true
+increases_from least (n ∷ ns) = nat_le least n && increases_from (n + 1) ns
+
+abbrev pub is_increasing : List ℕ → Bool
+is_increasing ns = increases_from 0 ns
+
+-- ---- the form of a line
+
+-- how many words there are behind so many, if none of them is empty
+unfoldable pub filled_behind : ℕ → List (List ℕ) → Option ℕ
+filled_behind n [] = Some n
+filled_behind n ([] ∷ ws) = None
+filled_behind n ((b ∷ bs) ∷ ws) = filled_behind (n + 1) ws
+
+-- how many words a line has, if none of them is empty: two separators together, or one at an end, leave an empty word
+abbrev pub filled : List (List ℕ) → Option ℕ
+filled words = filled_behind 0 words
+
+abbrev pub formed : {X : Type 0} → ℕ → Bool → X → Result X CertFault
+formed line true x = Ok x
+formed line false x = Err (fault.Expected line)
+
+abbrev pub numbered : {X : Type 0} → ℕ → Option X → Result X CertFault
+numbered line (Some x) = Ok x
+numbered line None = Err (fault.Number line)
+
+abbrev pub ordered : {X : Type 0} → ℕ → Bool → X → Result X CertFault
+ordered line true x = Ok x
+ordered line false x = Err (fault.Order line)
+
+-- a line that is this text
+unfoldable pub fixed_at : List ℕ → Remaining → Result Remaining CertFault
+fixed_at text r = do
+  l ← line_at r
+  formed r.number (bytes_eq l.0 text) l.1
+
+-- the second word of a line of two words
+abbrev pub second_of : ℕ → List ℕ → List (List ℕ) → Result (List ℕ) CertFault
+second_of line keyword [] = Err (fault.Expected line)
+second_of line keyword (k ∷ []) = Err (fault.Expected line)
+second_of line keyword (k ∷ w ∷ []) = formed line (bytes_eq k keyword && not (bytes_eq w [])) w
+second_of line keyword (k ∷ w ∷ x ∷ ws) = Err (fault.Expected line)
+
+-- a line of the keyword and a number
+unfoldable pub count_at : List ℕ → ℕ → ℕ → Remaining → Result (ℕ × Remaining) CertFault
+count_at keyword least end r = do
+  l ← line_at r
+  word ← second_of r.number keyword (pieces 32 l.0)
+  count ← numbered r.number (number_in least end word)
+  Ok (count, l.1)
+
+-- there are two words, and behind them so many for each that the count says; a word that spells no number says nothing
+abbrev pub agrees : Bool → Option ℕ → Option ℕ → Bool
+agrees pairs None count = false
+agrees pairs (Some words) None = true
+agrees pairs (Some words) (Some count) = words == 2 + (if pairs then count + count else count)
+
+-- the first word of a line, the count behind it, and the words behind the count
+pub record Counted : Type 0 where
+  pub first : List ℕ
+  pub count : List ℕ
+  pub words : List (List ℕ)
+
+abbrev pub counted_of : ℕ → Bool → List (List ℕ) → Result Counted CertFault
+counted_of line pairs [] = Err (fault.Expected line)
+counted_of line pairs (k ∷ []) = Err (fault.Expected line)
+counted_of line pairs (k ∷ c ∷ ws) = formed line (agrees pairs (filled (k ∷ c ∷ ws)) (number c)) (record { first = k; count = c; words = ws })
+
+-- the same, where the first word is a keyword
+unfoldable pub headed_of : ℕ → List ℕ → Bool → List (List ℕ) → Result Counted CertFault
+headed_of line keyword pairs words = do
+  form ← counted_of line pairs words
+  formed line (bytes_eq form.first keyword) form
+
+-- ---- the parts
+
+unfoldable pub header_at : Remaining → Result Remaining CertFault
+header_at r = do
+  l ← line_at r
+  if bytes_eq l.0 (codes "optplan-cert 1") then Ok l.1 else Err fault.Header
+
+-- whether it is for a planning task
+unfoldable pub kind_at : Remaining → Result (Bool × Remaining) CertFault
+kind_at r = do
+  l ← line_at r
+  if bytes_eq l.0 (codes "pddl") then Ok (true, l.1) else formed r.number (bytes_eq l.0 (codes "sas")) (false, l.1)
+
+unfoldable pub bound_of : ℕ → List (List ℕ) → Result Distance CertFault
+bound_of line words = do
+  word ← second_of line (codes "bound") words
+  numbered line (distance_in (2 ^ 62 + 1) word)
+
+unfoldable pub bound_at : Remaining → Result (Distance × Remaining) CertFault
+bound_at r = do
+  l ← line_at r
+  bound ← bound_of r.number (pieces 32 l.0)
+  Ok (bound, l.1)
+
+abbrev pub is_printed : ℕ → Bool
+is_printed b = nat_le 33 b && nat_le b 126
+
+abbrev pub is_atom_word : List ℕ → Bool
+is_atom_word word = nat_lt 0 (length word) && list_all is_printed word
+
+unfoldable pub atom_of : ℕ → List (List ℕ) → Result (List (List ℕ)) CertFault
+atom_of line words = formed line (list_all is_atom_word words) words
+
+unfoldable pub atom_at : Remaining → Result (List (List ℕ) × Remaining) CertFault
+atom_at r = do
+  l ← line_at r
+  atom ← atom_of r.number (pieces 32 l.0)
+  Ok (atom, l.1)
+
+-- what a step reads, behind what earlier ones read
+abbrev pub behind : {X : Type 0} → (Remaining → Result (X × Remaining) CertFault) → List X → Remaining → Result (List X × Remaining) CertFault
+behind step xs r = step r >>= λ x. Ok (xs ++ x.0 ∷ [], x.1)
+
+unfoldable pub atoms_at : Remaining → Result (List (List (List ℕ)) × Remaining) CertFault
+atoms_at r = do
+  count ← count_at (codes "atoms") 0 (2 ^ 32) r
+  repeated (behind atom_at) count.0 [] count.1
+
+-- of so many atoms
+unfoldable pub variable_of : ℕ → ℕ → List (List ℕ) → Result Variable CertFault
+variable_of atoms line words = do
+  form ← counted_of line false words
+  flag ← numbered line (number_in 0 2 form.first)
+  count ← numbered line (number_in 1 (2 ^ 32) form.count)
+  numbers ← numbered line (numbers_in atoms form.words)
+  ordered line (is_increasing numbers) (record { has_none_value = flag == 1; atoms = numbers })
+
+unfoldable pub variable_at : ℕ → Remaining → Result (Variable × Remaining) CertFault
+variable_at atoms r = do
+  l ← line_at r
+  variable ← variable_of atoms r.number (pieces 32 l.0)
+  Ok (variable, l.1)
+
+unfoldable pub variables_at : ℕ → Remaining → Result (List Variable × Remaining) CertFault
+variables_at atoms r = do
+  count ← count_at (codes "vars") 0 (2 ^ 32) r
+  repeated (behind (variable_at atoms)) count.0 [] count.1
+
+unfoldable pub parts_at : Bool → Remaining → Result (Kind × Remaining) CertFault
+parts_at false r = Ok (FiniteDomain, r)
+parts_at true r = do
+  atoms ← atoms_at r
+  variables ← variables_at (length atoms.0) atoms.1
+  Ok (Planning atoms.0 variables.0, variables.1)
+
+unfoldable pub pattern_of : ℕ → List (List ℕ) → Result (List ℕ) CertFault
+pattern_of line words = do
+  form ← headed_of line (codes "table") false words
+  count ← numbered line (number_in 1 (2 ^ 32) form.count)
+  pattern ← numbered line (numbers_in (2 ^ 32) form.words)
+  ordered line (is_increasing pattern) pattern
+
+unfoldable pub shares_of : ℕ → List (List ℕ) → Result (List Share) CertFault
+shares_of line words = do
+  form ← headed_of line (codes "shares") true words
+  count ← numbered line (number_in 0 (2 ^ 32) form.count)
+  shares ← numbered line (shares_in form.words)
+  ordered line (is_increasing (map (λ s. s.operator) shares)) shares
+
+unfoldable pub values_of : ℕ → List (List ℕ) → Result (List Distance) CertFault
+values_of line words = do
+  form ← headed_of line (codes "values") false words
+  count ← numbered line (number_in 0 (2 ^ 24 + 1) form.count)
+  numbered line (distances_in (2 ^ 55 + 1) form.words)
+
+unfoldable pub table_at : Remaining → Result (Table × Remaining) CertFault
+table_at r = do
+  first ← line_at r
+  pattern ← pattern_of r.number (pieces 32 first.0)
+  second ← line_at first.1
+  shares ← shares_of first.1.number (pieces 32 second.0)
+  third ← line_at second.1
+  values ← values_of second.1.number (pieces 32 third.0)
+  Ok (record { pattern = pattern; shares = shares; values = values }, third.1)
+
+unfoldable pub column_at : Remaining → Result (List Table × Remaining) CertFault
+column_at r = do
+  count ← count_at (codes "column") 1 65 r
+  repeated (behind table_at) count.0 [] count.1
+
+unfoldable pub columns_at : Remaining → Result (List (List Table) × Remaining) CertFault
+columns_at r = do
+  count ← count_at (codes "columns") 0 65 r
+  repeated (behind column_at) count.0 [] count.1
+
+-- a cost and as many values as the states before have
+abbrev pub has_width : Option ℕ → Option ℕ → Bool
+has_width width None = false
+has_width None (Some words) = true
+has_width (Some width) (Some words) = words == width + 1
+
+abbrev pub entry_numbers : ℕ → List (List ℕ) → Result Entry CertFault
+entry_numbers line [] = Err (fault.Expected line)
+entry_numbers line (g ∷ ws) = do
+  cost ← numbered line (number_in 0 (2 ^ 62 + 1) g)
+  state ← numbered line (numbers_in (2 ^ 32) ws)
+  Ok (record { cost = cost; state = state })
+
+-- a state of so many values, or of any number of them
+unfoldable pub entry_of : Option ℕ → ℕ → List (List ℕ) → Result Entry CertFault
+entry_of width line words = do
+  form ← formed line (has_width width (filled words)) words
+  entry_numbers line form
+
+unfoldable pub entry_at : Option ℕ → Remaining → Result (Entry × Remaining) CertFault
+entry_at width r = do
+  l ← line_at r
+  entry ← entry_of width r.number (pieces 32 l.0)
+  Ok (entry, l.1)
+
+unfoldable pub entry_step : List Entry → Remaining → Result (List Entry × Remaining) CertFault
+entry_step entries r = entry_at (width_of entries) r >>= λ x. Ok (entries ++ x.0 ∷ [], x.1)
+
+unfoldable pub closed_at : Remaining → Result (List Entry × Remaining) CertFault
+closed_at r = do
+  count ← count_at (codes "closed") 0 (2 ^ 32) r
+  repeated entry_step count.0 [] count.1
+
+-- no byte is left behind the last line feed
+abbrev pub is_nothing : List (List ℕ) → Bool
+is_nothing [] = false
+is_nothing ([] ∷ []) = true
+is_nothing ([] ∷ m ∷ ms) = false
+is_nothing ((b ∷ bs) ∷ ls) = false
+
+unfoldable pub end_at : Remaining → Result (Unit {0}) CertFault
+end_at r = do
+  rest ← fixed_at (codes "end") r
+  if is_nothing rest.lines then Ok tt else Err (fault.Trailing rest.number)
+
+-- the certificate of all lines
+unfoldable pub certificate_at : Remaining → Result CertificateValue CertFault
+certificate_at r = do
+  header ← header_at r
+  planning ← kind_at header
+  bound ← bound_at planning.1
+  kind ← parts_at planning.0 bound.1
+  columns ← columns_at kind.1
+  closed ← closed_at columns.1
+  end ← end_at closed.1
+  Ok (record { kind = kind.0; bound = bound.0; columns = columns.0; closed = closed.0 })
+
+-- the certificate of a text
+unfoldable pub certificate_of : List ℕ → Result CertificateValue CertFault
+certificate_of bytes = if nat_lt (2 ^ 30) (length bytes) then Err fault.TooLong
+    else certificate_at (record { number = 1; lines = pieces 10 bytes })

@@ -1,0 +1,22 @@
+//! What holds of every text, whoever reads it.
+
+ghost use Rattle.std.specs.Prelude.{◌≡◌, ◌≤◌, ◌^◌, ℕ, List, length};
+ghost use Rattle.certificates.specs.Certificates.{CertificateValue};
+ghost use Rattle.cert_text.specs.Spelling.{spelling};
+ghost use Rattle.cert_text.specs.Lawful.{IsLawful};
+ghost use Rattle.cert_text.specs.declared.fault.CertFault.{CertFault};
+ghost use Rattle.cert_text.specs.Reading.{certificate_of};
+ghost use Rattle.std.specs.Prelude.{Ok, Err, ◌⊎◌};
+
+/// A law: no text spells two certificates.
+#[tactic(auto, using(crate::proofs::Promises::one_certificate))]
+pub fn one_certificate()
+    ensures { (c d : CertificateValue) → IsLawful c → IsLawful d → spelling c ≡ spelling d → length (spelling c) ≤ 2 ^ 30 → c ≡ d }
+{}
+
+/// A law: a text that is not too long spells a certificate or has a first fault, and not both.
+#[tactic(auto, using(crate::proofs::Promises::spelled_or_not, crate::proofs::Promises::not_both))]
+pub fn spelled_or_not()
+    ensures either { (bytes : List ℕ) → ((c : CertificateValue) × IsLawful c × (bytes ≡ spelling c)) ⊎ ((e : CertFault) × (certificate_of bytes ≡ Err e)) }
+    ensures not_both { (c : CertificateValue) (e : CertFault) → IsLawful c → length (spelling c) ≤ 2 ^ 30 → certificate_of (spelling c) ≡ Err e → ⊥ }
+{}

@@ -1,0 +1,186 @@
+//! Numbers as words spell them.
+
+ghost use Rattle.std.specs.Prelude.{◌≡◌, ◌∷◌, ◌++◌, [], ◌≤◌, ◌<◌, ◌^◌, ◌-◌, option_map, map, min, OnOk, IfSome};
+ghost use Rattle.cert_text.specs.Reading.{Gives, numbered, digits_after, number, number_in, share_in, numbers_in, distance_in, distances_in, shares_in, increases_from, is_increasing};
+ghost use Rattle.cert_text.specs.Cursors.{left};
+
+use crate::fault::CertFault;
+use crate::words::Words;
+use certificates::{Share, Values};
+use cost::Dist;
+use std::alloc::Global;
+
+/// The number of digits, one or more.
+#[tactic(auto, using(crate::proofs::NumberLaws::digits_alike), unfolding(crate::specs::Reading::digits_after))]
+fn digits_of(digits: &[u8]) -> Option<u64>
+    ensures { result ≡ option_map (min (2 ^ 64 - 1)) (digits_after 0 digits.now) }
+{
+    let mut value = 0u64;
+    for digit in digits {
+        if *digit < b'0' || *digit > b'9' {
+            return None;
+        }
+        value = value
+            .saturating_mul(10)
+            .saturating_add(u64::from(*digit - b'0'));
+    }
+    Some(value)
+}
+
+/// The number that a word spells, by digits of which the first is 0 only where it is alone. A number past 2^64 - 1 is
+/// given as that, which is past every limit and past the number of words of every line.
+pub(crate) fn number_of(word: &[u8]) -> Option<u64>
+    ensures { result ≡ option_map (min (2 ^ 64 - 1)) (number word.now) }
+{
+    match word {
+        [] => None,
+        [b'0', _, ..] => None,
+        [_, ..] => digits_of(word),
+    }
+}
+
+/// The number that a word spells, from the least on and below the end.
+pub(crate) fn number_within(word: &[u8], least: u64, end: u64) -> Option<u64>
+    requires { end < 2 ^ 64 }
+    ensures value { result ≡ number_in least end word.now }
+    ensures below { IfSome result (λ n. n < end) }
+{
+    match number_of(word) {
+        Some(number) => {
+            if least <= number && number < end {
+                Some(number)
+            } else {
+                None
+            }
+        }
+        None => None,
+    }
+}
+
+/// A number, or `inf`.
+#[tactic(auto, unfolding(crate::specs::Reading::distance_in))]
+pub(crate) fn distance_within(word: &[u8], end: u64) -> Option<Dist>
+    requires { end ≤ 2 ^ 63 }
+    ensures { result ≡ distance_in end word.now }
+{
+    if word == b"inf".as_slice() {
+        return Some(Dist::inf());
+    }
+    match number_within(word, 0, end) {
+        Some(number) => Dist::fin(number),
+        None => None,
+    }
+}
+
+/// Puts the numbers of the words, each below the end, in place of what was there. `line` is the number of their line.
+#[tactic(auto, unfolding(crate::specs::Reading::numbers_behind))]
+pub(crate) fn read_numbers(
+    numbers: &mut Vec<u32>,
+    words: Words<'_>,
+    end: u64,
+    line: usize,
+) -> Result<(), CertFault>
+    requires { end ≤ 2 ^ 32 }
+    ensures { Gives (λ _. numbers.new.items) result (numbered line (numbers_in end (left words.entry))) }
+{
+    numbers.clear();
+    let mut rest = words;
+    while let Some((word, behind)) = rest.first() {
+        match number_within(word, 0, end) {
+            Some(number) => numbers.push(number as u32)?,
+            None => return Err(CertFault::Number(line)),
+        }
+        rest = behind;
+    }
+    Ok(())
+}
+
+/// The distances of the words, each infinite or below the end.
+#[tactic(auto, unfolding(crate::specs::Reading::distances_behind))]
+pub(crate) fn distances(
+    alloc: Global,
+    words: Words<'_>,
+    end: u64,
+    line: usize,
+) -> Result<Values, CertFault>
+    requires { end ≤ 2 ^ 63 }
+    ensures { Gives (λ v. v) result (numbered line (distances_in end (left words.entry))) }
+{
+    let mut values = Values::new(alloc);
+    let mut rest = words;
+    while let Some((word, behind)) = rest.first() {
+        match distance_within(word, end) {
+            Some(value) => values.push(value)?,
+            None => return Err(CertFault::Number(line)),
+        }
+        rest = behind;
+    }
+    Ok(values)
+}
+
+/// The share that two words spell.
+#[tactic(auto, unfolding(crate::specs::Reading::share_in))]
+fn share_of(operator: &[u8], amount: &[u8]) -> Option<Share>
+    ensures { result ≡ share_in operator.now amount.now }
+{
+    match (
+        number_within(operator, 0, 1 << 32),
+        number_within(amount, 1, 1 << 31),
+    ) {
+        (Some(operator), Some(amount)) => Some(Share {
+            operator: operator as u32,
+            amount: amount as u32,
+        }),
+        _ => None,
+    }
+}
+
+/// The operators and shares of the words.
+#[tactic(auto, unfolding(crate::specs::Reading::shares_behind))]
+pub(crate) fn shares(alloc: Global, words: Words<'_>, line: usize) -> Result<Vec<Share>, CertFault>
+    ensures { Gives (λ v. v.items) result (numbered line (shares_in (left words.entry))) }
+{
+    let mut shares = Vec::new(alloc);
+    let mut rest = words;
+    while let Some((operator, behind)) = rest.first() {
+        let Some((amount, behind)) = behind.first() else {
+            return Err(CertFault::Number(line));
+        };
+        match share_of(operator, amount) {
+            Some(share) => shares.push(share)?,
+            None => return Err(CertFault::Number(line)),
+        }
+        rest = behind;
+    }
+    Ok(shares)
+}
+
+/// Whether each number is greater than the one before it.
+#[tactic(auto, unfolding(crate::specs::Reading::increases_from))]
+pub(crate) fn increases(numbers: &[u32]) -> bool
+    ensures { result ≡ is_increasing numbers.now }
+{
+    let mut least = 0u64;
+    for number in numbers {
+        if u64::from(*number) < least {
+            return false;
+        }
+        least = u64::from(*number) + 1;
+    }
+    true
+}
+
+/// Whether each share's operator is greater than the one before it.
+#[tactic(auto, unfolding(crate::specs::Reading::increases_from))]
+pub(crate) fn operators_increase(shares: &[Share]) -> bool
+    ensures { result ≡ is_increasing (map (λ s. s.operator) shares.now) }
+{
+    let mut least = 0u64;
+    for share in shares {
+        if u64::from(share.operator) < least {
+            return false;
+        }
+        least = u64::from(share.operator) + 1;
+    }
+    true
+}

@@ -1,0 +1,174 @@
+//! The lines of atoms, variables, tables and states.
+
+ghost use Rattle.std.specs.Prelude.{◌≡◌, ◌<◌, ◌^◌, map};
+ghost use Rattle.std.specs.List.{list_all};
+ghost use Rattle.cert_text.specs.Pieces.{pieces};
+ghost use Rattle.cert_text.specs.Reading.{Gives, is_printed, is_atom_word, atom_of, variable_of, pattern_of, shares_of, values_of, entry_of, has_width};
+ghost use Rattle.cert_text.specs.Cursors.{left, remaining};
+ghost use Rattle.certificates.specs.Views as view;
+ghost use Rattle.std.specs.String.{string_bytes};
+
+use crate::fault::CertFault;
+use crate::forms::{counted_line, headed_line};
+use crate::lines::Lines;
+use crate::numbers::{
+    distances, increases, number_within, operators_increase, read_numbers, shares,
+};
+use crate::words::Words;
+use certificates::{AtomVariable, Share, Values};
+use std::alloc::Global;
+
+/// The end of the numbers of variables, operators and values, and of most counts.
+pub(crate) const SHORT: u64 = 1 << 32;
+
+fn is_printed(word: &[u8]) -> bool
+    ensures { result ≡ list_all is_printed word.now }
+{
+    word.iter().all(|byte| 33 <= *byte && *byte <= 126)
+}
+
+/// Whether the word may stand in an atom.
+fn is_atom_word(word: &[u8]) -> bool
+    ensures { result ≡ is_atom_word word.now }
+{
+    0 < word.len() && is_printed(word)
+}
+
+/// The words of an atom.
+#[tactic(auto, unfolding(crate::specs::Reading::atom_of))]
+pub(crate) fn atom_words(
+    alloc: Global,
+    line: &[u8],
+    number: usize,
+) -> Result<Vec<String>, CertFault>
+    ensures { Gives (λ v. view.atom_of v) result (atom_of number (pieces 32 line.now)) }
+{
+    let mut atom = Vec::new(alloc);
+    let mut rest = Words::new(line);
+    while let Some((word, behind)) = rest.first() {
+        if !is_atom_word(word) {
+            return Err(CertFault::Expected(number));
+        }
+        match str::from_utf8(word) {
+            Ok(text) => atom.push(String::from_str(alloc, text)?)?,
+            Err(_) => return Err(CertFault::Expected(number)),
+        }
+        rest = behind;
+    }
+    Ok(atom)
+}
+
+/// A variable over so many atoms.
+#[tactic(auto, unfolding(crate::specs::Reading::variable_of))]
+pub(crate) fn variable_line(
+    alloc: Global,
+    line: &[u8],
+    atoms: u64,
+    number: usize,
+) -> Result<AtomVariable, CertFault>
+    requires { atoms < 2 ^ 32 }
+    ensures { Gives view.variable_of result (variable_of atoms number (pieces 32 line.now)) }
+{
+    let form = counted_line(line, false, number)?;
+    let Some(flag) = number_within(form.first, 0, 2) else {
+        return Err(CertFault::Number(number));
+    };
+    if number_within(form.count, 1, SHORT).is_none() {
+        return Err(CertFault::Number(number));
+    }
+    let mut numbers = Vec::new(alloc);
+    read_numbers(&mut numbers, form.words, atoms, number)?;
+    if !increases(&numbers) {
+        return Err(CertFault::Order(number));
+    }
+    Ok(AtomVariable {
+        has_none_value: flag == 1,
+        atoms: numbers,
+    })
+}
+
+/// The pattern of a table.
+#[tactic(auto, unfolding(crate::specs::Reading::pattern_of))]
+pub(crate) fn pattern_line(alloc: Global, line: &[u8], number: usize) -> Result<Vec<u32>, CertFault>
+    ensures { Gives (λ v. v.items) result (pattern_of number (pieces 32 line.now)) }
+{
+    let form = headed_line(line, b"table", false, number)?;
+    if number_within(form.count, 1, SHORT).is_none() {
+        return Err(CertFault::Number(number));
+    }
+    let mut pattern = Vec::new(alloc);
+    read_numbers(&mut pattern, form.words, SHORT, number)?;
+    if increases(&pattern) {
+        Ok(pattern)
+    } else {
+        Err(CertFault::Order(number))
+    }
+}
+
+/// The shares of a table.
+#[tactic(auto, unfolding(crate::specs::Reading::shares_of))]
+pub(crate) fn shares_line(
+    alloc: Global,
+    line: &[u8],
+    number: usize,
+) -> Result<Vec<Share>, CertFault>
+    ensures { Gives (λ v. v.items) result (shares_of number (pieces 32 line.now)) }
+{
+    let form = headed_line(line, b"shares", true, number)?;
+    if number_within(form.count, 0, SHORT).is_none() {
+        return Err(CertFault::Number(number));
+    }
+    let shares = shares(alloc, form.words, number)?;
+    if operators_increase(&shares) {
+        Ok(shares)
+    } else {
+        Err(CertFault::Order(number))
+    }
+}
+
+/// The values of a table.
+#[tactic(auto, unfolding(crate::specs::Reading::values_of))]
+pub(crate) fn values_line(alloc: Global, line: &[u8], number: usize) -> Result<Values, CertFault>
+    ensures { Gives (λ v. v) result (values_of number (pieces 32 line.now)) }
+{
+    let form = headed_line(line, b"values", false, number)?;
+    if number_within(form.count, 0, (1 << 24) + 1).is_none() {
+        return Err(CertFault::Number(number));
+    }
+    distances(alloc, form.words, (1 << 55) + 1, number)
+}
+
+/// Whether a line has a cost and as many values as the states before it.
+fn fits_width(words: Option<usize>, width: Option<usize>) -> bool
+    ensures { result ≡ has_width width words }
+{
+    match (words, width) {
+        (None, _) => false,
+        (Some(_), None) => true,
+        (Some(words), Some(width)) => 0 < words && words - 1 == width,
+    }
+}
+
+/// The cost of a state; its values take the place of what was in `state`.
+#[tactic(auto, unfolding(crate::specs::Reading::entry_of))]
+pub(crate) fn entry_line(
+    line: &[u8],
+    width: Option<usize>,
+    number: usize,
+    state: &mut Vec<u32>,
+) -> Result<u64, CertFault>
+    ensures { Gives (λ cost. record { cost = cost; state = state.new.items }) result (entry_of width number (pieces 32 line.now)) }
+{
+    let words = Words::new(line);
+    if !fits_width(words.filled(), width) {
+        return Err(CertFault::Expected(number));
+    }
+    let Some((word, behind)) = words.first() else {
+        return Err(CertFault::Expected(number));
+    };
+    let Some(cost) = number_within(word, 0, (1 << 62) + 1) else {
+        return Err(CertFault::Number(number));
+    };
+    read_numbers(state, behind, SHORT, number)?;
+    Ok(cost)
+}

@@ -1,0 +1,230 @@
+//! Reading a certificate.
+
+ghost use Rattle.std.specs.Prelude.{◌≡◌, ◌<◌, ◌≤◌, ◌^◌, IfOk, Ok, length, map};
+ghost use Rattle.certificates.specs.Certificates.{CertificateValue};
+ghost use Rattle.cert_text.specs.Spelling.{spelling};
+ghost use Rattle.cert_text.specs.Lawful.{IsLawful};
+ghost use Rattle.cert_text.specs.Reading.{Gives, header_at, kind_at, bound_of, atoms_at, variables_at, parts_at, table_at, column_at, columns_at, closed_at, end_at, certificate_at, certificate_of};
+ghost use Rattle.cert_text.specs.Pieces.{pieces};
+ghost use Rattle.cert_text.specs.Cursors.{remaining};
+ghost use Rattle.certificates.specs.Views as view;
+
+use crate::fault::CertFault;
+use crate::forms::{count_line, fixed_line, second_word};
+use crate::lines::Lines;
+use crate::numbers::distance_within;
+use crate::parts::{
+    SHORT, atom_words, entry_line, pattern_line, shares_line, values_line, variable_line,
+};
+use certificates::{
+    AtomParts, AtomVariable, Certificate, CertificateKind, ClosedList, PatternTable,
+};
+use cost::Dist;
+use std::alloc::Global;
+
+/// The most bytes that a text may have, 2^30.
+pub const MAX_LENGTH: usize = 1_073_741_824;
+
+#[tactic(auto, unfolding(crate::specs::Reading::header_at))]
+fn header(lines: Lines<'_>) -> Result<Lines<'_>, CertFault>
+    ensures { Gives remaining result (header_at (remaining lines.entry)) }
+{
+    let (line, rest) = lines.first()?;
+    if line == b"optplan-cert 1".as_slice() {
+        Ok(rest)
+    } else {
+        Err(CertFault::Header)
+    }
+}
+
+/// Whether it is for a planning task.
+#[tactic(auto, unfolding(crate::specs::Reading::kind_at))]
+fn kind(lines: Lines<'_>) -> Result<(bool, Lines<'_>), CertFault>
+    ensures { Gives (λ x. (x.0, remaining x.1)) result (kind_at (remaining lines.entry)) }
+{
+    let (line, rest) = lines.first()?;
+    if line == b"pddl".as_slice() {
+        Ok((true, rest))
+    } else if line == b"sas".as_slice() {
+        Ok((false, rest))
+    } else {
+        Err(CertFault::Expected(lines.number))
+    }
+}
+
+#[tactic(auto, unfolding(crate::specs::Reading::bound_of))]
+fn bound_line(line: &[u8], number: usize) -> Result<Dist, CertFault>
+    ensures { Gives (λ x. x) result (bound_of number (pieces 32 line.now)) }
+{
+    let word = second_word(line, b"bound", number)?;
+    match distance_within(word, (1 << 62) + 1) {
+        Some(bound) => Ok(bound),
+        None => Err(CertFault::Number(number)),
+    }
+}
+
+#[tactic(auto, using(crate::proofs::Repeating::looping), unfolding(crate::specs::Reading::atoms_at, crate::specs::Reading::atom_at))]
+fn atoms(alloc: Global, lines: Lines<'_>) -> Result<(Vec<Vec<String>>, Lines<'_>), CertFault>
+    ensures atoms { Gives (λ x. (map view.atom_of x.0.items, remaining x.1)) result (atoms_at (remaining lines.entry)) }
+    ensures few { IfOk result (λ x. length x.0.items < 2 ^ 32) }
+{
+    let (count, first) = count_line(lines, b"atoms", 0, SHORT)?;
+    let mut next = first;
+    let mut atoms = Vec::new(alloc);
+    for _ in 0..count {
+        let (line, rest) = next.first()?;
+        atoms.push(atom_words(alloc, line, next.number)?)?;
+        next = rest;
+    }
+    Ok((atoms, next))
+}
+
+#[tactic(auto, using(crate::proofs::Repeating::looping), unfolding(crate::specs::Reading::variables_at, crate::specs::Reading::variable_at))]
+fn variables(
+    alloc: Global,
+    atoms: u64,
+    lines: Lines<'_>,
+) -> Result<(Vec<AtomVariable>, Lines<'_>), CertFault>
+    requires { atoms < 2 ^ 32 }
+    ensures { Gives (λ x. (map view.variable_of x.0.items, remaining x.1)) result (variables_at atoms (remaining lines.entry)) }
+{
+    let (count, first) = count_line(lines, b"vars", 0, SHORT)?;
+    let mut next = first;
+    let mut variables = Vec::new(alloc);
+    for _ in 0..count {
+        let (line, rest) = next.first()?;
+        variables.push(variable_line(alloc, line, atoms, next.number)?)?;
+        next = rest;
+    }
+    Ok((variables, next))
+}
+
+#[tactic(auto, unfolding(crate::specs::Reading::parts_at))]
+fn parts(
+    alloc: Global,
+    planning: bool,
+    lines: Lines<'_>,
+) -> Result<(CertificateKind, Lines<'_>), CertFault>
+    ensures { Gives (λ x. (view.kind_of x.0, remaining x.1)) result (parts_at planning (remaining lines.entry)) }
+{
+    if !planning {
+        return Ok((CertificateKind::Sas, lines));
+    }
+    let (atoms, lines) = atoms(alloc, lines)?;
+    let (variables, lines) = variables(alloc, atoms.len() as u64, lines)?;
+    Ok((CertificateKind::Pddl(AtomParts { atoms, variables }), lines))
+}
+
+#[tactic(auto, unfolding(crate::specs::Reading::table_at))]
+fn table(alloc: Global, lines: Lines<'_>) -> Result<(PatternTable, Lines<'_>), CertFault>
+    ensures { Gives (λ x. (view.table_of x.0, remaining x.1)) result (table_at (remaining lines.entry)) }
+{
+    let (line, second) = lines.first()?;
+    let pattern = pattern_line(alloc, line, lines.number)?;
+    let (line, third) = second.first()?;
+    let shares = shares_line(alloc, line, second.number)?;
+    let (line, rest) = third.first()?;
+    let values = values_line(alloc, line, third.number)?;
+    Ok((
+        PatternTable {
+            pattern,
+            shares,
+            values,
+        },
+        rest,
+    ))
+}
+
+#[tactic(auto, using(crate::proofs::Repeating::looping), unfolding(crate::specs::Reading::column_at))]
+fn column(alloc: Global, lines: Lines<'_>) -> Result<(Vec<PatternTable>, Lines<'_>), CertFault>
+    ensures { Gives (λ x. (view.column_of x.0, remaining x.1)) result (column_at (remaining lines.entry)) }
+{
+    let (count, first) = count_line(lines, b"column", 1, 65)?;
+    let mut next = first;
+    let mut tables = Vec::new(alloc);
+    for _ in 0..count {
+        let (table, rest) = table(alloc, next)?;
+        tables.push(table)?;
+        next = rest;
+    }
+    Ok((tables, next))
+}
+
+#[tactic(auto, using(crate::proofs::Repeating::looping), unfolding(crate::specs::Reading::columns_at))]
+fn columns(
+    alloc: Global,
+    lines: Lines<'_>,
+) -> Result<(Vec<Vec<PatternTable>>, Lines<'_>), CertFault>
+    ensures { Gives (λ x. (view.columns_of x.0.items, remaining x.1)) result (columns_at (remaining lines.entry)) }
+{
+    let (count, first) = count_line(lines, b"columns", 0, 65)?;
+    let mut next = first;
+    let mut columns = Vec::new(alloc);
+    for _ in 0..count {
+        let (column, rest) = column(alloc, next)?;
+        columns.push(column)?;
+        next = rest;
+    }
+    Ok((columns, next))
+}
+
+#[tactic(auto, using(crate::proofs::Repeating::looping), unfolding(crate::specs::Reading::closed_at, crate::specs::Reading::entry_step, crate::specs::Reading::entry_at))]
+fn closed(alloc: Global, lines: Lines<'_>) -> Result<(ClosedList, Lines<'_>), CertFault>
+    ensures { Gives (λ x. (x.0, remaining x.1)) result (closed_at (remaining lines.entry)) }
+{
+    let (count, first) = count_line(lines, b"closed", 0, SHORT)?;
+    let mut next = first;
+    let mut closed = ClosedList::new(alloc);
+    let mut state = Vec::new(alloc);
+    for _ in 0..count {
+        let (line, rest) = next.first()?;
+        let cost = entry_line(line, closed.width(), next.number, &mut state)?;
+        closed.push(cost, &state)?;
+        next = rest;
+    }
+    Ok((closed, next))
+}
+
+#[tactic(auto, unfolding(crate::specs::Reading::end_at))]
+fn end(lines: Lines<'_>) -> Result<(), CertFault>
+    ensures { Gives (λ _. tt) result (end_at (remaining lines.entry)) }
+{
+    let rest = fixed_line(lines, b"end")?;
+    if rest.is_empty() {
+        Ok(())
+    } else {
+        Err(CertFault::Trailing(rest.number))
+    }
+}
+
+#[tactic(auto, unfolding(crate::specs::Reading::certificate_at, crate::specs::Reading::bound_at))]
+fn certificate(alloc: Global, lines: Lines<'_>) -> Result<Certificate, CertFault>
+    ensures { Gives (λ c. c) result (certificate_at (remaining lines.entry)) }
+{
+    let lines = header(lines)?;
+    let (planning, lines) = kind(lines)?;
+    let (line, rest) = lines.first()?;
+    let bound = bound_line(line, lines.number)?;
+    let (kind, lines) = parts(alloc, planning, rest)?;
+    let (columns, lines) = columns(alloc, lines)?;
+    let (closed, lines) = closed(alloc, lines)?;
+    end(lines)?;
+    Ok(Certificate::new(kind, bound, columns, closed))
+}
+
+/// The certificate that the text spells, or the text's first fault, which `CertFault` tells.
+///
+/// It is read line by line, in time and memory in proportion to the lines that are there, whatever their counts say.
+pub fn read_cert(alloc: Global, bytes: &[u8]) -> Result<Certificate, CertFault>
+    // What is read is spelled so.
+    ensures found { IfOk result (λ c. IsLawful c × (bytes.now ≡ spelling c)) }
+    // What is spelled so is read, unless memory runs out.
+    ensures only { (c : CertificateValue) → IsLawful c → bytes.now ≡ spelling c → length bytes.now ≤ 2 ^ 30 → Gives (λ x. x) result (Ok c) }
+    // Which fault it is.
+    ensures fault { Gives (λ x. x) result (certificate_of bytes.now) }
+{
+    if bytes.len() > MAX_LENGTH {
+        return Err(CertFault::TooLong);
+    }
+    certificate(alloc, Lines::new(bytes))
+}

@@ -1,0 +1,269 @@
+//! Writing a certificate.
+#![tactic(auto, using(crate::proofs::Appends::appending))]
+
+ghost use Rattle.std.specs.Prelude.{◌≡◌, ◌<◌, ◌++◌, ◌∷◌, [], IfOk, OnOk, map, length, codes};
+ghost use Rattle.std.specs.Fmt.{decimal};
+ghost use Rattle.std.specs.List.{flat_map};
+ghost use Rattle.std.specs.String.{string_bytes};
+ghost use Rattle.cost.specs.Distances.{distance_text};
+ghost use Rattle.cert_text.specs.Spelling as text;
+ghost use Rattle.cert_text.specs.Pieces.{joined};
+ghost use Rattle.certificates.specs.Views as view;
+
+use certificates::{
+    AtomVariable, Certificate, CertificateKind, ClosedList, PatternTable, Share, Values,
+};
+use cost::Dist;
+use itoa::Buffer;
+use std::alloc::{AllocError, Global};
+
+fn push_number(out: &mut Vec<u8>, number: u64) -> Result<(), AllocError>
+    ensures { OnOk result (out.new.items ≡ out.old.items ++ decimal number) }
+{
+    let mut buffer = Buffer::new();
+    out.extend_from_slice(buffer.format(number).as_bytes())
+}
+
+fn push_distance(out: &mut Vec<u8>, distance: Dist) -> Result<(), AllocError>
+    ensures { OnOk result (out.new.items ≡ out.old.items ++ distance_text distance) }
+{
+    match distance.get() {
+        Some(number) => push_number(out, number),
+        None => out.extend_from_slice(b"inf"),
+    }
+}
+
+/// A keyword and a number.
+fn push_count(out: &mut Vec<u8>, keyword: &[u8], count: usize) -> Result<(), AllocError>
+    ensures { OnOk result (out.new.items ≡ out.old.items ++ (keyword.now ++ 32 ∷ decimal count)) }
+{
+    out.extend_from_slice(keyword)?;
+    out.push(b' ')?;
+    push_number(out, count as u64)
+}
+
+/// A line of a keyword and a number.
+fn push_count_line(out: &mut Vec<u8>, keyword: &[u8], count: usize) -> Result<(), AllocError>
+    ensures { OnOk result (out.new.items ≡ out.old.items ++ text.line_text (text.counted keyword.now count [])) }
+{
+    push_count(out, keyword, count)?;
+    out.push(b'\n')?;
+    Ok(())
+}
+
+/// Numbers, each behind a blank.
+fn push_numbers(out: &mut Vec<u8>, numbers: &[u32]) -> Result<(), AllocError>
+    ensures { OnOk result (out.new.items ≡ out.old.items ++ flat_map (λ q. 32 ∷ q) (map decimal numbers.now)) }
+{
+    for number in numbers {
+        out.push(b' ')?;
+        push_number(out, u64::from(*number))?;
+    }
+    Ok(())
+}
+
+/// Words, each behind a blank.
+fn push_words(out: &mut Vec<u8>, words: &[String]) -> Result<(), AllocError>
+    ensures { OnOk result (out.new.items ≡ out.old.items ++ flat_map (λ q. 32 ∷ q) (map string_bytes words.now)) }
+{
+    for word in words {
+        out.push(b' ')?;
+        out.extend_from_slice(word.as_bytes())?;
+    }
+    Ok(())
+}
+
+/// Words with blanks between them.
+fn push_joined(out: &mut Vec<u8>, words: &[String]) -> Result<(), AllocError>
+    ensures { OnOk result (out.new.items ≡ out.old.items ++ joined 32 (map string_bytes words.now)) }
+{
+    match words {
+        [] => Ok(()),
+        [first, others @ ..] => {
+            out.extend_from_slice(first.as_bytes())?;
+            push_words(out, others)
+        }
+    }
+}
+
+fn push_atom(out: &mut Vec<u8>, atom: &[String]) -> Result<(), AllocError>
+    ensures { OnOk result (out.new.items ≡ out.old.items ++ text.line_text (map string_bytes atom.now)) }
+{
+    push_joined(out, atom)?;
+    out.push(b'\n')?;
+    Ok(())
+}
+
+fn push_atoms(out: &mut Vec<u8>, atoms: &[Vec<String>]) -> Result<(), AllocError>
+    ensures { OnOk result (out.new.items ≡ out.old.items ++ text.text_of (map view.atom_of atoms.now)) }
+{
+    for atom in atoms {
+        push_atom(out, atom)?;
+    }
+    Ok(())
+}
+
+fn push_variable(out: &mut Vec<u8>, variable: &AtomVariable) -> Result<(), AllocError>
+    ensures { OnOk result (out.new.items ≡ out.old.items ++ text.line_text (text.variable_line (view.variable_of variable.now))) }
+{
+    if variable.has_none_value {
+        push_count(out, b"1", variable.atoms.len())?;
+    } else {
+        push_count(out, b"0", variable.atoms.len())?;
+    }
+    push_numbers(out, &variable.atoms)?;
+    out.push(b'\n')?;
+    Ok(())
+}
+
+fn push_variables(out: &mut Vec<u8>, variables: &[AtomVariable]) -> Result<(), AllocError>
+    ensures { OnOk result (out.new.items ≡ out.old.items ++ text.text_of (map text.variable_line (map view.variable_of variables.now))) }
+{
+    for variable in variables {
+        push_variable(out, variable)?;
+    }
+    Ok(())
+}
+
+fn push_shares(out: &mut Vec<u8>, shares: &[Share]) -> Result<(), AllocError>
+    ensures { OnOk result (out.new.items ≡ out.old.items ++ flat_map (λ q. 32 ∷ q) (flat_map text.share_words shares.now)) }
+{
+    for share in shares {
+        out.push(b' ')?;
+        push_number(out, u64::from(share.operator))?;
+        out.push(b' ')?;
+        push_number(out, u64::from(share.amount))?;
+    }
+    Ok(())
+}
+
+fn push_values(out: &mut Vec<u8>, values: &Values) -> Result<(), AllocError>
+    ensures { OnOk result (out.new.items ≡ out.old.items ++ flat_map (λ q. 32 ∷ q) (map distance_text values.now)) }
+{
+    for state in 0..values.len() {
+        out.push(b' ')?;
+        push_distance(out, values.get(state))?;
+    }
+    Ok(())
+}
+
+fn push_table(out: &mut Vec<u8>, table: &PatternTable) -> Result<(), AllocError>
+    ensures { OnOk result (out.new.items ≡ out.old.items ++ text.text_of (text.table_lines (view.table_of table.now))) }
+{
+    push_count(out, b"table", table.pattern.len())?;
+    push_numbers(out, &table.pattern)?;
+    out.push(b'\n')?;
+    push_count(out, b"shares", table.shares.len())?;
+    push_shares(out, &table.shares)?;
+    out.push(b'\n')?;
+    push_count(out, b"values", table.values.len())?;
+    push_values(out, &table.values)?;
+    out.push(b'\n')?;
+    Ok(())
+}
+
+fn push_tables(out: &mut Vec<u8>, tables: &[PatternTable]) -> Result<(), AllocError>
+    ensures { OnOk result (out.new.items ≡ out.old.items ++ text.text_of (flat_map text.table_lines (map view.table_of tables.now))) }
+{
+    for table in tables {
+        push_table(out, table)?;
+    }
+    Ok(())
+}
+
+fn push_column(out: &mut Vec<u8>, column: &[PatternTable]) -> Result<(), AllocError>
+    ensures { OnOk result (out.new.items ≡ out.old.items ++ text.text_of (text.column_lines (map view.table_of column.now))) }
+{
+    push_count_line(out, b"column", column.len())?;
+    push_tables(out, column)?;
+    Ok(())
+}
+
+fn push_columns(out: &mut Vec<u8>, columns: &[Vec<PatternTable>]) -> Result<(), AllocError>
+    ensures { OnOk result (out.new.items ≡ out.old.items ++ text.text_of (flat_map text.column_lines (view.columns_of columns.now))) }
+{
+    for column in columns {
+        push_column(out, column)?;
+    }
+    Ok(())
+}
+
+/// The lines of all columns.
+fn push_all_columns(out: &mut Vec<u8>, columns: &[Vec<PatternTable>]) -> Result<(), AllocError>
+    ensures { OnOk result (out.new.items ≡ out.old.items ++ text.text_of (text.columns_lines (view.columns_of columns.now))) }
+{
+    push_count_line(out, b"columns", columns.len())?;
+    push_columns(out, columns)?;
+    Ok(())
+}
+
+fn push_states(out: &mut Vec<u8>, closed: &ClosedList) -> Result<(), AllocError>
+    ensures { OnOk result (out.new.items ≡ out.old.items ++ text.text_of (map text.entry_line closed.now)) }
+{
+    for index in 0..closed.len() {
+        push_number(out, closed.cost(index))?;
+        push_numbers(out, closed.state(index))?;
+        out.push(b'\n')?;
+    }
+    Ok(())
+}
+
+/// The lines of the closed states.
+fn push_closed(out: &mut Vec<u8>, closed: &ClosedList) -> Result<(), AllocError>
+    ensures { OnOk result (out.new.items ≡ out.old.items ++ text.text_of (text.closed_lines closed.now)) }
+{
+    push_count_line(out, b"closed", closed.len())?;
+    push_states(out, closed)?;
+    Ok(())
+}
+
+fn push_parts(out: &mut Vec<u8>, kind: &CertificateKind) -> Result<(), AllocError>
+    ensures { OnOk result (out.new.items ≡ out.old.items ++ text.text_of (text.kind_lines (view.kind_of kind.now))) }
+{
+    match kind {
+        CertificateKind::Sas => {}
+        CertificateKind::Pddl(parts) => {
+            push_count_line(out, b"atoms", parts.atoms.len())?;
+            push_atoms(out, &parts.atoms)?;
+            push_count_line(out, b"vars", parts.variables.len())?;
+            push_variables(out, &parts.variables)?;
+        }
+    }
+    Ok(())
+}
+
+/// The second line.
+fn push_kind(out: &mut Vec<u8>, kind: &CertificateKind) -> Result<(), AllocError>
+    ensures { OnOk result (out.new.items ≡ out.old.items ++ text.line_text (text.kind_line (view.kind_of kind.now))) }
+{
+    match kind {
+        CertificateKind::Sas => out.extend_from_slice(b"sas\n"),
+        CertificateKind::Pddl(_) => out.extend_from_slice(b"pddl\n"),
+    }
+}
+
+/// The third line.
+fn push_bound(out: &mut Vec<u8>, bound: Dist) -> Result<(), AllocError>
+    ensures { OnOk result (out.new.items ≡ out.old.items ++ text.line_text (codes "bound" ∷ distance_text bound ∷ [])) }
+{
+    out.extend_from_slice(b"bound ")?;
+    push_distance(out, bound)?;
+    out.push(b'\n')?;
+    Ok(())
+}
+
+/// The text of a certificate. An `Err` is of too little memory.
+///
+/// `read_cert` reads the text of a lawful certificate again, if it has at most `MAX_LENGTH` bytes.
+pub fn write_cert(alloc: Global, certificate: &Certificate) -> Result<Vec<u8>, AllocError>
+    ensures { IfOk result (λ bytes. bytes.items ≡ text.spelling certificate.now) }
+{
+    let mut out = Vec::from_slice(alloc, b"optplan-cert 1\n")?;
+    push_kind(&mut out, certificate.kind())?;
+    push_bound(&mut out, certificate.bound())?;
+    push_parts(&mut out, certificate.kind())?;
+    push_all_columns(&mut out, certificate.columns())?;
+    push_closed(&mut out, certificate.closed())?;
+    out.extend_from_slice(b"end\n")?;
+    Ok(out)
+}

@@ -1,0 +1,34 @@
+use super::*;
+use cost::Dist;
+use std::test::*;
+
+#[test]
+fn keeps_values(rt: HostRuntime) -> Result<(), Fail> {
+    let mut values = Values::new(rt.alloc());
+    assert!(rt; values.is_empty());
+    for value in [
+        Dist::ZERO,
+        Dist::inf(),
+        Dist::fin(9_223_372_036_854_775_808).unwrap_or(Dist::ZERO),
+    ] {
+        values.push(value)?;
+    }
+    assert_eq!(rt; values.len(), 3);
+    assert_eq!(rt; values.get(0).get(), Some(0));
+    assert_eq!(rt; values.get(1).get(), None);
+    assert_eq!(rt; values.get(2).get(), Some(9_223_372_036_854_775_808));
+    Ok(())
+}
+
+#[test]
+fn keeps_states(rt: HostRuntime) -> Result<(), Fail> {
+    let mut closed = ClosedList::new(rt.alloc());
+    assert_eq!(rt; closed.width(), None);
+    closed.push(7, &[1, 2])?;
+    closed.push(9, &[3, 4])?;
+    assert_eq!(rt; (closed.len(), closed.width()), (2, Some(2)));
+    assert_eq!(rt; (closed.cost(0), closed.cost(1)), (7, 9));
+    assert_eq!(rt; closed.state(0), [1, 2].as_slice());
+    assert_eq!(rt; closed.state(1), [3, 4].as_slice());
+    Ok(())
+}
