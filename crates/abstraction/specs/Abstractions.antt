@@ -1,13 +1,15 @@
 -- Abstractions of a finite-domain task (Helmert, Haslum and Hoffmann 2007), and tables of lower bounds on them.
-use Rattle.std.specs.Prelude.{◌≡◌, ℕ, ◌<◌, ◌≤◌, Bool, true, List, length, Option, Some, None, IfSome}
+use Rattle.std.specs.Prelude.{◌≡◌, ℕ, ◌<◌, ◌≤◌, Bool, true, false, List, length, Option, Some, None, IfSome}
 use Rattle.cost.specs.Distances.{Distance, Finite, ◌≤ᵈ◌, ◌+ᵈ◌}
 use Rattle.fdr.specs.Tasks.{FiniteDomainTask, ranges, IsState, step, is_goal_state}
 
--- the abstract states are the numbers below the size; `transition i o` is where operator o leads from i, if it does
+-- the abstract states are the numbers below the size; `transition i o` is where operator o leads from i, if it does, and
+-- an operator that touches none of them leads to no other
 pub record Abstraction : Type 0 where
   pub size : ℕ
   pub index : List ℕ → ℕ
   pub transition : ℕ → ℕ → Option ℕ
+  pub touches : ℕ → Bool
   pub is_goal : ℕ → Bool
 
 -- each step of the task is a transition, goals stay goals, and only the task's operators lead on
@@ -18,6 +20,7 @@ pub record IsAbstractionOf (task : FiniteDomainTask) (a : Abstraction) : Type 0 
       → IfSome (step task s o) (λ t. a.transition (a.index s) o ≡ Some (a.index t))
   pub goals : (s : List ℕ) → IsState (ranges task) s → is_goal_state task s ≡ true → a.is_goal (a.index s) ≡ true
   pub operators : (i o : ℕ) → length task.operators ≤ o → a.transition i o ≡ None
+  pub untouched : (i o : ℕ) → i < a.size → a.touches o ≡ false → IfSome (a.transition i o) (λ j. j ≡ i)
 
 -- what the table counts each operator for, and a distance for each abstract state
 pub record Table : Type 0 where

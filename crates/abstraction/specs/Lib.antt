@@ -2,7 +2,5 @@ pub mod Abstractions
 pub mod Projections
 pub mod Digits
 pub mod Columns
-pub mod ClosedLists
 pub mod Steps
 pub mod ProjectionLaws
-pub mod Examples

@@ -1,16 +1,18 @@
 -- A projection keeps steps and goals.
-use Rattle.std.proofs.Common.{◌≡◌, ℕ, zero, suc, ◌+◌, ◌*◌, ◌/◌, ◌%◌, ◌<◌, true, List, [], ◌∷◌, length, Option, Some, None, refl, ap, sym, arith, cond, eqb}
+use Rattle.std.proofs.Common.{◌≡◌, ℕ, zero, suc, ◌+◌, ◌*◌, ◌/◌, ◌%◌, ◌<◌, true, false, List, [], ◌∷◌, length, Option, Some, None, refl, ap, sym, arith, cond, eqb}
 use Rattle.std.specs.Prelude.{option_and_then, IfSome, slice_get, slice_index, slice_set, All}
-use Rattle.std.specs.List.{list_all}
+use Rattle.std.specs.List.{list_all, list_any}
+use Rattle.std.specs.Option.{option_map_or}
 use Rattle.std.proofs.lemmas.List.{length-set, get_or-set_same, get_or-set_other}
 use Rattle.std.proofs.lemmas.List.Elements.{All-head, All-tail}
 use Rattle.std.proofs.lemmas.Nat.{mul-add-lt, div-mul-add, mod-mul-add, div_below, mod_below}
+use Rattle.std.proofs.Math.Nat.{mod-add-div}
 use Rattle.std.proofs.lemmas.Option.{slice_get_past}
-use Rattle.std.proofs.lemmas.Bool.{cond_both, eqb-true, eqb-false, and_parts, and_from}
+use Rattle.std.proofs.lemmas.Bool.{cond_both, eqb-true, eqb-false, and_parts, and_from, or_parts}
 use Rattle.fdr.specs.declared.fact.Fact.{Fact}
-use Rattle.fdr.specs.Tasks.{FiniteDomainTask, Operator, ranges, IsTask, IsState, IsOperator, IsInRange, holds, applies, successor, with_values}
+use Rattle.fdr.specs.Tasks.{FiniteDomainTask, Operator, ranges, IsTask, IsState, IsOperator, IsInRange, holds, applies, successor, with_values, names_variable}
 use Rattle.abstraction.specs.Abstractions.{IsAbstractionOf}
-use Rattle.abstraction.specs.Projections.{size_of, index_of, weighted_sum, agrees, value_after, index_after, transition_of, projection, AllExist}
+use Rattle.abstraction.specs.Projections.{size_of, index_of, weighted_sum, agrees, value_after, index_after, transition_of, projection, touches_pattern, AllExist}
 use Rattle.abstraction.specs.Steps.{found}
 
 -- the last place of a mixed-radix number, and the rest
@@ -36,6 +38,21 @@ read_effect [] s v l = refl
 read_effect (f ∷ fs) s v l =
     let longer : v < length (slice_set s f.variable f.value) = rw length-set l in
     rw (read_effect fs (slice_set s f.variable f.value) v longer, read_set s f.variable f.value v l)
+
+-- an effect that does not name the variable leaves its value
+not_named : (effect : List Fact) (v x : ℕ) → names_variable effect v ≡ false → value_after effect v x ≡ x
+not_named [] v x e = refl
+not_named (f ∷ fs) v x e =
+    let parts = or_parts (eqb f.variable v) (names_variable fs v) e in rw (parts.0, not_named fs v x parts.1) refl
+
+-- an effect on no variable of the pattern moves no abstract state
+effect_elsewhere : (ranges ps : List ℕ) (i : ℕ) (effect : List Fact) → list_any (names_variable effect) ps ≡ false → i < size_of ranges ps → index_after ranges ps i effect ≡ i
+effect_elsewhere ranges [] i effect e l = omega arith
+effect_elsewhere ranges (p ∷ ps) i effect e l =
+    let some : 0 < slice_index ranges p = positive i (slice_index ranges p) (size_of ranges ps) l in
+    let high : i / slice_index ranges p < size_of ranges ps = div_below i (slice_index ranges p) (size_of ranges ps) some (omega arith) in
+    let parts = or_parts (names_variable effect p) (list_any (names_variable effect) ps) e in
+    rw (not_named effect p (i % slice_index ranges p) parts.0, effect_elsewhere ranges ps (i / slice_index ranges p) effect parts.1 high) (mod-add-div i (slice_index ranges p))
 
 module _ (ranges : List ℕ) where
   value_in_range : (effect : List Fact) (v x : ℕ) → All (IsInRange ranges) effect → x < slice_index ranges v → value_after effect v x < slice_index ranges v
@@ -99,6 +116,7 @@ projection_abstracts task well ps exist =
       steps = λ s o state. kept s state (slice_get task.operators o);
       goals = λ s state goal. facts_agree (ranges task) s state ps exist task.goal goal;
       operators = λ i o l. rw (slice_get_past task.operators o l) refl;
+      untouched = λ i o l. stays i l (slice_get task.operators o);
     }
   where
     leads : (i : ℕ) → i < size_of (ranges task) ps → (r : Option Operator) → IfSome r (IsOperator (ranges task)) → IfSome (option_and_then (transition_of (ranges task) ps i) r) (λ j. j < size_of (ranges task) ps)
@@ -106,6 +124,12 @@ projection_abstracts task well ps exist =
     leads i l (Some op) h =
         cond_both (list_all (agrees (ranges task) ps i) op.precondition) (Some (index_after (ranges task) ps i op.effect)) None (λ r. IfSome r (λ j. j < size_of (ranges task) ps))
         (λ e. index_after_below (ranges task) ps i op.effect h.effect.in_range l) (λ e. tt)
+
+    stays : (i : ℕ) → i < size_of (ranges task) ps → (r : Option Operator) → option_map_or (touches_pattern ps) r false ≡ false → IfSome (option_and_then (transition_of (ranges task) ps i) r) (λ j. j ≡ i)
+    stays i l None e = tt
+    stays i l (Some op) e =
+        cond_both (list_all (agrees (ranges task) ps i) op.precondition) (Some (index_after (ranges task) ps i op.effect)) None (λ r. IfSome r (λ j. j ≡ i))
+        (λ a. effect_elsewhere (ranges task) ps i op.effect e l) (λ a. tt)
 
     kept : (s : List ℕ) → IsState (ranges task) s → (r : Option Operator)
         → IfSome (option_and_then (λ op. cond (applies op s) (Some (successor op s)) None) r)

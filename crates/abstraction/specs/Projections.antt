@@ -1,9 +1,10 @@
 -- The projection of a task to a pattern, a list of its variables (Culberson and Schaeffer 1998; Edelkamp 2001).
-use Rattle.std.specs.Prelude.{ℕ, ◌+◌, ◌*◌, ◌/◌, ◌%◌, ◌^◌, ◌<◌, ◌≤◌, Bool, true, ◌==◌, if◌then◌else◌, List, [], ◌∷◌, length, take, Option, Some, None, option_and_then, slice_get, slice_index, fold, All}
-use Rattle.std.specs.List.{list_all}
+use Rattle.std.specs.Prelude.{ℕ, ◌+◌, ◌*◌, ◌/◌, ◌%◌, ◌^◌, ◌<◌, ◌≤◌, Bool, true, false, ◌==◌, if◌then◌else◌, List, [], ◌∷◌, length, take, Option, Some, None, option_and_then, slice_get, slice_index, fold, All}
+use Rattle.std.specs.List.{list_all, list_any}
+use Rattle.std.specs.Option.{option_map_or}
 use Rattle.std.specs.List.Sorted.{IsStrictlyIncreasing}
 use Rattle.fdr.specs.declared.fact.Fact.{Fact}
-use Rattle.fdr.specs.Tasks.{FiniteDomainTask, Operator, ranges, IsTask}
+use Rattle.fdr.specs.Tasks.{FiniteDomainTask, Operator, ranges, IsTask, names_variable}
 use Rattle.abstraction.specs.Abstractions.{Abstraction}
 use Rattle.abstraction.specs.declared.fault.ProjectionFault.{ProjectionFault}
 use Rattle.abstraction.specs.declared.fault.ProjectionFault.TheVariants.{OutOfMemory, UnknownVariable, TableTooLarge}
@@ -48,12 +49,17 @@ transition_of ranges pattern i op =
     if list_all (agrees ranges pattern i) op.precondition then Some (index_after ranges pattern i op.effect)
     else None
 
+-- the effect is on a variable of the pattern
+abbrev pub touches_pattern : List ℕ → Operator → Bool
+touches_pattern pattern op = list_any (names_variable op.effect) pattern
+
 abbrev pub projection : FiniteDomainTask → List ℕ → Abstraction
 projection task pattern =
     record {
       size = size_of (ranges task) pattern;
       index = index_of (ranges task) pattern;
       transition = λ i o. option_and_then (transition_of (ranges task) pattern i) (slice_get task.operators o);
+      touches = λ o. option_map_or (touches_pattern pattern) (slice_get task.operators o) false;
       is_goal = λ i. list_all (agrees (ranges task) pattern i) task.goal;
     }
 

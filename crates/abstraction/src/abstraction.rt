@@ -32,6 +32,11 @@ pub trait Abstraction {
         ensures value { result ≡ (abstraction self.now).transition abstract_state operator }
         ensures below { IfSome result (λ next. next < (abstraction self.now).size) };
 
+    /// Whether an operator, given by its number, may lead from an abstract state to another. Where it does not touch the
+    /// abstract states it leads from each to itself, if at all.
+    fn touches(&self, operator: usize) -> bool
+        ensures { result ≡ (abstraction self.now).touches operator };
+
     /// Whether an abstract state is an abstract goal.
     fn is_goal(&self, abstract_state: usize) -> bool
         requires { abstract_state < (abstraction self.now).size }

@@ -9,10 +9,7 @@ mod projection;
 
 pub use abstraction::Abstraction;
 pub use fault::ProjectionFault;
-pub use laws::{
-    finished_list_implies_bound, finished_lists_exist, heuristic_is_lower_bound,
-    projection_is_abstraction,
-};
+pub use laws::{heuristic_is_lower_bound, projection_is_abstraction};
 pub use projection::Projection;
 
 #[cfg(test)]

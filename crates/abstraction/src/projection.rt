@@ -1,9 +1,9 @@
 //! Projections.
 
 ghost use Rattle.std.specs.Prelude.{◌≡◌, ◌^◌, ◌<◌, ◌≤◌, All, length, take, slice_index, IfOk, IfErr, OnOk, IfSome, IfNone};
-ghost use Rattle.std.specs.List.{list_all};
+ghost use Rattle.std.specs.List.{list_all, list_any};
 ghost use Rattle.std.specs.List.Sorted.{IsStrictlyIncreasing};
-ghost use Rattle.fdr.specs.Tasks.{ranges, IsTask, IsInRange};
+ghost use Rattle.fdr.specs.Tasks.{ranges, IsTask, IsInRange, names_variable};
 ghost use Rattle.abstraction.specs.Digits.{digit_of, with_fact, IsDigitBelow, digits_from};
 ghost use Rattle.abstraction.specs.Projections.{size_of, AllExist, IsFaultOf};
 ghost use Rattle.abstraction.specs.Projections as spec;
@@ -87,6 +87,13 @@ fn place_of(pattern: &[usize], variable: usize) -> Option<usize>
         Ok(place) => Some(place),
         Err(_) => None,
     }
+}
+
+/// Whether one of the facts is on the variable.
+fn names_variable(facts: &[Fact], variable: usize) -> bool
+    ensures { result ≡ names_variable facts.now variable }
+{
+    facts.iter().any(|fact| fact.variable == variable)
 }
 
 /// The digits of the pattern's variables, and how many abstract states there are.
@@ -173,6 +180,15 @@ impl<'a> Projection<'a> {
         }
     }
 
+    /// Whether the effect is on a variable of the pattern.
+    fn touched_by(&self, effect: &[Fact]) -> bool
+        ensures { result ≡ list_any (names_variable effect.now) self.now.pattern }
+    {
+        self.pattern
+            .iter()
+            .any(|variable| names_variable(effect, *variable))
+    }
+
     /// Whether each fact agrees.
     fn all_agree(&self, abstract_state: usize, facts: &[Fact]) -> bool
         ensures { result ≡ list_all (spec.agrees (ranges self.now.task) self.now.pattern abstract_state) facts.now }
@@ -238,6 +254,13 @@ impl<'a> Abstraction for Projection<'a> {
             Some(self.index_after(abstract_state, &operator.effect))
         } else {
             None
+        }
+    }
+
+    fn touches(&self, operator: usize) -> bool {
+        match self.task.operators().get(operator) {
+            Some(operator) => self.touched_by(&operator.effect),
+            None => false,
         }
     }
 

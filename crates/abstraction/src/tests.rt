@@ -147,6 +147,10 @@ fn one_variable(rt: HostRuntime) -> Result<(), Fail> {
     ];
     assert!(rt; has_rows(&ball, &rows), "rows");
     assert!(rt; has_goals(&ball, &[false, true, false]), "goals");
+    for operator in 0..11 {
+        let touches = matches!(operator, 2 | 3 | 6 | 7);
+        assert_eq!(rt; ball.touches(operator), touches);
+    }
     let saturated = [0, 0, 1, 0, 0, 0, 0, 1, 0, 0];
     let without_drop = [0, 0, 1, 0, 0, 0, 0, 0, 0, 0];
     assert!(rt; is_consistent(&ball, &saturated, &[2, 0, 1]), "distances");

@@ -1,18 +1,8 @@
 //! optplan: an optimal sequential planner for PDDL whose every answer is checked by a program that does not trust it.
 #![tactic(auto)]
 
-mod device;
-mod fault;
-mod files;
-mod memory;
-mod run;
-#[cfg(test)]
-mod tests;
-mod validation;
-mod verdict;
-
-use files::ProcessDevice;
-use run::run;
+use command::run;
+use device::ProcessDevice;
 use std::alloc::AllocError;
 use std::process::ExitCode;
 

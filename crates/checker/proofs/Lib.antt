@@ -1,0 +1,2 @@
+pub mod FirstFound
+pub mod OneAnswer

@@ -1,0 +1,108 @@
+//! The verdict on a certificate for a task in memory.
+
+ghost use Rattle.std.specs.Prelude.{◌≡◌, IfOk};
+ghost use Rattle.cost.specs.Distances.{Distance, Infinite};
+ghost use Rattle.fdr.specs.Tasks.{IsTask, EveryPlanCostsAtLeast, HasNoPlan};
+ghost use Rattle.checker.specs.Verdicts.{IsVerdict, AreMetBelow, IsFoundBelow};
+ghost use Rattle.checker.specs.declared.verdict.Verdict.TheVariants.{Accepted};
+
+use crate::verdict::Verdict;
+use certificates::Certificate;
+use checker_clauses::Violation;
+use closed_clauses::{Coverage, first_closed_violation, first_goal_violation};
+use fdr::FdrTask;
+use std::alloc::{AllocError, Global};
+use table_clauses::{first_share_violation, first_table_violation};
+
+/// The first violation of the clauses on tables, C3 and C4.
+fn table_violation(
+    alloc: Global,
+    task: &FdrTask,
+    certificate: &Certificate,
+) -> Result<Option<Violation>, AllocError>
+    ensures { IfOk result (IsFoundBelow task.now certificate.now 5) }
+{
+    if let Some(shares) = first_share_violation(alloc, task, certificate)? {
+        return Ok(Some(shares));
+    }
+    first_table_violation(alloc, task, certificate)
+}
+
+/// The first violation of C6 to C8, where the clauses before are met.
+fn covering_violation(
+    alloc: Global,
+    task: &FdrTask,
+    certificate: &Certificate,
+    coverage: &Coverage<'_>,
+) -> Result<Option<Violation>, AllocError>
+    requires clauses { AreMetBelow task.now certificate.now 6 }
+    requires task { coverage.now.task ≡ task.now }
+    requires certificate { coverage.now.certificate ≡ certificate.now }
+    ensures { IfOk result (IsFoundBelow task.now certificate.now 9) }
+{
+    if let Some(start) = coverage.start_violation() {
+        return Ok(Some(start));
+    }
+    if let Some(goal) = first_goal_violation(task, certificate) {
+        return Ok(Some(goal));
+    }
+    coverage.first_successor_violation(alloc)
+}
+
+/// The first violation of the clauses on closed states, C5 to C8, where those on tables are met.
+fn closed_violation(
+    alloc: Global,
+    task: &FdrTask,
+    certificate: &Certificate,
+) -> Result<Option<Violation>, AllocError>
+    requires { AreMetBelow task.now certificate.now 5 }
+    ensures { IfOk result (IsFoundBelow task.now certificate.now 9) }
+{
+    if let Some(state) = first_closed_violation(task, certificate) {
+        return Ok(Some(state));
+    }
+    let coverage = Coverage::new(alloc, task, certificate)?;
+    covering_violation(alloc, task, certificate, &coverage)
+}
+
+/// The first violation, if there is one.
+fn first_violation(
+    alloc: Global,
+    task: &FdrTask,
+    certificate: &Certificate,
+) -> Result<Option<Violation>, AllocError>
+    ensures { IfOk result (IsFoundBelow task.now certificate.now 9) }
+{
+    if let Some(table) = table_violation(alloc, task, certificate)? {
+        return Ok(Some(table));
+    }
+    closed_violation(alloc, task, certificate)
+}
+
+/// Recalls what holds of every task.
+fn recall_task(task: &FdrTask)
+    ensures { IsTask task.now }
+{
+    task.initial();
+    task.goal();
+    task.operators();
+}
+
+/// The verdict on a certificate for a task, whatever kind of task the certificate names: `Accepted` with its bound exactly
+/// where all clauses hold, and else `Rejected` with the first clause and place. Where it is accepted every plan costs at
+/// least the bound, whoever wrote it, and there is no plan where that is infinite. An `Err` is of too little memory.
+pub fn check_fdr<R: AllocGlobal>(
+    rt: &R,
+    task: &FdrTask,
+    certificate: &Certificate,
+) -> Result<Verdict, AllocError>
+    ensures verdict { IfOk result (IsVerdict task.now certificate.now) }
+    ensures bound { (bound : Distance) → IfOk result (λ verdict. verdict ≡ Accepted bound → EveryPlanCostsAtLeast task.now bound) }
+    ensures none { IfOk result (λ verdict. verdict ≡ Accepted Infinite → HasNoPlan task.now) }
+{
+    recall_task(task);
+    match first_violation(rt.alloc(), task, certificate)? {
+        Some(violation) => Ok(Verdict::Rejected(violation)),
+        None => Ok(Verdict::Accepted(certificate.bound())),
+    }
+}

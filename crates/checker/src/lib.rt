@@ -1,0 +1,15 @@
+//! The certificate checker: it says whether a certificate proves that every plan of a task costs at least its bound, and
+//! trusts nobody: neither who wrote the certificate, nor the search that it came from.
+#![tactic(auto)]
+
+mod fault;
+mod fdr_check;
+mod laws;
+mod sas_check;
+mod verdict;
+
+pub use fault::CheckFault;
+pub use fdr_check::check_fdr;
+pub use laws::{one_answer, one_verdict};
+pub use sas_check::{check_sas, check_sas_owned};
+pub use verdict::Verdict;

@@ -1,0 +1,108 @@
+//! The verdict on the texts of a task and of a certificate for it.
+
+ghost use Rattle.std.specs.Prelude.{◌≡◌, ◌≢◌, IfOk, IfErr};
+ghost use Rattle.cost.specs.Distances.{Distance, Infinite};
+ghost use Rattle.fdr.specs.Tasks.{FiniteDomainTask, EveryPlanCostsAtLeast, HasNoPlan};
+ghost use Rattle.sasfile.specs.SasTexts.{SpellsTask};
+ghost use Rattle.certificates.specs.Certificates.{CertificateValue};
+ghost use Rattle.certificates.specs.Views.{kind_of};
+ghost use Rattle.checker.specs.declared.verdict.Verdict.TheVariants.{Accepted};
+ghost use Rattle.checker.specs.Answers.{is_for_finite_domain, SpellsSasCertificate, IsAnswer, IsCertificateFault, IsSasRefusal, IsCertRefusal, IsRefusal};
+
+use crate::fault::CheckFault;
+use crate::fdr_check::check_fdr;
+use crate::verdict::Verdict;
+use cert_text::{CertFault, read_cert};
+use certificates::{Certificate, CertificateKind};
+use fdr::FdrTask;
+use sasfile::{SasFault, read_sas};
+use std::alloc::{AllocError, Global};
+
+/// Whether a certificate is for a finite-domain task.
+fn is_for_finite_domain(kind: &CertificateKind) -> bool
+    ensures { result ≡ is_for_finite_domain (kind_of kind.now) }
+{
+    match kind {
+        CertificateKind::Sas => true,
+        CertificateKind::Pddl(_) => false,
+    }
+}
+
+/// The line on which a certificate's kind stands, counted from 1.
+const KIND_LINE: usize = 2;
+
+/// The certificate for a finite-domain task that the text spells, or the text's first fault; one for a planning task is at fault in
+/// line 2.
+fn read_sas_certificate(alloc: Global, cert: &[u8]) -> Result<Certificate, CertFault>
+    ensures found { IfOk result (λ c. SpellsSasCertificate cert.now c) }
+    ensures fault { IfErr result (λ e. e ≢ CertFault.OutOfMemory → IsCertificateFault cert.now e) }
+{
+    let certificate = read_cert(alloc, cert)?;
+    if is_for_finite_domain(certificate.kind()) {
+        Ok(certificate)
+    } else {
+        Err(CertFault::Expected(KIND_LINE))
+    }
+}
+
+/// The task that the text spells, or the text's first fault.
+fn read_task(alloc: Global, sas: &[u8]) -> Result<FdrTask, CheckFault>
+    ensures found { IfOk result (λ task. SpellsTask sas.now task) }
+    ensures fault { IfErr result (IsSasRefusal sas.now) }
+{
+    match read_sas(alloc, sas) {
+        Ok(task) => Ok(task),
+        Err(SasFault::OutOfMemory) => Err(CheckFault::OutOfMemory),
+        Err(fault) => Err(CheckFault::Sas(fault)),
+    }
+}
+
+/// The certificate that the text spells, or the text's first fault.
+fn read_certificate(alloc: Global, cert: &[u8]) -> Result<Certificate, CheckFault>
+    ensures found { IfOk result (λ c. SpellsSasCertificate cert.now c) }
+    ensures fault { IfErr result (IsCertRefusal cert.now) }
+{
+    match read_sas_certificate(alloc, cert) {
+        Ok(certificate) => Ok(certificate),
+        Err(CertFault::OutOfMemory) => Err(CheckFault::OutOfMemory),
+        Err(fault) => Err(CheckFault::Cert(fault)),
+    }
+}
+
+/// The verdict on a certificate's text for a task's text (`output.sas`): `Accepted` with a bound exactly where the text spells
+/// a certificate for it that meets all clauses for the task that the other spells, and else `Rejected` with the first clause and
+/// place. Where it is accepted every plan of the task costs at least the bound, whoever wrote the certificate, and there is no plan
+/// where that is infinite.
+///
+/// An `Err` is the first fault of the task's text, or else that of the certificate's, or says that memory ran out.
+pub fn check_sas<R: AllocGlobal>(rt: &R, sas: &[u8], cert: &[u8]) -> Result<Verdict, CheckFault>
+    ensures answer { IfOk result (IsAnswer sas.now cert.now) }
+    ensures refused { IfErr result (IsRefusal sas.now cert.now) }
+    ensures bound { (task : FiniteDomainTask) (bound : Distance) → SpellsTask sas.now task →
+        IfOk result (λ verdict. verdict ≡ Accepted bound → EveryPlanCostsAtLeast task bound) }
+    ensures none { (task : FiniteDomainTask) → SpellsTask sas.now task →
+        IfOk result (λ verdict. verdict ≡ Accepted Infinite → HasNoPlan task) }
+{
+    let task = read_task(rt.alloc(), sas)?;
+    let certificate = read_certificate(rt.alloc(), cert)?;
+    let verdict = check_fdr(rt, &task, &certificate)?;
+    Ok(verdict)
+}
+
+/// The same as `check_sas`, but each text goes as soon as it is read: a certificate of millions of states is checked without its
+/// text in memory.
+pub fn check_sas_owned<R: AllocGlobal>(
+    rt: &R,
+    sas: Vec<u8>,
+    cert: Vec<u8>,
+) -> Result<Verdict, CheckFault>
+    ensures answer { IfOk result (IsAnswer sas.items cert.items) }
+    ensures refused { IfErr result (IsRefusal sas.items cert.items) }
+{
+    let task = read_task(rt.alloc(), &sas)?;
+    drop(sas);
+    let certificate = read_certificate(rt.alloc(), &cert)?;
+    drop(cert);
+    let verdict = check_fdr(rt, &task, &certificate)?;
+    Ok(verdict)
+}

@@ -1,0 +1,74 @@
+-- There is one first violation.
+use Rattle.std.proofs.Common.{◌≡◌, ◌⊎◌, ℕ, ◌<◌, ◌==◌, false, List, [], ◌∷◌, refl, sym, ◌∙◌, arith, inl, inr, ltb-false}
+use Rattle.std.specs.Prelude.{if◌then◌else◌, slice_index}
+use Rattle.std.proofs.lemmas.Bool.{cases_eq, ne_eqb, eq-eqb}
+use Rattle.fdr.specs.Tasks.{FiniteDomainTask}
+use Rattle.certificates.specs.Certificates.{CertificateValue}
+use Rattle.checker_clauses.specs.declared.violation.Violation.{Violation}
+use Rattle.checker_clauses.specs.declared.violation.Violation.TheVariants.{Shares, TableForm, GoalValue, Fall, ClosedState, Start, ClosedGoal, Successor}
+use Rattle.checker_clauses.specs.Clauses.{comes_before}
+use Rattle.checker_clauses.specs.Violations.{clause_of, place_of, IsFirstViolation, IsHeld}
+
+-- lists of which neither comes before the other are the same
+neither_before : (xs ys : List ℕ) → comes_before xs ys ≡ false → comes_before ys xs ≡ false → xs ≡ ys
+neither_before [] [] p q = refl
+neither_before [] (y ∷ ys) p q = cc p
+neither_before (x ∷ xs) [] p q = cc q
+neither_before (x ∷ xs) (y ∷ ys) p q = go (neither_before xs ys) (cases_eq x y)
+  where
+    go : (comes_before xs ys ≡ false → comes_before ys xs ≡ false → xs ≡ ys) → (x ≡ y) ⊎ (x ≡ y → ⊥) → x ∷ xs ≡ y ∷ ys
+    go rest (inl e) = rw (e, rest (rw (e, eq-eqb y y refl) at p) (rw (e, eq-eqb y y refl) at q)) refl
+    go rest (inr n) =
+        let below = ltb-false x y (rw (ne_eqb x y n) at p) in
+        let above = ltb-false y x (rw (ne_eqb y x (λ e. n (sym e))) at q) in
+        absurd (n (omega (arith, below, above)))
+
+-- the violation of a clause at a place
+abbrev violation_at : ℕ → List ℕ → Violation
+violation_at k p =
+    if k == 3 then Shares (slice_index p 0) (slice_index p 1)
+    else if k == 5 then ClosedState (slice_index p 0)
+    else if k == 6 then Start
+    else if k == 7 then ClosedGoal (slice_index p 0)
+    else if k == 8 then Successor (slice_index p 0) (slice_index p 1)
+    else if slice_index p 2 == 0 then TableForm (slice_index p 0) (slice_index p 1)
+    else if slice_index p 2 == 1 then GoalValue (slice_index p 0) (slice_index p 1) (slice_index p 3)
+    else Fall (slice_index p 0) (slice_index p 1) (slice_index p 3) (slice_index p 4)
+
+at_its_place : (v : Violation) → violation_at (clause_of v) (place_of v) ≡ v
+at_its_place (Shares i o) = refl
+at_its_place (TableForm i j) = refl
+at_its_place (GoalValue i j a) = refl
+at_its_place (Fall i j a o) = refl
+at_its_place (ClosedState i) = refl
+at_its_place Start = refl
+at_its_place (ClosedGoal i) = refl
+at_its_place (Successor i o) = refl
+
+same_place : (v w : Violation) → clause_of v ≡ clause_of w → place_of v ≡ place_of w → v ≡ w
+same_place v w k p = sym (at_its_place v) ∙ (rw (k, p) (at_its_place w))
+
+module _ (task : FiniteDomainTask) (c : CertificateValue) where
+  no_lesser_clause : (v w : Violation) → IsFirstViolation task c v → IsFirstViolation task c w → clause_of v < clause_of w → ⊥
+  no_lesser_clause v w p q l = q.before (clause_of v) l v refl p.of_clause.there
+
+  same_clause : (v w : Violation) → IsFirstViolation task c v → IsFirstViolation task c w → clause_of v ≡ clause_of w
+  same_clause v w p q = go (cases_eq (clause_of v) (clause_of w))
+    where
+      neither : (m n : ℕ) → (m < n → ⊥) → (n < m → ⊥) → m ≡ n
+      neither m n h k = omega (arith, h, k)
+
+      go : (clause_of v ≡ clause_of w) ⊎ (clause_of v ≡ clause_of w → ⊥) → clause_of v ≡ clause_of w
+      go (inl e) = e
+      go (inr n) = neither (clause_of v) (clause_of w) (no_lesser_clause v w p q) (no_lesser_clause w v q p)
+
+  pub one_first : (v w : Violation) → IsFirstViolation task c v → IsFirstViolation task c w → v ≡ w
+  one_first v w p q =
+      let k = same_clause v w p q in
+      same_place v w k
+      (neither_before (place_of v) (place_of w)
+      (q.of_clause.first v k p.of_clause.there)
+      (p.of_clause.first w (sym k) q.of_clause.there))
+
+  pub none_where_held : (v : Violation) → IsFirstViolation task c v → IsHeld task c → ⊥
+  none_where_held v p held = held v p.of_clause.there

@@ -1,0 +1,4 @@
+pub mod ClauseLaws
+pub mod Following
+pub mod Bounds
+pub mod FirstViolations

@@ -1,0 +1,4 @@
+pub mod Clauses
+pub mod Violations
+pub mod ClosedLists
+pub mod Examples

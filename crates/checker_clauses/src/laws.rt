@@ -1,0 +1,38 @@
+//! Laws of the clauses. Each function states one as its contract, for every task and certificate, and its body is empty.
+
+ghost use Rattle.std.specs.Prelude.{◌≡◌, ℕ, ◌<◌, true, false, [], ◌∷◌, ◌⊎◌};
+ghost use Rattle.cost.specs.Distances.{Finite, Infinite};
+ghost use Rattle.fdr.specs.Tasks.{FiniteDomainTask, IsTask, EveryPlanCostsAtLeast, HasNoPlan};
+ghost use Rattle.certificates.specs.Certificates.{CertificateValue};
+ghost use Rattle.checker_clauses.specs.declared.violation.Violation.{Violation};
+ghost use Rattle.checker_clauses.specs.Clauses.{is_within_cost, has_form, is_goal_at_zero, falls_within_share, is_state, is_behind, is_covered, is_dear_if_goal, covers_successor};
+ghost use Rattle.checker_clauses.specs.Violations.{clause_of, IsMet, IsFirstViolation, IsHeld};
+ghost use Rattle.checker_clauses.specs.Examples.{road, reached, with_closed, two_closed, table, with_column};
+
+/// A certificate that fails nowhere implies its bound, whoever wrote it: every plan costs at least that, and there is none
+/// where it is infinite.
+pub fn clauses_imply_bound()
+    ensures bound { (task : FiniteDomainTask) (c : CertificateValue) → IsTask task → IsHeld task c → EveryPlanCostsAtLeast task c.bound }
+    ensures none { (task : FiniteDomainTask) (c : CertificateValue) → IsTask task → IsHeld task c → c.bound ≡ Infinite → HasNoPlan task }
+{}
+
+/// Where a certificate fails first is one place, and a certificate that fails nowhere has none.
+pub fn one_first_violation()
+    ensures one { (task : FiniteDomainTask) (c : CertificateValue) (v w : Violation) → IsFirstViolation task c v → IsFirstViolation task c w → v ≡ w }
+    ensures none { (task : FiniteDomainTask) (c : CertificateValue) (v : Violation) → IsFirstViolation task c v → IsHeld task c → ⊥ }
+{}
+
+/// The clauses on a road of three towns.
+pub fn worked_road()
+    ensures listed { (is_covered road (two_closed (Finite 2)) (0 ∷ []) 0 ≡ true) × (is_covered road (with_closed (Finite 2) []) (0 ∷ []) 0 ≡ false) ×
+        (is_covered road (with_closed (Finite 0) []) (0 ∷ []) 0 ≡ true) }
+    ensures successors { (covers_successor road (two_closed (Finite 2)) (reached 1 1) 1 ≡ true) × (covers_successor road (two_closed (Finite 3)) (reached 1 1) 1 ≡ false) ×
+        (covers_successor road (two_closed (Finite 3)) (reached 0 0) 1 ≡ true) }
+    ensures goals { (is_dear_if_goal road (two_closed (Finite 2)) (reached 2 2) ≡ true) × (is_dear_if_goal road (two_closed (Finite 3)) (reached 2 2) ≡ false) }
+    ensures states { (is_state (3 ∷ []) (3 ∷ []) ≡ false) × (is_state (3 ∷ []) (1 ∷ 1 ∷ []) ≡ false) × (is_state (3 ∷ []) (2 ∷ []) ≡ true) ×
+        (is_behind (reached 1 1 ∷ reached 0 0 ∷ []) 1 (0 ∷ []) ≡ false) × (is_behind (reached 1 1 ∷ reached 0 1 ∷ []) 1 (1 ∷ []) ≡ false) }
+    ensures shares { (is_within_cost road (table 1 2 ∷ []) 1 ≡ true) × (is_within_cost road (table 2 2 ∷ []) 1 ≡ false) × (is_within_cost road (table 1 2 ∷ table 1 2 ∷ []) 0 ≡ false) }
+    ensures tables { (has_form road (table 1 2) ≡ true) × (falls_within_share road (table 1 2) 0 0 ≡ true) × (falls_within_share road (table 1 3) 0 0 ≡ false) ×
+        (is_goal_at_zero road (table 1 2) 2 ≡ true) × (is_covered road (with_column (Finite 2) (table 1 2 ∷ [])) (0 ∷ []) 0 ≡ true) ×
+        (is_covered road (with_column (Finite 3) (table 1 2 ∷ [])) (0 ∷ []) 0 ≡ false) }
+{}

@@ -1,0 +1,5 @@
+pub mod StateLaws
+pub mod FirstPlaces
+pub mod Saturation
+pub mod Successors
+pub mod Searches

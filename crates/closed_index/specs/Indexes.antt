@@ -1,0 +1,12 @@
+-- Chains that index a closed list.
+use Rattle.std.specs.Prelude.{ℕ, List, length}
+use Rattle.certificates.specs.Certificates.{Entry}
+use Rattle.closed_index.specs.declared.chains.Chains.{Chains}
+use Rattle.closed_index.specs.Chains.{AreChained, bucket_at}
+use Rattle.closed_index.specs.Links.{items_of}
+use Rattle.closed_index.specs.Rooms.{HasLinks}
+
+-- each of the first n places of the list is chained in its state's bucket
+pub record IndexesTo (n : ℕ) (closed : List Entry) (chains : Chains) : Type 0 where
+  pub links : HasLinks (length closed) chains
+  pub chained : AreChained (bucket_at closed chains.buckets) (items_of chains.heads) (items_of chains.nexts) n

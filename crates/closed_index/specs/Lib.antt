@@ -1,0 +1,6 @@
+pub mod Buckets
+pub mod Links
+pub mod Chains
+pub mod Lists
+pub mod Rooms
+pub mod Indexes

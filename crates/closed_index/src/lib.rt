@@ -1,0 +1,12 @@
+//! The states of a closed list, found by their values.
+#![tactic(auto)]
+
+mod chains;
+mod hash;
+mod index;
+mod links;
+
+pub use index::ClosedIndex;
+
+#[cfg(test)]
+mod tests;

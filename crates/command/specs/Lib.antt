@@ -1,0 +1,5 @@
+pub mod Words
+pub mod Faults
+pub mod Runs
+pub mod Answers
+pub mod Validation

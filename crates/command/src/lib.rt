@@ -1,0 +1,12 @@
+//! The commands of optplan over any device: what each puts out or reports, and the status that it ends with.
+#![tactic(auto)]
+
+mod command_line;
+mod fault;
+mod surroundings;
+mod validation;
+mod verdict;
+
+pub use command_line::run;
+pub use fault::{Fault, FileWord};
+pub use verdict::verdict_of;

@@ -1,5 +1,0 @@
-pub mod Events
-pub mod Words
-pub mod Answers
-pub mod Runs
-pub mod Memory

@@ -1,0 +1,13 @@
+//! Runs of the program over files in memory, for the tests: what a row of texts gives, beside what it is to give.
+#![tactic(auto)]
+
+mod faulty_device;
+mod outcome;
+mod rows;
+mod runs;
+pub mod texts;
+
+pub use faulty_device::FaultyDevice;
+pub use outcome::{Outcome, RunFault, recorded, wanted};
+pub use rows::{Mismatch, answer_mismatch, domain_mismatches, plan_mismatches, problem_mismatches};
+pub use runs::{CALLS_OF_A_RUN, program_words, run_over, validated};

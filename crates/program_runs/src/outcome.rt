@@ -1,0 +1,116 @@
+//! What a run puts out and reports, and its exit status.
+
+ghost use Rattle.std.specs.Prelude.{◌≡◌, IfOk, OnOk, map, ◌++◌, string_bytes};
+ghost use Rattle.device.specs.Memory.{event_of};
+ghost use Rattle.program_runs.specs.declared.outcome.RunFault.TheVariants.{OutOfMemory, NotUtf8};
+ghost use Rattle.program_runs.specs.Outcomes.{put_by, reported_by, put_of, reported_of, wanted_out, wanted_err, wanted_status};
+
+use device::Recorded;
+use std::alloc::{AllocError, AllocFailed, Global};
+use std::str::Utf8Error;
+use thiserror::Error;
+
+/// What went to standard output and to standard error, and the exit status.
+#[derive(Debug, PartialEq, Eq, Drop)]
+pub struct Outcome {
+    pub out: String,
+    pub err: String,
+    pub status: u8,
+}
+
+/// Why no outcome is told.
+#[derive(Clone, Copy, Debug, PartialEq, Eq, Error)]
+pub enum RunFault {
+    /// Memory ran out.
+    #[error("out of memory")]
+    OutOfMemory,
+    /// What was put out or reported is no text in UTF-8.
+    #[error("what was written is not UTF-8")]
+    NotUtf8,
+}
+
+impl From<AllocError> for RunFault {
+    ghost from_gives = { λ _ e. e ≡ OutOfMemory };
+
+    fn from(_e: AllocError) -> RunFault {
+        RunFault::OutOfMemory
+    }
+}
+
+impl<T: Drop> From<AllocFailed<T>> for RunFault {
+    ghost from_gives = { λ _ e. e ≡ OutOfMemory };
+
+    fn from(_e: AllocFailed<T>) -> RunFault {
+        RunFault::OutOfMemory
+    }
+}
+
+impl From<Utf8Error> for RunFault {
+    ghost from_gives = { λ _ e. e ≡ NotUtf8 };
+
+    fn from(_e: Utf8Error) -> RunFault {
+        RunFault::NotUtf8
+    }
+}
+
+/// Appends what one event put out or reported.
+fn note_event(outcome: &mut Outcome, event: &Recorded) -> Result<(), RunFault>
+    ensures out { OnOk result (string_bytes outcome.new.out ≡ string_bytes outcome.old.out ++ put_by (event_of event.now)) }
+    ensures err { OnOk result (string_bytes outcome.new.err ≡ string_bytes outcome.old.err ++ reported_by (event_of event.now)) }
+    ensures status { outcome.new.status ≡ outcome.old.status }
+{
+    match event {
+        Recorded::Put(bytes) => outcome.out.push_str(std::str::from_utf8(bytes)?)?,
+        Recorded::Reported(bytes) => outcome.err.push_str(std::str::from_utf8(bytes)?)?,
+        Recorded::Read(_, _) | Recorded::Written(_, _) => {}
+    }
+    Ok(())
+}
+
+/// What a run put out and reported, by what a device in memory recorded.
+pub fn recorded(alloc: Global, events: &[Recorded], status: u8) -> Result<Outcome, RunFault>
+    ensures out { IfOk result (λ o. string_bytes o.out ≡ put_of (map event_of events.now)) }
+    ensures err { IfOk result (λ o. string_bytes o.err ≡ reported_of (map event_of events.now)) }
+    ensures status { IfOk result (λ o. o.status ≡ status) }
+{
+    let mut outcome = Outcome {
+        out: String::new(alloc),
+        err: String::new(alloc),
+        status,
+    };
+    for event in events {
+        note_event(&mut outcome, event)?;
+    }
+    Ok(outcome)
+}
+
+/// Three texts in one.
+fn joined(alloc: Global, before: &str, text: &str, after: &str) -> Result<String, AllocError>
+    ensures { IfOk result (λ s. string_bytes s ≡ before.now ++ text.now ++ after.now) }
+{
+    let mut all = String::from_str(alloc, before)?;
+    all.push_str(text)?;
+    all.push_str(after)?;
+    Ok(all)
+}
+
+/// What an answer is to give: a verdict its line on standard output, a fault one with the program's name on standard
+/// error, and nothing else. A fault's begins with `F`.
+pub fn wanted(alloc: Global, answer: &str) -> Result<Outcome, AllocError>
+    ensures out { IfOk result (λ o. string_bytes o.out ≡ wanted_out answer.now) }
+    ensures err { IfOk result (λ o. string_bytes o.err ≡ wanted_err answer.now) }
+    ensures status { IfOk result (λ o. o.status ≡ wanted_status answer.now) }
+{
+    if answer.starts_with("F") {
+        return Ok(Outcome {
+            out: String::new(alloc),
+            err: joined(alloc, "optplan: ", answer, "\n")?,
+            status: 1,
+        });
+    }
+    Ok(Outcome {
+        out: joined(alloc, "", answer, "\n")?,
+        err: String::new(alloc),
+        status: if answer.starts_with("valid ") { 0 } else { 3 },
+    })
+}

@@ -1,0 +1,115 @@
+//! Help, words that ask for nothing, and files with odd names.
+
+use program_runs::run_over;
+use program_runs::texts::{ROAD_DOMAIN, ROAD_PROBLEM};
+use std::process::Abort;
+use std::test::Fail;
+
+/// The words behind the program's name, and texts of the help for them.
+const HELP_ROWS: &[(&[&str], &[&str])] = &[
+    (
+        &["--help"],
+        &["Validates PDDL plans", "Usage: optplan", "validate"],
+    ),
+    (&["-h"], &["Usage: optplan", "validate"]),
+    (
+        &["validate", "--help"],
+        &[
+            "Usage: optplan validate <DOMAIN> <PROBLEM> <PLAN>",
+            "goal open LITERAL",
+        ],
+    ),
+    (
+        &["validate", "d", "--help"],
+        &["Usage: optplan validate <DOMAIN> <PROBLEM> <PLAN>"],
+    ),
+];
+
+fn shows_help<R: Abort + AllocGlobal>(rt: &R, words: &[&str], texts: &[&str]) -> Result<(), Fail> {
+    let outcome = run_over(rt, words, &[])?;
+    for text in texts {
+        assert!(rt; outcome.out.contains(*text), "no {text} in {outcome:?}");
+    }
+    assert_eq!(rt; outcome.err.as_str(), "", "at {words:?}");
+    assert_eq!(rt; outcome.status, 0, "at {words:?}");
+    Ok(())
+}
+
+#[test]
+fn help(rt: HostRuntime) -> Result<(), Fail> {
+    for (words, texts) in HELP_ROWS {
+        shows_help(&rt, words, texts)?;
+    }
+    Ok(())
+}
+
+const WRONG_ROWS: &[&[&str]] = &[
+    &[],
+    &[""],
+    &["check"],
+    &["Validate", "d", "p", "l"],
+    &["validat", "d", "p", "l"],
+    &["d", "p", "l"],
+    &["validate"],
+    &["validate", "d"],
+    &["validate", "d", "p"],
+    &["validate", "d", "p", "l", "l"],
+    &["validate", "--quiet", "d", "p", "l"],
+    &["validate", "d", "p", "l", "--quiet"],
+    &["--quiet", "validate", "d", "p", "l"],
+    &["validate", "validate", "d", "p", "l"],
+    &["validate", "-x", "p", "l"],
+    &["validate", "d", "p", "-x"],
+];
+
+#[test]
+fn wrong_words(rt: HostRuntime) -> Result<(), Fail> {
+    let files = [
+        ("d", ROAD_DOMAIN.as_bytes()),
+        ("-x", ROAD_DOMAIN.as_bytes()),
+        ("p", ROAD_PROBLEM.as_bytes()),
+        ("l", "".as_bytes()),
+    ];
+    for words in WRONG_ROWS {
+        let outcome = run_over(&rt, words, &files)?;
+        assert_eq!(rt; outcome.out.as_str(), "", "at {words:?}");
+        assert!(rt; !outcome.err.is_empty(), "nothing is reported at {words:?}");
+        assert_eq!(rt; outcome.status, 2, "at {words:?}");
+    }
+    Ok(())
+}
+
+/// Words whose files have odd names.
+const NAME_ROWS: &[&[&str]] = &[
+    &["validate", "--", "-x", "p", "l"],
+    &["validate", "d", "p", "--", "--help"],
+    &["validate", "d d", "p", "l"],
+    &["validate", "é", "p", "l"],
+    &["validate", "validate", "p", "l"],
+    &["validate", "", "p", "l"],
+    &["validate", "./-x", "p", "l"],
+];
+
+#[test]
+fn odd_names(rt: HostRuntime) -> Result<(), Fail> {
+    let plan = "(go a b)(go b c)".as_bytes();
+    let files = [
+        ("d", ROAD_DOMAIN.as_bytes()),
+        ("-x", ROAD_DOMAIN.as_bytes()),
+        ("./-x", ROAD_DOMAIN.as_bytes()),
+        ("d d", ROAD_DOMAIN.as_bytes()),
+        ("é", ROAD_DOMAIN.as_bytes()),
+        ("validate", ROAD_DOMAIN.as_bytes()),
+        ("", ROAD_DOMAIN.as_bytes()),
+        ("p", ROAD_PROBLEM.as_bytes()),
+        ("l", plan),
+        ("--help", plan),
+    ];
+    for words in NAME_ROWS {
+        let outcome = run_over(&rt, words, &files)?;
+        assert_eq!(rt; outcome.out.as_str(), "valid 2\n", "at {words:?}");
+        assert_eq!(rt; outcome.err.as_str(), "", "at {words:?}");
+        assert_eq!(rt; outcome.status, 0, "at {words:?}");
+    }
+    Ok(())
+}

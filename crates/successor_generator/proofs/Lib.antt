@@ -1,0 +1,4 @@
+pub mod Building
+pub mod Gathering
+pub mod Increasing
+pub mod Numbers

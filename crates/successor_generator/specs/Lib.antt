@@ -1,0 +1,4 @@
+pub mod Applicable
+pub mod Examples
+pub mod Groups
+pub mod Starts

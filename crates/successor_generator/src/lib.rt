@@ -1,0 +1,17 @@
+//! Successor generation (Helmert 2006, The Fast Downward planning system): which operators of a task apply in a state,
+//! without a test of each.
+#![tactic(auto)]
+
+mod candidate;
+mod generator;
+mod laws;
+mod order;
+mod tables;
+
+pub use generator::SuccessorGenerator;
+pub use laws::{applicable_operators_are_those_that_apply, worked_example};
+
+#[cfg(test)]
+mod sample;
+#[cfg(test)]
+mod tests;

@@ -1,0 +1,9 @@
+pub mod FormLaws
+pub mod BoundLaws
+pub mod ColumnLaws
+pub mod TallyLaws
+pub mod ForeignLaws
+pub mod PlaceLaws
+pub mod ShareViolations
+pub mod FallLaws
+pub mod TableViolations

@@ -1,0 +1,4 @@
+pub mod ProjectedTables
+pub mod Rests
+pub mod ShareSums
+pub mod TableFaults

@@ -1,0 +1,117 @@
+//! The lower bound that tables give.
+
+ghost use Rattle.std.specs.Prelude.{◌≡◌, ◌==◌, true, map, All, IfOk};
+ghost use Rattle.cost.specs.Distances.{Finite, distance_of, is_at_most, ◌+ᵈ◌};
+ghost use Rattle.fdr.specs.Tasks.{ranges, IsState};
+ghost use Rattle.abstraction.specs.Columns.{column_value};
+ghost use Rattle.certificates.specs.Views as kept;
+ghost use Rattle.checker_clauses.specs.Clauses.{has_form, heuristic_of};
+ghost use Rattle.checker_clauses.specs.Violations.{IsMet};
+ghost use Rattle.table_clauses.specs.ProjectedTables.{on_projection};
+ghost use Rattle.table_clauses.specs.Rests as spec;
+
+use crate::projected::ProjectedTable;
+use certificates::{Certificate, PatternTable};
+use cost::Dist;
+use fdr::FdrTask;
+use std::alloc::{AllocError, Global};
+use std::marker::Model;
+
+/// What is left of a bound once so much of it is reached; `None` is infinite. Values are taken from the bound one by one, since
+/// their sum may be too large for a number.
+fn rest_of(bound: Option<u64>, reached: Option<u64>) -> Option<u64>
+    ensures { distance_of result ≡ spec.rest_of (distance_of bound) (distance_of reached) }
+{
+    match (bound, reached) {
+        (_, None) => Some(0),
+        (None, Some(_)) => None,
+        (Some(bound), Some(reached)) => Some(bound.saturating_sub(reached)),
+    }
+}
+
+/// Whether the sum of the tables' values at the state reaches the bound.
+fn column_reaches(column: &[ProjectedTable], state: &[u32], bound: Option<u64>) -> bool
+    requires { All (λ t. IsState (ranges t.task) state.now) column.now }
+    ensures { result ≡ is_at_most (distance_of bound) (column_value state.now (map on_projection column.now)) }
+{
+    let mut rest = bound;
+    for table in column {
+        rest = rest_of(rest, table.value_at(state).get());
+    }
+    rest == Some(0)
+}
+
+/// The tables of a column with their projections.
+fn project_column<'a>(
+    alloc: Global,
+    task: &'a FdrTask,
+    column: &'a [PatternTable],
+) -> Result<Vec<ProjectedTable<'a>>, AllocError>
+    requires { All (λ t. has_form task.now (kept.table_of t) ≡ true) column.now }
+    ensures tables { IfOk result (λ made. map (λ t. t.table) made.items ≡ map kept.table_of column.now) }
+    ensures task { IfOk result (λ made. All (λ t. t.task ≡ task.now) made.items) }
+{
+    let mut made = Vec::with_capacity(alloc, column.len())?;
+    for table in column {
+        match ProjectedTable::new(alloc, task, table)? {
+            Some(table) => made.push(table)?,
+            None => unreachable!(),
+        }
+    }
+    Ok(made)
+}
+
+/// The lower bound that a certificate's tables give on the cost from a state on: the greatest over the columns of the sums
+/// of their tables' values, and 0 without a column. A contract sees the task and the columns of tables.
+#[derive(Drop)]
+pub struct Heuristic<'a> {
+    task: &'a FdrTask,
+    columns: Vec<Vec<ProjectedTable<'a>>>,
+    ghost of_task: { All (λ column. All (λ t. t.task ≡ task.now) column.items) columns.items },
+}
+
+impl<'a> Model for Heuristic<'a> {
+    ghost use Rattle.std.specs.Prelude.{map};
+    ghost use Rattle.table_clauses.specs.ProjectedTables as spec;
+
+    ghost Value = { spec.Heuristic };
+
+    ghost view = { λ h. record { task = h.task.now; columns = map spec.tables_of h.columns.items } };
+}
+
+impl<'a> Heuristic<'a> {
+    /// The lower bound that the certificate's tables give. Each table has to have its form: so it is where
+    /// `first_table_violation` finds nothing. An `Err` is of too little memory.
+    pub fn new(
+        alloc: Global,
+        task: &'a FdrTask,
+        certificate: &'a Certificate,
+    ) -> Result<Heuristic<'a>, AllocError>
+        requires { IsMet task.now certificate.now 4 }
+        ensures { IfOk result (λ h. (h.task ≡ task.now) × (h.columns ≡ certificate.now.columns)) }
+    {
+        let mut columns = Vec::with_capacity(alloc, certificate.columns().len())?;
+        for column in certificate.columns() {
+            columns.push(project_column(alloc, task, column)?)?;
+        }
+        Ok(Heuristic { task, columns })
+    }
+
+    /// Whether what is still to come from a state that was reached at this cost reaches the bound: whether the cost and the
+    /// lower bound sum to it or more. No sum is too large for that, and an infinite bound is reached where a value is infinite.
+    pub fn reaches(&self, state: &[u32], cost: u64, bound: Dist) -> bool
+        requires { IsState (ranges self.now.task) state.now }
+        ensures { result ≡ is_at_most bound (Finite cost +ᵈ heuristic_of self.now.task self.now.columns state.now) }
+    {
+        let rest = rest_of(bound.get(), Some(cost));
+        if rest == Some(0) {
+            return true;
+        }
+        for column in &self.columns {
+            if column_reaches(column, state, rest) {
+                return true;
+            }
+        }
+        false
+    }
+}

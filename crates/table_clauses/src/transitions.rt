@@ -1,0 +1,102 @@
+//! The transitions of a table, tested one by one.
+
+ghost use Rattle.std.specs.Prelude.{◌≡◌, ◌<◌, map, length, slice_index, IfOk};
+ghost use Rattle.cost.specs.Distances.{Finite, ◌+ᵈ◌, is_at_most};
+ghost use Rattle.table_clauses.specs.TableFaults.{IsFirstGoal, IsFirstFall, first_fall_at, touching_from, spender_of};
+
+use crate::shares::ShareSums;
+use abstraction::Abstraction;
+use certificates::Values;
+use cost::Dist;
+use std::alloc::{AllocError, Global};
+
+/// An operator, by its number, with what it may lower values by.
+#[derive(Clone, Copy)]
+pub(crate) struct Spender {
+    pub(crate) operator: usize,
+    pub(crate) share: u64,
+}
+
+/// Whether a value is at most a share above another.
+fn is_within(value: Dist, share: u64, next: Dist) -> bool
+    ensures { result ≡ is_at_most value (Finite share +ᵈ next) }
+{
+    match (value.get(), next.get()) {
+        (_, None) => true,
+        (None, Some(_)) => false,
+        (Some(value), Some(next)) => value.saturating_sub(share) <= next,
+    }
+}
+
+/// The operators, of so many, that may lead from an abstract state to another, with their shares.
+pub(crate) fn spenders<A: Abstraction>(
+    alloc: Global,
+    abstraction: &A,
+    shares: &ShareSums,
+    operators: usize,
+) -> Result<Vec<Spender>, AllocError>
+    requires { length shares.now.sums ≡ operators }
+    ensures { IfOk result (λ made. made.items ≡
+        map (spender_of (slice_index shares.now.sums)) (touching_from (A.abstraction abstraction.now).touches 0 operators)) }
+{
+    let mut made = Vec::new(alloc);
+    for operator in 0..operators {
+        if abstraction.touches(operator) {
+            let share = shares.sum(operator);
+            made.push(Spender { operator, share })?;
+        }
+    }
+    Ok(made)
+}
+
+/// The first abstract goal that has another value than 0.
+pub(crate) fn first_goal<A: Abstraction>(abstraction: &A, values: &Values) -> Option<usize>
+    requires { length values.now ≡ (A.abstraction abstraction.now).size }
+    ensures { IsFirstGoal (A.abstraction abstraction.now) values.now result }
+{
+    for state in 0..values.len() {
+        if abstraction.is_goal(state) && values.get(state) != Dist::ZERO {
+            return Some(state);
+        }
+    }
+    None
+}
+
+/// The first operator that lowers the value of the abstract state by more than its share.
+fn first_fall_from<A: Abstraction>(
+    abstraction: &A,
+    values: &Values,
+    spenders: &[Spender],
+    state: usize,
+) -> Option<usize>
+    requires size { length values.now ≡ (A.abstraction abstraction.now).size }
+    requires state { state < (A.abstraction abstraction.now).size }
+    ensures { result ≡ first_fall_at (A.abstraction abstraction.now) values.now spenders.now state }
+{
+    let value = values.get(state);
+    for spender in spenders {
+        if let Some(next) = abstraction.transition(state, spender.operator) {
+            if !is_within(value, spender.share, values.get(next)) {
+                return Some(spender.operator);
+            }
+        }
+    }
+    None
+}
+
+/// The first abstract state, with the first operator that lowers its value by more than its share.
+pub(crate) fn first_fall<A: Abstraction>(
+    abstraction: &A,
+    values: &Values,
+    spenders: &[Spender],
+) -> Option<(usize, usize)>
+    requires { length values.now ≡ (A.abstraction abstraction.now).size }
+    ensures { IsFirstFall (A.abstraction abstraction.now) values.now spenders.now result }
+{
+    for state in 0..values.len() {
+        if let Some(operator) = first_fall_from(abstraction, values, spenders, state) {
+            return Some((state, operator));
+        }
+    }
+    None
+}

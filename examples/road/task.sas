@@ -1,0 +1,45 @@
+begin_version
+3
+end_version
+begin_metric
+0
+end_metric
+1
+begin_variable
+var0
+-1
+3
+Atom at(a)
+Atom at(b)
+Atom at(c)
+end_variable
+1
+begin_mutex_group
+3
+0 0
+0 1
+0 2
+end_mutex_group
+begin_state
+0
+end_state
+begin_goal
+1
+0 2
+end_goal
+2
+begin_operator
+go a b
+0
+1
+0 0 0 1
+1
+end_operator
+begin_operator
+go b c
+0
+1
+0 0 1 2
+1
+end_operator
+0
