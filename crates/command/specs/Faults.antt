@@ -4,6 +4,8 @@ use Rattle.sasfile.specs.declared.fault.SasFault.{SasFault}
 use Rattle.sasfile.specs.declared.fault.SasFault.TheVariants as sas
 use Rattle.cert_text.specs.declared.fault.CertFault.{CertFault}
 use Rattle.cert_text.specs.declared.fault.CertFault.TheVariants as cert
+use Rattle.checker.specs.declared.fault.CheckFault.{CheckFault}
+use Rattle.checker.specs.declared.fault.CheckFault.TheVariants as check
 use Rattle.command.specs.declared.fault.Fault.{Fault}
 use Rattle.command.specs.declared.fault.Fault.TheVariants.{OutOfMemory, CannotRead, CannotWrite, Task, Plan, Sas, Cert}
 
@@ -39,3 +41,9 @@ fault_of_cert cert.Truncated = Cert cert.Truncated
 fault_of_cert (cert.Trailing line) = Cert (cert.Trailing line)
 fault_of_cert (cert.Order line) = Cert (cert.Order line)
 fault_of_cert cert.TooLong = Cert cert.TooLong
+
+-- a fault of the texts of a finite-domain task and of a certificate for it
+abbrev pub fault_of_check : CheckFault → Fault
+fault_of_check check.OutOfMemory = OutOfMemory
+fault_of_check (check.Sas e) = fault_of_sas e
+fault_of_check (check.Cert e) = fault_of_cert e

@@ -3,3 +3,4 @@ pub mod Faults
 pub mod Runs
 pub mod Answers
 pub mod Validation
+pub mod Checking

@@ -1,11 +1,13 @@
 //! The words of the command line.
 
-ghost use Rattle.std.specs.Prelude.{◌≡◌, ◌≢◌, ◌≤◌, ◌+◌, ℕ, List, Some, IfOk, OnErr, IsSomeAnd};
+ghost use Rattle.std.specs.Prelude.{◌≡◌, ◌≢◌, ◌≤◌, ◌+◌, ℕ, List, length, Some, IfOk, IfSome, OnErr, IsSomeAnd};
 ghost use Rattle.names.specs.Names.{texts_of};
 ghost use Rattle.device.specs.Events.{Event};
 ghost use Rattle.command.specs.Runs.{is_operand};
 ghost use Rattle.command.specs.Validation.{AskForValidation, Validates};
+ghost use Rattle.command.specs.Checking.{AskForCheck, Checks};
 
+use crate::checking::run_check;
 use crate::surroundings::put_text;
 use crate::validation::run_validation;
 use clap::error::ErrorKind;
@@ -13,7 +15,8 @@ use clap::{Arg, Command, Error};
 use device::Device;
 use std::alloc::{AllocError, Global};
 
-const ABOUT: &str = "Validates PDDL plans with a proved verdict";
+const ABOUT: &str =
+    "Validates PDDL plans, and checks certificates of lower bounds, with a proved verdict";
 
 const VALIDATE_ABOUT: &str = "Says whether a plan is valid and what it costs";
 
@@ -30,6 +33,22 @@ one (name arguments) a step, as VAL does, and prints one line:
 
 Steps count from 1. With the metric minimize (total-cost) an action costs what it increases the total cost by, without
 it each action costs 1. A text that cannot be read is refused with one line on standard error (status 1).";
+
+const CHECK_SAS_ABOUT: &str =
+    "Says whether a certificate proves that every plan costs at least its bound";
+
+const CHECK_SAS_LONG: &str =
+    "Says whether a certificate proves that every plan costs at least its bound, or where it fails first.
+
+Reads a finite-domain task as Fast Downward's translator writes it (output.sas, version 3, without axioms and conditional
+effects) and a certificate for it, and prints one line:
+
+  accepted N                  every plan costs at least N (status 0)
+  accepted unsolvable         there is no plan (status 0)
+  rejected CLAUSE PLACE       the certificate fails in this clause, C3 to C8, at this place (status 3)
+
+Columns, tables, states and operators count from 0. A text that cannot be read is refused with one line on standard
+error (status 1).";
 
 fn validate_command<'a>(alloc: Global) -> Result<Command<'a>, AllocError> {
     Command::new(alloc, "validate")
@@ -52,23 +71,50 @@ fn validate_command<'a>(alloc: Global) -> Result<Command<'a>, AllocError> {
         )
 }
 
+fn check_sas_command<'a>(alloc: Global) -> Result<Command<'a>, AllocError> {
+    Command::new(alloc, "check-sas")
+        .about(CHECK_SAS_ABOUT)
+        .long_about(CHECK_SAS_LONG)
+        .arg(
+            Arg::new(alloc, "SAS")
+                .required(true)
+                .help("The task's file"),
+        )?
+        .arg(
+            Arg::new(alloc, "CERT")
+                .required(true)
+                .help("The certificate's file"),
+        )
+}
+
 fn program_command<'a>(alloc: Global) -> Result<Command<'a>, AllocError> {
     Command::new(alloc, "optplan")
         .about(ABOUT)
         .subcommand_required(true)
         .arg_required_else_help(true)
         .disable_help_subcommand(true)
-        .subcommand(validate_command(alloc)?)
+        .subcommand(validate_command(alloc)?)?
+        .subcommand(check_sas_command(alloc)?)
 }
 
 /// What the words ask for, told by the command-line library.
-fn run_words<D: Device>(alloc: Global, words: &[String], device: &mut D) -> Result<u8, Error>
+fn run_words<D: Device, R: AllocGlobal>(
+    rt: &R,
+    words: &[String],
+    device: &mut D,
+) -> Result<u8, Error>
     ensures counted { IfOk result (λ status. status ≡ 7 → D.failure_count device.old + 1 ≤ D.failure_count device.new) }
     ensures same { OnErr result (D.failure_count device.new ≡ D.failure_count device.old) }
 {
+    let alloc = rt.alloc();
     let command = program_command(alloc)?;
     let matches = command.try_get_matches_from(words)?;
     match matches.subcommand() {
+        Some(("check-sas", files)) => {
+            let sas = files.get_str("SAS").unwrap_or("");
+            let cert = files.get_str("CERT").unwrap_or("");
+            Ok(run_check(rt, device, sas, cert))
+        }
         Some((_, files)) => {
             let domain = files.get_str("DOMAIN").unwrap_or("");
             let problem = files.get_str("PROBLEM").unwrap_or("");
@@ -108,7 +154,8 @@ fn is_operand(word: &str) -> bool
 
 /// The files of a plan's validation, where the words are a command and three files, and nothing else.
 fn plain_validation(words: &[String]) -> Option<(&str, &str, &str)>
-    ensures { (domain problem plan : List ℕ) → AskForValidation (texts_of words.now) domain problem plan →
+    ensures five { IfSome result (λ _. length words.now ≡ 5) }
+    ensures found { (domain problem plan : List ℕ) → AskForValidation (texts_of words.now) domain problem plan →
         IsSomeAnd result (λ files. (files.0.now ≡ domain) × (files.1.now ≡ problem) × (files.2.now ≡ plan)) }
 {
     match words {
@@ -116,12 +163,31 @@ fn plain_validation(words: &[String]) -> Option<(&str, &str, &str)>
             let domain = domain.as_str();
             let problem = problem.as_str();
             let plan = plan.as_str();
-            let is_plain = command.as_str() == "validate"
+            if command.as_str() == "validate"
                 && is_operand(domain)
                 && is_operand(problem)
-                && is_operand(plan);
-            if is_plain {
+                && is_operand(plan)
+            {
                 Some((domain, problem, plan))
+            } else {
+                None
+            }
+        }
+        _ => None,
+    }
+}
+
+/// The files of a check, where the words are a command and two files, and nothing else.
+fn plain_check(words: &[String]) -> Option<(&str, &str)>
+    ensures { (sas cert : List ℕ) → AskForCheck (texts_of words.now) sas cert →
+        IsSomeAnd result (λ files. (files.0.now ≡ sas) × (files.1.now ≡ cert)) }
+{
+    match words {
+        [_, command, sas, cert] => {
+            let sas = sas.as_str();
+            let cert = cert.as_str();
+            if command.as_str() == "check-sas" && is_operand(sas) && is_operand(cert) {
+                Some((sas, cert))
             } else {
                 None
             }
@@ -132,20 +198,26 @@ fn plain_validation(words: &[String]) -> Option<(&str, &str, &str)>
 
 /// The whole program: does what the words ask for, the first of which is the program's name, and gives the exit status.
 ///
-/// Files are read, and text is written, through the device. 0: valid, or help was shown; 1: a text is refused; 2: the words ask
-/// for nothing; 3: the plan is not valid; 6: memory was refused; 7: the device failed to read a file or to write. A
-/// report on standard error that fails leaves the status as it is.
+/// Files are read, and text is written, through the device. 0: valid, accepted, or help was shown; 1: a text is refused; 2: the
+/// words ask for nothing; 3: the plan is not valid, or the certificate is rejected; 6: memory was refused; 7: the device failed to
+/// read a file or to write. A report on standard error that fails leaves the status as it is.
 pub fn run<D: Device, R: AllocGlobal>(words: &[String], device: &mut D, rt: &R) -> u8
     ensures validates { (h : List Event) (domain problem plan : List ℕ) → D.history device.old ≡ Some h → AskForValidation (texts_of words.now) domain problem plan →
         D.failure_count device.new ≡ D.failure_count device.old → result ≢ 6 →
         (new : List Event) × (D.history device.new ≡ Some new) × Validates h new domain problem plan result }
+    ensures checks { (h : List Event) (sas cert : List ℕ) → D.history device.old ≡ Some h → AskForCheck (texts_of words.now) sas cert →
+        D.failure_count device.new ≡ D.failure_count device.old → result ≢ 6 →
+        (new : List Event) × (D.history device.new ≡ Some new) × Checks h new sas cert result }
     ensures device_failed { result ≡ 7 → D.failure_count device.old + 1 ≤ D.failure_count device.new }
 {
     let alloc = rt.alloc();
     if let Some((domain, problem, plan)) = plain_validation(words) {
         return run_validation(alloc, device, domain, problem, plan);
     }
-    match run_words(alloc, words, device) {
+    if let Some((sas, cert)) = plain_check(words) {
+        return run_check(rt, device, sas, cert);
+    }
+    match run_words(rt, words, device) {
         Ok(status) => status,
         Err(error) => show(alloc, device, &error),
     }

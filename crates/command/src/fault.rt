@@ -2,10 +2,11 @@
 
 ghost use Rattle.std.specs.Prelude.{◌≡◌};
 ghost use Rattle.command.specs.declared.fault.Fault.TheVariants.{OutOfMemory};
-ghost use Rattle.command.specs.Faults.{fault_status, fault_of_sas, fault_of_cert};
+ghost use Rattle.command.specs.Faults.{fault_status, fault_of_sas, fault_of_cert, fault_of_check};
 ghost use Rattle.command.specs.Words.{file_text, table_text, task_table_text};
 
 use cert_text::CertFault;
+use checker::CheckFault;
 use fdr::TaskLimit;
 use pddl::PddlFault;
 use pddl_syntax::{Fault as TextFault, FaultKind, LimitedTable, PlanningFile};
@@ -92,6 +93,18 @@ impl From<CertFault> for Fault {
             | CertFault::Trailing(_)
             | CertFault::Order(_)
             | CertFault::TooLong => Fault::Cert(fault),
+        }
+    }
+}
+
+impl From<CheckFault> for Fault {
+    ghost from_gives = { λ fault e. e ≡ fault_of_check fault };
+
+    fn from(fault: CheckFault) -> Fault {
+        match fault {
+            CheckFault::OutOfMemory => Fault::OutOfMemory,
+            CheckFault::Sas(fault) => Fault::from(fault),
+            CheckFault::Cert(fault) => Fault::from(fault),
         }
     }
 }

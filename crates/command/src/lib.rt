@@ -1,6 +1,7 @@
 //! The commands of optplan over any device: what each puts out or reports, and the status that it ends with.
 #![tactic(auto)]
 
+mod checking;
 mod command_line;
 mod fault;
 mod surroundings;

@@ -39,6 +39,11 @@ wanted_out answer = if is_fault answer then [] else answer ++ codes "\n"
 abbrev pub wanted_err : List ℕ → List ℕ
 wanted_err answer = if is_fault answer then codes "optplan: " ++ answer ++ codes "\n" else []
 
+-- the exit status of a verdict: 0 where a plan is valid or a certificate is accepted
+abbrev pub status_of_verdict : List ℕ → ℕ
+status_of_verdict answer =
+    if starts_with nat_eq answer (codes "valid ") then 0 else if starts_with nat_eq answer (codes "accepted ") then 0 else 3
+
 -- the exit status that an answer is to give
 abbrev pub wanted_status : List ℕ → ℕ
-wanted_status answer = if is_fault answer then 1 else if starts_with nat_eq answer (codes "valid ") then 0 else 3
+wanted_status answer = if is_fault answer then 1 else status_of_verdict answer

@@ -10,4 +10,4 @@ pub mod texts;
 pub use faulty_device::FaultyDevice;
 pub use outcome::{Outcome, RunFault, recorded, wanted};
 pub use rows::{Mismatch, answer_mismatch, domain_mismatches, plan_mismatches, problem_mismatches};
-pub use runs::{CALLS_OF_A_RUN, program_words, run_over, validated};
+pub use runs::{CALLS_OF_A_RUN, checked, program_words, run_over, validated};

@@ -3,7 +3,7 @@
 ghost use Rattle.std.specs.Prelude.{◌≡◌, IfOk, OnOk, map, ◌++◌, string_bytes};
 ghost use Rattle.device.specs.Memory.{event_of};
 ghost use Rattle.program_runs.specs.declared.outcome.RunFault.TheVariants.{OutOfMemory, NotUtf8};
-ghost use Rattle.program_runs.specs.Outcomes.{put_by, reported_by, put_of, reported_of, wanted_out, wanted_err, wanted_status};
+ghost use Rattle.program_runs.specs.Outcomes.{put_by, reported_by, put_of, reported_of, status_of_verdict, wanted_out, wanted_err, wanted_status};
 
 use device::Recorded;
 use std::alloc::{AllocError, AllocFailed, Global};
@@ -94,6 +94,19 @@ fn joined(alloc: Global, before: &str, text: &str, after: &str) -> Result<String
     Ok(all)
 }
 
+/// The exit status of a verdict: 0 where a plan is valid or a certificate is accepted.
+fn status_of_verdict(answer: &str) -> u8
+    ensures { result ≡ status_of_verdict answer.now }
+{
+    if answer.starts_with("valid ") {
+        return 0;
+    }
+    if answer.starts_with("accepted ") {
+        return 0;
+    }
+    3
+}
+
 /// What an answer is to give: a verdict its line on standard output, a fault one with the program's name on standard
 /// error, and nothing else. A fault's begins with `F`.
 pub fn wanted(alloc: Global, answer: &str) -> Result<Outcome, AllocError>
@@ -111,6 +124,6 @@ pub fn wanted(alloc: Global, answer: &str) -> Result<Outcome, AllocError>
     Ok(Outcome {
         out: joined(alloc, "", answer, "\n")?,
         err: String::new(alloc),
-        status: if answer.starts_with("valid ") { 0 } else { 3 },
+        status: status_of_verdict(answer),
     })
 }

@@ -44,3 +44,9 @@ pub fn validated<R: AllocGlobal>(
     let files = [("d", domain), ("p", problem), ("l", plan)];
     run_over(rt, &["validate", "d", "p", "l"], &files)
 }
+
+/// What a certificate's check gives over these texts.
+pub fn checked<R: AllocGlobal>(rt: &R, sas: &[u8], cert: &[u8]) -> Result<Outcome, RunFault> {
+    let files = [("s", sas), ("c", cert)];
+    run_over(rt, &["check-sas", "s", "c"], &files)
+}

@@ -92,3 +92,14 @@ pub fn noop_domain(alloc: Global, increases: &str) -> Result<String, AllocError>
 /// Wants (p) at the least total cost.
 pub const NOOP_PROBLEM: &str =
     "(define (problem n1) (:domain other) (:init) (:goal (P)) (:metric minimize (total-cost))) ; end";
+
+/// `ROAD_PROBLEM` as Fast Downward's translator writes it, in 45 lines: one variable, whose values are the places.
+pub const ROAD_SAS: &str = "begin_version\n3\nend_version\nbegin_metric\n0\nend_metric\n1\n\
+begin_variable\nvar0\n-1\n3\nAtom at(a)\nAtom at(b)\nAtom at(c)\nend_variable\n\
+1\nbegin_mutex_group\n3\n0 0\n0 1\n0 2\nend_mutex_group\nbegin_state\n0\nend_state\n\
+begin_goal\n1\n0 2\nend_goal\n2\nbegin_operator\ngo a b\n0\n1\n0 0 0 1\n1\nend_operator\n\
+begin_operator\ngo b c\n0\n1\n0 0 1 2\n1\nend_operator\n0\n";
+
+/// Every plan of `ROAD_SAS` costs at least 2: a search that closed a and b, without a heuristic.
+pub const ROAD_CERTIFICATE: &str =
+    "optplan-cert 1\nsas\nbound 2\ncolumns 0\nclosed 2\n0 0\n1 1\nend\n";

@@ -1,7 +1,7 @@
 //! Help, words that ask for nothing, and files with odd names.
 
 use program_runs::run_over;
-use program_runs::texts::{ROAD_DOMAIN, ROAD_PROBLEM};
+use program_runs::texts::{ROAD_CERTIFICATE, ROAD_DOMAIN, ROAD_PROBLEM, ROAD_SAS};
 use std::process::Abort;
 use std::test::Fail;
 
@@ -9,9 +9,25 @@ use std::test::Fail;
 const HELP_ROWS: &[(&[&str], &[&str])] = &[
     (
         &["--help"],
-        &["Validates PDDL plans", "Usage: optplan", "validate"],
+        &[
+            "Validates PDDL plans",
+            "Usage: optplan",
+            "validate",
+            "check-sas",
+        ],
     ),
-    (&["-h"], &["Usage: optplan", "validate"]),
+    (&["-h"], &["Usage: optplan", "validate", "check-sas"]),
+    (
+        &["check-sas", "--help"],
+        &[
+            "Usage: optplan check-sas <SAS> <CERT>",
+            "accepted unsolvable",
+        ],
+    ),
+    (
+        &["check-sas", "s", "--help"],
+        &["Usage: optplan check-sas <SAS> <CERT>"],
+    ),
     (
         &["validate", "--help"],
         &[
@@ -60,6 +76,19 @@ const WRONG_ROWS: &[&[&str]] = &[
     &["validate", "validate", "d", "p", "l"],
     &["validate", "-x", "p", "l"],
     &["validate", "d", "p", "-x"],
+    &["check-sas"],
+    &["check-sas", "s"],
+    &["check-sas", "s", "c", "c"],
+    &["check-sas", "-x", "c"],
+    &["check-sas", "s", "-x"],
+    &["check-sas", "--quiet", "s", "c"],
+    &["check-sas", "s", "c", "--quiet"],
+    &["Check-sas", "s", "c"],
+    &["check", "s", "c"],
+    &["checksas", "s", "c"],
+    &["s", "c"],
+    &["validate", "s", "c"],
+    &["check-sas", "d", "p", "l"],
 ];
 
 #[test]
@@ -69,12 +98,47 @@ fn wrong_words(rt: HostRuntime) -> Result<(), Fail> {
         ("-x", ROAD_DOMAIN.as_bytes()),
         ("p", ROAD_PROBLEM.as_bytes()),
         ("l", "".as_bytes()),
+        ("s", ROAD_SAS.as_bytes()),
+        ("c", ROAD_CERTIFICATE.as_bytes()),
     ];
     for words in WRONG_ROWS {
         let outcome = run_over(&rt, words, &files)?;
         assert_eq!(rt; outcome.out.as_str(), "", "at {words:?}");
         assert!(rt; !outcome.err.is_empty(), "nothing is reported at {words:?}");
         assert_eq!(rt; outcome.status, 2, "at {words:?}");
+    }
+    Ok(())
+}
+
+const CHECK_NAME_ROWS: &[&[&str]] = &[
+    &["check-sas", "s", "c"],
+    &["check-sas", "--", "-x", "c"],
+    &["check-sas", "s", "--", "--help"],
+    &["check-sas", "s s", "c"],
+    &["check-sas", "é", "c"],
+    &["check-sas", "check-sas", "c"],
+    &["check-sas", "", "c"],
+    &["check-sas", "./-x", "c"],
+];
+
+#[test]
+fn odd_names_of_a_check(rt: HostRuntime) -> Result<(), Fail> {
+    let files = [
+        ("s", ROAD_SAS.as_bytes()),
+        ("-x", ROAD_SAS.as_bytes()),
+        ("./-x", ROAD_SAS.as_bytes()),
+        ("s s", ROAD_SAS.as_bytes()),
+        ("é", ROAD_SAS.as_bytes()),
+        ("check-sas", ROAD_SAS.as_bytes()),
+        ("", ROAD_SAS.as_bytes()),
+        ("c", ROAD_CERTIFICATE.as_bytes()),
+        ("--help", ROAD_CERTIFICATE.as_bytes()),
+    ];
+    for words in CHECK_NAME_ROWS {
+        let outcome = run_over(&rt, words, &files)?;
+        assert_eq!(rt; outcome.out.as_str(), "accepted 2\n", "at {words:?}");
+        assert_eq!(rt; outcome.err.as_str(), "", "at {words:?}");
+        assert_eq!(rt; outcome.status, 0, "at {words:?}");
     }
     Ok(())
 }

@@ -2,7 +2,7 @@
 
 use command::run;
 use device::{DeviceFault, MemoryDevice};
-use program_runs::texts::{ROAD_DOMAIN, ROAD_PROBLEM};
+use program_runs::texts::{ROAD_CERTIFICATE, ROAD_DOMAIN, ROAD_PROBLEM, ROAD_SAS};
 use program_runs::{FaultyDevice, Outcome, program_words, recorded, run_over};
 use std::alloc::{AllocError, Global};
 use std::process::Abort;
@@ -84,6 +84,35 @@ fn files_that_are_not_there(rt: HostRuntime) -> Result<(), Fail> {
     Ok(())
 }
 
+/// A word for each of the two files, and what is wanted.
+const MISSING_CHECK_ROWS: &[([&str; 2], Texts)] = &[
+    (["sas", "cert"], ("accepted 2\n", "", 0)),
+    (["gone", "cert"], ("", "optplan: F70 CannotRead sas\n", 7)),
+    (["sas", "gone"], ("", "optplan: F70 CannotRead cert\n", 7)),
+    (["gone", "gone"], ("", "optplan: F70 CannotRead sas\n", 7)),
+    (["", "cert"], ("", "optplan: F70 CannotRead sas\n", 7)),
+    // Both files are read before any text is looked at.
+    (["cert", "gone"], ("", "optplan: F70 CannotRead cert\n", 7)),
+    // The texts are told by their place among the words, and the task's goes first.
+    (["sas", "sas"], ("", "optplan: F50 Header cert\n", 1)),
+    (["cert", "cert"], ("", "optplan: F41 Expected sas 1\n", 1)),
+    (["cert", "sas"], ("", "optplan: F41 Expected sas 1\n", 1)),
+];
+
+#[test]
+fn files_of_a_check_that_are_not_there(rt: HostRuntime) -> Result<(), Fail> {
+    let files = [
+        ("sas", ROAD_SAS.as_bytes()),
+        ("cert", ROAD_CERTIFICATE.as_bytes()),
+    ];
+    for (names, texts) in MISSING_CHECK_ROWS {
+        let [sas, cert] = names;
+        let outcome = run_over(&rt, &["check-sas", sas, cert], &files)?;
+        assert_eq!(rt; outcome, wanted(rt.alloc(), *texts)?, "at {sas} {cert}");
+    }
+    Ok(())
+}
+
 /// What the program does where one call of the device answers a fault.
 fn run_with_fault<R: AllocGlobal>(
     rt: &R,
@@ -96,6 +125,8 @@ fn run_with_fault<R: AllocGlobal>(
         ("d", ROAD_DOMAIN.as_bytes()),
         ("p", ROAD_PROBLEM.as_bytes()),
         ("l", plan.as_bytes()),
+        ("s", ROAD_SAS.as_bytes()),
+        ("c", ROAD_CERTIFICATE.as_bytes()),
     ];
     let words = program_words(rt.alloc(), words)?;
     let mut device = FaultyDevice::new(rt.alloc(), &files, calls_before, fault);
@@ -108,7 +139,24 @@ type FaultRow = (&'static [&'static str], &'static str, u64, Texts);
 
 const VALIDATE: &[&str] = &["validate", "d", "p", "l"];
 
+const CHECK: &[&str] = &["check-sas", "s", "c"];
+
+/// A task's text in the place of a certificate's.
+const CHECK_OF_NO_CERTIFICATE: &[&str] = &["check-sas", "s", "s"];
+
 const FAILING_ROWS: &[FaultRow] = &[
+    (CHECK, "", 0, ("", "optplan: F70 CannotRead sas\n", 7)),
+    (CHECK, "", 1, ("", "optplan: F70 CannotRead cert\n", 7)),
+    (CHECK, "", 2, ("", "optplan: F71 CannotWrite output\n", 7)),
+    (CHECK, "", 3, ("accepted 2\n", "", 0)),
+    (CHECK_OF_NO_CERTIFICATE, "", 2, ("", "", 1)),
+    (
+        CHECK_OF_NO_CERTIFICATE,
+        "",
+        3,
+        ("", "optplan: F50 Header cert\n", 1),
+    ),
+    (&["check-sas", "s", "gone"], "", 2, ("", "", 7)),
     (
         VALIDATE,
         PLAN,
@@ -175,6 +223,11 @@ const MEMORY_ROWS: &[FaultRow] = &[
     (VALIDATE, PLAN, 3, ("", "optplan: out of memory\n", 6)),
     (VALIDATE, PLAN, 4, ("valid 2\n", "", 0)),
     (VALIDATE, "()", 3, ("", "", 1)),
+    (CHECK, "", 0, ("", "optplan: out of memory\n", 6)),
+    (CHECK, "", 1, ("", "optplan: out of memory\n", 6)),
+    (CHECK, "", 2, ("", "optplan: out of memory\n", 6)),
+    (CHECK, "", 3, ("accepted 2\n", "", 0)),
+    (CHECK_OF_NO_CERTIFICATE, "", 2, ("", "", 1)),
 ];
 
 #[test]

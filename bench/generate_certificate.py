@@ -1,0 +1,73 @@
+#!/usr/bin/env python3
+"""Writes a finite-domain task and a certificate with many closed states for it, the same ones at each call.
+
+    generate_certificate.py FOLDER DEPTH
+
+FOLDER gets task.sas and certificate.txt. The task has 12 counters that begin at 0, four with 35 values and eight with 34, and
+400 operators, each of which raises one counter by one from one value. The goal is that all counters are at their last values, which
+costs 400. The certificate's bound is DEPTH + 1: it closes every state whose counters sum to at most DEPTH, each at that
+cost, and has no table. Standard output gets the number of closed states.
+"""
+
+import os
+import sys
+
+RANGES = [35] * 4 + [34] * 8
+GREATEST_DEPTH = 20
+
+
+def sas_lines():
+    """The lines of the task's text."""
+    yield from ["begin_version", "3", "end_version", "begin_metric", "0", "end_metric", str(len(RANGES))]
+    for variable, values in enumerate(RANGES):
+        yield from ["begin_variable", f"var{variable}", "-1", str(values)]
+        yield from (f"Atom counter{variable}({value})" for value in range(values))
+        yield "end_variable"
+    yield "0"
+    yield from ["begin_state", *(["0"] * len(RANGES)), "end_state"]
+    yield from ["begin_goal", str(len(RANGES))]
+    yield from (f"{variable} {values - 1}" for variable, values in enumerate(RANGES))
+    yield "end_goal"
+    yield str(sum(RANGES) - len(RANGES))
+    for variable, values in enumerate(RANGES):
+        for value in range(values - 1):
+            yield from ["begin_operator", f"raise counter{variable} {value}", "0", "1"]
+            yield from [f"0 {variable} {value} {value + 1}", "1", "end_operator"]
+    yield "0"
+
+
+def closed_lines(depth, counters, values, total):
+    """The lines of the states that go on from these values with so many more counters, in the order of their values."""
+    if counters == 0:
+        yield f"{total}{values}"
+        return
+    for value in range(depth - total + 1):
+        yield from closed_lines(depth, counters - 1, f"{values} {value}", total + value)
+
+
+def state_count(depth):
+    """How many states have a sum of at most the depth."""
+    count = 1
+    for counter in range(1, len(RANGES) + 1):
+        count = count * (depth + counter) // counter
+    return count
+
+
+def main(arguments):
+    """Writes the two files."""
+    if len(arguments) != 2 or not arguments[1].isdecimal() or not 0 <= int(arguments[1]) <= GREATEST_DEPTH:
+        print(f"usage: generate_certificate.py FOLDER DEPTH, with a depth of at most {GREATEST_DEPTH}", file=sys.stderr)
+        return 2
+    folder, depth = arguments[0], int(arguments[1])
+    with open(os.path.join(folder, "task.sas"), "w", encoding="ascii", newline="\n") as file:
+        file.writelines(line + "\n" for line in sas_lines())
+    with open(os.path.join(folder, "certificate.txt"), "w", encoding="ascii", newline="\n") as file:
+        file.write(f"optplan-cert 1\nsas\nbound {depth + 1}\ncolumns 0\nclosed {state_count(depth)}\n")
+        file.writelines(line + "\n" for line in closed_lines(depth, len(RANGES), "", 0))
+        file.write("end\n")
+    print(state_count(depth))
+    return 0
+
+
+if __name__ == "__main__":
+    sys.exit(main(sys.argv[1:]))

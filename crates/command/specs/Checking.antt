@@ -1,0 +1,48 @@
+-- The check of a certificate for a finite-domain task: the words that ask for it, what is answered for the two texts, and what it does.
+use Rattle.std.specs.Prelude.{◌≡◌, ℕ, true, List, [], ◌∷◌, ◌++◌, codes}
+use Rattle.device.specs.Events.{Event, HasRead}
+use Rattle.checker.specs.Verdicts.{verdict_text}
+use Rattle.checker.specs.Answers.{IsAnswer, IsRefusal}
+use Rattle.checker.specs.declared.verdict.Verdict.{Verdict}
+use Rattle.checker.specs.declared.verdict.Verdict.TheVariants.{Accepted, Rejected}
+use Rattle.checker.specs.declared.fault.CheckFault.{CheckFault}
+use Rattle.command.specs.declared.fault.Fault.{Fault}
+use Rattle.command.specs.Faults.{fault_of_check}
+use Rattle.command.specs.Runs.{is_operand, Follows}
+
+-- the words ask for a check: the program's name, `check-sas`, and two files
+pub record AskForCheck (words : List (List ℕ)) (sas cert : List ℕ) : Type 0 where
+  pub program : List ℕ
+  pub are : words ≡ program ∷ codes "check-sas" ∷ sas ∷ cert ∷ []
+  pub sas_is : is_operand sas ≡ true
+  pub cert_is : is_operand cert ≡ true
+
+-- the exit status of a verdict on a certificate
+abbrev pub check_status : Verdict → ℕ
+check_status (Accepted bound) = 0
+check_status (Rejected violation) = 3
+
+-- The texts spell a task and a certificate for it, and the line and the status are those of the verdict on the certificate.
+pub record IsCheckAnswer (sas cert line : List ℕ) (status : ℕ) : Type 0 where
+  pub verdict : Verdict
+  pub holds : IsAnswer sas cert verdict
+  pub line_is : line ≡ verdict_text verdict ++ codes "\n"
+  pub status_is : status ≡ check_status verdict
+
+-- One of the texts is refused by the checker, for this fault.
+pub record IsCheckRefusal (sas cert : List ℕ) (e : Fault) : Type 0 where
+  pub fault : CheckFault
+  pub refused : IsRefusal sas cert fault
+  pub fault_is : e ≡ fault_of_check fault
+
+-- two files were read
+abbrev pub check_reads : List ℕ → List ℕ → List ℕ → List ℕ → List Event
+check_reads sas s cert c = HasRead sas s ∷ HasRead cert c ∷ []
+
+-- The two files are read, in this order, and then the verdict's line is put out, or one of the texts is refused.
+pub record Checks (old new : List Event) (sas cert : List ℕ) (status : ℕ) : Type 0 where
+  pub sas_text : List ℕ
+  pub cert_text : List ℕ
+  pub later : List Event
+  pub events : new ≡ old ++ (check_reads sas sas_text cert cert_text ++ later)
+  pub follows : Follows (IsCheckAnswer sas_text cert_text) (IsCheckRefusal sas_text cert_text) later status

@@ -1,0 +1,84 @@
+//! The command that checks a certificate for a finite-domain task, over any device.
+
+ghost use Rattle.std.specs.Prelude.{◌≡◌, ◌≢◌, ◌≤◌, ◌+◌, ◌++◌, List, Some, IfOk, IfErr, OnOk, codes, string_bytes};
+ghost use Rattle.device.specs.Events.{Event};
+ghost use Rattle.checker.specs.Verdicts.{verdict_text};
+ghost use Rattle.command.specs.Runs.{IsDeviceFault};
+ghost use Rattle.command.specs.Checking.{check_status, IsCheckAnswer, IsCheckRefusal, check_reads, Checks};
+
+use crate::fault::{Fault, FileWord};
+use crate::surroundings::{read_file, reply, report};
+use checker::{Verdict, check_sas_owned};
+use device::Device;
+use std::alloc::{AllocError, Global};
+
+/// The exit status of a verdict: 0 where the certificate is accepted, else 3.
+fn check_status(verdict: &Verdict) -> u8
+    ensures status { result ≡ check_status verdict.now }
+    ensures small { result ≤ 3 }
+{
+    match verdict {
+        Verdict::Accepted(_) => 0,
+        Verdict::Rejected(_) => 3,
+    }
+}
+
+/// The verdict's line, with its line feed.
+fn check_line(alloc: Global, verdict: &Verdict) -> Result<String, AllocError>
+    ensures { IfOk result (λ line. string_bytes line ≡ verdict_text verdict.now ++ codes "\n") }
+{
+    let mut line = format!(in alloc; "{verdict}")?;
+    line.push('\n')?;
+    Ok(line)
+}
+
+/// The line that is printed for a certificate's text beside a task's, with its line feed, and the exit status: 0 where the certificate is
+/// accepted, else 3. Each text goes as soon as it is read.
+///
+/// A fault is the first of the task's text, or that of the certificate's where the other spells a task.
+fn check_of<R: AllocGlobal>(rt: &R, sas: Vec<u8>, cert: Vec<u8>) -> Result<(String, u8), Fault>
+    ensures answer { IfOk result (λ r. IsCheckAnswer sas.items cert.items (string_bytes r.0) r.1) }
+    ensures small { IfOk result (λ r. r.1 ≤ 3) }
+    ensures refused { IfErr result (IsCheckRefusal sas.items cert.items) }
+{
+    let verdict = match check_sas_owned(rt, sas, cert) {
+        Ok(verdict) => verdict,
+        Err(fault) => return Err(Fault::from(fault)),
+    };
+    match check_line(rt.alloc(), &verdict) {
+        Ok(line) => Ok((line, check_status(&verdict))),
+        Err(_) => Err(Fault::OutOfMemory),
+    }
+}
+
+/// Reads the two files, in this order.
+fn read_texts<D: Device>(
+    alloc: Global,
+    device: &mut D,
+    sas: &str,
+    cert: &str,
+) -> Result<(Vec<u8>, Vec<u8>), Fault>
+    ensures told { (h : List Event) → D.history device.old ≡ Some h →
+        IfOk result (λ t. D.history device.new ≡ Some (h ++ check_reads sas.now t.0.items cert.now t.1.items)) }
+    ensures same { OnOk result (D.failure_count device.new ≡ D.failure_count device.old) }
+    ensures failed { IfErr result (λ e. IsDeviceFault e (D.failure_count device.old) (D.failure_count device.new)) }
+{
+    let sas = read_file(alloc, device, sas, FileWord::Sas)?;
+    let cert = read_file(alloc, device, cert, FileWord::Cert)?;
+    Ok((sas, cert))
+}
+
+/// Checks a certificate: reads the two files, and puts out the verdict's line or reports the fault. Gives the exit status.
+pub fn run_check<D: Device, R: AllocGlobal>(rt: &R, device: &mut D, sas: &str, cert: &str) -> u8
+    ensures done { (h : List Event) → D.history device.old ≡ Some h → D.failure_count device.new ≡ D.failure_count device.old → result ≢ 6 →
+        (new : List Event) × (D.history device.new ≡ Some new) × Checks h new sas.now cert.now result }
+    ensures device_failed { result ≡ 7 → D.failure_count device.old + 1 ≤ D.failure_count device.new }
+{
+    match read_texts(rt.alloc(), device, sas, cert) {
+        Ok((sas, cert)) => {
+            let answer = check_of(rt, sas, cert);
+            reply(rt.alloc(), device, &answer)
+        }
+        Err(fault) => report(rt.alloc(), device, &fault),
+    }
+}
