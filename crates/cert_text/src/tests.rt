@@ -13,20 +13,15 @@ const K2: &[u8] =
 const K3: &[u8] = b"optplan-cert 1\nsas\nbound 2\ncolumns 0\nclosed 2\n0 0\n1 1\nend\n";
 
 /// The text with other bytes in place of a line. Lines count from 1.
-fn with_line(
-    alloc: Global,
-    text: &[u8],
-    number: usize,
-    line: &[u8],
-) -> Result<Vec<u8>, AllocError> {
+fn with_line(alloc: Global, text: &[u8], place: usize, line: &[u8]) -> Result<Vec<u8>, AllocError> {
     let mut bytes = Vec::new(alloc);
     let mut at = 1;
     for byte in text {
-        if at != number {
+        if at != place {
             bytes.push(*byte)?;
         }
         if *byte == b'\n' {
-            if at == number {
+            if at == place {
                 bytes.extend_from_slice(line)?;
                 bytes.push(b'\n')?;
             }
@@ -37,10 +32,7 @@ fn with_line(
 }
 
 fn fault_of(alloc: Global, text: &[u8]) -> Option<CertFault> {
-    match read_cert(alloc, text) {
-        Ok(_) => None,
-        Err(fault) => Some(fault),
-    }
+    read_cert(alloc, text).err()
 }
 
 fn number_of_digits(digits: &[u8]) -> usize {

@@ -1,7 +1,7 @@
 //! Writing a certificate.
 #![tactic(auto, using(crate::proofs::Appends::appending))]
 
-ghost use Rattle.std.specs.Prelude.{◌≡◌, ◌<◌, ◌++◌, ◌∷◌, [], IfOk, OnOk, map, length, codes};
+ghost use Rattle.std.specs.Prelude.{◌≡◌, ◌<◌, ◌++◌, ◌∷◌, [], IfOk, OnOk, All, map, length, codes};
 ghost use Rattle.std.specs.Fmt.{decimal};
 ghost use Rattle.std.specs.List.{flat_map};
 ghost use Rattle.std.specs.String.{string_bytes};
@@ -197,23 +197,27 @@ fn push_all_columns(out: &mut Vec<u8>, columns: &[Vec<PatternTable>]) -> Result<
     Ok(())
 }
 
-fn push_states(out: &mut Vec<u8>, closed: &ClosedList) -> Result<(), AllocError>
+// The states are unpacked one after another into `state`, which is as long as each.
+fn push_states(out: &mut Vec<u8>, closed: &ClosedList, state: &mut [u32]) -> Result<(), AllocError>
+    requires { All (λ e. length e.state ≡ length state.old) closed.now }
     ensures { OnOk result (out.new.items ≡ out.old.items ++ text.text_of (map text.entry_line closed.now)) }
 {
     for index in 0..closed.len() {
         push_number(out, closed.cost(index))?;
-        push_numbers(out, closed.state(index))?;
+        closed.copy_state(index, state);
+        push_numbers(out, state)?;
         out.push(b'\n')?;
     }
     Ok(())
 }
 
 /// The lines of the closed states.
-fn push_closed(out: &mut Vec<u8>, closed: &ClosedList) -> Result<(), AllocError>
+fn push_closed(alloc: Global, out: &mut Vec<u8>, closed: &ClosedList) -> Result<(), AllocError>
     ensures { OnOk result (out.new.items ≡ out.old.items ++ text.text_of (text.closed_lines closed.now)) }
 {
     push_count_line(out, b"closed", closed.len())?;
-    push_states(out, closed)?;
+    let mut state = closed.buffer(alloc)?;
+    push_states(out, closed, &mut state)?;
     Ok(())
 }
 
@@ -263,7 +267,7 @@ pub fn write_cert(alloc: Global, certificate: &Certificate) -> Result<Vec<u8>, A
     push_bound(&mut out, certificate.bound())?;
     push_parts(&mut out, certificate.kind())?;
     push_all_columns(&mut out, certificate.columns())?;
-    push_closed(&mut out, certificate.closed())?;
+    push_closed(alloc, &mut out, certificate.closed())?;
     out.extend_from_slice(b"end\n")?;
     Ok(out)
 }

@@ -1,7 +1,11 @@
 -- States that lie one behind the other in one list of values.
 use Rattle.std.proofs.Common.{◌≡◌, ℕ, zero, suc, ◌+◌, ◌*◌, ◌-◌, ◌<◌, ◌≤◌, List, [], ◌∷◌, ◌++◌, length, take, drop, Some, refl, sym, ap, ◌∙◌, arith}
 use Rattle.std.specs.List.{AllByRecursion}
-use Rattle.std.specs.Prelude.{option_map, slice_get}
+use Rattle.std.specs.Prelude.{option_map, slice_get, Option, None, nat_eq, false, All, IsSomeAnd}
+use Rattle.std.proofs.lemmas.List.Elements.{All-nil, All-cons}
+use Rattle.std.proofs.lemmas.Option.{slice_get_within}
+use Rattle.std.specs.Option.{option_map_or}
+use Rattle.std.specs.Cmp.Lexicographic.{pointwise, unequal}
 use Rattle.std.proofs.Math.Nat.{suc-mul, zero-mul, mul-le-mul_right}
 use Rattle.std.proofs.lemmas.List.{take_all, take-append-le, drop-append-le, length-take-le, length-drop, length-append, drop-drop, nil_from_length}
 use Rattle.certificates.specs.Certificates.{Entry}
@@ -65,3 +69,51 @@ state_at width (c ∷ cs) values zero lt = ap (λ (k : ℕ). Some (take width (d
 state_at width (c ∷ cs) values (suc i) lt =
     let more : width + i * width ≡ suc i * width = (let a = suc-mul i width in omega arith) in
     state_at width cs (drop width values) i (omega arith) ∙ ap (λ (vs : List ℕ). Some (take width vs)) (drop-drop (i * width) width values ∙ ap (λ (k : ℕ). drop k values) more)
+
+-- a state is as wide as the list
+state_wide : (width : ℕ) (costs values : List ℕ) (i : ℕ) → length values ≡ length costs * width → i < length costs → length (take width (drop (i * width) values)) ≡ width
+state_wide width costs values i e lt =
+    let w = state_within width (length costs) (length values) i e lt in
+    length-take-le width (drop (i * width) values) (omega (arith, length-drop (i * width) values))
+
+-- a state that is there has the width of the list
+pub wide_given : (width n : ℕ) (costs values : List ℕ) (i : ℕ) → length values ≡ length costs * width → IsSomeAnd (slice_get (entries width costs values) i) (λ (x : Entry). length x.state ≡ n) → (i < length costs) × (width ≡ n)
+wide_given width n costs values i e h = go (slice_get (entries width costs values) i) refl h
+  where
+    go : (r : Option Entry) → slice_get (entries width costs values) i ≡ r → IsSomeAnd r (λ (x : Entry). length x.state ≡ n) → (i < length costs) × (width ≡ n)
+    go None is k = absurd k
+    go (Some x) is k =
+        let within : i < length costs = omega (arith, slice_get_within (entries width costs values) i x is, length_entries width costs values) in
+        let at : option_map (λ (y : Entry). y.state) (Some x) ≡ Some (take width (drop (i * width) values)) = rw is at (state_at width costs values i within) in
+        let same : x.state ≡ take width (drop (i * width) values) = cc at in
+        (within, sym (state_wide width costs values i e within) ∙ ap (λ (xs : List ℕ). length xs) (sym same) ∙ k)
+
+-- each state has the width of the list
+pub all_wide : (width : ℕ) (costs values : List ℕ) → length values ≡ length costs * width → All (λ (x : Entry). length x.state ≡ width) (entries width costs values)
+all_wide width [] values e = All-nil (λ (x : Entry). length x.state ≡ width)
+all_wide width (c ∷ cs) values e =
+    let fits = first_fits width (length cs) (length values) e in
+    All-cons (λ (x : Entry). length x.state ≡ width) (record { cost = c; state = take width values }) (entries width cs (drop width values))
+    (length-take-le width values fits.0) (all_wide width cs (drop width values) (length-drop width values ∙ fits.1))
+
+-- whether a state is this one
+pub has_at : (width : ℕ) (costs values : List ℕ) (i : ℕ) → i < length costs → (state : List ℕ) → width ≡ length state
+    → option_map_or (λ (x : Entry). pointwise nat_eq x.state state) (slice_get (entries width costs values) i) false ≡ pointwise nat_eq (take (length state) (drop (i * length state) values)) state
+has_at width costs values i lt state wide = go (slice_get (entries width costs values) i) (state_at width costs values i lt)
+  where
+    go : (r : Option Entry) → option_map (λ (e : Entry). e.state) r ≡ Some (take width (drop (i * width) values))
+        → option_map_or (λ (x : Entry). pointwise nat_eq x.state state) r false ≡ pointwise nat_eq (take (length state) (drop (i * length state) values)) state
+    go None h = cc h
+    go (Some x) h = let same : x.state ≡ take width (drop (i * width) values) = cc h in rw (same, wide) refl
+
+-- a state of another width is not
+pub has_not_at : (width : ℕ) (costs values : List ℕ) (i : ℕ) → length values ≡ length costs * width → i < length costs → (state : List ℕ) → (width ≡ length state → ⊥)
+    → option_map_or (λ (x : Entry). pointwise nat_eq x.state state) (slice_get (entries width costs values) i) false ≡ false
+has_not_at width costs values i e lt state other = go (slice_get (entries width costs values) i) (state_at width costs values i lt)
+  where
+    go : (r : Option Entry) → option_map (λ (x : Entry). x.state) r ≡ Some (take width (drop (i * width) values))
+        → option_map_or (λ (x : Entry). pointwise nat_eq x.state state) r false ≡ false
+    go None h = cc h
+    go (Some x) h =
+        let same : x.state ≡ take width (drop (i * width) values) = cc h in
+        unequal nat_eq x.state state (λ l. other (sym (state_wide width costs values i e lt) ∙ ap (λ (xs : List ℕ). length xs) (sym same) ∙ l))

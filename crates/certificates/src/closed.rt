@@ -1,19 +1,23 @@
 //! States that were reached, with what they cost.
 
-ghost use Rattle.std.specs.Prelude.{◌≡◌, ◌<◌, ◌==◌, ◌++◌, [], ◌∷◌, length, slice_get, option_map, Some, OnOk, OnErr};
+ghost use Rattle.std.specs.Prelude.{◌≡◌, ◌<◌, ◌==◌, ◌++◌, [], ◌∷◌, length, slice_get, option_map, nat_eq, false, Some, All, IsSomeAnd, IfOk, OnOk, OnErr};
+ghost use Rattle.std.specs.Cmp.Lexicographic.{pointwise};
 ghost use Rattle.std.specs.List.{AllByRecursion};
+ghost use Rattle.std.specs.Option.{option_map_or};
 
+use crate::numbers::Numbers;
 use std::alloc::{AllocError, Global};
 use std::marker::Model;
 
-/// States with their costs, all of one width: one list of costs and one list of values, so that a state costs 8 bytes
-/// and 4 for each value. A contract sees a list of entries.
+/// States with their costs, all of one width: one list of costs and one list of values, so that a state takes 8 bytes
+/// and 2 for each value, or 4 where some value of the list is 2^16 or more. A contract sees a list of entries.
 #[derive(Drop)]
 pub struct ClosedList {
+    alloc: Global,
     costs: Vec<u64>,
     // how many values a state has; any number where there is no state
     width: usize,
-    values: Vec<u32>,
+    values: Numbers,
 }
 
 impl Model for ClosedList {
@@ -23,9 +27,9 @@ impl Model for ClosedList {
 
     ghost Value = { List Entry };
 
-    ghost view = { λ c. entries c.width c.costs.items c.values.items };
+    ghost view = { λ c. entries c.width c.costs.items c.values };
 
-    ghost invariant = { λ c. length c.values.items ≡ length c.costs.items * c.width };
+    ghost invariant = { λ c. length c.values ≡ length c.costs.items * c.width };
 }
 
 impl ClosedList {
@@ -36,9 +40,10 @@ impl ClosedList {
         ensures { result ≡ [] }
     {
         ClosedList {
+            alloc,
             costs: Vec::new(alloc),
             width: 0,
-            values: Vec::new(alloc),
+            values: Numbers::new(alloc),
         }
     }
 
@@ -75,15 +80,29 @@ impl ClosedList {
         self.costs[index]
     }
 
-    /// The values of that state.
-    pub fn state(&self, index: usize) -> &[u32]
-        requires { index < length self.now }
-        ensures { option_map (λ e. e.state) (slice_get self.now index) ≡ Some result.now }
+    /// Room for the values of one state, which are 0 at first. An `Err` is of too little memory.
+    pub fn buffer(&self, alloc: Global) -> Result<Vec<u32>, AllocError>
+        ensures { IfOk result (λ b. All (λ e. length e.state ≡ length b.items) self.now) }
     {
-        let start = index * self.width;
-        let (_, behind) = self.values.split_at(start);
-        let (state, _) = behind.split_at(self.width);
-        state
+        let buffer = vec![in alloc; 0; self.width]?;
+        Ok(buffer)
+    }
+
+    /// Copies the values of that state, for which there is room.
+    pub fn copy_state(&self, index: usize, into: &mut [u32])
+        requires { IsSomeAnd (slice_get self.now index) (λ e. length e.state ≡ length into.old) }
+        ensures state { option_map (λ e. e.state) (slice_get self.now index) ≡ Some into.new }
+        ensures len { length into.new ≡ length into.old }
+    {
+        self.values.copy(index, into);
+    }
+
+    /// Whether these are the values of that state.
+    pub fn has_state(&self, index: usize, state: &[u32]) -> bool
+        requires { index < length self.now }
+        ensures { result ≡ option_map_or (λ e. pointwise nat_eq e.state state.now) (slice_get self.now index) false }
+    {
+        self.width == state.len() && self.values.is_at(index, state)
     }
 
     /// One more state, at the end, of as many values as those before it. An `Err` is of too little memory and changes
@@ -94,7 +113,7 @@ impl ClosedList {
         ensures err { OnErr result (self.new ≡ self.old) }
     {
         let before = self.values.len();
-        self.values.extend_from_slice(state)?;
+        self.values.extend(self.alloc, state)?;
         match self.costs.push(cost) {
             Ok(()) => {
                 self.width = state.len();

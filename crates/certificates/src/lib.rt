@@ -4,6 +4,7 @@
 
 mod certificate;
 mod closed;
+mod numbers;
 mod table;
 
 pub use certificate::{AtomParts, AtomVariable, Certificate, CertificateKind};

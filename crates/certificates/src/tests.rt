@@ -25,10 +25,19 @@ fn keeps_states(rt: HostRuntime) -> Result<(), Fail> {
     let mut closed = ClosedList::new(rt.alloc());
     assert_eq!(rt; closed.width(), None);
     closed.push(7, &[1, 2])?;
-    closed.push(9, &[3, 4])?;
+    closed.push(9, &[3, 65_535])?;
     assert_eq!(rt; (closed.len(), closed.width()), (2, Some(2)));
     assert_eq!(rt; (closed.cost(0), closed.cost(1)), (7, 9));
-    assert_eq!(rt; closed.state(0), [1, 2].as_slice());
-    assert_eq!(rt; closed.state(1), [3, 4].as_slice());
+    assert!(rt; closed.has_state(0, &[1, 2]) && closed.has_state(1, &[3, 65_535]));
+    assert!(rt;
+        !closed.has_state(0, &[1, 3])
+            && !closed.has_state(0, &[1])
+            && !closed.has_state(1, &[3, 4, 5])
+    );
+    closed.push(5, &[4_294_967_295, 65_536])?;
+    assert!(rt; closed.has_state(0, &[1, 2]) && closed.has_state(1, &[3, 65_535]));
+    assert!(rt;
+        closed.has_state(2, &[4_294_967_295, 65_536]) && !closed.has_state(2, &[65_535, 0])
+    );
     Ok(())
 }

@@ -43,7 +43,7 @@ fn covering_violation(
     if let Some(start) = coverage.start_violation() {
         return Ok(Some(start));
     }
-    if let Some(goal) = first_goal_violation(task, certificate) {
+    if let Some(goal) = first_goal_violation(alloc, task, certificate)? {
         return Ok(Some(goal));
     }
     coverage.first_successor_violation(alloc)
@@ -58,7 +58,7 @@ fn closed_violation(
     requires { AreMetBelow task.now certificate.now 5 }
     ensures { IfOk result (IsFoundBelow task.now certificate.now 9) }
 {
-    if let Some(state) = first_closed_violation(task, certificate) {
+    if let Some(state) = first_closed_violation(alloc, task, certificate)? {
         return Ok(Some(state));
     }
     let coverage = Coverage::new(alloc, task, certificate)?;

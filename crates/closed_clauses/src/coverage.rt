@@ -1,6 +1,6 @@
 //! What is asked of the initial state and of the successors of closed states.
 
-ghost use Rattle.std.specs.Prelude.{◌≡◌, ℕ, ◌-◌, ◌<◌, ◌^◌, min, not, All, length, slice_get, IfOk, IfSome};
+ghost use Rattle.std.specs.Prelude.{◌≡◌, ℕ, ◌-◌, ◌<◌, ◌^◌, min, not, All, length, slice_get, option_map, Some, IfOk, IfSome};
 ghost use Rattle.std.specs.List.{find};
 ghost use Rattle.cost.specs.Distances.{IsWithin};
 ghost use Rattle.fdr.specs.Tasks.{ranges, IsTask, IsState};
@@ -109,59 +109,86 @@ impl<'a> Coverage<'a> {
         }
     }
 
-    /// Whether the successor of the state at that place by the operator is covered, if there is one; it is made in the
-    /// buffer.
-    fn covers(&self, place: usize, operator: usize, successor: &mut [u32]) -> bool
+    /// Whether the successor of the state, which is the one at that place, by the operator is covered, if there is one; it is
+    /// made in the buffer.
+    fn covers(&self, place: usize, state: &[u32], operator: usize, successor: &mut [u32]) -> bool
         requires place { place < length self.now.certificate.closed }
+        requires here { option_map (λ e. e.state) (slice_get self.now.certificate.closed place) ≡ Some state.now }
         requires state { IfSome (slice_get self.now.certificate.closed place) (λ e. IsState (ranges self.now.task) e.state) }
         requires buffer { length successor.old ≡ length self.now.task.value_names }
         ensures { result ≡ passes_successor self.now.task self.now.certificate place operator }
     {
-        let closed = self.certificate.closed();
-        successor.copy_from_slice(closed.state(place));
+        successor.copy_from_slice(state);
         if !self.task.apply(operator, successor) {
             return true;
         }
         let cost = self.task.cost(operator).get();
-        self.is_covered(successor, closed.cost(place).saturating_add(cost))
+        let reached = self.certificate.closed().cost(place);
+        self.is_covered(successor, reached.saturating_add(cost))
     }
 
-    /// The first of the operators by which the state at that place has a successor that is not covered.
+    /// The first of the operators by which the state, which is the one at that place, has a successor that is not covered.
     fn first_uncovered(
         &self,
         place: usize,
+        state: &[u32],
         operators: &[usize],
         successor: &mut [u32],
     ) -> Option<usize>
         requires place { place < length self.now.certificate.closed }
+        requires here { option_map (λ e. e.state) (slice_get self.now.certificate.closed place) ≡ Some state.now }
         requires state { IfSome (slice_get self.now.certificate.closed place) (λ e. IsState (ranges self.now.task) e.state) }
         requires buffer { length successor.old ≡ length self.now.task.value_names }
         ensures { result ≡ find (λ o. not (passes_successor self.now.task self.now.certificate place o)) operators.now }
     {
         for operator in operators {
-            if !self.covers(place, *operator, successor) {
+            if !self.covers(place, state, *operator, successor) {
                 return Some(*operator);
             }
         }
         None
     }
 
-    /// The first operator by which the state at that place has a successor that is not covered. Both buffers are for use
-    /// within.
+    /// The first operator by which the state at that place has a successor that is not covered. The buffers, of operators,
+    /// for the state and for a successor, are for use within.
     fn first_failing(
         &self,
         place: usize,
         operators: &mut Vec<usize>,
+        state: &mut [u32],
         successor: &mut [u32],
     ) -> Result<Option<usize>, AllocError>
         requires place { place < length self.now.certificate.closed }
         requires state { IfSome (slice_get self.now.certificate.closed place) (λ e. IsState (ranges self.now.task) e.state) }
+        requires unpacked { All (λ e. length e.state ≡ length state.old) self.now.certificate.closed }
         requires buffer { length successor.old ≡ length self.now.task.value_names }
-        ensures { IfOk result (IsFirstFailing (passes_successor self.now.task self.now.certificate place)) }
+        ensures found { IfOk result (IsFirstFailing (passes_successor self.now.task self.now.certificate place)) }
+        ensures len { length state.new ≡ length state.old }
     {
-        let state = self.certificate.closed().state(place);
+        self.certificate.closed().copy_state(place, state);
         self.generator.applicable(state, operators)?;
-        Ok(self.first_uncovered(place, operators, successor))
+        Ok(self.first_uncovered(place, state, operators, successor))
+    }
+
+    /// The first successor of a closed state that is not covered. The buffers, of operators, for the state and for a
+    /// successor, are for use within.
+    fn first_failing_successor(
+        &self,
+        operators: &mut Vec<usize>,
+        state: &mut [u32],
+        successor: &mut [u32],
+    ) -> Result<Option<Violation>, AllocError>
+        requires clause { IsMet self.now.task self.now.certificate 5 }
+        requires unpacked { All (λ e. length e.state ≡ length state.old) self.now.certificate.closed }
+        requires buffer { length successor.old ≡ length self.now.task.value_names }
+        ensures { IfOk result (λ found. IsFoundIn self.now.task self.now.certificate 8 found) }
+    {
+        for place in 0..self.certificate.closed().len() {
+            if let Some(operator) = self.first_failing(place, operators, state, successor)? {
+                return Ok(Some(Violation::Successor(place, operator)));
+            }
+        }
+        Ok(None)
     }
 
     /// C8: the first successor of a closed state, by the state's place and the operator's number, that is not covered.
@@ -172,13 +199,8 @@ impl<'a> Coverage<'a> {
         ensures { IfOk result (λ found. IsFoundIn self.now.task self.now.certificate 8 found) }
     {
         let mut operators = Vec::new(alloc);
-        let mut buffer = Vec::from_slice(alloc, self.task.initial())?;
-        let successor = buffer.as_mut_slice();
-        for place in 0..self.certificate.closed().len() {
-            if let Some(operator) = self.first_failing(place, &mut operators, successor)? {
-                return Ok(Some(Violation::Successor(place, operator)));
-            }
-        }
-        Ok(None)
+        let mut state = self.certificate.closed().buffer(alloc)?;
+        let mut successor = Vec::from_slice(alloc, self.task.initial())?;
+        self.first_failing_successor(&mut operators, &mut state, &mut successor)
     }
 }

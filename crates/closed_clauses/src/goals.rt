@@ -1,6 +1,6 @@
 //! The goal states among the closed states.
 
-ghost use Rattle.std.specs.Prelude.{◌≡◌, ◌<◌, length, slice_get, IfSome};
+ghost use Rattle.std.specs.Prelude.{◌≡◌, ◌<◌, All, length, slice_get, IfOk, IfSome};
 ghost use Rattle.cost.specs.Distances.{Finite, is_at_most};
 ghost use Rattle.fdr.specs.Tasks.{ranges, IsState};
 ghost use Rattle.checker_clauses.specs.Violations.{IsMet, IsFoundIn};
@@ -10,6 +10,7 @@ use certificates::Certificate;
 use checker_clauses::Violation;
 use cost::Dist;
 use fdr::FdrTask;
+use std::alloc::{AllocError, Global};
 
 /// Whether a cost is at least the bound.
 fn reaches(bound: Dist, cost: u64) -> bool
@@ -21,25 +22,45 @@ fn reaches(bound: Dist, cost: u64) -> bool
     }
 }
 
-/// Whether the state at that place costs at least the bound, if it is a goal state.
-fn passes_at(task: &FdrTask, certificate: &Certificate, place: usize) -> bool
+/// Whether the state at that place costs at least the bound, if it is a goal state. The buffer, which is as long as each
+/// state, is for use within.
+fn passes_at(task: &FdrTask, certificate: &Certificate, place: usize, state: &mut [u32]) -> bool
     requires place { place < length certificate.now.closed }
     requires state { IfSome (slice_get certificate.now.closed place) (λ e. IsState (ranges task.now) e.state) }
-    ensures { result ≡ passes_goal task.now certificate.now place }
+    requires buffer { All (λ e. length e.state ≡ length state.old) certificate.now.closed }
+    ensures passes { result ≡ passes_goal task.now certificate.now place }
+    ensures len { length state.new ≡ length state.old }
 {
     let closed = certificate.closed();
-    !task.is_goal(closed.state(place)) || reaches(certificate.bound(), closed.cost(place))
+    closed.copy_state(place, state);
+    !task.is_goal(state) || reaches(certificate.bound(), closed.cost(place))
 }
 
-/// C7: the first closed goal state that costs less than the bound.
-pub fn first_goal_violation(task: &FdrTask, certificate: &Certificate) -> Option<Violation>
-    requires { IsMet task.now certificate.now 5 }
+/// The first closed state that fails. The buffer, which is as long as each state, is for use within.
+fn first_failing(task: &FdrTask, certificate: &Certificate, state: &mut [u32]) -> Option<Violation>
+    requires clause { IsMet task.now certificate.now 5 }
+    requires buffer { All (λ e. length e.state ≡ length state.old) certificate.now.closed }
     ensures { IsFoundIn task.now certificate.now 7 result }
 {
     for place in 0..certificate.closed().len() {
-        if !passes_at(task, certificate, place) {
+        if !passes_at(task, certificate, place, state) {
             return Some(Violation::ClosedGoal(place));
         }
     }
     None
+}
+
+/// C7: the first closed goal state that costs less than the bound.
+///
+/// An `Err` is of too little memory.
+pub fn first_goal_violation(
+    alloc: Global,
+    task: &FdrTask,
+    certificate: &Certificate,
+) -> Result<Option<Violation>, AllocError>
+    requires { IsMet task.now certificate.now 5 }
+    ensures { IfOk result (λ found. IsFoundIn task.now certificate.now 7 found) }
+{
+    let mut state = certificate.closed().buffer(alloc)?;
+    Ok(first_failing(task, certificate, &mut state))
 }

@@ -1,6 +1,6 @@
 //! The closed states themselves.
 
-ghost use Rattle.std.specs.Prelude.{◌≡◌, ◌<◌, length};
+ghost use Rattle.std.specs.Prelude.{◌≡◌, ◌<◌, All, length, IfOk};
 ghost use Rattle.fdr.specs.Tasks.{ranges};
 ghost use Rattle.checker_clauses.specs.Clauses as spec;
 ghost use Rattle.checker_clauses.specs.Violations.{IsFoundIn};
@@ -9,6 +9,7 @@ ghost use Rattle.closed_clauses.specs.Places.{passes_state};
 use certificates::{Certificate, ClosedList};
 use checker_clauses::Violation;
 use fdr::FdrTask;
+use std::alloc::{AllocError, Global};
 
 /// Whether there is a value below its range for each variable.
 fn is_state(task: &FdrTask, state: &[u32]) -> bool
@@ -32,24 +33,61 @@ fn comes_before(first: &[u32], second: &[u32]) -> bool
     first < second
 }
 
-/// Whether the state at that place is one of the task, and behind the one before it.
-fn passes_at(task: &FdrTask, closed: &ClosedList, place: usize) -> bool
-    requires { place < length closed.now }
-    ensures { result ≡ passes_state task.now closed.now place }
+/// Whether the state at that place is one of the task, and behind the one before it. Both buffers, which are as long as each
+/// state, are for use within.
+fn passes_at(
+    task: &FdrTask,
+    closed: &ClosedList,
+    place: usize,
+    state: &mut [u32],
+    before: &mut [u32],
+) -> bool
+    requires place { place < length closed.now }
+    requires state { All (λ e. length e.state ≡ length state.old) closed.now }
+    requires before { All (λ e. length e.state ≡ length before.old) closed.now }
+    ensures passes { result ≡ passes_state task.now closed.now place }
+    ensures state { length state.new ≡ length state.old }
+    ensures before { length before.new ≡ length before.old }
 {
-    let state = closed.state(place);
-    is_state(task, state) && (place == 0 || comes_before(closed.state(place - 1), state))
+    closed.copy_state(place, state);
+    if place == 0 {
+        return is_state(task, state);
+    }
+    closed.copy_state(place - 1, before);
+    is_state(task, state) && comes_before(before, state)
 }
 
-/// C5: the first closed state that is no state of the task, or not behind the one before it.
-pub fn first_closed_violation(task: &FdrTask, certificate: &Certificate) -> Option<Violation>
+/// The first closed state that fails. Both buffers, which are as long as each state, are for use within.
+fn first_failing(
+    task: &FdrTask,
+    certificate: &Certificate,
+    state: &mut [u32],
+    before: &mut [u32],
+) -> Option<Violation>
+    requires state { All (λ e. length e.state ≡ length state.old) certificate.now.closed }
+    requires before { All (λ e. length e.state ≡ length before.old) certificate.now.closed }
     ensures { IsFoundIn task.now certificate.now 5 result }
 {
     let closed = certificate.closed();
     for place in 0..closed.len() {
-        if !passes_at(task, closed, place) {
+        if !passes_at(task, closed, place, state, before) {
             return Some(Violation::ClosedState(place));
         }
     }
     None
+}
+
+/// C5: the first closed state that is no state of the task, or not behind the one before it.
+///
+/// An `Err` is of too little memory.
+pub fn first_closed_violation(
+    alloc: Global,
+    task: &FdrTask,
+    certificate: &Certificate,
+) -> Result<Option<Violation>, AllocError>
+    ensures { IfOk result (λ found. IsFoundIn task.now certificate.now 5 found) }
+{
+    let mut state = certificate.closed().buffer(alloc)?;
+    let mut before = certificate.closed().buffer(alloc)?;
+    Ok(first_failing(task, certificate, &mut state, &mut before))
 }

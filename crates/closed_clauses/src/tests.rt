@@ -39,14 +39,14 @@ fn found(
     if let Some(violation) = first_table_violation(alloc, task, &certificate)? {
         return Ok(Some(violation));
     }
-    if let Some(violation) = first_closed_violation(task, &certificate) {
+    if let Some(violation) = first_closed_violation(alloc, task, &certificate)? {
         return Ok(Some(violation));
     }
     let coverage = Coverage::new(alloc, task, &certificate)?;
     if let Some(violation) = coverage.start_violation() {
         return Ok(Some(violation));
     }
-    if let Some(violation) = first_goal_violation(task, &certificate) {
+    if let Some(violation) = first_goal_violation(alloc, task, &certificate)? {
         return Ok(Some(violation));
     }
     Ok(coverage.first_successor_violation(alloc)?)

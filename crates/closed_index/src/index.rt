@@ -1,9 +1,11 @@
 //! The index.
 
-ghost use Rattle.std.specs.Prelude.{◌≡◌, ◌<◌, false, length, slice_get, IfOk};
+ghost use Rattle.std.specs.Prelude.{◌≡◌, ◌<◌, false, length, slice_get, All, IfOk};
 ghost use Rattle.std.specs.Option.{option_map_or};
 ghost use Rattle.checker_clauses.specs.Clauses.{is_listed};
+ghost use Rattle.closed_index.specs.Indexes.{IndexesTo};
 ghost use Rattle.closed_index.specs.Lists.{lists};
+ghost use Rattle.closed_index.specs.Rooms.{HasRoom};
 
 use crate::chains::Chains;
 use crate::hash::bucket_of;
@@ -39,7 +41,22 @@ fn lists_at(closed: &ClosedList, place: usize, state: &[u32], cost: u64) -> bool
     requires { place < length closed.now }
     ensures { result ≡ option_map_or (lists state.now cost) (slice_get closed.now place) false }
 {
-    closed.state(place) == state && closed.cost(place) <= cost
+    closed.has_state(place, state) && closed.cost(place) <= cost
+}
+
+/// Chains every state in its bucket. The states are unpacked one after another into `state`, which is as long as each.
+fn chained(closed: &ClosedList, room: Chains, state: &mut [u32]) -> Chains
+    requires room { HasRoom (length closed.now) room }
+    requires state { All (λ e. length e.state ≡ length state.old) closed.now }
+    ensures { IndexesTo (length closed.now) closed.now result }
+{
+    let mut chains = room;
+    for place in 0..closed.len() {
+        closed.copy_state(place, state);
+        let bucket = bucket_of(state, chains.buckets());
+        chains.add(place, bucket);
+    }
+    chains
 }
 
 impl<'a> ClosedIndex<'a> {
@@ -47,11 +64,9 @@ impl<'a> ClosedIndex<'a> {
     pub fn new(alloc: Global, closed: &'a ClosedList) -> Result<ClosedIndex<'a>, AllocError>
         ensures { IfOk result (λ index. index ≡ closed.now) }
     {
-        let mut chains = Chains::new(alloc, closed.len())?;
-        for place in 0..closed.len() {
-            let bucket = bucket_of(closed.state(place), chains.buckets());
-            chains.add(place, bucket);
-        }
+        let chains = Chains::new(alloc, closed.len())?;
+        let mut state = closed.buffer(alloc)?;
+        let chains = chained(closed, chains, &mut state);
         Ok(ClosedIndex { closed, chains })
     }
 

@@ -8,5 +8,5 @@ returns c =
     let six = met_more task certificate 6 c.requires.clauses
     (none_met task certificate 6 c.start_violation.result (rw (c.requires.task, c.requires.certificate) at c.start_violation.ensures) c.in_default.not-Some) in
     let seven = met_more task certificate 7 six
-    (none_met task certificate 7 c.first_goal_violation.result c.first_goal_violation.ensures c.in_default-first_goal_violation.not-Some) in
+    (none_met task certificate 7 c.in_ok-goal.field-0 c.in_ok-goal.ensures c.in_default-2.not-Some) in
     found_more_if task certificate 8 c.first_successor_violation.result seven (rw (c.requires.task, c.requires.certificate) at c.first_successor_violation.ensures)

@@ -7,14 +7,14 @@ use Rattle.certificates.proofs.closed.ClosedList.cost.Goals as goal
 
 pub index-requires : goal.index-requires
 index-requires c =
-    let e = length_entries c.self.inside.width c.self.inside.costs.items c.self.inside.values.items in
+    let e = length_entries c.self.inside.width c.self.inside.costs.items c.self.inside.values in
     let v = ap (λ (es : List Entry). length es) c.self.view_is in
     omega arith
 
 pub returns : goal.returns
 returns c =
-    let e = length_entries c.self.inside.width c.self.inside.costs.items c.self.inside.values.items in
+    let e = length_entries c.self.inside.width c.self.inside.costs.items c.self.inside.values in
     let v = ap (λ (es : List Entry). length es) c.self.view_is in
     ap (λ (es : List Entry). option_map (λ (x : Entry). x.cost) (slice_get es c.args.index)) (sym c.self.view_is)
-    ∙ cost_at c.self.inside.width c.self.inside.costs.items c.self.inside.values.items c.args.index
+    ∙ cost_at c.self.inside.width c.self.inside.costs.items c.self.inside.values c.args.index
     ∙ slice_get_read c.self.inside.costs.items (length c.self.inside.costs.items) c.args.index c.index.result.now (search rules) (omega arith) c.index.ensures

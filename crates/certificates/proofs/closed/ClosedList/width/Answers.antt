@@ -6,4 +6,4 @@ use Rattle.certificates.proofs.closed.ClosedList.width.Goals as goal
 
 pub returns-else-is_empty : goal.returns-else-is_empty
 returns-else-is_empty c =
-    sym (width_is c.self.inside.width c.self.inside.costs.items c.self.inside.values.items (grind (arith, nat_tests)) c.self.invariant) ∙ ap width_of c.self.view_is
+    sym (width_is c.self.inside.width c.self.inside.costs.items c.self.inside.values (grind (arith, nat_tests)) c.self.invariant) ∙ ap width_of c.self.view_is
