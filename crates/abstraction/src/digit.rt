@@ -7,14 +7,14 @@ ghost use Rattle.abstraction.specs.Digits.{IsDigitBelow};
 /// Where the value of one variable stands in an abstract state: the value is the number divided by the weight,
 /// modulo the range.
 #[derive(Clone, Copy)]
-pub(crate) struct Digit {
-    pub(crate) weight: usize,
-    pub(crate) range: usize,
+pub struct Digit {
+    pub weight: usize,
+    pub range: usize,
 }
 
 impl Digit {
     /// The value that stands here.
-    pub(crate) fn value(self, abstract_state: usize) -> usize
+    pub fn value(self, abstract_state: usize) -> usize
         requires { IsDigitBelow (2 ^ 24) self }
         ensures { result ≡ spec.value_of self abstract_state }
     {

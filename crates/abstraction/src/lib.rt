@@ -8,6 +8,7 @@ mod laws;
 mod projection;
 
 pub use abstraction::Abstraction;
+pub use digit::Digit;
 pub use fault::ProjectionFault;
 pub use laws::{heuristic_is_lower_bound, projection_is_abstraction};
 pub use projection::Projection;

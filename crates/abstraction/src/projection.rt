@@ -55,15 +55,6 @@ impl<'a> Model for Projection<'a> {
         (p.size ≡ spec.size_of (ranges p.task.now) p.pattern.items) };
 }
 
-/// Recalls what holds of every task.
-fn recall_task(task: &FdrTask)
-    ensures { IsTask task.now }
-{
-    task.initial();
-    task.goal();
-    task.operators();
-}
-
 /// The first place in the pattern with a variable that the task does not have.
 fn first_unknown(task: &FdrTask, pattern: &[usize]) -> Option<usize>
     ensures unknown { IfSome result (λ k. IsFaultOf task.now pattern.now (ProjectionFault.UnknownVariable k)) }
@@ -147,7 +138,7 @@ impl<'a> Projection<'a> {
         if let Some(place) = first_unknown(task, pattern) {
             return Err(ProjectionFault::UnknownVariable(place));
         }
-        recall_task(task);
+        task.recall();
         let (digits, size) = digits_of(alloc, task, pattern)?;
         let pattern = Vec::from_slice(alloc, pattern)?;
         Ok(Projection {
@@ -156,6 +147,27 @@ impl<'a> Projection<'a> {
             digits,
             size,
         })
+    }
+
+    /// The task.
+    pub fn task(&self) -> &FdrTask
+        ensures { result.now ≡ self.now.task }
+    {
+        self.task
+    }
+
+    /// The pattern: the task's variables, by their numbers, of which the abstract states say the values.
+    pub fn pattern(&self) -> &[usize]
+        ensures { result.now ≡ self.now.pattern }
+    {
+        &self.pattern
+    }
+
+    /// Where the values of the pattern's variables stand in an abstract state, in the pattern's order.
+    pub fn digits(&self) -> &[Digit]
+        ensures { result.now ≡ digits_from (ranges self.now.task) 1 self.now.pattern }
+    {
+        &self.digits
     }
 
     /// The digit of a variable, if it is in the pattern.

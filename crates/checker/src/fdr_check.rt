@@ -79,15 +79,6 @@ fn first_violation(
     closed_violation(alloc, task, certificate)
 }
 
-/// Recalls what holds of every task.
-fn recall_task(task: &FdrTask)
-    ensures { IsTask task.now }
-{
-    task.initial();
-    task.goal();
-    task.operators();
-}
-
 /// The verdict on a certificate for a task, whatever kind of task the certificate names: `Accepted` with its bound exactly
 /// where all clauses hold, and else `Rejected` with the first clause and place. Where it is accepted every plan costs at
 /// least the bound, whoever wrote it, and there is no plan where that is infinite. An `Err` is of too little memory.
@@ -100,7 +91,7 @@ pub fn check_fdr<R: AllocGlobal>(
     ensures bound { (bound : Distance) → IfOk result (λ verdict. verdict ≡ Accepted bound → EveryPlanCostsAtLeast task.now bound) }
     ensures none { IfOk result (λ verdict. verdict ≡ Accepted Infinite → HasNoPlan task.now) }
 {
-    recall_task(task);
+    task.recall();
     match first_violation(rt.alloc(), task, certificate)? {
         Some(violation) => Ok(Verdict::Rejected(violation)),
         None => Ok(Verdict::Accepted(certificate.bound())),

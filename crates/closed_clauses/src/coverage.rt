@@ -18,15 +18,6 @@ use std::marker::Model;
 use successor_generator::SuccessorGenerator;
 use table_clauses::Heuristic;
 
-/// Recalls what holds of every task.
-fn recall_task(task: &FdrTask)
-    ensures { IsTask task.now }
-{
-    task.initial();
-    task.goal();
-    task.operators();
-}
-
 /// Recalls that every cost is a number of 64 bits.
 fn recall_costs(closed: &ClosedList)
     ensures { All (λ e. e.cost < 2 ^ 64) closed.now }
@@ -74,7 +65,7 @@ impl<'a> Coverage<'a> {
         requires { IsMet task.now certificate.now 4 }
         ensures { IfOk result (λ c. (c.task ≡ task.now) × (c.certificate ≡ certificate.now)) }
     {
-        recall_task(task);
+        task.recall();
         recall_costs(certificate.closed());
         recall_distance(certificate.bound());
         Ok(Coverage {

@@ -1,8 +1,9 @@
 //! What every command does with its device: it reads files, replies with an answer, and reports a fault.
 
-ghost use Rattle.std.specs.Prelude.{◌≡◌, ◌≢◌, ◌≤◌, ◌+◌, ◌∷◌, [], ◌++◌, List, Some, IfOk, IfErr, OnOk, OnErr, string_bytes};
+ghost use Rattle.std.specs.Prelude.{◌≡◌, ◌≢◌, ◌≤◌, ◌+◌, ◌∷◌, [], ◌++◌, ◌⊎◌, List, Some, IfOk, IfErr, OnOk, OnErr, string_bytes};
 ghost use Rattle.device.specs.Events.{Event, HasRead, HasPut, Adds};
 ghost use Rattle.command.specs.Faults.{fault_status};
+ghost use Rattle.command.specs.declared.fault.Fault.TheVariants.{OutOfMemory, CannotRead, CannotWrite};
 ghost use Rattle.command.specs.Runs.{IsDeviceFault, IsQuiet};
 
 use crate::fault::{Fault, FileWord};
@@ -17,6 +18,7 @@ pub fn read_file<D: Device>(
     file: FileWord,
 ) -> Result<Vec<u8>, Fault>
     ensures told { IfOk result (λ bytes. Adds (D.history device.old) (D.history device.new) (HasRead name.now bytes.items)) }
+    ensures word { IfErr result (λ e. (e ≡ OutOfMemory) ⊎ (e ≡ CannotRead file)) }
     ensures same { OnOk result (D.failure_count device.new ≡ D.failure_count device.old) }
     ensures kept { OnErr result (D.history device.new ≡ D.history device.old) }
     ensures failed { IfErr result (λ e. IsDeviceFault e (D.failure_count device.old) (D.failure_count device.new)) }
@@ -31,6 +33,7 @@ pub fn read_file<D: Device>(
 /// Puts a line out.
 fn put<D: Device>(device: &mut D, line: &str) -> Result<(), Fault>
     ensures told { OnOk result (Adds (D.history device.old) (D.history device.new) (HasPut line.now)) }
+    ensures word { IfErr result (λ e. (e ≡ OutOfMemory) ⊎ (e ≡ CannotWrite FileWord.Output)) }
     ensures same { OnOk result (D.failure_count device.new ≡ D.failure_count device.old) }
     ensures kept { OnErr result (D.history device.new ≡ D.history device.old) }
     ensures failed { IfErr result (λ e. IsDeviceFault e (D.failure_count device.old) (D.failure_count device.new)) }

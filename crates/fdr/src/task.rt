@@ -29,7 +29,8 @@ pub enum TaskLimit {
     Operators,
 }
 
-/// A finite-domain task. Its values are in range, and each condition and each effect names a variable at most once.
+/// A finite-domain task. Its values are in range, each condition and each effect names a variable at most once, and no table is
+/// longer than it may be.
 #[derive(Drop)]
 pub struct FdrTask {
     metric: bool,
@@ -40,13 +41,15 @@ pub struct FdrTask {
 }
 
 impl Model for FdrTask {
-    ghost use Rattle.fdr.specs.Tasks.{FiniteDomainTask, IsTask, task_of};
+    ghost use Rattle.fdr.specs.Tasks.{FiniteDomainTask, IsTask, IsWithinLimits, task_of};
 
     ghost Value = { FiniteDomainTask };
 
     ghost view = { λ t. task_of t.metric t.value_names.items t.initial.items t.goal.items t.operators.items };
 
-    ghost invariant = { λ t. IsTask (task_of t.metric t.value_names.items t.initial.items t.goal.items t.operators.items) };
+    ghost invariant = { λ t.
+        IsTask (task_of t.metric t.value_names.items t.initial.items t.goal.items t.operators.items) ×
+        IsWithinLimits (task_of t.metric t.value_names.items t.initial.items t.goal.items t.operators.items) };
 }
 
 /// Whether a variable has more values than it may have.
@@ -93,6 +96,15 @@ impl FdrTask {
             goal,
             operators,
         })
+    }
+
+    /// Recalls what holds of every task.
+    pub fn recall(&self)
+        ensures task { IsTask self.now }
+        ensures limits { IsWithinLimits self.now }
+    {
+        // the type's invariant is told where a field is read
+        let _ = self.operators.len();
     }
 
     /// Whether operators cost what they say; else each costs 1.

@@ -8,8 +8,8 @@ returns-in-None-clause-verdict g c =
 
 pub returns-in-None-clause-bound : goal.returns-in-None-clause-bound
 returns-in-None-clause-bound g c bound e =
-    held_bound c.args.task.now c.args.certificate.now c.recall_task.ensures c.bound.result bound c.bound.ensures e (rw c.in-None.is at c.in_ok-violation.ensures)
+    held_bound c.args.task.now c.args.certificate.now c.recall.ensures.task c.bound.result bound c.bound.ensures e (rw c.in-None.is at c.in_ok-violation.ensures)
 
 pub returns-in-None-clause-none : goal.returns-in-None-clause-none
 returns-in-None-clause-none g c e =
-    held_bound c.args.task.now c.args.certificate.now c.recall_task.ensures c.bound.result Infinite c.bound.ensures e (rw c.in-None.is at c.in_ok-violation.ensures)
+    held_bound c.args.task.now c.args.certificate.now c.recall.ensures.task c.bound.result Infinite c.bound.ensures e (rw c.in-None.is at c.in_ok-violation.ensures)

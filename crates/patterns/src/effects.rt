@@ -1,0 +1,36 @@
+//! Operators by the variables of their effects.
+
+use fdr::{FdrTask, Operator};
+use std::alloc::{AllocError, Global};
+
+/// An operator has an effect on a variable; both by their numbers.
+#[derive(Clone, Copy, PartialEq, Eq, PartialOrd, Ord)]
+pub(crate) struct Effect {
+    pub(crate) variable: usize,
+    pub(crate) operator: usize,
+}
+
+/// The effects of an operator.
+fn push_effects(
+    effects: &mut Vec<Effect>,
+    number: usize,
+    operator: &Operator,
+) -> Result<(), AllocError> {
+    for fact in &operator.effect {
+        effects.push(Effect {
+            variable: fact.variable,
+            operator: number,
+        })?;
+    }
+    Ok(())
+}
+
+/// The effects of all operators, by variable and then by operator.
+pub(crate) fn effects_of(alloc: Global, task: &FdrTask) -> Result<Vec<Effect>, AllocError> {
+    let mut effects = Vec::new(alloc);
+    for (number, operator) in task.operators().iter().enumerate() {
+        push_effects(&mut effects, number, operator)?;
+    }
+    effects.sort_unstable();
+    Ok(effects)
+}
