@@ -1,2 +1,3 @@
+pub mod ObjectLists
 pub mod SearchLaws
 pub mod SchemaLaws

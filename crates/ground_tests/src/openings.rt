@@ -1,0 +1,35 @@
+//! The first action over a set of atoms that adds another one, and the least such atom.
+
+use crate::texts::opening_of;
+use std::test::*;
+
+/// Towns a, b and c, and the place d.
+const PLACES: &str =
+    "(define (domain places) (:types town - place) (:constants a b c - town d - place)
+    (:predicates (at ?x) (road ?x ?y) (done)) ";
+
+const GO: &str =
+    "(:action go :parameters (?x ?y - town) :precondition (and (at ?x) (road ?x ?y)) :effect (at ?y))";
+
+const BOTH: &str = "(:action both :parameters (?x - town) :effect (and (at c) (at ?x)))";
+
+#[test]
+fn the_first_open_action_is_named(rt: HostRuntime) -> Result<(), Fail> {
+    // The action schema, the atoms but for a road from a to b, and what is open.
+    let table: [(&str, &str, &str); 5] = [
+        (GO, "(at a)", "go a b|at b"),
+        (GO, "(at b) (at a)", "closed"),
+        (BOTH, "", "both a|at a"),
+        (BOTH, "(at c) (at a)", "both b|at b"),
+        (BOTH, "(at c) (at b) (at a)", "closed"),
+    ];
+    for (action, atoms, want) in table {
+        let domain = format!(in rt.alloc(); "{PLACES}{action})")?;
+        let problem = format!(in rt.alloc();
+            "(define (problem p) (:init (road a b) {atoms}) (:goal ()))"
+        )?;
+        let found = opening_of(rt.alloc(), domain.as_str(), problem.as_str())?;
+        assert_eq!(rt; found.as_str(), want, "{action} {atoms}");
+    }
+    Ok(())
+}

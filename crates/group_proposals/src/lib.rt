@@ -1,0 +1,12 @@
+//! Proposals of mutex groups: sets of predicates with one argument in common, tried for each object.
+#![tactic(auto)]
+
+mod candidates;
+mod group_list;
+mod parts;
+mod proposals;
+#[cfg(test)]
+mod tests;
+
+pub use group_list::{Group, Groups};
+pub use proposals::{MOST_CANDIDATES, groups};

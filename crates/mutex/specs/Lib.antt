@@ -1,0 +1,4 @@
+pub mod Groups
+pub mod Places
+pub mod Tables
+pub mod Spans

@@ -1,0 +1,26 @@
+//! Laws of mutex groups. Each function states one as its contract, for every task, and its body is empty.
+
+ghost use Rattle.std.specs.Prelude.{◌≡◌, true, List, Some, All, Contains};
+ghost use Rattle.std.specs.List.{list_any};
+ghost use Rattle.planning.specs.Atoms.{Atom, State, contains, at_most_one};
+ghost use Rattle.planning.specs.Planning.{PlanningTask, Action};
+ghost use Rattle.planning.specs.Plans.{state_after};
+ghost use Rattle.mutex.specs.Groups.{is_usable, is_full, is_constant};
+
+/// In every state that a run of the actions reaches from the initial atoms, at most one atom of a usable group is true, and
+/// of a full one at least one.
+pub fn groups_are_exclusive()
+    ensures one { (task : PlanningTask) (actions : List Action) (group : List Atom) → is_usable task actions group ≡ true →
+        (plan : List Action) (state : State) → All (Contains actions) plan →
+        state_after (contains task.initial) plan ≡ Some state → at_most_one state group ≡ true }
+    ensures some { (task : PlanningTask) (actions : List Action) (group : List Atom) → is_full task actions group ≡ true →
+        (plan : List Action) (state : State) → All (Contains actions) plan →
+        state_after (contains task.initial) plan ≡ Some state → list_any state group ≡ true }
+{}
+
+/// In every such state each constant atom is true.
+pub fn constants_stay_true()
+    ensures { (task : PlanningTask) (actions : List Action) (p : Atom) → is_constant task actions p ≡ true →
+        (plan : List Action) (state : State) → All (Contains actions) plan →
+        state_after (contains task.initial) plan ≡ Some state → state p ≡ true }
+{}

@@ -1,0 +1,69 @@
+//! Rows of numbers, all in one vector.
+
+ghost use Rattle.std.specs.Prelude.{◌≡◌, ◌++◌, [], ◌∷◌, length, slice_index_or, OnOk};
+
+use std::alloc::{AllocError, Global};
+use std::marker::Model;
+
+// Where a row begins, and where it ends.
+#[derive(Debug, Clone, Copy)]
+struct Span {
+    start: usize,
+    end: usize,
+}
+
+// Rows of numbers of places, or of actions.
+#[derive(Drop)]
+pub(crate) struct Rows {
+    spans: Vec<Span>,
+    numbers: Vec<usize>,
+}
+
+impl Model for Rows {
+    ghost use Rattle.std.specs.Prelude.{ℕ, List, map, length};
+    ghost use Rattle.mutex.specs.Spans.{part, LieWithin};
+
+    ghost Value = { List (List ℕ) };
+
+    ghost view = { λ r. map (part r.numbers.items) r.spans.items };
+
+    ghost invariant = { λ r. LieWithin r.spans.items (length r.numbers.items) };
+}
+
+impl Rows {
+    pub(crate) fn new(alloc: Global) -> Rows
+        ensures { result ≡ [] }
+    {
+        Rows {
+            spans: Vec::new(alloc),
+            numbers: Vec::new(alloc),
+        }
+    }
+
+    pub(crate) fn len(&self) -> usize
+        ensures { result ≡ length self.now }
+    {
+        self.spans.len()
+    }
+
+    // Puts the row at the end.
+    pub(crate) fn push(&mut self, row: &[usize]) -> Result<(), AllocError>
+        ensures { OnOk result (self.new ≡ self.old ++ row.now ∷ []) }
+    {
+        let start = self.numbers.len();
+        self.numbers.extend_from_slice(row)?;
+        let end = self.numbers.len();
+        self.spans.push(Span { start, end })?;
+        Ok(())
+    }
+
+    // The row of this number, which is empty past the end.
+    pub(crate) fn row(&self, number: usize) -> &[usize]
+        ensures { result.now ≡ slice_index_or self.now number [] }
+    {
+        match self.spans.get(number) {
+            Some(span) => &self.numbers[span.start..span.end],
+            None => &[],
+        }
+    }
+}

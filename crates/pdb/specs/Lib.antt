@@ -1,0 +1,5 @@
+pub mod Orders
+pub mod Queues
+pub mod Saturations
+pub mod Searches
+pub mod Stairs

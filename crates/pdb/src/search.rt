@@ -1,0 +1,178 @@
+//! The search backwards from the abstract goals.
+
+ghost use Rattle.std.specs.Prelude.{◌≡◌, ℕ, ◌+◌, ◌^◌, ◌<◌, ◌≤◌, length, slice_index, map, All, IfOk, OnOk};
+ghost use Rattle.cost.specs.Distances.{IsWithin};
+ghost use Rattle.fdr.specs.Tasks.{FiniteDomainTask};
+ghost use Rattle.certificates.specs.Kept.{kept_distance};
+ghost use Rattle.walks.specs.Walks.{AreDistances};
+ghost use Rattle.pdb.specs.Queues.{size_of};
+ghost use Rattle.pdb.specs.Searches.{IsSearch, IsSearchBut, IsSettled, IsSettledBy, HasFallen, HasLowered, work};
+
+use crate::queue::Queue;
+use certificates::Values;
+use cost::Dist;
+use std::alloc::{AllocError, Global};
+use walks::BackwardAbstraction;
+
+/// The value of an abstract state from which no walk to an abstract goal is found.
+const UNREACHED: u64 = 18_446_744_073_709_551_615;
+
+/// Gives the abstract goals the value 0 and puts them into the queue, where no state has a value yet and none is in the queue.
+fn add_goals<A: BackwardAbstraction>(abstraction: &A, values: &mut [u64], queue: &mut Queue)
+    requires size { length values.old ≡ (A.abstraction abstraction.now).size }
+    requires queue_size { size_of queue.old ≡ (A.abstraction abstraction.now).size }
+    requires values { (k : ℕ) → k < length values.old → slice_index values.old k ≡ UNREACHED }
+    requires empty { queue.old.len ≡ 0 }
+    ensures { (share : ℕ → ℕ) → IsSearch (A.abstraction abstraction.now) share values.new queue.new }
+{
+    for state in 0..values.len() {
+        if abstraction.is_goal(state) {
+            values[state] = 0;
+            queue.add(values, state);
+        }
+    }
+}
+
+/// Lowers the value of a state to this one where that is less, and then puts the state into the queue.
+fn lower(values: &mut [u64], queue: &mut Queue, state: usize, value: u64)
+    requires state { state < length values.old }
+    requires size { size_of queue.old ≡ length values.old }
+    ensures { HasLowered values.old queue.old values.new queue.new state value }
+{
+    if value < values[state] {
+        values[state] = value;
+        queue.add(values, state);
+    }
+}
+
+/// Lowers the values of the states from which the operator leads to this one to what that shows. The list is for those states.
+/// An `Err` is of too little memory.
+fn relax<A: BackwardAbstraction>(
+    abstraction: &A,
+    shares: &[u32],
+    values: &mut [u64],
+    queue: &mut Queue,
+    state: usize,
+    operator: usize,
+    sources: &mut Vec<u32>,
+) -> Result<(), AllocError>
+    requires operator { operator < length shares.now }
+    requires small { (o : ℕ) → slice_index shares.now o < 2 ^ 31 }
+    requires search { IsSearchBut (A.abstraction abstraction.now) (λ o. slice_index shares.now o) values.old queue.old state }
+    ensures search { OnOk result
+        (IsSearchBut (A.abstraction abstraction.now) (λ o. slice_index shares.now o) values.new queue.new state) }
+    ensures fallen { OnOk result (HasFallen values.old values.new state) }
+    ensures settled { OnOk result
+        (IsSettledBy (A.abstraction abstraction.now) (λ o. slice_index shares.now o) values.new state operator) }
+    ensures work { OnOk result (work values.new queue.new ≤ work values.old queue.old) }
+{
+    abstraction.sources(state, operator, sources)?;
+    let value = values[state] + u64::from(shares[operator]);
+    for source in &*sources {
+        lower(values, queue, *source as usize, value);
+    }
+    Ok(())
+}
+
+/// Lowers the values of all states from which some operator leads to this one. The lists are for the operators and those states.
+/// An `Err` is of too little memory.
+fn expand<A: BackwardAbstraction>(
+    abstraction: &A,
+    shares: &[u32],
+    values: &mut [u64],
+    queue: &mut Queue,
+    state: usize,
+    operators: &mut Vec<u32>,
+    sources: &mut Vec<u32>,
+) -> Result<(), AllocError>
+    requires operators { length shares.now ≡ length (A.task abstraction.now).operators }
+    requires small { (o : ℕ) → slice_index shares.now o < 2 ^ 31 }
+    requires search { IsSearchBut (A.abstraction abstraction.now) (λ o. slice_index shares.now o) values.old queue.old state }
+    ensures search { OnOk result
+        (IsSearch (A.abstraction abstraction.now) (λ o. slice_index shares.now o) values.new queue.new) }
+    ensures work { OnOk result (work values.new queue.new ≤ work values.old queue.old) }
+{
+    abstraction.entering(state, operators)?;
+    for operator in &*operators {
+        relax(
+            abstraction,
+            shares,
+            values,
+            queue,
+            state,
+            *operator as usize,
+            sources,
+        )?;
+    }
+    Ok(())
+}
+
+/// Takes one state after another out of the queue and lowers the values behind it, until none is left. An `Err` is of too little
+/// memory.
+fn settle<A: BackwardAbstraction>(
+    alloc: Global,
+    abstraction: &A,
+    shares: &[u32],
+    values: &mut [u64],
+    queue: &mut Queue,
+) -> Result<(), AllocError>
+    requires operators { length shares.now ≡ length (A.task abstraction.now).operators }
+    requires small { (o : ℕ) → slice_index shares.now o < 2 ^ 31 }
+    requires search { IsSearch (A.abstraction abstraction.now) (λ o. slice_index shares.now o) values.old queue.old }
+    ensures search { OnOk result
+        (IsSearch (A.abstraction abstraction.now) (λ o. slice_index shares.now o) values.new queue.new) }
+    ensures empty { OnOk result (queue.new.len ≡ 0) }
+{
+    let mut operators = Vec::new(alloc);
+    let mut sources = Vec::new(alloc);
+    while let Some(state) = queue.take(values) {
+        expand(
+            abstraction,
+            shares,
+            values,
+            queue,
+            state,
+            &mut operators,
+            &mut sources,
+        )?;
+    }
+    Ok(())
+}
+
+/// The values as distances. An `Err` is of too little memory.
+fn as_distances(alloc: Global, values: &[u64]) -> Result<Values, AllocError>
+    ensures { IfOk result (λ distances. distances ≡ map kept_distance values.now) }
+{
+    let mut distances = Values::new(alloc);
+    for value in values {
+        distances.push(Dist::fin(*value).unwrap_or(Dist::inf()))?;
+    }
+    Ok(distances)
+}
+
+/// The distances from the abstract states, in order, to the abstract goals, where a step by an operator is as long as its share:
+/// for each state the least total of shares over the walks from it to an abstract goal, and infinite where there is none. There
+/// is a share below 2^31 for each operator of the task, in order. Finite distances are at most 2^55. An `Err` is of too little
+/// memory.
+///
+/// A search backwards from the goals (Dijkstra 1959; for tables of abstractions Culberson and Schaeffer 1998), which takes two
+/// words for each abstract state.
+pub fn distances<A: BackwardAbstraction>(
+    alloc: Global,
+    abstraction: &A,
+    shares: &[u32],
+) -> Result<Values, AllocError>
+    requires operators { length shares.now ≡ length (A.task abstraction.now).operators }
+    requires small { (o : ℕ) → slice_index shares.now o < 2 ^ 31 }
+    ensures small { IfOk result (λ values. All (IsWithin (2 ^ 55)) values) }
+    ensures distances { IfOk result
+        (λ values. AreDistances (A.abstraction abstraction.now) (λ o. slice_index shares.now o) values) }
+{
+    let size = abstraction.size();
+    let mut values = vec![in alloc; UNREACHED; size]?;
+    let mut queue = Queue::new(alloc, size)?;
+    add_goals(abstraction, &mut values, &mut queue);
+    settle(alloc, abstraction, shares, &mut values, &mut queue)?;
+    drop(queue);
+    as_distances(alloc, &values)
+}

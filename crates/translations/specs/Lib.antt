@@ -1,0 +1,4 @@
+pub mod Names
+pub mod Translations
+pub mod Bounds
+pub mod Worked

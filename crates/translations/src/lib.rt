@@ -1,0 +1,10 @@
+//! Translations of planning tasks into finite-domain tasks over listed atoms and chosen variables: what they are, and laws: a task
+//! and its translation have the same plans with the same costs, and the same bounds (Helmert 2009).
+#![tactic(auto)]
+
+mod laws;
+
+pub use laws::{
+    translation_has_same_bounds, translation_has_same_plans, translation_is_task,
+    values_tell_atoms, worked_tasks_translate,
+};
