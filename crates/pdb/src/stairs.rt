@@ -16,6 +16,7 @@ pub(crate) struct Stairs {
     pub(crate) touching: usize,
     /// How many operators there are.
     pub(crate) operators: usize,
+    ghost some: { 0 < length goals.items },
     ghost small: { length goals.items ≤ 2 ^ 24 },
     ghost within: { touching ≤ operators },
     ghost few: { operators < 2 ^ 24 },
@@ -28,7 +29,7 @@ impl Abstraction for Stairs {
 
     ghost abstraction = { λ s. stairs s.goals.items s.touching s.operators };
 
-    ghost abstracts = { λ s. stairs_abstracts s.goals.items s.touching s.operators s.within };
+    ghost abstracts = { λ s. stairs_abstracts s.goals.items s.touching s.operators s.some s.within };
 
     ghost is_small = { λ s. s.small };
 

@@ -32,7 +32,9 @@ fn agrees(
     expected: &[u64],
     saturated: &[u32],
 ) -> Result<(), Fail> {
-    assert!(rt; goals.len() < 100 && touching <= shares.len() && shares.len() < 100);
+    assert!(rt;
+        !goals.is_empty() && goals.len() < 100 && touching <= shares.len() && shares.len() < 100
+    );
     assert!(rt; are_small(shares));
     let stairs = Stairs {
         goals: Vec::from_slice(alloc, goals)?,
