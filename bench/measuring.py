@@ -47,7 +47,7 @@ def run(program, words):
 
 
 def measure(name, program, command, script, files, size, answer):
-    """Runs a command RUNS times on the files that a generator makes for a size.
+    """Runs a command, or a program without commands, RUNS times on the files that a generator makes for a size.
 
     `answer` gives the line that is wanted, from what the generator prints. Returns whether each answer was right, the text's
     bytes, the least seconds and the greatest peak in bytes.
@@ -58,7 +58,7 @@ def measure(name, program, command, script, files, size, answer):
         text = sum(os.path.getsize(path) for path in paths)
         right, times, peaks = True, [], []
         for _ in range(RUNS):
-            output, status, seconds, peak = run(program, [command, *paths])
+            output, status, seconds, peak = run(program, [command, *paths] if command else paths)
             if output.strip() != wanted or status != 0:
                 right = False
                 print(f"{name}: size {size}: expected {wanted!r} and status 0, "

@@ -1,0 +1,13 @@
+pub mod Lists
+pub mod States
+pub mod Distances
+pub mod Nodes
+pub mod Successors
+pub mod Owners
+pub mod Runs
+pub mod Links
+pub mod Closed
+pub mod Plans
+pub mod Worlds
+pub mod Requests
+pub mod Joins

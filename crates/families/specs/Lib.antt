@@ -1,0 +1,5 @@
+pub mod Owners
+pub mod Families
+pub mod Worlds
+pub mod Threads
+pub mod Examples

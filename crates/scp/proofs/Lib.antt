@@ -1,0 +1,10 @@
+pub mod SparseShares
+pub mod Values
+pub mod SameColumns
+pub mod Partitions
+pub mod Forms
+pub mod Tables
+pub mod ColumnsSoFar
+pub mod MadeColumns
+pub mod ColumnLists
+pub mod ChosenPatterns

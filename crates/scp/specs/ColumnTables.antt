@@ -1,0 +1,21 @@
+-- The tables of columns.
+use Rattle.std.specs.Prelude.{◌≡◌, true, List, map, Vec}
+use Rattle.std.specs.Global.{Global}
+use Rattle.fdr.specs.Tasks.{FiniteDomainTask}
+use Rattle.abstraction.specs.Abstractions as abstraction
+use Rattle.certificates.specs.Certificates.{Table}
+use Rattle.checker_clauses.specs.Clauses.{has_form, table_of}
+
+-- a table that has its form for the task
+pub record ColumnTable : Type 0 where
+  pub task : FiniteDomainTask
+  pub table : Table
+  pub formed : has_form task table ≡ true
+
+-- the table on its projection
+abbrev pub on_projection : ColumnTable → abstraction.Table
+on_projection t = table_of t.task t.table
+
+-- a column's tables, as it lies in memory
+abbrev pub tables_of : Vec ColumnTable Global → List Table
+tables_of column = map (λ (t : ColumnTable). t.table) column.items

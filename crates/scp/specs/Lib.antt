@@ -1,0 +1,3 @@
+pub mod Partitions
+pub mod ColumnTables
+pub mod TableProps

@@ -1,0 +1,64 @@
+//! Tables of columns.
+
+ghost use Rattle.std.specs.Prelude.{◌≡◌, ◌^◌, true};
+ghost use Rattle.cost.specs.Distances.{IsWithin};
+ghost use Rattle.fdr.specs.Tasks.{ranges, IsState};
+ghost use Rattle.abstraction.specs.Abstractions.{value_at};
+ghost use Rattle.certificates.specs.Views as kept;
+ghost use Rattle.checker_clauses.specs.Clauses.{table_of, has_form};
+ghost use Rattle.cert_text.specs.Lawful.{IsTable};
+ghost use Rattle.scp.specs.TableProps.{table_prop};
+
+use abstraction::{Abstraction, Projection};
+use certificates::PatternTable;
+use cost::Dist;
+use std::marker::Model;
+
+/// A table with the projection that it is on. It has a text in a certificate.
+#[derive(Drop)]
+pub struct ColumnTable<'a> {
+    projection: Projection<'a>,
+    table: PatternTable,
+    ghost pattern: { projection.pattern ≡ table.pattern.items },
+    ghost has_form: { has_form projection.task (kept.table_of table) ≡ true },
+    ghost is_table: { IsTable (kept.table_of table) } by { table_prop _ },
+}
+
+impl<'a> Model for ColumnTable<'a> {
+    ghost use Rattle.certificates.specs.Views as kept;
+    ghost use Rattle.scp.specs.ColumnTables as spec;
+
+    ghost Value = { spec.ColumnTable };
+
+    ghost view = { λ t. record { task = t.projection.task; table = kept.table_of t.table; formed = t.has_form } };
+}
+
+impl<'a> ColumnTable<'a> {
+    /// The table with its projection.
+    pub(crate) fn new(projection: Projection<'a>, table: PatternTable) -> ColumnTable<'a>
+        requires pattern { projection.pattern ≡ table.pattern.items }
+        requires form { has_form projection.task (kept.table_of table) ≡ true }
+        requires lawful { IsTable (kept.table_of table) }
+        ensures task { result.task ≡ projection.entry.task }
+        ensures table { result.table ≡ kept.table_of table }
+    {
+        ColumnTable { projection, table }
+    }
+
+    /// The table, as a certificate has it.
+    pub fn table(&self) -> &PatternTable
+        ensures table { kept.table_of result.now ≡ self.now.table }
+        ensures lawful { IsTable self.now.table }
+    {
+        &self.table
+    }
+
+    /// The table's value at a state.
+    pub(crate) fn value_at(&self, state: &[u32]) -> Dist
+        requires { IsState (ranges self.now.task) state.now }
+        ensures value { result ≡ value_at state.now (table_of self.now.task self.now.table) }
+        ensures small { IsWithin (2 ^ 55) result }
+    {
+        self.table.values.get(self.projection.index(state))
+    }
+}
