@@ -1,0 +1,48 @@
+//! A word for each value of each variable.
+
+ghost use Rattle.std.specs.Prelude.{◌≡◌, ◌+◌, length, sum, IfOk, OnOk};
+ghost use Rattle.fdr.specs.Tasks.{ranges};
+ghost use Rattle.spread.specs.Drawn.{IsDrawn};
+ghost use Rattle.spread.specs.Spreads as spec;
+
+use fdr::FdrTask;
+use rand_core::{Rng, SeedableRng};
+use rand_xoshiro::SplitMix64;
+use std::alloc::{AllocError, Global};
+
+/// The seed of the words.
+const SEED: u64 = 1;
+
+/// The words of all variables, one after the other, and the place of each variable's first.
+#[derive(Drop)]
+pub(crate) struct Words {
+    pub(crate) words: Vec<u64>,
+    pub(crate) firsts: Vec<usize>,
+}
+
+/// Draws so many words more.
+fn draw(generator: &mut SplitMix64, count: usize, words: &mut Vec<u64>) -> Result<(), AllocError>
+    requires { IsDrawn 1 words.old.items generator.old }
+    ensures drawn { OnOk result (IsDrawn 1 words.new.items generator.new) }
+    ensures count { OnOk result (length words.new.items ≡ length words.old.items + count) }
+{
+    for _ in 0..count {
+        words.push(generator.next_u64())?;
+    }
+    Ok(())
+}
+
+/// Draws the words of a task, variable by variable, and of each by its values.
+pub(crate) fn words_of(alloc: Global, task: &FdrTask) -> Result<Words, AllocError>
+    ensures words { IfOk result (λ made. made.words.items ≡ spec.splitmix_words 1 (sum (ranges task.now))) }
+    ensures firsts { IfOk result (λ made. made.firsts.items ≡ spec.firsts_of (ranges task.now)) }
+{
+    let mut generator = SplitMix64::seed_from_u64(SEED);
+    let mut words = Vec::new(alloc);
+    let mut firsts = Vec::new(alloc);
+    for variable in 0..task.variable_count() {
+        firsts.push(words.len())?;
+        draw(&mut generator, task.range(variable), &mut words)?;
+    }
+    Ok(Words { words, firsts })
+}
