@@ -6,3 +6,4 @@ pub mod Expansion
 pub mod Totals
 pub mod Falls
 pub mod StairEntrances
+pub mod Zips

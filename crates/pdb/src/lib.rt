@@ -3,10 +3,12 @@
 //! Keller and Helmert 2020).
 #![tactic(auto)]
 
+mod jobs;
 mod queue;
 mod saturation;
 mod search;
 
+pub use jobs::{Job, build_all};
 pub use saturation::saturate;
 pub use search::distances;
 

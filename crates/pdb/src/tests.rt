@@ -1,7 +1,7 @@
 ghost use Rattle.std.specs.Prelude.{ℕ, ◌<◌, ◌^◌, slice_index, IsTrue};
 
 use crate::stairs::Stairs;
-use crate::{distances, saturate};
+use crate::{Job, build_all, distances, saturate};
 use std::alloc::Global;
 use std::process::Abort;
 use std::test::*;
@@ -129,4 +129,36 @@ fn takes_any_goals(rt: HostRuntime) -> Result<(), Fail> {
         &[NONE, NONE, NONE, NONE, NONE],
         &[0],
     )
+}
+
+#[test]
+fn makes_the_table_of_each_job(rt: HostRuntime) -> Result<(), Fail> {
+    let alloc = rt.alloc();
+    let stairs = Stairs {
+        goals: Vec::from_slice(alloc, &[true, false, false, false])?,
+        touching: 2,
+        operators: 2,
+    };
+    let jobs = [
+        Job {
+            abstraction: &stairs,
+            shares: &[3, 4],
+        },
+        Job {
+            abstraction: &stairs,
+            shares: &[1, 7],
+        },
+    ];
+    let tables = build_all(alloc, &jobs)?;
+    let mut text = String::new(alloc);
+    for values in &tables {
+        for state in 0..values.len() {
+            let value = values.get(state);
+            text.push_str(format!(in alloc; "{value} ")?.as_str())?;
+        }
+    }
+    assert_eq!(rt; text.as_str(), "0 3 4 7 0 1 2 3 ");
+    let none: [Job<'_, Stairs>; 0] = [];
+    assert!(rt; build_all(alloc, &none)?.is_empty());
+    Ok(())
 }

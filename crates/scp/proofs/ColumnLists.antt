@@ -5,6 +5,7 @@ use Rattle.std.specs.List.{AllZip}
 use Rattle.std.specs.Global.{Global}
 use Rattle.std.proofs.lemmas.List.{map-append}
 use Rattle.std.proofs.lemmas.List.Elements.{All-nil, All-cons, All-append}
+use Rattle.pdb.proofs.Zips.{AllZip-one_more}
 use Rattle.fdr.specs.Tasks.{FiniteDomainTask, IsTask}
 use Rattle.abstraction.specs.Columns.{IsColumn}
 use Rattle.scp.specs.ColumnTables.{ColumnTable, on_projection, tables_of}
@@ -25,12 +26,6 @@ pub record AreColumnsSoFar (task : FiniteDomainTask) (given : List (List (List �
   pub divided : All (λ column. IsColumn task (map on_projection column.items)) columns
   pub made : AllZip (IsMadeFrom task) given (map tables_of columns)
 
-zip_longer : {X Y : Type 0} (R : X → Y → Type 0) (xs : List X) (ys : List Y) (x : X) (y : Y) → AllZip R xs ys → R x y → AllZip R (xs ++ x ∷ []) (ys ++ y ∷ [])
-zip_longer R [] [] x y all h = (h, tt)
-zip_longer R [] (b ∷ ys) x y all h = absurd all
-zip_longer R (a ∷ xs) [] x y all h = absurd all
-zip_longer R (a ∷ xs) (b ∷ ys) x y all h = (all.0, zip_longer R xs ys x y all.1 h)
-
 pub no_column : (task : FiniteDomainTask) → AreColumnsSoFar task [] []
 no_column task = record { of_task = All-nil (AreOf task); few = All-nil IsFew; divided = All-nil (Divides task); made = tt }
 
@@ -41,5 +36,5 @@ one_column_more task well given columns so_far order column few of made = record
   of_task = All-append (AreOf task) columns (column ∷ []) so_far.of_task (All-cons (AreOf task) column [] of (All-nil (AreOf task)));
   few = All-append IsFew columns (column ∷ []) so_far.few (All-cons IsFew column [] (omega (arith, few, as_many task column.items order made)) (All-nil IsFew));
   divided = All-append (Divides task) columns (column ∷ []) so_far.divided (All-cons (Divides task) column [] (divides_costs task well column.items order of made) (All-nil (Divides task)));
-  made = rw (map-append tables_of columns (column ∷ [])) (zip_longer (IsMadeFrom task) given (map tables_of columns) order (tables_of column) so_far.made made);
+  made = rw (map-append tables_of columns (column ∷ [])) (AllZip-one_more (IsMadeFrom task) given (map tables_of columns) order (tables_of column) so_far.made made);
 }

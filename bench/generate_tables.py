@@ -1,0 +1,121 @@
+#!/usr/bin/env python3
+"""Writes a finite-domain task for tables, the same one at each call.
+
+    generate_tables.py FOLDER KIND SIZE
+
+FOLDER gets task.sas. KIND is one of two:
+
+    one     three variables of SIZE values, at most 91: the last counts up to its goal, the second has to walk from end to end
+            between two of its steps, and the first before each turn of the second. 500 operators: those, and others that lower the last
+            variable, 50 of them from any state. One table has all SIZE * SIZE * SIZE abstract states.
+    many    64 pairs of variables of SIZE values, of which one counts up to its goal, and the other has to walk from end to end
+            between two of its steps. There are 8 columns of 64 tables of SIZE * SIZE abstract states.
+
+Standard output gets three numbers: how many tables there are in all columns, the lower bound of the initial state, which is the cost
+of a cheapest plan, and the greatest bound of 1,000 states that are drawn by SplitMix64 from seed 1 (of `many` alone, else 0).
+"""
+
+import os
+import sys
+
+OPERATORS, FROM_ANYWHERE, PAIRS, COLUMNS, STATES = 500, 50, 64, 8, 1000
+GREATEST_SIZE = 91  # with which 500 operators are enough
+WORD = (1 << 64) - 1
+
+
+def operator_lines(name, prevails, variable, before, after):
+    """An operator that costs 1 and gives the variable the value."""
+    return ["begin_operator", name, str(len(prevails)), *(f"{v} {d}" for v, d in prevails), "1",
+            f"0 {variable} {before} {after}", "1", "end_operator"]
+
+
+def end_of(step, size):
+    """Where the walking variable has to be for a step of the counting one."""
+    return 0 if step % 2 == 0 else size - 1
+
+
+def pair_operators(name, walker, counter, size, gate):
+    """The operators of a pair of variables. `gate` gives the prevail conditions of a turn of the walker at an end."""
+    for step in range(size - 1):
+        yield operator_lines(f"count {name} {step}", [(walker, end_of(step, size))], counter, step, step + 1)
+        yield operator_lines(f"up {name} {step}", gate(step == 0, size - 1), walker, step, step + 1)
+        yield operator_lines(f"down {name} {step}", gate(step == size - 2, 0), walker, step + 1, step)
+
+
+def one_operators(size):
+    """The operators of the task with one table."""
+    operators = list(pair_operators("b", 1, 2, size, lambda turns, value: [(0, value)] if turns else []))
+    for step in range(size - 1):
+        operators.append(operator_lines(f"up a {step}", [], 0, step, step + 1))
+        operators.append(operator_lines(f"down a {step}", [], 0, step + 1, step))
+    for place in range(FROM_ANYWHERE):
+        operators.append(operator_lines(f"reset {place}", [], 2, -1, 0))
+    for place in range(OPERATORS - len(operators)):
+        before = 1 + place % (size - 1)
+        operators.append(operator_lines(f"lower {place}", [], 2, before, place % before))
+    return operators
+
+
+def task_lines(sizes, goals, operators):
+    """The lines of a task's text."""
+    yield from ["begin_version", "3", "end_version", "begin_metric", "1", "end_metric", str(len(sizes))]
+    for variable, size in enumerate(sizes):
+        yield from ["begin_variable", f"var{variable}", "-1", str(size)]
+        yield from (f"Atom value{variable}({value})" for value in range(size))
+        yield "end_variable"
+    yield "0"
+    yield from ["begin_state", *(["0"] * len(sizes)), "end_state", "begin_goal", str(len(goals))]
+    yield from (f"{variable} {value}" for variable, value in goals)
+    yield from ["end_goal", str(len(operators))]
+    for operator in operators:
+        yield from operator
+    yield "0"
+
+
+def distance(walker, counter, size):
+    """The cost of a cheapest way to the last value of a counting variable of a pair: its steps, and walks to where they may be made."""
+    total = 0
+    for step in range(counter, size - 1):
+        total += abs(walker - end_of(step, size)) + 1
+        walker = end_of(step, size)
+    return total
+
+
+def drawn_words(state):
+    """The words of SplitMix64."""
+    while True:
+        state = (state + 0x9E3779B97F4A7C15) & WORD
+        word = ((state ^ (state >> 30)) * 0xBF58476D1CE4E5B9) & WORD
+        word = ((word ^ (word >> 27)) * 0x94D049BB133111EB) & WORD
+        yield word ^ (word >> 31)
+
+
+def greatest_of_drawn(size):
+    """The greatest sum over the pairs of the costs of the states that are drawn."""
+    words = drawn_words(1)
+    return max(sum(distance(next(words) % size, next(words) % size, size) for _ in range(PAIRS)) for _ in range(STATES))
+
+
+def main(arguments):
+    """Writes the file."""
+    if len(arguments) != 3 or arguments[1] not in ("one", "many") or not arguments[2].isdecimal() or not 2 <= int(arguments[2]) <= GREATEST_SIZE:
+        print("usage: generate_tables.py FOLDER one|many SIZE, with a size from 2 to 91", file=sys.stderr)
+        return 2
+    folder, kind, size = arguments[0], arguments[1], int(arguments[2])
+    if kind == "one":
+        lines = task_lines([size] * 3, [(2, size - 1)], one_operators(size))
+        # Each walk of the second variable from end to end needs one of the first before it.
+        numbers = 1, (size - 1) + 2 * (size - 2) * (size - 1), 0
+    else:
+        operators = [lines for pair in range(PAIRS)
+                     for lines in pair_operators(str(pair), 2 * pair, 2 * pair + 1, size, lambda turns, value: [])]
+        lines = task_lines([size] * (2 * PAIRS), [(2 * pair + 1, size - 1) for pair in range(PAIRS)], operators)
+        numbers = PAIRS * COLUMNS, PAIRS * distance(0, 0, size), greatest_of_drawn(size)
+    with open(os.path.join(folder, "task.sas"), "w", encoding="ascii", newline="\n") as file:
+        file.writelines(line + "\n" for line in lines)
+    print(*numbers)
+    return 0
+
+
+if __name__ == "__main__":
+    sys.exit(main(sys.argv[1:]))

@@ -1,0 +1,87 @@
+#!/usr/bin/env python3
+"""Measures how long tables take to be made, and a look-up in one.
+
+    tables.py [MEASURE_TABLES]
+
+MEASURE_TABLES is the program's file; without it, the one that `rt run` in crates/measure_tables has built. The program reads a task that
+generate_tables.py makes, and runs three times on each. The first table has a line for each size of a task with one table and
+500 operators that touch it:
+
+    states      abstract states
+    seconds     from the program's start to its end, in the fastest run: reading, the search backwards, the saturated shares
+    growth      how much seconds grew from the line above, divided by how much the states did: 1.00 is linear
+    peak MB     the most memory that was resident, in millions of bytes, over all runs
+
+The second table has a line for each size of the 64 tables of a column, of which there are 8:
+
+    states      abstract states of each table
+    seconds     from the program's start to its end without a look-up, in the fastest run
+    ns/look-up  how much longer it took to ask for the lower bounds of states, divided by the tables that were looked up, in nanoseconds
+    peak MB     as above
+
+Figures are only printed. The status is 1 where an answer is wrong, and 2 where there is no program.
+"""
+
+import os
+import subprocess
+import sys
+import tempfile
+
+import measuring
+
+ONE_SIZES = [22, 46, 68, 90]
+MANY_SIZES = [10, 20, 40]
+TIMES = 200_000
+BUILT = os.path.join(measuring.FOLDER, "..", "crates", "measure_tables", "out", "measure_tables")
+
+
+def generate(folder, kind, size):
+    """Makes a task, and returns the numbers that are wanted."""
+    command = [sys.executable, os.path.join(measuring.FOLDER, "generate_tables.py"), folder, kind, str(size)]
+    return subprocess.run(command, check=True, stdout=subprocess.PIPE).stdout.decode("ascii").split()
+
+
+def measure(program, kind, size, limit, times):
+    """Runs the program on a task. Returns whether each answer was right, the least seconds and the greatest peak in bytes."""
+    with tempfile.TemporaryDirectory() as folder:
+        tables, bound, greatest = generate(folder, kind, size)
+        wanted = f"{tables} tables, {bound} from the initial state, {greatest if times else 0} at most"
+        right, seconds, peaks = True, [], []
+        for _ in range(measuring.RUNS):
+            output, status, took, peak = measuring.run(program, [os.path.join(folder, "task.sas"), str(limit), str(times)])
+            if output.strip() != wanted or status != 0:
+                right = False
+                print(f"tables.py: {kind} {size}: expected {wanted!r} and status 0, got {output[:200]!r} and status {status}",
+                      file=sys.stderr)
+            seconds.append(took)
+            peaks.append(peak)
+    return right, min(seconds), max(peaks)
+
+
+def main(arguments):
+    """Measures each size and prints the tables."""
+    program = measuring.program_of("tables.py", arguments or [BUILT])
+    if program is None:
+        return 2
+    all_right = True
+    print(f"{'states':>8} {'seconds':>8} {'growth':>7} {'peak MB':>8}")
+    before = None  # seconds for a state in the line above
+    for size in ONE_SIZES:
+        states = size ** 3
+        right, seconds, peak = measure(program, "one", size, states, 0)
+        all_right = all_right and right
+        growth = f"{seconds / states / before:.2f}" if before else "-"
+        print(f"{states:>8,} {seconds:>8.3f} {growth:>7} {peak / 1e6:>8.1f}", flush=True)
+        before = seconds / states
+    print(f"{'states':>8} {'seconds':>8} {'ns/look-up':>10} {'peak MB':>8}")
+    for size in MANY_SIZES:
+        right, without, _ = measure(program, "many", size, size ** 2, 0)
+        also_right, seconds, peak = measure(program, "many", size, size ** 2, TIMES)
+        all_right = all_right and right and also_right
+        look_up = (seconds - without) / (TIMES * 512)
+        print(f"{size ** 2:>8,} {without:>8.3f} {look_up * 1e9:>10.1f} {peak / 1e6:>8.1f}", flush=True)
+    return 0 if all_right else 1
+
+
+if __name__ == "__main__":
+    sys.exit(main(sys.argv[1:]))

@@ -1,0 +1,35 @@
+//! Many tables.
+
+ghost use Rattle.std.specs.Prelude.{◌≡◌, ◌<◌, ◌^◌, length, All, IfOk};
+ghost use Rattle.std.specs.List.{AllZip};
+ghost use Rattle.fdr.specs.Tasks.{FiniteDomainTask};
+ghost use Rattle.pdb.specs.Jobs.{IsTableOf};
+
+use crate::search::distances;
+use certificates::Values;
+use std::alloc::{AllocError, Global};
+use walks::BackwardAbstraction;
+
+/// A table to be made: of which abstraction, and the share of each operator of its task, in order.
+#[derive(Drop)]
+pub struct Job<'a, A> {
+    pub abstraction: &'a A,
+    pub shares: &'a [u32],
+}
+
+/// The distances of each job, in order, as `distances` gives them. An `Err` is of too little memory.
+pub fn build_all<A: BackwardAbstraction>(
+    alloc: Global,
+    jobs: &[Job<'_, A>],
+) -> Result<Vec<Values>, AllocError>
+    requires operators { All (λ job. length job.shares.now ≡ length (A.task job.abstraction.now).operators) jobs.now }
+    requires small { All (λ job. All (λ share. share < 2 ^ 31) job.shares.now) jobs.now }
+    ensures { IfOk result (λ tables. AllZip
+        (λ job values. IsTableOf (A.abstraction job.abstraction.now) job.shares.now values) jobs.now tables.items) }
+{
+    let mut tables = Vec::with_capacity(alloc, jobs.len())?;
+    for job in jobs {
+        tables.push(distances(alloc, job.abstraction, job.shares)?)?;
+    }
+    Ok(tables)
+}
