@@ -12,28 +12,18 @@ cost, and has no table. Standard output gets the number of closed states.
 import os
 import sys
 
+from sas_lines import operator_lines, task_lines
+
 RANGES = [35] * 4 + [34] * 8
 GREATEST_DEPTH = 20
 
 
 def sas_lines():
     """The lines of the task's text."""
-    yield from ["begin_version", "3", "end_version", "begin_metric", "0", "end_metric", str(len(RANGES))]
-    for variable, values in enumerate(RANGES):
-        yield from ["begin_variable", f"var{variable}", "-1", str(values)]
-        yield from (f"Atom counter{variable}({value})" for value in range(values))
-        yield "end_variable"
-    yield "0"
-    yield from ["begin_state", *(["0"] * len(RANGES)), "end_state"]
-    yield from ["begin_goal", str(len(RANGES))]
-    yield from (f"{variable} {values - 1}" for variable, values in enumerate(RANGES))
-    yield "end_goal"
-    yield str(sum(RANGES) - len(RANGES))
-    for variable, values in enumerate(RANGES):
-        for value in range(values - 1):
-            yield from ["begin_operator", f"raise counter{variable} {value}", "0", "1"]
-            yield from [f"0 {variable} {value} {value + 1}", "1", "end_operator"]
-    yield "0"
+    goals = [(variable, values - 1) for variable, values in enumerate(RANGES)]
+    operators = [operator_lines(f"raise counter{variable} {value}", [], variable, value, value + 1)
+                 for variable, values in enumerate(RANGES) for value in range(values - 1)]
+    return task_lines(0, "counter", RANGES, goals, operators)
 
 
 def closed_lines(depth, counters, values, total):

@@ -18,15 +18,11 @@ of a cheapest plan, and the greatest bound of 1,000 states that are drawn by Spl
 import os
 import sys
 
+from sas_lines import operator_lines, task_lines
+
 OPERATORS, FROM_ANYWHERE, PAIRS, COLUMNS, STATES = 500, 50, 64, 8, 1000
 GREATEST_SIZE = 91  # with which 500 operators are enough
 WORD = (1 << 64) - 1
-
-
-def operator_lines(name, prevails, variable, before, after):
-    """An operator that costs 1 and gives the variable the value."""
-    return ["begin_operator", name, str(len(prevails)), *(f"{v} {d}" for v, d in prevails), "1",
-            f"0 {variable} {before} {after}", "1", "end_operator"]
 
 
 def end_of(step, size):
@@ -54,22 +50,6 @@ def one_operators(size):
         before = 1 + place % (size - 1)
         operators.append(operator_lines(f"lower {place}", [], 2, before, place % before))
     return operators
-
-
-def task_lines(sizes, goals, operators):
-    """The lines of a task's text."""
-    yield from ["begin_version", "3", "end_version", "begin_metric", "1", "end_metric", str(len(sizes))]
-    for variable, size in enumerate(sizes):
-        yield from ["begin_variable", f"var{variable}", "-1", str(size)]
-        yield from (f"Atom value{variable}({value})" for value in range(size))
-        yield "end_variable"
-    yield "0"
-    yield from ["begin_state", *(["0"] * len(sizes)), "end_state", "begin_goal", str(len(goals))]
-    yield from (f"{variable} {value}" for variable, value in goals)
-    yield from ["end_goal", str(len(operators))]
-    for operator in operators:
-        yield from operator
-    yield "0"
 
 
 def distance(walker, counter, size):
@@ -103,13 +83,13 @@ def main(arguments):
         return 2
     folder, kind, size = arguments[0], arguments[1], int(arguments[2])
     if kind == "one":
-        lines = task_lines([size] * 3, [(2, size - 1)], one_operators(size))
+        lines = task_lines(1, "value", [size] * 3, [(2, size - 1)], one_operators(size))
         # Each walk of the second variable from end to end needs one of the first before it.
         numbers = 1, (size - 1) + 2 * (size - 2) * (size - 1), 0
     else:
         operators = [lines for pair in range(PAIRS)
                      for lines in pair_operators(str(pair), 2 * pair, 2 * pair + 1, size, lambda turns, value: [])]
-        lines = task_lines([size] * (2 * PAIRS), [(2 * pair + 1, size - 1) for pair in range(PAIRS)], operators)
+        lines = task_lines(1, "value", [size] * (2 * PAIRS), [(2 * pair + 1, size - 1) for pair in range(PAIRS)], operators)
         numbers = PAIRS * COLUMNS, PAIRS * distance(0, 0, size), greatest_of_drawn(size)
     with open(os.path.join(folder, "task.sas"), "w", encoding="ascii", newline="\n") as file:
         file.writelines(line + "\n" for line in lines)
