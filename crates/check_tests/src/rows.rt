@@ -7,7 +7,7 @@ use std::test::Fail;
 
 /// Edits of the task's text, edits of the certificate's, and the answer. Edits stand with `;` between them; each is a line's number,
 /// counted from 1, `=`, and the lines in its place with `|` between them, or nothing where the line goes.
-pub type Row = (&'static str, &'static str, &'static str);
+pub(crate) type Row = (&'static str, &'static str, &'static str);
 
 /// The lines in the place of a line, if it is edited.
 fn lines_for<'a>(edits: &'a str, number: usize) -> Option<&'a str> {
@@ -38,7 +38,7 @@ fn push_lines(text: &mut String, lines: &str) -> Result<(), AllocError> {
 }
 
 /// The text with other lines in the place of some.
-pub fn edited(alloc: Global, text: &str, edits: &str) -> Result<String, AllocError> {
+pub(crate) fn edited(alloc: Global, text: &str, edits: &str) -> Result<String, AllocError> {
     let mut all = String::new(alloc);
     for (index, line) in text.lines().enumerate() {
         match lines_for(edits, index.saturating_add(1)) {
@@ -50,7 +50,7 @@ pub fn edited(alloc: Global, text: &str, edits: &str) -> Result<String, AllocErr
 }
 
 /// Checks that a certificate's check gives this answer.
-pub fn gives<R: Abort + AllocGlobal>(
+pub(crate) fn gives<R: Abort + AllocGlobal>(
     rt: &R,
     sas: &str,
     cert: &str,
@@ -62,7 +62,7 @@ pub fn gives<R: Abort + AllocGlobal>(
 }
 
 /// Checks that each row's texts give its answer.
-pub fn hold<R: Abort + AllocGlobal>(
+pub(crate) fn hold<R: Abort + AllocGlobal>(
     rt: &R,
     sas: &str,
     cert: &str,

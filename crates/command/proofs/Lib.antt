@@ -1,3 +1,6 @@
 pub mod Replies
 pub mod Validations
 pub mod Checks
+pub mod PlanningChecks
+pub mod Translations
+pub mod AskedWords

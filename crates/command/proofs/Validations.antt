@@ -3,7 +3,7 @@ use Rattle.std.proofs.Common.{◌≡◌, ◌≢◌, ℕ, List, ◌++◌, refl, s
 use Rattle.std.specs.Prelude.{Option, Some, None, IsSomeAnd}
 use Rattle.device.specs.Events.{Event}
 use Rattle.command.specs.declared.fault.Fault.{Fault}
-use Rattle.command.specs.declared.fault.Fault.TheVariants.{OutOfMemory, CannotRead, CannotWrite, Task, Plan, Sas, Cert}
+use Rattle.command.specs.declared.fault.Fault.TheVariants.{OutOfMemory, CannotRead, CannotWrite, Task, Plan, Sas, Cert, GroundLimit, TaskTooLarge}
 use Rattle.command.specs.Faults.{fault_status}
 use Rattle.command.specs.Answers.{IsRefusal}
 use Rattle.command.specs.Validation.{reads, Validates}
@@ -17,6 +17,8 @@ refusal_status domain problem plan (Task e word) refused = λ seven. absurd (ome
 refusal_status domain problem plan (Plan e) refused = λ seven. absurd (omega arith)
 refusal_status domain problem plan (Sas e) refused = elim refused [ ]
 refusal_status domain problem plan (Cert e) refused = elim refused [ ]
+refusal_status domain problem plan GroundLimit refused = elim refused [ ]
+refusal_status domain problem plan (TaskTooLarge table) refused = elim refused [ ]
 
 -- three files were read
 pub reads_same : (mid : Option (List Event)) (h : List Event) (domain d d' problem p p' plan l l' : List ℕ)

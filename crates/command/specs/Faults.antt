@@ -7,7 +7,7 @@ use Rattle.cert_text.specs.declared.fault.CertFault.TheVariants as cert
 use Rattle.checker.specs.declared.fault.CheckFault.{CheckFault}
 use Rattle.checker.specs.declared.fault.CheckFault.TheVariants as check
 use Rattle.command.specs.declared.fault.Fault.{Fault}
-use Rattle.command.specs.declared.fault.Fault.TheVariants.{OutOfMemory, CannotRead, CannotWrite, Task, Plan, Sas, Cert}
+use Rattle.command.specs.declared.fault.Fault.TheVariants.{OutOfMemory, CannotRead, CannotWrite, Task, Plan, Sas, Cert, GroundLimit, TaskTooLarge}
 
 -- the exit status of a fault
 abbrev pub fault_status : Fault → ℕ
@@ -18,6 +18,8 @@ fault_status (Task e word) = 1
 fault_status (Plan e) = 1
 fault_status (Sas e) = 1
 fault_status (Cert e) = 1
+fault_status GroundLimit = 1
+fault_status (TaskTooLarge table) = 1
 
 -- a fault of the text of a finite-domain task
 abbrev pub fault_of_sas : SasFault → Fault

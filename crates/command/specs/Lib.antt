@@ -4,3 +4,5 @@ pub mod Runs
 pub mod Answers
 pub mod Validation
 pub mod Checking
+pub mod PlanningChecking
+pub mod Translating

@@ -2,7 +2,7 @@
 use Rattle.std.specs.Prelude.{◌≡◌, ℕ, ◌+◌, ◌⊎◌, ◌==◌, not, Bool, true, List, [], ◌∷◌}
 use Rattle.device.specs.Events.{Event, HasRead, HasWritten, HasPut, HasReported}
 use Rattle.command.specs.declared.fault.Fault.{Fault}
-use Rattle.command.specs.declared.fault.Fault.TheVariants.{OutOfMemory, CannotRead, CannotWrite, Task, Plan, Sas, Cert}
+use Rattle.command.specs.declared.fault.Fault.TheVariants.{OutOfMemory, CannotRead, CannotWrite, Task, Plan, Sas, Cert, GroundLimit, TaskTooLarge}
 use Rattle.command.specs.Faults.{fault_status}
 
 -- a word that no option begins with
@@ -35,3 +35,5 @@ IsDeviceFault (Task e word) old new = ⊥
 IsDeviceFault (Plan e) old new = ⊥
 IsDeviceFault (Sas e) old new = ⊥
 IsDeviceFault (Cert e) old new = ⊥
+IsDeviceFault GroundLimit old new = ⊥
+IsDeviceFault (TaskTooLarge table) old new = ⊥

@@ -1,14 +1,18 @@
 //! The words of the command line.
 
-ghost use Rattle.std.specs.Prelude.{◌≡◌, ◌≢◌, ◌≤◌, ◌+◌, ℕ, List, length, Some, IfOk, IfSome, OnErr, IsSomeAnd};
+ghost use Rattle.std.specs.Prelude.{◌≡◌, ◌≢◌, ◌≤◌, ◌+◌, ℕ, List, codes, length, slice_get, Some, IfOk, IfSome, OnErr, IsSomeAnd};
 ghost use Rattle.names.specs.Names.{texts_of};
 ghost use Rattle.device.specs.Events.{Event};
 ghost use Rattle.command.specs.Runs.{is_operand};
 ghost use Rattle.command.specs.Validation.{AskForValidation, Validates};
 ghost use Rattle.command.specs.Checking.{AskForCheck, Checks};
+ghost use Rattle.command.specs.PlanningChecking.{AskForPlanningCheck, ChecksPlanning};
+ghost use Rattle.command.specs.Translating.{AskForTranslation, Translates};
 
 use crate::checking::run_check;
+use crate::planning_check::run_planning_check;
 use crate::surroundings::put_text;
+use crate::translation::run_translation;
 use crate::validation::run_validation;
 use clap::error::ErrorKind;
 use clap::{Arg, Command, Error};
@@ -16,7 +20,7 @@ use device::Device;
 use std::alloc::{AllocError, Global};
 
 const ABOUT: &str =
-    "Validates PDDL plans, and checks certificates of lower bounds, with a proved verdict";
+    "Validates PDDL plans, checks certificates of lower bounds and translates planning tasks, with a proved verdict";
 
 const VALIDATE_ABOUT: &str = "Says whether a plan is valid and what it costs";
 
@@ -49,6 +53,69 @@ effects) and a certificate for it, and prints one line:
 
 Columns, tables, states and operators count from 0. A text that cannot be read is refused with one line on standard
 error (status 1).";
+
+const CHECK_ABOUT: &str =
+    "Says whether a certificate proves that every valid plan costs at least its bound";
+
+const CHECK_LONG: &str =
+    "Says whether a certificate proves that every valid plan costs at least its bound, or where it fails first.
+
+Reads a domain and a problem in PDDL 2.1 level 1 with types, negative preconditions and action costs, and a certificate
+for them, and prints one line:
+
+  accepted N                  every valid plan costs at least N (status 0)
+  accepted unsolvable         there is no valid plan (status 0)
+  rejected CLAUSE PLACE       the certificate fails in this clause, C1 to C8, at this place (status 3)
+
+Variables, columns, tables, states and operators count from 0. A text that cannot be read is refused with one line on
+standard error (status 1).";
+
+const TRANSLATE_ABOUT: &str =
+    "Translates a planning task to a finite-domain task with the same plans";
+
+const TRANSLATE_LONG: &str =
+    "Translates a planning task to a finite-domain task with the same plans and the same costs.
+
+Reads a domain and a problem in PDDL 2.1 level 1 with types, negative preconditions and action costs, and prints the
+task as output.sas, version 3, as Fast Downward's search reads it (status 0). A text that cannot be read is refused with
+one line on standard error (status 1).";
+
+fn check_command<'a>(alloc: Global) -> Result<Command<'a>, AllocError> {
+    Command::new(alloc, "check")
+        .about(CHECK_ABOUT)
+        .long_about(CHECK_LONG)
+        .arg(
+            Arg::new(alloc, "DOMAIN")
+                .required(true)
+                .help("The domain's file"),
+        )?
+        .arg(
+            Arg::new(alloc, "PROBLEM")
+                .required(true)
+                .help("The problem's file"),
+        )?
+        .arg(
+            Arg::new(alloc, "CERT")
+                .required(true)
+                .help("The certificate's file"),
+        )
+}
+
+fn translate_command<'a>(alloc: Global) -> Result<Command<'a>, AllocError> {
+    Command::new(alloc, "translate")
+        .about(TRANSLATE_ABOUT)
+        .long_about(TRANSLATE_LONG)
+        .arg(
+            Arg::new(alloc, "DOMAIN")
+                .required(true)
+                .help("The domain's file"),
+        )?
+        .arg(
+            Arg::new(alloc, "PROBLEM")
+                .required(true)
+                .help("The problem's file"),
+        )
+}
 
 fn validate_command<'a>(alloc: Global) -> Result<Command<'a>, AllocError> {
     Command::new(alloc, "validate")
@@ -94,7 +161,9 @@ fn program_command<'a>(alloc: Global) -> Result<Command<'a>, AllocError> {
         .arg_required_else_help(true)
         .disable_help_subcommand(true)
         .subcommand(validate_command(alloc)?)?
-        .subcommand(check_sas_command(alloc)?)
+        .subcommand(check_sas_command(alloc)?)?
+        .subcommand(check_command(alloc)?)?
+        .subcommand(translate_command(alloc)?)
 }
 
 /// What the words ask for, told by the command-line library.
@@ -114,6 +183,17 @@ fn run_words<D: Device, R: AllocGlobal>(
             let sas = files.get_str("SAS").unwrap_or("");
             let cert = files.get_str("CERT").unwrap_or("");
             Ok(run_check(rt, device, sas, cert))
+        }
+        Some(("check", files)) => {
+            let domain = files.get_str("DOMAIN").unwrap_or("");
+            let problem = files.get_str("PROBLEM").unwrap_or("");
+            let cert = files.get_str("CERT").unwrap_or("");
+            Ok(run_planning_check(rt, device, domain, problem, cert))
+        }
+        Some(("translate", files)) => {
+            let domain = files.get_str("DOMAIN").unwrap_or("");
+            let problem = files.get_str("PROBLEM").unwrap_or("");
+            Ok(run_translation(alloc, device, domain, problem))
         }
         Some((_, files)) => {
             let domain = files.get_str("DOMAIN").unwrap_or("");
@@ -139,7 +219,7 @@ fn show<D: Device>(alloc: Global, device: &mut D, error: &Error) -> u8
         let _ = device.err(text.as_bytes());
         return 2;
     }
-    put_text(alloc, device, text.as_str(), 0)
+    put_text(alloc, device, text.as_bytes(), 0)
 }
 
 /// Whether no option begins with the word.
@@ -196,12 +276,54 @@ fn plain_check(words: &[String]) -> Option<(&str, &str)>
     }
 }
 
-/// The whole program: does what the words ask for, the first of which is the program's name, and gives the exit status.
-///
-/// Files are read, and text is written, through the device. 0: valid, accepted, or help was shown; 1: a text is refused; 2: the
-/// words ask for nothing; 3: the plan is not valid, or the certificate is rejected; 6: memory was refused; 7: the device failed to
-/// read a file or to write. A report on standard error that fails leaves the status as it is.
-pub fn run<D: Device, R: AllocGlobal>(words: &[String], device: &mut D, rt: &R) -> u8
+/// The files of a certificate's check for a planning task, where the words are a command and three files, and nothing else.
+fn plain_planning_check(words: &[String]) -> Option<(&str, &str, &str)>
+    ensures command { IfSome result (λ _. slice_get (texts_of words.now) 1 ≡ Some (codes "check")) }
+    ensures found { (domain problem cert : List ℕ) → AskForPlanningCheck (texts_of words.now) domain problem cert →
+        IsSomeAnd result (λ files. (files.0.now ≡ domain) × (files.1.now ≡ problem) × (files.2.now ≡ cert)) }
+{
+    match words {
+        [_, command, domain, problem, cert] => {
+            let domain = domain.as_str();
+            let problem = problem.as_str();
+            let cert = cert.as_str();
+            if command.as_str() == "check"
+                && is_operand(domain)
+                && is_operand(problem)
+                && is_operand(cert)
+            {
+                Some((domain, problem, cert))
+            } else {
+                None
+            }
+        }
+        _ => None,
+    }
+}
+
+/// The files of a translation, where the words are a command and two files, and nothing else.
+fn plain_translation(words: &[String]) -> Option<(&str, &str)>
+    ensures command { IfSome result (λ _. slice_get (texts_of words.now) 1 ≡ Some (codes "translate")) }
+    ensures found { (domain problem : List ℕ) → AskForTranslation (texts_of words.now) domain problem →
+        IsSomeAnd result (λ files. (files.0.now ≡ domain) × (files.1.now ≡ problem)) }
+{
+    match words {
+        [_, command, domain, problem] => {
+            let domain = domain.as_str();
+            let problem = problem.as_str();
+            if command.as_str() == "translate" && is_operand(domain) && is_operand(problem) {
+                Some((domain, problem))
+            } else {
+                None
+            }
+        }
+        _ => None,
+    }
+}
+
+/// Does what the words ask for but for a certificate's check for a planning task and a translation, where nothing stands but the command and
+/// its files.
+fn run_others<D: Device, R: AllocGlobal>(words: &[String], device: &mut D, rt: &R) -> u8
     ensures validates { (h : List Event) (domain problem plan : List ℕ) → D.history device.old ≡ Some h → AskForValidation (texts_of words.now) domain problem plan →
         D.failure_count device.new ≡ D.failure_count device.old → result ≢ 6 →
         (new : List Event) × (D.history device.new ≡ Some new) × Validates h new domain problem plan result }
@@ -221,4 +343,33 @@ pub fn run<D: Device, R: AllocGlobal>(words: &[String], device: &mut D, rt: &R) 
         Ok(status) => status,
         Err(error) => show(alloc, device, &error),
     }
+}
+
+/// The whole program: does what the words ask for, the first of which is the program's name, and gives the exit status.
+///
+/// Files are read, and text is written, through the device. 0: valid, accepted, or help was shown; 1: a text is refused; 2: the
+/// words ask for nothing; 3: the plan is not valid, or the certificate is rejected; 6: memory was refused; 7: the device failed to
+/// read a file or to write. A report on standard error that fails leaves the status as it is.
+pub fn run<D: Device, R: AllocGlobal>(words: &[String], device: &mut D, rt: &R) -> u8
+    ensures validates { (h : List Event) (domain problem plan : List ℕ) → D.history device.old ≡ Some h → AskForValidation (texts_of words.now) domain problem plan →
+        D.failure_count device.new ≡ D.failure_count device.old → result ≢ 6 →
+        (new : List Event) × (D.history device.new ≡ Some new) × Validates h new domain problem plan result }
+    ensures checks { (h : List Event) (sas cert : List ℕ) → D.history device.old ≡ Some h → AskForCheck (texts_of words.now) sas cert →
+        D.failure_count device.new ≡ D.failure_count device.old → result ≢ 6 →
+        (new : List Event) × (D.history device.new ≡ Some new) × Checks h new sas cert result }
+    ensures checks_planning { (h : List Event) (domain problem cert : List ℕ) → D.history device.old ≡ Some h →
+        AskForPlanningCheck (texts_of words.now) domain problem cert → D.failure_count device.new ≡ D.failure_count device.old → result ≢ 6 →
+        (new : List Event) × (D.history device.new ≡ Some new) × ChecksPlanning h new domain problem cert result }
+    ensures translates { (h : List Event) (domain problem : List ℕ) → D.history device.old ≡ Some h →
+        AskForTranslation (texts_of words.now) domain problem → D.failure_count device.new ≡ D.failure_count device.old → result ≢ 6 →
+        (new : List Event) × (D.history device.new ≡ Some new) × Translates h new domain problem result }
+    ensures device_failed { result ≡ 7 → D.failure_count device.old + 1 ≤ D.failure_count device.new }
+{
+    if let Some((domain, problem, cert)) = plain_planning_check(words) {
+        return run_planning_check(rt, device, domain, problem, cert);
+    }
+    if let Some((domain, problem)) = plain_translation(words) {
+        return run_translation(rt.alloc(), device, domain, problem);
+    }
+    run_others(words, device, rt)
 }

@@ -44,6 +44,10 @@ pub enum Fault {
     Sas(SasFault),
     /// F50 to F56: the text of a certificate is refused.
     Cert(CertFault),
+    /// F20: a planning task has more atoms or actions than may be listed.
+    GroundLimit,
+    /// F18: a planning task's translation has more variables, values of a variable or operators than it may have.
+    TaskTooLarge(TaskLimit),
 }
 
 impl From<AllocError> for Fault {
@@ -119,6 +123,7 @@ impl Fault {
             Fault::CannotRead(_) | Fault::CannotWrite(_) => 7,
             Fault::Task(_, _) | Fault::Plan(_) => 1,
             Fault::Sas(_) | Fault::Cert(_) => 1,
+            Fault::GroundLimit | Fault::TaskTooLarge(_) => 1,
         }
     }
 }
@@ -282,6 +287,11 @@ impl fmt::Display for Fault {
             Fault::Plan(PlanFault::PlanLimit) => write!(f, "F26 PlanLimit plan"),
             Fault::Sas(fault) => write_sas_fault(f, *fault),
             Fault::Cert(fault) => write_cert_fault(f, *fault),
+            Fault::GroundLimit => write!(f, "F20 GroundLimit"),
+            Fault::TaskTooLarge(table) => {
+                let table = task_table_word(*table);
+                write!(f, "F18 Limit {table}")
+            }
         }
     }
 }

@@ -4,7 +4,9 @@
 mod checking;
 mod command_line;
 mod fault;
+mod planning_check;
 mod surroundings;
+mod translation;
 mod validation;
 mod verdict;
 

@@ -30,15 +30,15 @@ pub fn read_file<D: Device>(
     }
 }
 
-/// Puts a line out.
-fn put<D: Device>(device: &mut D, line: &str) -> Result<(), Fault>
-    ensures told { OnOk result (Adds (D.history device.old) (D.history device.new) (HasPut line.now)) }
+/// Puts a text out.
+fn put<D: Device>(device: &mut D, text: &[u8]) -> Result<(), Fault>
+    ensures told { OnOk result (Adds (D.history device.old) (D.history device.new) (HasPut text.now)) }
     ensures word { IfErr result (λ e. (e ≡ OutOfMemory) ⊎ (e ≡ CannotWrite FileWord.Output)) }
     ensures same { OnOk result (D.failure_count device.new ≡ D.failure_count device.old) }
     ensures kept { OnErr result (D.history device.new ≡ D.history device.old) }
     ensures failed { IfErr result (λ e. IsDeviceFault e (D.failure_count device.old) (D.failure_count device.new)) }
 {
-    match device.out(line.as_bytes()) {
+    match device.out(text) {
         Ok(()) => Ok(()),
         Err(DeviceFault::Memory) => Err(Fault::OutOfMemory),
         Err(DeviceFault::Failed) => Err(Fault::CannotWrite(FileWord::Output)),
@@ -64,7 +64,7 @@ pub fn report<D: Device>(alloc: Global, device: &mut D, fault: &Fault) -> u8
 }
 
 /// Puts a text out. Gives this exit status, or where the text cannot be put out that of the fault, which is reported.
-pub fn put_text<D: Device>(alloc: Global, device: &mut D, text: &str, status: u8) -> u8
+pub fn put_text<D: Device>(alloc: Global, device: &mut D, text: &[u8], status: u8) -> u8
     ensures told { result ≢ 6 → result ≢ 7 → Adds (D.history device.old) (D.history device.new) (HasPut text.now) }
     ensures status { result ≢ 6 → result ≢ 7 → result ≡ status }
     ensures counted { result ≡ 7 → status ≢ 7 → D.failure_count device.old + 1 ≤ D.failure_count device.new }
@@ -85,7 +85,7 @@ pub fn reply<D: Device>(alloc: Global, device: &mut D, answer: &Result<(String, 
     ensures refusal { IfErr answer.now (λ e. result ≡ fault_status e) }
 {
     match answer {
-        Ok((line, status)) => put_text(alloc, device, line.as_str(), *status),
+        Ok((line, status)) => put_text(alloc, device, line.as_bytes(), *status),
         Err(fault) => report(alloc, device, fault),
     }
 }

@@ -8,7 +8,7 @@ ghost use Rattle.validate.specs.Verdicts.{IsVerdict, CostsAtMost};
 ghost use Rattle.validate.specs.Written.{verdict_line_of};
 ghost use Rattle.validate.specs.declared.verdict.Verdict.{Verdict};
 ghost use Rattle.command.specs.Words.{is_letter, first_word, word_at, text_of};
-ghost use Rattle.command.specs.Answers.{IsAnswer, IsRefusal, verdict_status};
+ghost use Rattle.command.specs.Answers.{IsAnswer, IsRefusal, IsTaskReport, verdict_status};
 
 use crate::fault::Fault;
 use pddl::{PddlFault, read_task};
@@ -75,8 +75,9 @@ fn text_of<'a>(file: PlanningFile, domain: &'a [u8], problem: &'a [u8]) -> &'a [
 }
 
 /// The fault with the word that it is printed with, if it has one.
-fn task_fault(alloc: Global, fault: PddlFault, domain: &[u8], problem: &[u8]) -> Fault
-    ensures { (plan : List ℕ) → IsTaskRefusal domain.now problem.now fault → IsRefusal domain.now problem.now plan result }
+pub(crate) fn task_fault(alloc: Global, fault: PddlFault, domain: &[u8], problem: &[u8]) -> Fault
+    ensures report { IsTaskRefusal domain.now problem.now fault → IsTaskReport domain.now problem.now result }
+    ensures refusal { (plan : List ℕ) → IsTaskRefusal domain.now problem.now fault → IsRefusal domain.now problem.now plan result }
 {
     match fault {
         PddlFault::OutOfMemory => Fault::OutOfMemory,

@@ -121,6 +121,13 @@ impl FdrTask {
         self.value_names.len()
     }
 
+    /// The names of the values of each variable.
+    pub fn value_names(&self) -> &[Vec<String>]
+        ensures { spec.names_in result.now ≡ self.now.value_names }
+    {
+        &self.value_names
+    }
+
     /// How many values a variable has.
     pub fn range(&self, variable: usize) -> usize
         requires { variable < length self.now.value_names }

@@ -58,7 +58,11 @@ fn actions_text(
 }
 
 /// The atoms and the actions of a task's grounding, with a blank line between them.
-pub fn grounding_of(alloc: Global, domain: &str, problem: &str) -> Result<String, AllocError> {
+pub(crate) fn grounding_of(
+    alloc: Global,
+    domain: &str,
+    problem: &str,
+) -> Result<String, AllocError> {
     let Ok(task) = read_task(alloc, domain.as_bytes(), problem.as_bytes()) else {
         return String::from_str(alloc, "no task");
     };
@@ -83,7 +87,11 @@ fn listed(alloc: Global, atoms: &[GroundAtom]) -> Result<Atoms, AllocError> {
 }
 
 /// The actions over a task's initial atoms.
-pub fn actions_at_first(alloc: Global, domain: &str, problem: &str) -> Result<String, AllocError> {
+pub(crate) fn actions_at_first(
+    alloc: Global,
+    domain: &str,
+    problem: &str,
+) -> Result<String, AllocError> {
     let Ok(task) = read_task(alloc, domain.as_bytes(), problem.as_bytes()) else {
         return String::from_str(alloc, "no task");
     };
@@ -95,7 +103,7 @@ pub fn actions_at_first(alloc: Global, domain: &str, problem: &str) -> Result<St
 }
 
 /// The first action over a task's initial atoms that adds another one, and the least such atom, or that there is none.
-pub fn opening_of(alloc: Global, domain: &str, problem: &str) -> Result<String, AllocError> {
+pub(crate) fn opening_of(alloc: Global, domain: &str, problem: &str) -> Result<String, AllocError> {
     let Ok(task) = read_task(alloc, domain.as_bytes(), problem.as_bytes()) else {
         return String::from_str(alloc, "no task");
     };
@@ -113,7 +121,11 @@ pub fn opening_of(alloc: Global, domain: &str, problem: &str) -> Result<String, 
 }
 
 /// How many atoms a task's grounding has, or that there are too many.
-pub fn count_of(alloc: Global, domain: &str, problem: &str) -> Option<Result<usize, GroundFault>> {
+pub(crate) fn count_of(
+    alloc: Global,
+    domain: &str,
+    problem: &str,
+) -> Option<Result<usize, GroundFault>> {
     match read_task(alloc, domain.as_bytes(), problem.as_bytes()) {
         Ok(task) => Some(ground(alloc, &task).map(|grounded| grounded.atoms.len())),
         Err(_) => None,

@@ -31,13 +31,13 @@ pub or_right_false : (a b : Bool) → (a || b) ≡ false → b ≡ false
 or_right_false true b e = absurd cc
 or_right_false false b e = e
 
-both_true : (a b : Bool) → a ≡ true → b ≡ true → (a && b) ≡ true
+pub both_true : (a b : Bool) → a ≡ true → b ≡ true → (a && b) ≡ true
 both_true a b p q = rw (p, q) refl
 
-swap_false : (a b : ℕ) → eqb a b ≡ false → eqb b a ≡ false
+pub swap_false : (a b : ℕ) → eqb a b ≡ false → eqb b a ≡ false
 swap_false a b e = grind arith
 
-not_false : (b : Bool) → not b ≡ true → b ≡ false
+pub not_false : (b : Bool) → not b ≡ true → b ≡ false
 not_false true e = absurd cc
 not_false false e = refl
 

@@ -1,0 +1,57 @@
+-- The translation of a planning task: what is answered for its two texts.
+use Rattle.std.specs.Prelude.{◌≡◌, ℕ, true, List, [], ◌∷◌, ◌++◌, length, map, codes}
+use Rattle.device.specs.Events.{Event, HasRead}
+use Rattle.planning.specs.Planning.{PlanningTask}
+use Rattle.pddl.specs.Texts.{SpellTask}
+use Rattle.translate.specs.Translated.{TranslatedTask, IsTranslation, HasSamePlans, IsUntranslated}
+use Rattle.translate_vars.specs.declared.fault.TranslateFault.TheVariants as translating
+use Rattle.sas_writer.specs.Written.{written}
+use Rattle.command.specs.Answers.{IsTaskReport}
+use Rattle.command.specs.Runs.{is_operand, Follows}
+use Rattle.command.specs.declared.fault.Fault.{Fault}
+use Rattle.command.specs.declared.fault.Fault.TheVariants.{OutOfMemory, CannotRead, CannotWrite, Task, Plan, Sas, Cert, GroundLimit, TaskTooLarge}
+
+-- The texts spell a task, and the text is the one that is written of a translation of it, which has the same plans.
+pub record IsTranslationText (domain problem text : List ℕ) : Type 0 where
+  pub task : PlanningTask
+  pub spelled : SpellTask domain problem task
+  pub translated : TranslatedTask
+  pub translation : IsTranslation task translated
+  pub same : HasSamePlans task translated
+  pub text_is : text ≡ written translated.task (map (λ v. length v.places) translated.variables)
+
+-- One of the texts is refused, for this fault, or a limit is passed.
+abbrev pub IsTranslationRefusal : List ℕ → List ℕ → Fault → Type 0
+IsTranslationRefusal domain problem OutOfMemory = Unit {0}
+IsTranslationRefusal domain problem (CannotRead file) = ⊥
+IsTranslationRefusal domain problem (CannotWrite file) = ⊥
+IsTranslationRefusal domain problem (Task e word) = IsTaskReport domain problem (Task e word)
+IsTranslationRefusal domain problem (Plan e) = ⊥
+IsTranslationRefusal domain problem (Sas e) = ⊥
+IsTranslationRefusal domain problem (Cert e) = ⊥
+IsTranslationRefusal domain problem GroundLimit = (task : PlanningTask) × SpellTask domain problem task × IsUntranslated task translating.GroundLimit
+IsTranslationRefusal domain problem (TaskTooLarge table) =
+    (task : PlanningTask) × SpellTask domain problem task × IsUntranslated task (translating.Limit table)
+
+-- the words ask for a translation: the program's name, `translate`, and two files
+pub record AskForTranslation (words : List (List ℕ)) (domain problem : List ℕ) : Type 0 where
+  pub program : List ℕ
+  pub are : words ≡ program ∷ codes "translate" ∷ domain ∷ problem ∷ []
+  pub domain_is : is_operand domain ≡ true
+  pub problem_is : is_operand problem ≡ true
+
+-- two files were read
+abbrev pub task_reads : List ℕ → List ℕ → List ℕ → List ℕ → List Event
+task_reads domain d problem p = HasRead domain d ∷ HasRead problem p ∷ []
+
+-- the text is a translation's, and the status 0
+abbrev pub IsTranslationAnswer : List ℕ → List ℕ → List ℕ → ℕ → Type 0
+IsTranslationAnswer domain problem text status = IsTranslationText domain problem text × (status ≡ 0)
+
+-- The two files are read, in this order, and then the text of a translation is put out, or one of the texts is refused.
+pub record Translates (old new : List Event) (domain problem : List ℕ) (status : ℕ) : Type 0 where
+  pub domain_text : List ℕ
+  pub problem_text : List ℕ
+  pub later : List Event
+  pub events : new ≡ old ++ (task_reads domain domain_text problem problem_text ++ later)
+  pub follows : Follows (IsTranslationAnswer domain_text problem_text) (IsTranslationRefusal domain_text problem_text) later status

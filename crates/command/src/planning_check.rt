@@ -1,0 +1,133 @@
+//! The command that checks a certificate for a planning task, over any device.
+
+ghost use Rattle.std.specs.Prelude.{◌≡◌, ◌≢◌, ◌≤◌, ◌+◌, ◌++◌, List, Some, IfOk, IfErr, OnOk, codes, string_bytes};
+ghost use Rattle.pddl_checker.specs.Judgements.{verdict_text};
+ghost use Rattle.pddl_checker.specs.Answers as checked;
+ghost use Rattle.device.specs.Events.{Event};
+ghost use Rattle.command.specs.Validation.{reads};
+ghost use Rattle.command.specs.Runs.{IsDeviceFault};
+ghost use Rattle.command.specs.PlanningChecking.{planning_check_status, IsPlanningCheckAnswer, IsPlanningCheckRefusal, ChecksPlanning};
+
+use crate::fault::{Fault, FileWord};
+use crate::surroundings::{read_file, reply, report};
+use crate::verdict::task_fault;
+use device::Device;
+use pddl_checker::{PlanningCheckFault, PlanningVerdict, check_pddl};
+use std::alloc::{AllocError, Global};
+
+/// The exit status of a verdict: 0 where the certificate is accepted, else 3.
+fn planning_check_status(verdict: &PlanningVerdict) -> u8
+    ensures status { result ≡ planning_check_status verdict.now }
+    ensures small { result ≤ 3 }
+{
+    match verdict {
+        PlanningVerdict::Accepted(_) => 0,
+        PlanningVerdict::Rejected(_) => 3,
+    }
+}
+
+/// The verdict's line, with its line feed.
+fn planning_check_line(alloc: Global, verdict: &PlanningVerdict) -> Result<String, AllocError>
+    ensures { IfOk result (λ line. string_bytes line ≡ verdict_text verdict.now ++ codes "\n") }
+{
+    let mut line = format!(in alloc; "{verdict}")?;
+    line.push('\n')?;
+    Ok(line)
+}
+
+/// The checker's fault as the program's, with the word that it is printed with.
+fn planning_check_fault(
+    alloc: Global,
+    fault: PlanningCheckFault,
+    domain: &[u8],
+    problem: &[u8],
+    cert: &[u8],
+) -> Fault
+    requires { checked.IsRefusal domain.now problem.now cert.now fault }
+    ensures { IsPlanningCheckRefusal domain.now problem.now cert.now result }
+{
+    let _ = cert.len();
+    match fault {
+        PlanningCheckFault::OutOfMemory => Fault::OutOfMemory,
+        PlanningCheckFault::Task(fault) => task_fault(alloc, fault, domain, problem),
+        PlanningCheckFault::Cert(fault) => Fault::Cert(fault),
+        PlanningCheckFault::GroundLimit => Fault::GroundLimit,
+        PlanningCheckFault::Limit(table) => Fault::TaskTooLarge(table),
+    }
+}
+
+/// The line that is printed for a certificate's text beside those of a domain and a problem, with its line feed, and the exit
+/// status: 0 where the certificate is accepted, else 3.
+///
+/// A fault is the one of the domain and the problem that goes first, or the first of the certificate, or a limit that is passed.
+fn planning_check_of<R: AllocGlobal>(
+    rt: &R,
+    domain: &[u8],
+    problem: &[u8],
+    cert: &[u8],
+) -> Result<(String, u8), Fault>
+    ensures answer { IfOk result (λ r. IsPlanningCheckAnswer domain.now problem.now cert.now (string_bytes r.0) r.1) }
+    ensures small { IfOk result (λ r. r.1 ≤ 3) }
+    ensures refused { IfErr result (IsPlanningCheckRefusal domain.now problem.now cert.now) }
+{
+    let verdict = match check_pddl(rt, domain, problem, cert) {
+        Ok(verdict) => verdict,
+        Err(fault) => return Err(planning_check_fault(rt.alloc(), fault, domain, problem, cert)),
+    };
+    match planning_check_line(rt.alloc(), &verdict) {
+        Ok(line) => Ok((line, planning_check_status(&verdict))),
+        Err(_) => Err(Fault::OutOfMemory),
+    }
+}
+
+/// The texts of a domain, a problem and a certificate.
+#[derive(Drop)]
+struct Texts {
+    domain: Vec<u8>,
+    problem: Vec<u8>,
+    cert: Vec<u8>,
+}
+
+/// Reads the three files, in this order.
+fn read_texts<D: Device>(
+    alloc: Global,
+    device: &mut D,
+    domain: &str,
+    problem: &str,
+    cert: &str,
+) -> Result<Texts, Fault>
+    ensures told { (h : List Event) → D.history device.old ≡ Some h →
+        IfOk result (λ t. D.history device.new ≡ Some (h ++ reads domain.now t.domain.items problem.now t.problem.items cert.now t.cert.items)) }
+    ensures same { OnOk result (D.failure_count device.new ≡ D.failure_count device.old) }
+    ensures failed { IfErr result (λ e. IsDeviceFault e (D.failure_count device.old) (D.failure_count device.new)) }
+{
+    let domain = read_file(alloc, device, domain, FileWord::Domain)?;
+    let problem = read_file(alloc, device, problem, FileWord::Problem)?;
+    let cert = read_file(alloc, device, cert, FileWord::Cert)?;
+    Ok(Texts {
+        domain,
+        problem,
+        cert,
+    })
+}
+
+/// Checks a certificate: reads the three files, and puts out the verdict's line or reports the fault. Gives the exit status.
+pub fn run_planning_check<D: Device, R: AllocGlobal>(
+    rt: &R,
+    device: &mut D,
+    domain: &str,
+    problem: &str,
+    cert: &str,
+) -> u8
+    ensures done { (h : List Event) → D.history device.old ≡ Some h → D.failure_count device.new ≡ D.failure_count device.old → result ≢ 6 →
+        (new : List Event) × (D.history device.new ≡ Some new) × ChecksPlanning h new domain.now problem.now cert.now result }
+    ensures device_failed { result ≡ 7 → D.failure_count device.old + 1 ≤ D.failure_count device.new }
+{
+    match read_texts(rt.alloc(), device, domain, problem, cert) {
+        Ok(texts) => {
+            let answer = planning_check_of(rt, &texts.domain, &texts.problem, &texts.cert);
+            reply(rt.alloc(), device, &answer)
+        }
+        Err(fault) => report(rt.alloc(), device, &fault),
+    }
+}

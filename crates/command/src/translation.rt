@@ -1,0 +1,126 @@
+//! The command that translates a planning task, over any device.
+
+ghost use Rattle.std.specs.Prelude.{◌≡◌, ◌≢◌, ◌≤◌, ◌+◌, ◌++◌, ℕ, List, Some, map, length, All, IsTrue, IfOk, IfErr, OnOk};
+ghost use Rattle.planning.specs.Planning.{IsPlanningTask, IsActionOf, IsAtomOf, has_small_costs, Action};
+ghost use Rattle.planning.specs.Atoms.{Literal};
+ghost use Rattle.pddl.specs.Texts.{SpellTask};
+ghost use Rattle.sas_writer.specs.Written.{written};
+ghost use Rattle.device.specs.Events.{Event, HasPut, Adds};
+ghost use Rattle.command.specs.Faults.{fault_status};
+ghost use Rattle.command.specs.Runs.{IsDeviceFault, IsQuiet};
+ghost use Rattle.command.specs.Translating.{IsTranslationText, IsTranslationRefusal, task_reads, Translates};
+
+use crate::fault::{Fault, FileWord};
+use crate::surroundings::{put_text, read_file, report};
+use crate::verdict::task_fault;
+use device::Device;
+use pddl::read_task;
+use planning::Task;
+use sas_writer::write_sas;
+use std::alloc::{AllocError, Global};
+use translate::{Translated, translate};
+use translate_vars::TranslateFault;
+use variables::ListedVariable;
+
+/// How many atoms each variable has.
+fn sizes_of(alloc: Global, variables: &[ListedVariable]) -> Result<Vec<usize>, AllocError>
+    ensures { IfOk result (λ sizes. sizes.items ≡ map (λ v. length v.places) variables.now) }
+{
+    let mut sizes = Vec::new(alloc);
+    for variable in variables {
+        sizes.push(variable.places.len())?;
+    }
+    Ok(sizes)
+}
+
+/// The text of a translated task.
+fn text_of(alloc: Global, translated: &Translated) -> Result<Vec<u8>, AllocError>
+    ensures { IfOk result (λ text. text.items ≡ written translated.now.task (map (λ v. length v.places) translated.now.variables)) }
+{
+    let sizes = sizes_of(alloc, translated.variables())?;
+    write_sas(alloc, translated.task(), &sizes)
+}
+
+/// The text of a translation of a task that texts spell.
+fn translation_text(alloc: Global, task: &Task) -> Result<Vec<u8>, Fault>
+    requires small { IsTrue (has_small_costs task.now) }
+    requires costs { (a : Action) → IsActionOf task.now a → a.cost ≤ 2147483647 }
+    requires initial { All (IsAtomOf task.now) task.now.initial }
+    requires goals { All (λ (l : Literal). IsAtomOf task.now l.atom) task.now.goal }
+    requires added { (a : Action) → IsActionOf task.now a → All (IsAtomOf task.now) a.adds }
+    requires well { IsPlanningTask task.now }
+    ensures text { (domain problem : List ℕ) → SpellTask domain problem task.now →
+        IfOk result (λ text. IsTranslationText domain problem text.items) }
+    ensures refused { (domain problem : List ℕ) → SpellTask domain problem task.now →
+        IfErr result (IsTranslationRefusal domain problem) }
+{
+    match translate(alloc, task) {
+        Ok(translated) => match text_of(alloc, &translated) {
+            Ok(text) => Ok(text),
+            Err(_) => Err(Fault::OutOfMemory),
+        },
+        Err(TranslateFault::GroundLimit) => Err(Fault::GroundLimit),
+        Err(TranslateFault::Limit(table)) => Err(Fault::TaskTooLarge(table)),
+        Err(_) => Err(Fault::OutOfMemory),
+    }
+}
+
+/// The text of the translation of the task of two texts.
+///
+/// A fault is the one of the texts that goes first, or a limit that is passed.
+fn translation_of(alloc: Global, domain: &[u8], problem: &[u8]) -> Result<Vec<u8>, Fault>
+    ensures text { IfOk result (λ text. IsTranslationText domain.now problem.now text.items) }
+    ensures refused { IfErr result (IsTranslationRefusal domain.now problem.now) }
+{
+    match read_task(alloc, domain, problem) {
+        Ok(task) => translation_text(alloc, &task),
+        Err(fault) => Err(task_fault(alloc, fault, domain, problem)),
+    }
+}
+
+/// Reads the two files, in this order.
+fn read_texts<D: Device>(
+    alloc: Global,
+    device: &mut D,
+    domain: &str,
+    problem: &str,
+) -> Result<(Vec<u8>, Vec<u8>), Fault>
+    ensures told { (h : List Event) → D.history device.old ≡ Some h →
+        IfOk result (λ t. D.history device.new ≡ Some (h ++ task_reads domain.now t.0.items problem.now t.1.items)) }
+    ensures same { OnOk result (D.failure_count device.new ≡ D.failure_count device.old) }
+    ensures failed { IfErr result (λ e. IsDeviceFault e (D.failure_count device.old) (D.failure_count device.new)) }
+{
+    let domain = read_file(alloc, device, domain, FileWord::Domain)?;
+    let problem = read_file(alloc, device, problem, FileWord::Problem)?;
+    Ok((domain, problem))
+}
+
+/// Replies to the texts of a task: puts out the text of its translation, or reports their fault. Gives the exit status.
+fn reply_text<D: Device>(alloc: Global, device: &mut D, answer: &Result<Vec<u8>, Fault>) -> u8
+    ensures answered { result ≢ 6 → result ≢ 7 → IfOk answer.now (λ text. Adds (D.history device.old) (D.history device.new) (HasPut text.items)) }
+    ensures status { result ≢ 6 → result ≢ 7 → IfOk answer.now (λ _. result ≡ 0) }
+    ensures counted { result ≡ 7 → IfOk answer.now (λ _. D.failure_count device.old + 1 ≤ D.failure_count device.new) }
+    ensures refused { (h : List Event) → D.history device.old ≡ Some h →
+        IfErr answer.now (λ e. (later : List Event) × (D.history device.new ≡ Some (h ++ later)) × IsQuiet later) }
+    ensures refusal { IfErr answer.now (λ e. result ≡ fault_status e) }
+{
+    match answer {
+        Ok(text) => put_text(alloc, device, text, 0),
+        Err(fault) => report(alloc, device, fault),
+    }
+}
+
+/// Translates a task: reads the two files, and puts out the text of its translation or reports the fault. Gives the exit status.
+pub fn run_translation<D: Device>(alloc: Global, device: &mut D, domain: &str, problem: &str) -> u8
+    ensures done { (h : List Event) → D.history device.old ≡ Some h → D.failure_count device.new ≡ D.failure_count device.old → result ≢ 6 →
+        (new : List Event) × (D.history device.new ≡ Some new) × Translates h new domain.now problem.now result }
+    ensures device_failed { result ≡ 7 → D.failure_count device.old + 1 ≤ D.failure_count device.new }
+{
+    match read_texts(alloc, device, domain, problem) {
+        Ok((domain, problem)) => {
+            let answer = translation_of(alloc, &domain, &problem);
+            reply_text(alloc, device, &answer)
+        }
+        Err(fault) => report(alloc, device, &fault),
+    }
+}

@@ -1,0 +1,29 @@
+-- What the words of a certificate name in a planning task.
+use Rattle.std.specs.Prelude.{ℕ, List, [], ◌∷◌, ◌++◌, map, length, slice_index_or, codes}
+use Rattle.names.specs.Names.{number_of}
+use Rattle.planning.specs.Atoms.{Atom}
+use Rattle.planning.specs.Planning.{Vocabulary}
+use Rattle.certificates.specs.Certificates.{Variable}
+use Rattle.cert_text.specs.Pieces.{joined}
+use Rattle.variables.specs.Variables.{PlacedVariable}
+
+-- The atom that a predicate's name and the names of objects name. What is no such name has the number behind all of them,
+-- so it is no atom of the task.
+abbrev pub named : Vocabulary → List (List ℕ) → Atom
+named names [] = record { predicate = length names.predicates; objects = [] }
+named names (w ∷ ws) = record { predicate = number_of names.predicates w; objects = map (number_of names.objects) ws }
+
+abbrev pub named_atoms : Vocabulary → List (List (List ℕ)) → List Atom
+named_atoms names words = map (named names) words
+
+-- a certificate's variable, over the atoms that it lists
+abbrev pub listed : Variable → PlacedVariable
+listed v = record { places = v.atoms; has_none = v.has_none_value }
+
+-- words with blanks between them, in parentheses
+abbrev pub words_text : List (List ℕ) → List ℕ
+words_text words = codes "(" ++ joined 32 words ++ codes ")"
+
+-- the words of an atom of the task
+abbrev pub words_of : Vocabulary → Atom → List (List ℕ)
+words_of names p = slice_index_or names.predicates p.predicate [] ∷ map (λ o. slice_index_or names.objects o []) p.objects

@@ -1,0 +1,40 @@
+//! Why there is no verdict.
+
+ghost use Rattle.std.specs.Prelude.{◌≡◌};
+ghost use Rattle.pddl_checker.specs.declared.fault.PlanningCheckFault.TheVariants.{OutOfMemory};
+
+use cert_text::CertFault;
+use fdr::TaskLimit;
+use pddl::PddlFault;
+use std::alloc::{AllocError, AllocFailed};
+
+/// Why there is no verdict on the texts of a planning task and of a certificate.
+#[derive(Debug, Drop)]
+pub enum PlanningCheckFault {
+    /// Memory ran out. It says nothing of the texts.
+    OutOfMemory,
+    /// The domain's or the problem's text is refused.
+    Task(PddlFault),
+    /// The certificate's text is refused, or is for another kind of task (`Expected` in line 2).
+    Cert(CertFault),
+    /// F20: the certificate lists more than 262,144 atoms, or there are more than 1,048,576 actions over them.
+    GroundLimit,
+    /// F18: the certificate has more than 65,536 variables, or one of more than 65,536 values.
+    Limit(TaskLimit),
+}
+
+impl From<AllocError> for PlanningCheckFault {
+    ghost from_gives = { λ _ e. e ≡ OutOfMemory };
+
+    fn from(_e: AllocError) -> PlanningCheckFault {
+        PlanningCheckFault::OutOfMemory
+    }
+}
+
+impl<T: Drop> From<AllocFailed<T>> for PlanningCheckFault {
+    ghost from_gives = { λ _ e. e ≡ OutOfMemory };
+
+    fn from(_e: AllocFailed<T>) -> PlanningCheckFault {
+        PlanningCheckFault::OutOfMemory
+    }
+}

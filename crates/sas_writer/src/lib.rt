@@ -1,0 +1,16 @@
+//! The text of a finite-domain task that is a translation: `output.sas`, version 3, as it is written.
+#![tactic(auto)]
+
+mod facts;
+mod groups;
+mod laws;
+mod lines;
+mod operators;
+mod variables;
+mod writing;
+
+pub use laws::{text_order_has_same_plans, worked_texts, written_text_is_read};
+pub use writing::write_sas;
+
+#[cfg(test)]
+mod tests;

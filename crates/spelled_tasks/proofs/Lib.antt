@@ -1,0 +1,9 @@
+pub mod Clean
+pub mod Counts
+pub mod GoalLaws
+pub mod LiftedAtoms
+pub mod StatedAtoms
+pub mod AddedAtoms
+pub mod KnownAtoms
+pub mod Words
+pub mod WordNames

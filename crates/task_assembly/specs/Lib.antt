@@ -1,0 +1,4 @@
+pub mod Slots
+pub mod Facts
+pub mod Operators
+pub mod Limits

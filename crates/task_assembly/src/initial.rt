@@ -1,0 +1,51 @@
+//! The initial state.
+
+ghost use Rattle.std.specs.Prelude.{◌≡◌, ◌≤◌, All, length, map, IfOk};
+ghost use Rattle.task_assembly.specs.Slots.{with_slot, values_of, look_up};
+
+use crate::slot::Slot;
+use crate::table::Table;
+use planning::GroundAtom;
+use std::alloc::{AllocError, Global};
+use variables::ListedVariable;
+
+// For each variable the value at which its initially true atom is true, or at which none is.
+pub(crate) fn initial_state(
+    alloc: Global,
+    table: &Table<'_>,
+    variables: &[ListedVariable],
+    atoms: &[GroundAtom],
+) -> Result<Vec<u32>, AllocError>
+    requires { All (λ v. length v.places ≤ 65536) variables.now }
+    ensures { IfOk result (λ state. state.items
+        ≡ values_of (look_up table.now) (map (λ v. length v.places) variables.now) atoms.now) }
+{
+    let mut state = none_values(alloc, variables)?;
+    for atom in atoms {
+        set_value(&mut state, table.slot(atom));
+    }
+    Ok(state)
+}
+
+// The value of each variable at which none of its atoms is true.
+fn none_values(alloc: Global, variables: &[ListedVariable]) -> Result<Vec<u32>, AllocError>
+    requires { All (λ v. length v.places ≤ 65536) variables.now }
+    ensures { IfOk result (λ values. values.items ≡ map (λ v. length v.places) variables.now) }
+{
+    let mut values = Vec::new(alloc);
+    for variable in variables {
+        values.push(variable.places.len() as u32)?;
+    }
+    Ok(values)
+}
+
+// Gives the slot's variable the slot's value.
+fn set_value(values: &mut [u32], slot: Option<Slot>)
+    ensures { values.new ≡ with_slot values.old slot }
+{
+    if let Some(slot) = slot
+        && slot.variable < values.len()
+    {
+        values[slot.variable] = slot.value;
+    }
+}

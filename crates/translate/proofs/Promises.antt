@@ -1,0 +1,122 @@
+-- What a translation promises of plans, and what is wrong first where it is refused.
+use Rattle.std.proofs.Common.{◌≡◌, ℕ, List, refl, sym, ap, subst, ◌∙◌}
+use Rattle.std.specs.Prelude.{◌↔◌, ◌≤◌, All, Contains, Some, slice_get, length, Result, Ok, Err, IfOk, IfErr}
+use Rattle.std.specs.List.{filter_map, AllZip}
+use Rattle.cost.specs.Distances.{Distance}
+use Rattle.fdr.specs.Tasks.{FiniteDomainTask, IsWithinLimits, IsPlan, plan_cost, EveryPlanCostsAtLeast, HasNoPlan}
+use Rattle.planning.specs.Atoms.{Atom, contains}
+use Rattle.planning.specs.Planning.{PlanningTask, IsPlanningTask, Action, IsActionOf}
+use Rattle.planning.specs.Plans.{IsValidPlan, total_cost, HasNoValidPlan}
+use Rattle.planning.proofs.Lists.{Mem, all_mem}
+use Rattle.closed_sets.specs.Grounding.{AreListedAtoms, AreListedActions, IsLeastClosedSet, actions_over}
+use Rattle.bindings.specs.Search.{most_actions}
+use Rattle.ground.specs.Rounds.{most_atoms}
+use Rattle.closed_sets.proofs.Binding.{over_listed}
+use Rattle.translations.specs.Bounds.{ValidPlansCostAtLeast}
+use Rattle.translations.specs.Translations.{AreVariables, translation, carried}
+use Rattle.translations.proofs.Bounding.{same_plans, bound_forth, bound_back, none_forth, none_back}
+use Rattle.translations.proofs.SamePlans.{plan_listed}
+use Rattle.variables.specs.Variables.{PlacedVariable, IsPlaced, variables_at}
+use Rattle.translate_vars.specs.Parts.{AreFit}
+use Rattle.translate_vars.specs.Faults.{IsFirstFault}
+use Rattle.translate_vars.specs.declared.fault.TranslateFault.{TranslateFault}
+use Rattle.translate_vars.specs.declared.fault.TranslateFault.TheVariants as fault
+use Rattle.translate.specs.Translated.{TranslatedTask, IsTranslation, HasSamePlans, IsTooLarge, IsUntranslated, actions_of, operator_actions}
+use Rattle.translate.proofs.Limits.{fits, within_from}
+
+pub listed_actions : (task : PlanningTask) (atoms : List Atom) (actions : List Action) → actions ≡ actions_over task (contains atoms) → AreListedActions task atoms actions
+listed_actions task atoms actions e = subst (AreListedActions task atoms) (sym e) (over_listed task atoms)
+
+-- a task is the translation over atoms and variables, given the actions over the atoms
+module _ (task : PlanningTask) (t : TranslatedTask) (placed : All (IsPlaced (length t.atoms)) t.variables) (listed : AreListedAtoms task t.atoms)
+    (few : length t.atoms ≤ most_atoms) where
+  translation_over : length (actions_of task t) ≤ most_actions → AreVariables task t.atoms (actions_of task t) (variables_at t.atoms t.variables)
+      → t.task ≡ translation task (variables_at t.atoms t.variables) (actions_of task t)
+      → operator_actions task t ≡ carried (variables_at t.atoms t.variables) (actions_of task t) → IsWithinLimits t.task → IsTranslation task t
+  translation_over few_actions chosen is are limits =
+      record {
+        placed = placed;
+        fit = record {
+          within = within_from task t.atoms (actions_of task t) t.variables placed few (subst IsWithinLimits is limits);
+          listed = listed;
+          few_actions = few_actions;
+          chosen = chosen;
+        };
+        task_is = is;
+        actions_are = are;
+      }
+
+  pub translation_from : (actions : List Action) → actions ≡ actions_of task t → length actions ≤ most_actions
+      → AreVariables task t.atoms actions (variables_at t.atoms t.variables) → t.task ≡ translation task (variables_at t.atoms t.variables) actions
+      → filter_map (slice_get actions) t.places ≡ carried (variables_at t.atoms t.variables) actions → IsWithinLimits t.task → IsTranslation task t
+  translation_from actions same few_actions chosen is are limits =
+      translation_over
+      (subst (λ (listed_ : List Action). length listed_ ≤ most_actions) same few_actions)
+      (subst (λ (listed_ : List Action). AreVariables task t.atoms listed_ (variables_at t.atoms t.variables)) same chosen)
+      (subst (λ (listed_ : List Action). t.task ≡ translation task (variables_at t.atoms t.variables) listed_) same is)
+      (subst (λ (listed_ : List Action). filter_map (slice_get listed_) t.places ≡ carried (variables_at t.atoms t.variables) listed_) same are)
+      limits
+
+module _ (task : PlanningTask) (t : TranslatedTask) (well : IsPlanningTask task) (made : IsTranslation task t) where
+  abbrev actions : List Action
+  actions = actions_of task t
+
+  listed : AreListedActions task t.atoms actions
+  listed = over_listed task t.atoms
+
+  pub same_plans_are : HasSamePlans task t
+  same_plans_are =
+      subst (λ (f : FiniteDomainTask). HasSamePlans task (record t { task = f })) (sym made.task_is)
+      (record {
+        listed = plan_listed task t.atoms actions (variables_at t.atoms t.variables) well made.fit.listed listed made.fit.chosen;
+        plans = λ plan cost.
+            subst (λ (listed_ : List Action). (IsValidPlan task plan × (total_cost plan ≡ cost))
+            ↔ ((os : List ℕ) × AllZip (λ a o. slice_get listed_ o ≡ Some a) plan os
+            × IsPlan (translation task (variables_at t.atoms t.variables) actions) os
+            × (plan_cost (translation task (variables_at t.atoms t.variables) actions) os ≡ cost)))
+            (sym made.actions_are)
+            (same_plans task t.atoms actions (variables_at t.atoms t.variables) well made.fit.listed listed made.fit.chosen plan cost);
+        bounds = λ bound. (
+          bound_forth task t.atoms actions (variables_at t.atoms t.variables) well made.fit.listed listed made.fit.chosen bound,
+          bound_back task t.atoms actions (variables_at t.atoms t.variables) well made.fit.listed listed made.fit.chosen bound,
+        );
+        none = (
+          none_forth task t.atoms actions (variables_at t.atoms t.variables) well made.fit.listed listed made.fit.chosen,
+          none_back task t.atoms actions (variables_at t.atoms t.variables) well made.fit.listed listed made.fit.chosen,
+        );
+      })
+
+-- what is fit is refused for memory alone
+pub large_is_first : (task : PlanningTask) (atoms : List Atom) (variables : List PlacedVariable) (e : TranslateFault) → All (IsPlaced (length atoms)) variables
+    → AreFit task atoms variables → IsTooLarge task atoms variables e → IsFirstFault task atoms variables e
+large_is_first task atoms variables fault.OutOfMemory placed fit h = tt
+large_is_first task atoms variables (fault.Limit l) placed fit h = absurd (fits task atoms variables l placed fit h)
+large_is_first task atoms variables fault.GroundLimit placed fit h = absurd h
+large_is_first task atoms variables (fault.BadAtom k) placed fit h = absurd h
+large_is_first task atoms variables (fault.Missing p) placed fit h = absurd h
+large_is_first task atoms variables (fault.NotClosed p) placed fit h = absurd h
+large_is_first task atoms variables (fault.Uncovered k) placed fit h = absurd h
+large_is_first task atoms variables (fault.NotGroup k) placed fit h = absurd h
+large_is_first task atoms variables (fault.NotFull k) placed fit h = absurd h
+large_is_first task atoms variables (fault.Misplaced k) placed fit h = absurd h
+
+pub large_is_untranslated : (task : PlanningTask) (atoms : List Atom) (variables : List PlacedVariable) (e : TranslateFault) → IsLeastClosedSet task (contains atoms)
+    → AreVariables task atoms (actions_over task (contains atoms)) (variables_at atoms variables) → IsTooLarge task atoms variables e → IsUntranslated task e
+large_is_untranslated task atoms variables fault.OutOfMemory least chosen h = tt
+large_is_untranslated task atoms variables (fault.Limit l) least chosen h = (atoms, variables_at atoms variables, least, chosen, h)
+large_is_untranslated task atoms variables fault.GroundLimit least chosen h = absurd h
+large_is_untranslated task atoms variables (fault.BadAtom k) least chosen h = absurd h
+large_is_untranslated task atoms variables (fault.Missing p) least chosen h = absurd h
+large_is_untranslated task atoms variables (fault.NotClosed p) least chosen h = absurd h
+large_is_untranslated task atoms variables (fault.Uncovered k) least chosen h = absurd h
+large_is_untranslated task atoms variables (fault.NotGroup k) least chosen h = absurd h
+large_is_untranslated task atoms variables (fault.NotFull k) least chosen h = absurd h
+large_is_untranslated task atoms variables (fault.Misplaced k) least chosen h = absurd h
+
+pub if_ok_map : {X E : Type 0} (P Q : X → Type 0) (r : Result X E) → ((x : X) → P x → Q x) → IfOk r P → IfOk r Q
+if_ok_map P Q (Ok x) f h = f x h
+if_ok_map P Q (Err e) f h = tt
+
+pub if_err_map : {X E : Type 0} (P Q : E → Type 0) (r : Result X E) → ((e : E) → P e → Q e) → IfErr r P → IfErr r Q
+if_err_map P Q (Ok x) f h = tt
+if_err_map P Q (Err e) f h = f e h

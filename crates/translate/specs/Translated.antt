@@ -1,0 +1,82 @@
+-- A planning task's translation with the atoms and the variables that it was made over, and what it promises of plans.
+use Rattle.std.specs.Prelude.{◌≡◌, ◌↔◌, ⊤, ℕ, List, length, Some, slice_get, All, Contains}
+use Rattle.std.specs.List.{filter_map, AllZip}
+use Rattle.cost.specs.Distances.{Distance}
+use Rattle.fdr.specs.declared.task.TaskLimit.{TaskLimit}
+use Rattle.fdr.specs.Tasks.{FiniteDomainTask, IsPlan, plan_cost, IsPastLimit, EveryPlanCostsAtLeast, HasNoPlan}
+use Rattle.planning.specs.Atoms.{Atom, contains}
+use Rattle.planning.specs.Planning.{PlanningTask, Action}
+use Rattle.planning.specs.Plans.{IsValidPlan, total_cost, HasNoValidPlan}
+use Rattle.closed_sets.specs.Grounding.{IsLeastClosedSet, actions_over}
+use Rattle.ground.specs.Rounds.{IsPastLimits}
+use Rattle.translations.specs.Bounds.{ValidPlansCostAtLeast}
+use Rattle.translations.specs.Translations.{Variable, AreVariables, translation, carried}
+use Rattle.variables.specs.Variables.{PlacedVariable, IsPlaced, variables_at}
+use Rattle.translate_vars.specs.Parts.{AreFit}
+use Rattle.translate_vars.specs.declared.fault.TranslateFault.{TranslateFault}
+use Rattle.translate_vars.specs.declared.fault.TranslateFault.TheVariants as fault
+
+-- the atoms, the variables over them, the finite-domain task, and for each operator the place of its action
+pub record TranslatedTask : Type 0 where
+  pub atoms : List Atom
+  pub variables : List PlacedVariable
+  pub task : FiniteDomainTask
+  pub places : List ℕ
+
+-- all ground actions over its atoms, in order
+abbrev pub actions_of : PlanningTask → TranslatedTask → List Action
+actions_of task t = actions_over task (contains t.atoms)
+
+-- the actions of its operators, in their order
+abbrev pub operator_actions : PlanningTask → TranslatedTask → List Action
+operator_actions task t = filter_map (slice_get (actions_of task t)) t.places
+
+-- its atoms and variables are fit, and it is the translation over them
+pub record IsTranslation (task : PlanningTask) (t : TranslatedTask) : Type 0 where
+  pub placed : All (IsPlaced (length t.atoms)) t.variables
+  pub fit : AreFit task t.atoms t.variables
+  pub task_is : t.task ≡ translation task (variables_at t.atoms t.variables) (actions_of task t)
+  pub actions_are : operator_actions task t ≡ carried (variables_at t.atoms t.variables) (actions_of task t)
+
+-- operator o is that of the action, one for each action of the plan
+abbrev pub AreOperatorsOf : PlanningTask → TranslatedTask → List Action → List ℕ → Type 0
+AreOperatorsOf task t plan os = AllZip (λ a o. slice_get (operator_actions task t) o ≡ Some a) plan os
+
+-- Every action of a valid plan is over the atoms. A list of actions is a valid plan of some cost exactly where each has an operator and
+-- the list of these is a plan of that cost. The same bounds hold.
+pub record HasSamePlans (task : PlanningTask) (t : TranslatedTask) : Type 0 where
+  pub listed : (plan : List Action) → IsValidPlan task plan → All (Contains (actions_of task t)) plan
+  pub plans : (plan : List Action) (cost : ℕ) →
+      (IsValidPlan task plan × (total_cost plan ≡ cost))
+      ↔ ((os : List ℕ) × AreOperatorsOf task t plan os × IsPlan t.task os × (plan_cost t.task os ≡ cost))
+  pub bounds : (bound : Distance) → EveryPlanCostsAtLeast t.task bound ↔ ValidPlansCostAtLeast task bound
+  pub none : HasNoPlan t.task ↔ HasNoValidPlan task
+
+-- the translation over these atoms and variables is larger than a task may be
+abbrev pub IsTooLarge : PlanningTask → List Atom → List PlacedVariable → TranslateFault → Type 0
+IsTooLarge task atoms variables fault.OutOfMemory = ⊤
+IsTooLarge task atoms variables (fault.Limit l) = IsPastLimit (translation task (variables_at atoms variables) (actions_over task (contains atoms))) l
+IsTooLarge task atoms variables fault.GroundLimit = ⊥
+IsTooLarge task atoms variables (fault.BadAtom k) = ⊥
+IsTooLarge task atoms variables (fault.Missing p) = ⊥
+IsTooLarge task atoms variables (fault.NotClosed p) = ⊥
+IsTooLarge task atoms variables (fault.Uncovered k) = ⊥
+IsTooLarge task atoms variables (fault.NotGroup k) = ⊥
+IsTooLarge task atoms variables (fault.NotFull k) = ⊥
+IsTooLarge task atoms variables (fault.Misplaced k) = ⊥
+
+-- there are too many atoms or actions; or variables, of which each atom is in one, make a task that is too large
+abbrev pub IsUntranslated : PlanningTask → TranslateFault → Type 0
+IsUntranslated task fault.OutOfMemory = ⊤
+IsUntranslated task fault.GroundLimit = IsPastLimits task
+IsUntranslated task (fault.Limit l) =
+    (atoms : List Atom) × (variables : List Variable) × IsLeastClosedSet task (contains atoms)
+    × AreVariables task atoms (actions_over task (contains atoms)) variables
+    × IsPastLimit (translation task variables (actions_over task (contains atoms))) l
+IsUntranslated task (fault.BadAtom k) = ⊥
+IsUntranslated task (fault.Missing p) = ⊥
+IsUntranslated task (fault.NotClosed p) = ⊥
+IsUntranslated task (fault.Uncovered k) = ⊥
+IsUntranslated task (fault.NotGroup k) = ⊥
+IsUntranslated task (fault.NotFull k) = ⊥
+IsUntranslated task (fault.Misplaced k) = ⊥

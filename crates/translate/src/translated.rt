@@ -1,0 +1,56 @@
+//! Translated tasks.
+
+ghost use Rattle.std.specs.Prelude.{◌≡◌, slice_get};
+
+use atoms::Atoms;
+use fdr::FdrTask;
+use std::marker::Model;
+use variables::ListedVariable;
+
+/// A finite-domain task with the atoms and the variables that it was made over, and for each operator the place of its action among the
+/// ground actions over the atoms.
+#[derive(Drop)]
+pub struct Translated {
+    pub(crate) atoms: Atoms,
+    pub(crate) variables: Vec<ListedVariable>,
+    pub(crate) task: FdrTask,
+    pub(crate) places: Vec<usize>,
+}
+
+impl Model for Translated {
+    ghost use Rattle.translate.specs.Translated.{TranslatedTask};
+
+    ghost Value = { TranslatedTask };
+
+    ghost view = { λ t. record { atoms = t.atoms; variables = t.variables.items; task = t.task; places = t.places.items } };
+}
+
+impl Translated {
+    /// The listed atoms, in the order of their places.
+    pub fn atoms(&self) -> &Atoms
+        ensures { result.now ≡ self.now.atoms }
+    {
+        &self.atoms
+    }
+
+    /// The variables over the atoms, by their numbers in the task.
+    pub fn variables(&self) -> &[ListedVariable]
+        ensures { result.now ≡ self.now.variables }
+    {
+        &self.variables
+    }
+
+    /// The finite-domain task.
+    pub fn task(&self) -> &FdrTask
+        ensures { result.now ≡ self.now.task }
+    {
+        &self.task
+    }
+
+    /// The place of the operator's action among the ground actions over the atoms, counted from 0; `None` where there is no such operator.
+    pub fn action_of(&self, operator: usize) -> Option<usize>
+        ensures { result ≡ slice_get self.now.places operator }
+    {
+        self.places.get(operator).copied()
+    }
+}

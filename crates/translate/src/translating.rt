@@ -1,0 +1,143 @@
+//! Translating.
+
+ghost use Rattle.std.specs.Prelude.{◌≡◌, ◌≤◌, All, IsTrue, IfOk, IfErr, length};
+ghost use Rattle.planning.specs.Atoms.{Literal, contains};
+ghost use Rattle.planning.specs.Planning.{IsPlanningTask, IsActionOf, IsAtomOf, has_small_costs, Action};
+ghost use Rattle.closed_sets.specs.Grounding.{actions_over, AreListedAtoms, AreListedActions, IsLeastClosedSet};
+ghost use Rattle.atoms.specs.Order.{AreDistinct};
+ghost use Rattle.bindings.specs.Search.{most_actions};
+ghost use Rattle.ground.specs.Rounds.{most_atoms};
+ghost use Rattle.translations.specs.Translations.{AreVariables};
+ghost use Rattle.variables.specs.Variables.{IsPlaced, variables_at};
+ghost use Rattle.translate_vars.specs.Faults.{IsFirstFault};
+ghost use Rattle.translate.specs.Translated.{IsTranslation, HasSamePlans, IsTooLarge, IsUntranslated};
+
+use crate::translated::Translated;
+use atoms::Atoms;
+use ground::{GroundFault, Grounded, ground};
+use group_proposals::groups;
+use mutex::ActionIndex;
+use planning::{GroundAction, GroundAtom, Task};
+use std::alloc::{AllocError, Global};
+use task_assembly::{AssemblyFault, assemble};
+use translate_vars::{ListedParts, TranslateFault, check_parts};
+use variable_choice::choose_variables;
+use variables::ListedVariable;
+
+// The translation over atoms and variables that are fit. A `Limit` says which table of its task would be too long.
+fn translated(
+    alloc: Global,
+    task: &Task,
+    parts: ListedParts,
+    variables: Vec<ListedVariable>,
+) -> Result<Translated, TranslateFault>
+    requires costs { (a : Action) → IsActionOf task.now a → a.cost ≤ 2147483647 }
+    requires placed { All (IsPlaced (length parts.atoms)) variables.items }
+    requires listed { AreListedAtoms task.now parts.atoms }
+    requires few_atoms { length parts.atoms ≤ most_atoms }
+    requires over { parts.actions.items ≡ actions_over task.now (contains parts.atoms) }
+    requires few_actions { length parts.actions.items ≤ most_actions }
+    requires fit { AreVariables task.now parts.atoms parts.actions.items (variables_at parts.atoms variables.items) }
+    ensures atoms { IfOk result (λ t. t.atoms ≡ parts.atoms) }
+    ensures variables { IfOk result (λ t. t.variables ≡ variables.items) }
+    ensures translation { IfOk result (IsTranslation task.now) }
+    ensures large { IfErr result (IsTooLarge task.now parts.atoms variables.items) }
+{
+    match assemble(alloc, task, &parts.atoms, &parts.actions, &variables) {
+        Ok(made) => {
+            made.task.recall();
+            Ok(Translated {
+                atoms: parts.atoms,
+                variables,
+                task: made.task,
+                places: made.carried,
+            })
+        }
+        Err(AssemblyFault::OutOfMemory) => Err(TranslateFault::OutOfMemory),
+        Err(AssemblyFault::Limit(limit)) => Err(TranslateFault::Limit(limit)),
+    }
+}
+
+/// The task's translation over these atoms, with these variables over them.
+///
+/// An `Err` is the first that is wrong with the atoms and the variables: of their numbers, then of the atoms in their order, the number
+/// of actions, the missing atoms, the variables in their order, and the atoms in no variable. Any other is of too little memory.
+/// What is given Ok has the same plans with the same costs as the task (Helmert 2009).
+pub fn with_variables(
+    alloc: Global,
+    task: &Task,
+    atoms: &[GroundAtom],
+    variables: Vec<ListedVariable>,
+) -> Result<Translated, TranslateFault>
+    requires small { IsTrue (has_small_costs task.now) }
+    requires costs { (a : Action) → IsActionOf task.now a → a.cost ≤ 2147483647 }
+    requires placed { All (IsPlaced (length atoms.now)) variables.items }
+    ensures atoms { IfOk result (λ t. t.atoms ≡ atoms.now) }
+    ensures variables { IfOk result (λ t. t.variables ≡ variables.items) }
+    ensures translation { IfOk result (IsTranslation task.now) }
+    ensures plans { IsPlanningTask task.now → IfOk result (HasSamePlans task.now) }
+    ensures fault { IfErr result (IsFirstFault task.now atoms.now variables.items) }
+{
+    let parts = check_parts(alloc, task, atoms, &variables)?;
+    translated(alloc, task, parts, variables)
+}
+
+// The least closed set of atoms with the actions over it.
+fn grounded(alloc: Global, task: &Task) -> Result<Grounded, TranslateFault>
+    requires small { IsTrue (has_small_costs task.now) }
+    ensures least { IfOk result (λ g. IsLeastClosedSet task.now (contains g.atoms)) }
+    ensures few_atoms { IfOk result (λ g. length g.atoms ≤ most_atoms) }
+    ensures actions { IfOk result (λ g. g.actions.items ≡ actions_over task.now (contains g.atoms)) }
+    ensures few_actions { IfOk result (λ g. length g.actions.items ≤ most_actions) }
+    ensures distinct { IfOk result (λ g. AreDistinct g.atoms) }
+    ensures fault { IfErr result (IsUntranslated task.now) }
+{
+    match ground(alloc, task) {
+        Ok(grounded) => {
+            // a list of atoms tells here that none stands twice
+            let _ = grounded.atoms.as_slice().len();
+            Ok(grounded)
+        }
+        Err(GroundFault::OutOfMemory) => Err(TranslateFault::OutOfMemory),
+        Err(GroundFault::GroundLimit) => Err(TranslateFault::GroundLimit),
+    }
+}
+
+// Variables over the atoms, by the groups that are proposed.
+fn chosen(
+    alloc: Global,
+    task: &Task,
+    grounded: &Grounded,
+) -> Result<Vec<ListedVariable>, AllocError>
+    ensures placed { IfOk result (λ vs. All (IsPlaced (length grounded.now.atoms)) vs.items) }
+    ensures fit { IfOk result (λ vs.
+        AreVariables task.now grounded.now.atoms grounded.now.actions.items (variables_at grounded.now.atoms vs.items)) }
+{
+    let index = ActionIndex::new(alloc, task, &grounded.atoms, &grounded.actions)?;
+    let groups = groups(alloc, &index)?;
+    choose_variables(alloc, &index, &groups)
+}
+
+/// The task's translation over the atoms of its least closed set, with variables that are chosen by mutex groups.
+///
+/// An `Err` is `GroundLimit` where there are too many atoms or actions, `Limit` where the variables would be too many or too large,
+/// and otherwise of too little memory. What is given Ok has the same plans with the same costs as the task (Helmert 2009).
+pub fn translate(alloc: Global, task: &Task) -> Result<Translated, TranslateFault>
+    requires small { IsTrue (has_small_costs task.now) }
+    requires costs { (a : Action) → IsActionOf task.now a → a.cost ≤ 2147483647 }
+    requires initial { All (IsAtomOf task.now) task.now.initial }
+    requires goals { All (λ (l : Literal). IsAtomOf task.now l.atom) task.now.goal }
+    requires added { (a : Action) → IsActionOf task.now a → All (IsAtomOf task.now) a.adds }
+    ensures translation { IfOk result (IsTranslation task.now) }
+    ensures least { IfOk result (λ t. IsLeastClosedSet task.now (contains t.atoms)) }
+    ensures plans { IsPlanningTask task.now → IfOk result (HasSamePlans task.now) }
+    ensures fault { IfErr result (IsUntranslated task.now) }
+{
+    let grounded = grounded(alloc, task)?;
+    let variables = chosen(alloc, task, &grounded)?;
+    let parts = ListedParts {
+        atoms: grounded.atoms,
+        actions: grounded.actions,
+    };
+    translated(alloc, task, parts, variables)
+}

@@ -1,0 +1,9 @@
+pub mod FlagLaws
+pub mod ListingLaws
+pub mod GoalLaws
+pub mod OrderLaws
+pub mod CountLaws
+pub mod CoverLaws
+pub mod ReverseLaws
+pub mod FaultLaws
+pub mod StageLaws

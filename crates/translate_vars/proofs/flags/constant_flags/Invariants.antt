@@ -1,0 +1,6 @@
+use Rattle.std.proofs.Common.{◌≡◌, map, take}
+use Rattle.mutex.specs.Groups.{is_constant}
+use Rattle.translate_vars.proofs.flags.constant_flags.Given as goal
+
+abbrev pub invariant-loop-place : goal.invariant-loop-place
+invariant-loop-place l = l.flags.items ≡ map (is_constant l.index.task l.index.actions) (take l.place l.index.atoms)

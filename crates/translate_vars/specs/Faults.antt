@@ -1,0 +1,119 @@
+-- What is wrong with listed atoms and variables, and what goes first: the limits, the atoms, the actions over them, the atoms
+-- that are missing, the variables in their order, and the atoms in no variable.
+use Rattle.std.specs.Prelude.{◌≡◌, ◌⊎◌, ⊤, ℕ, suc, ◌<◌, ◌≤◌, Bool, true, false, ◌&&◌, ◌||◌, not, nat_le, if◌then◌else◌, List, take, length, Some, slice_get, find, IsSomeAnd}
+use Rattle.std.specs.List.{list_all, list_any}
+use Rattle.fdr.specs.declared.task.TaskLimit.{TaskLimit}
+use Rattle.fdr.specs.declared.task.TaskLimit.TheVariants as limit
+use Rattle.planning.specs.Atoms.{Atom, State, contains, at_most_one, wants, has_wanted}
+use Rattle.planning.specs.Planning.{PlanningTask, Action, IsAtomOf}
+use Rattle.closed_sets.specs.Grounding.{actions_over, IsClosedSet}
+use Rattle.atoms.specs.Order.{AreDistinct}
+use Rattle.bindings.specs.Search.{most_actions}
+use Rattle.ground.specs.Rounds.{most_atoms, wanted_atoms}
+use Rattle.ground.specs.Closing.{IsLeastMissing, IsFirstOpen}
+use Rattle.mutex.specs.Groups.{is_excluded, is_constant, is_usable, is_full}
+use Rattle.translations.specs.Translations.{Variable}
+use Rattle.variables.specs.Variables.{PlacedVariable, variables_at}
+use Rattle.translate_vars.specs.declared.fault.TranslateFault.{TranslateFault}
+use Rattle.translate_vars.specs.declared.fault.TranslateFault.TheVariants as fault
+use Rattle.translate_vars.specs.Parts.{has_long_range, AreWithinLimits}
+
+-- the first of the limits that is passed
+abbrev pub IsPassed : List Atom → List PlacedVariable → TaskLimit → Type 0
+IsPassed atoms variables limit.Variables = (length atoms ≤ most_atoms) × (65536 < length variables)
+IsPassed atoms variables limit.Values = (length atoms ≤ most_atoms) × (length variables ≤ 65536) × (has_long_range variables ≡ true)
+IsPassed atoms variables limit.Operators = ⊥
+
+-- atoms of the task, none twice
+pub record AreAtomsOf (task : PlanningTask) (atoms : List Atom) : Type 0 where
+  pub known : (k : ℕ) (p : Atom) → slice_get atoms k ≡ Some p → IsAtomOf task p
+  pub distinct : AreDistinct atoms
+
+-- the atoms before this place are such, and with the one at it they are not
+pub record IsBadAtom (task : PlanningTask) (atoms : List Atom) (k : ℕ) : Type 0 where
+  pub there : k < length atoms
+  pub before : AreAtomsOf task (take k atoms)
+  pub bad : AreAtomsOf task (take (suc k) atoms) → ⊥
+
+-- the least initial atom that is not listed or, where all are, the first of the goal
+abbrev pub IsMissing : PlanningTask → List Atom → Atom → Type 0
+IsMissing task atoms p =
+    IsLeastMissing (contains atoms) task.initial p
+    ⊎ ((list_all (contains atoms) task.initial ≡ true) × (find (λ q. not (contains atoms q)) (wanted_atoms task.goal) ≡ Some p))
+
+-- the atoms and the actions over them are such as a translation asks for
+pub record AreGrounded (task : PlanningTask) (atoms : List Atom) : Type 0 where
+  pub known : AreAtomsOf task atoms
+  pub few : length (actions_over task (contains atoms)) ≤ most_actions
+  pub is_closed : IsClosedSet task (contains atoms)
+
+-- more than one
+abbrev pub are_several : List Atom → Bool
+are_several atoms = nat_le 2 (length atoms)
+
+module _ (task : PlanningTask) (actions : List Action) where
+  -- an atom that cannot be there, beside these variables that are earlier
+  abbrev pub is_misplaced : List Variable → Variable → Bool
+  is_misplaced earlier v =
+      list_any (λ p. is_constant task actions p || list_any (λ u. contains u.atoms p) earlier) v.atoms
+      || (if are_several v.atoms
+      then list_any (is_excluded task actions) v.atoms || not (at_most_one (wants task.goal) v.atoms)
+      else not v.has_none)
+
+  abbrev pub is_no_group : Variable → Bool
+  is_no_group v = are_several v.atoms && not (is_usable task actions v.atoms)
+
+  abbrev pub is_not_full : Variable → Bool
+  is_not_full v = are_several v.atoms && not v.has_none && not (is_full task actions v.atoms)
+
+  -- nothing is wrong with the variable
+  abbrev pub is_in_order : List Variable → Variable → Bool
+  is_in_order earlier v = not (is_misplaced earlier v) && not (is_no_group v) && not (is_not_full v)
+
+  -- nothing is wrong with the first variables, so many
+  abbrev pub AreInOrder : List Variable → ℕ → Type 0
+  AreInOrder variables count = (k : ℕ) (v : Variable) → k < count → slice_get variables k ≡ Some v → is_in_order (take k variables) v ≡ true
+
+  -- the variable is the first with which something is wrong, and passes or fails these tests
+  abbrev pub IsFirstWrong : List Variable → ℕ → (List Variable → Variable → Bool) → Type 0
+  IsFirstWrong variables k test = AreInOrder variables k × IsSomeAnd (slice_get variables k) (λ v. test (take k variables) v ≡ true)
+
+  -- the atom is not constant, and in none of the variables
+  abbrev pub is_uncovered : List Variable → State
+  is_uncovered variables p = not (is_constant task actions p) && not (list_any (λ v. contains v.atoms p) variables)
+
+  -- the first such atom
+  pub record IsFirstUncovered (atoms : List Atom) (variables : List Variable) (k : ℕ) : Type 0 where
+    pub in_order : AreInOrder variables (length variables)
+    pub uncovered : IsSomeAnd (slice_get atoms k) (λ p. is_uncovered variables p ≡ true)
+    pub first : list_any (is_uncovered variables) (take k atoms) ≡ false
+
+-- what is wrong first
+abbrev pub IsFirstFault : PlanningTask → List Atom → List PlacedVariable → TranslateFault → Type 0
+IsFirstFault task atoms variables fault.OutOfMemory = ⊤
+IsFirstFault task atoms variables fault.GroundLimit =
+    (most_atoms < length atoms)
+    ⊎ (AreWithinLimits atoms variables × AreAtomsOf task atoms × (most_actions < length (actions_over task (contains atoms))))
+IsFirstFault task atoms variables (fault.Limit l) = IsPassed atoms variables l
+IsFirstFault task atoms variables (fault.BadAtom k) = AreWithinLimits atoms variables × IsBadAtom task atoms k
+IsFirstFault task atoms variables (fault.Missing p) =
+    AreWithinLimits atoms variables × AreAtomsOf task atoms × (length (actions_over task (contains atoms)) ≤ most_actions) × IsMissing task atoms p
+IsFirstFault task atoms variables (fault.NotClosed p) =
+    AreWithinLimits atoms variables × AreAtomsOf task atoms × (length (actions_over task (contains atoms)) ≤ most_actions)
+    × (list_all (contains atoms) task.initial ≡ true) × (has_wanted (contains atoms) task.goal ≡ true)
+    × ((a : Action) × IsFirstOpen task (contains atoms) a p)
+IsFirstFault task atoms variables (fault.Uncovered k) =
+    AreWithinLimits atoms variables × AreGrounded task atoms
+    × IsFirstUncovered task (actions_over task (contains atoms)) atoms (variables_at atoms variables) k
+IsFirstFault task atoms variables (fault.NotGroup k) =
+    AreWithinLimits atoms variables × AreGrounded task atoms
+    × IsFirstWrong task (actions_over task (contains atoms)) (variables_at atoms variables) k
+    (λ earlier v. not (is_misplaced task (actions_over task (contains atoms)) earlier v) && is_no_group task (actions_over task (contains atoms)) v)
+IsFirstFault task atoms variables (fault.NotFull k) =
+    AreWithinLimits atoms variables × AreGrounded task atoms
+    × IsFirstWrong task (actions_over task (contains atoms)) (variables_at atoms variables) k
+    (λ earlier v. not (is_misplaced task (actions_over task (contains atoms)) earlier v)
+    && not (is_no_group task (actions_over task (contains atoms)) v) && is_not_full task (actions_over task (contains atoms)) v)
+IsFirstFault task atoms variables (fault.Misplaced k) =
+    AreWithinLimits atoms variables × AreGrounded task atoms
+    × IsFirstWrong task (actions_over task (contains atoms)) (variables_at atoms variables) k (is_misplaced task (actions_over task (contains atoms)))

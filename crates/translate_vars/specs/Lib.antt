@@ -1,0 +1,4 @@
+pub mod Parts
+pub mod Faults
+pub mod Flags
+pub mod Passed

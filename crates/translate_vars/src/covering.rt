@@ -1,0 +1,82 @@
+//! Whether each variable is in order, and each atom that is not constant is in one.
+
+ghost use Rattle.std.specs.Prelude.{◌≡◌, ◌||◌, ℕ, ◌<◌, true, false, None, All, length, IfSome, OnOk, IfErr};
+ghost use Rattle.planning.specs.Atoms.{contains};
+ghost use Rattle.closed_sets.specs.Grounding.{actions_over};
+ghost use Rattle.atoms.specs.Order.{AreDistinct};
+ghost use Rattle.variables.specs.Variables.{IsPlaced, variables_at};
+ghost use Rattle.translations.specs.Translations.{AreVariables};
+ghost use Rattle.translate_vars.specs.Parts.{AreWithinLimits};
+ghost use Rattle.translate_vars.specs.Faults.{AreGrounded, IsFirstFault};
+ghost use Rattle.translate_vars.specs.Flags.{flag_at};
+
+use crate::fault::TranslateFault;
+use crate::flags::{AtomFlags, flag, mark};
+use crate::order::fault_at;
+use atoms::Atoms;
+use mutex::ActionIndex;
+use planning::{GroundAction, Task};
+use std::alloc::Global;
+use variables::ListedVariable;
+
+// The first place below the count at which neither flag is set.
+fn first_unset(constant: &[bool], taken: &[bool], count: usize) -> Option<usize>
+    ensures none { result ≡ None → (k : ℕ) → k < count → (flag_at constant.now k || flag_at taken.now k) ≡ true }
+    ensures some { IfSome result (λ place. (place < count) × ((flag_at constant.now place || flag_at taken.now place) ≡ false)
+        × ((k : ℕ) → k < place → (flag_at constant.now k || flag_at taken.now k) ≡ true)) }
+{
+    for place in 0..count {
+        if !flag(constant, place) && !flag(taken, place) {
+            return Some(place);
+        }
+    }
+    None
+}
+
+// Whether the variables are those of a translation. An `Err` is of the first of them with which something is wrong, or of the
+// first atom in none.
+fn check_each(
+    alloc: Global,
+    index: &ActionIndex,
+    variables: &[ListedVariable],
+) -> Result<(), TranslateFault>
+    requires distinct { AreDistinct index.now.atoms }
+    requires placed { All (IsPlaced (length index.now.atoms)) variables.now }
+    ensures variables { OnOk result (AreVariables index.now.task index.now.atoms index.now.actions
+        (variables_at index.now.atoms variables.now)) }
+    ensures fault { AreWithinLimits index.now.atoms variables.now → AreGrounded index.now.task index.now.atoms →
+        index.now.actions ≡ actions_over index.now.task (contains index.now.atoms) →
+        IfErr result (IsFirstFault index.now.task index.now.atoms variables.now) }
+{
+    let flags = AtomFlags::new(alloc, index)?;
+    let mut taken = vec![in alloc; false; index.atoms().len()]?;
+    for (number, variable) in variables.iter().enumerate() {
+        if let Some(fault) = fault_at(index, &flags, &taken, number, variable) {
+            return Err(fault);
+        }
+        mark(&mut taken, &variable.places);
+    }
+    match first_unset(&flags.constant, &taken, index.atoms().len()) {
+        Some(place) => Err(TranslateFault::Uncovered(place)),
+        None => Ok(()),
+    }
+}
+
+// The same, over the actions of a closed set of atoms.
+pub(crate) fn check_variables(
+    alloc: Global,
+    task: &Task,
+    atoms: &Atoms,
+    actions: &[GroundAction],
+    variables: &[ListedVariable],
+) -> Result<(), TranslateFault>
+    requires distinct { AreDistinct atoms.now }
+    requires placed { All (IsPlaced (length atoms.now)) variables.now }
+    ensures variables { OnOk result (AreVariables task.now atoms.now actions.now (variables_at atoms.now variables.now)) }
+    ensures fault { AreWithinLimits atoms.now variables.now → AreGrounded task.now atoms.now →
+        actions.now ≡ actions_over task.now (contains atoms.now) →
+        IfErr result (IsFirstFault task.now atoms.now variables.now) }
+{
+    let index = ActionIndex::new(alloc, task, atoms, actions)?;
+    check_each(alloc, &index, variables)
+}

@@ -1,0 +1,64 @@
+//! Why atoms and variables are not fit for a translation.
+
+ghost use Rattle.std.specs.Prelude.{◌≡◌};
+ghost use Rattle.translate_vars.specs.declared.fault.TranslateFault.TheVariants.{OutOfMemory};
+
+use fdr::TaskLimit;
+use ground::GroundFault;
+use planning::GroundAtom;
+use std::alloc::{AllocError, AllocFailed};
+
+/// Why atoms and variables are not fit for a translation. Places of atoms in their list, and variables, count from 0.
+#[derive(Debug, Drop)]
+pub enum TranslateFault {
+    /// Memory ran out. It says nothing of the atoms and the variables.
+    OutOfMemory,
+    /// F20: there are more than 262,144 atoms, or more than 1,048,576 actions over them.
+    GroundLimit,
+    /// F18: there are more than 65,536 variables, or more than 65,536 values of one.
+    Limit(TaskLimit),
+    /// F30: the atom at this place is no atom of the task, or stands before.
+    BadAtom(usize),
+    /// F31: the atom is true initially, or is a goal, and is not listed.
+    Missing(GroundAtom),
+    /// F32: a listed action adds the atom, which is not listed.
+    NotClosed(GroundAtom),
+    /// F33: the atom at this place is not constant, and in no variable.
+    Uncovered(usize),
+    /// F34: the variable has several atoms, which are no usable group.
+    NotGroup(usize),
+    /// F35: the variable has several atoms and no none value, and none of them may be true.
+    NotFull(usize),
+    /// F36: the variable has a constant atom, or one of an earlier variable; or with others an atom that is used negatively, or
+    /// two that are goals; or a single atom and no none value.
+    Misplaced(usize),
+}
+
+impl From<GroundFault> for TranslateFault {
+    ghost use Rattle.translate_vars.specs.Passed.{fault_of_ground};
+
+    ghost from_gives = { λ fault e. e ≡ fault_of_ground fault };
+
+    fn from(fault: GroundFault) -> TranslateFault {
+        match fault {
+            GroundFault::OutOfMemory => TranslateFault::OutOfMemory,
+            GroundFault::GroundLimit => TranslateFault::GroundLimit,
+        }
+    }
+}
+
+impl From<AllocError> for TranslateFault {
+    ghost from_gives = { λ _ e. e ≡ OutOfMemory };
+
+    fn from(_e: AllocError) -> TranslateFault {
+        TranslateFault::OutOfMemory
+    }
+}
+
+impl<T: Drop> From<AllocFailed<T>> for TranslateFault {
+    ghost from_gives = { λ _ e. e ≡ OutOfMemory };
+
+    fn from(_e: AllocFailed<T>) -> TranslateFault {
+        TranslateFault::OutOfMemory
+    }
+}

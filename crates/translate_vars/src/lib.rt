@@ -1,0 +1,18 @@
+//! Whether listed atoms and chosen variables are fit for a translation of a planning task, and what is wrong with them first.
+#![tactic(auto)]
+
+mod closing;
+mod covering;
+mod fault;
+mod flags;
+mod laws;
+mod limits;
+mod listing;
+mod order;
+mod parts;
+#[cfg(test)]
+mod tests;
+
+pub use fault::TranslateFault;
+pub use laws::{fit_has_no_fault, one_fault};
+pub use parts::{ListedParts, check_parts};

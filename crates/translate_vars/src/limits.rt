@@ -1,0 +1,55 @@
+//! How many atoms, variables and values of a variable there may be.
+
+ghost use Rattle.std.specs.Prelude.{◌≡◌, nat_lt, OnOk, IfErr};
+ghost use Rattle.planning.specs.Planning.{PlanningTask};
+ghost use Rattle.translate_vars.specs.Parts.{value_count, has_long_range, AreWithinLimits};
+ghost use Rattle.translate_vars.specs.Faults.{IsFirstFault};
+
+use crate::fault::TranslateFault;
+use fdr::TaskLimit;
+use ground::MOST_ATOMS;
+use planning::GroundAtom;
+use variables::ListedVariable;
+
+// As many variables as there may be.
+const MOST_VARIABLES: usize = 65_536;
+
+// As many values as a variable may have.
+const MOST_VALUES: usize = 65_536;
+
+// Whether the variable has more values than it may have: its atoms, and the none value where it has one.
+fn is_long(variable: &ListedVariable) -> bool
+    ensures { result ≡ nat_lt 65536 (value_count variable.now) }
+{
+    if variable.has_none {
+        MOST_VALUES <= variable.places.len()
+    } else {
+        MOST_VALUES < variable.places.len()
+    }
+}
+
+fn has_long_range(variables: &[ListedVariable]) -> bool
+    ensures { result ≡ has_long_range variables.now }
+{
+    variables.iter().any(|variable| is_long(variable))
+}
+
+// Whether there are no more atoms, variables and values than there may be. An `Err` is the first limit that is passed.
+pub(crate) fn check_limits(
+    atoms: &[GroundAtom],
+    variables: &[ListedVariable],
+) -> Result<(), TranslateFault>
+    ensures within { OnOk result (AreWithinLimits atoms.now variables.now) }
+    ensures fault { (task : PlanningTask) → IfErr result (IsFirstFault task atoms.now variables.now) }
+{
+    if MOST_ATOMS < atoms.len() {
+        return Err(TranslateFault::GroundLimit);
+    }
+    if MOST_VARIABLES < variables.len() {
+        return Err(TranslateFault::Limit(TaskLimit::Variables));
+    }
+    if has_long_range(variables) {
+        return Err(TranslateFault::Limit(TaskLimit::Values));
+    }
+    Ok(())
+}

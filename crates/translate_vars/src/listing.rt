@@ -1,0 +1,48 @@
+//! Whether listed atoms are distinct atoms of a task.
+
+ghost use Rattle.std.specs.Prelude.{◌≡◌, ◌↔◌, IsTrue, List, IfOk, OnOk, IfErr};
+ghost use Rattle.planning.specs.Planning.{IsAtomOf};
+ghost use Rattle.variables.specs.Variables.{PlacedVariable};
+ghost use Rattle.translate_vars.specs.Parts.{AreWithinLimits};
+ghost use Rattle.translate_vars.specs.Faults.{AreAtomsOf, IsFirstFault};
+
+use crate::fault::TranslateFault;
+use atoms::Atoms;
+use planning::{GroundAtom, Task};
+use std::alloc::Global;
+
+// Whether the predicate takes as many objects, and the objects exist.
+fn is_atom_of(task: &Task, atom: &GroundAtom) -> bool
+    ensures { IsTrue result ↔ IsAtomOf task.now atom.now }
+{
+    let Some(arity) = task.arities.get(atom.predicate) else {
+        return false;
+    };
+    *arity == atom.objects.len()
+        && atom
+            .objects
+            .iter()
+            .all(|object| *object < task.object_types.len())
+}
+
+// A copy of the atoms, with their places by hash. An `Err` names the first place at which there is no atom of the task, or one
+// that stands before.
+pub(crate) fn list_atoms(
+    alloc: Global,
+    task: &Task,
+    atoms: &[GroundAtom],
+) -> Result<Atoms, TranslateFault>
+    ensures atoms { IfOk result (λ listed. listed ≡ atoms.now) }
+    ensures known { OnOk result (AreAtomsOf task.now atoms.now) }
+    ensures fault { (variables : List PlacedVariable) → AreWithinLimits atoms.now variables →
+        IfErr result (IsFirstFault task.now atoms.now variables) }
+{
+    let mut listed = Atoms::new(alloc);
+    for (place, atom) in atoms.iter().enumerate() {
+        if !is_atom_of(task, atom) || listed.contains(atom) {
+            return Err(TranslateFault::BadAtom(place));
+        }
+        listed.push(atom.try_clone(alloc)?)?;
+    }
+    Ok(listed)
+}

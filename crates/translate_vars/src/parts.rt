@@ -1,0 +1,58 @@
+//! The test of listed atoms and variables.
+
+ghost use Rattle.std.specs.Prelude.{◌≡◌, All, IsTrue, IfOk, IfErr, length};
+ghost use Rattle.planning.specs.Atoms.{contains};
+ghost use Rattle.planning.specs.Planning.{has_small_costs};
+ghost use Rattle.closed_sets.specs.Grounding.{actions_over};
+ghost use Rattle.variables.specs.Variables.{IsPlaced};
+ghost use Rattle.translate_vars.specs.Parts.{AreFit};
+ghost use Rattle.translate_vars.specs.Faults.{IsFirstFault};
+
+use crate::closing::check_closed;
+use crate::covering::check_variables;
+use crate::fault::TranslateFault;
+use crate::limits::check_limits;
+use crate::listing::list_atoms;
+use atoms::Atoms;
+use ground::actions_over;
+use planning::{GroundAction, GroundAtom, Task};
+use std::alloc::Global;
+use variables::ListedVariable;
+
+/// Distinct atoms, and all ground actions over them, by schema and then by objects.
+#[derive(Drop)]
+pub struct ListedParts {
+    pub atoms: Atoms,
+    pub actions: Vec<GroundAction>,
+}
+
+/// Whether the atoms and the variables over them are fit for a translation of the task: the atoms are the task's, distinct and
+/// closed, with the initial ones and the goal; each atom that is not constant is in one variable, and constant ones are in none;
+/// several atoms of one variable are a usable group with at most one goal, none used negatively, and have the none value unless
+/// they are full; a single one has it (Helmert 2009).
+///
+/// An `Err` is the first fault: of the numbers of atoms, variables and values, then of the atoms in their order, the number of
+/// actions, the missing atoms, the variables in their order, and the atoms in no variable. Any other is of too little memory.
+pub fn check_parts(
+    alloc: Global,
+    task: &Task,
+    atoms: &[GroundAtom],
+    variables: &[ListedVariable],
+) -> Result<ListedParts, TranslateFault>
+    requires small { IsTrue (has_small_costs task.now) }
+    requires placed { All (IsPlaced (length atoms.now)) variables.now }
+    ensures atoms { IfOk result (λ parts. parts.atoms ≡ atoms.now) }
+    ensures actions { IfOk result (λ parts. parts.actions.items ≡ actions_over task.now (contains atoms.now)) }
+    ensures fit { IfOk result (λ _. AreFit task.now atoms.now variables.now) }
+    ensures fault { IfErr result (IsFirstFault task.now atoms.now variables.now) }
+{
+    check_limits(atoms, variables)?;
+    let listed = list_atoms(alloc, task, atoms)?;
+    let actions = actions_over(alloc, task, &listed)?;
+    check_closed(alloc, task, &listed, &actions)?;
+    check_variables(alloc, task, &listed, &actions, variables)?;
+    Ok(ListedParts {
+        atoms: listed,
+        actions,
+    })
+}

@@ -1,0 +1,46 @@
+//! Flags by place.
+
+ghost use Rattle.std.specs.Prelude.{◌≡◌, ◌<◌, ◌==◌, ◌||◌, ℕ, false, length, slice_index_or, IfOk};
+ghost use Rattle.mutex.specs.Places.{has};
+
+use std::alloc::{AllocError, Global};
+
+// Whether the flag at this place is set. Past the end it is not.
+pub(crate) fn is_set(flags: &[bool], place: usize) -> bool
+    ensures { result ≡ slice_index_or flags.now place false }
+{
+    flags.get(place).copied().unwrap_or(false)
+}
+
+// Sets the flag at this place.
+fn set_one(flags: &mut [bool], place: usize)
+    ensures { (p : ℕ) → p < length flags.old →
+        slice_index_or flags.new p false ≡ (slice_index_or flags.old p false || place == p) }
+{
+    if place < flags.len() {
+        flags[place] = true;
+    }
+}
+
+// Sets the flags at these places.
+pub(crate) fn set(flags: &mut [bool], places: &[usize])
+    ensures { (p : ℕ) → p < length flags.old →
+        slice_index_or flags.new p false ≡ (slice_index_or flags.old p false || has places.now p) }
+{
+    for place in places {
+        set_one(flags, *place);
+    }
+}
+
+// So many flags, of which those at these places are set.
+pub(crate) fn set_flags(
+    alloc: Global,
+    count: usize,
+    places: &[usize],
+) -> Result<Vec<bool>, AllocError>
+    ensures { IfOk result (λ flags. (p : ℕ) → p < count → slice_index_or flags.items p false ≡ has places.now p) }
+{
+    let mut flags = vec![in alloc; false; count]?;
+    set(&mut flags, places);
+    Ok(flags)
+}

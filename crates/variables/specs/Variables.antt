@@ -1,0 +1,24 @@
+-- Variables over a list of atoms, given by the atoms' places in the list.
+use Rattle.std.specs.Prelude.{ℕ, ◌<◌, Bool, List, length, map, All}
+use Rattle.std.specs.List.Sorted.{IsStrictlyIncreasing}
+use Rattle.planning.specs.Atoms.{Atom}
+use Rattle.mutex.specs.Places.{atoms_at}
+use Rattle.translations.specs.Translations.{Variable}
+
+-- the places of its atoms, and whether it has a value at which none of them is true
+pub record PlacedVariable : Type 0 where
+  pub places : List ℕ
+  pub has_none : Bool
+
+-- at least one place, in order, each of one of so many atoms
+pub record IsPlaced (count : ℕ) (v : PlacedVariable) : Type 0 where
+  pub some : 0 < length v.places
+  pub rising : IsStrictlyIncreasing v.places
+  pub within : All (λ p. p < count) v.places
+
+-- the variable of the atoms themselves
+abbrev pub variable_at : List Atom → PlacedVariable → Variable
+variable_at atoms v = record { atoms = atoms_at atoms v.places; has_none = v.has_none }
+
+abbrev pub variables_at : List Atom → List PlacedVariable → List Variable
+variables_at atoms variables = map (variable_at atoms) variables
