@@ -1,3 +1,4 @@
 pub mod Written
 pub mod TextOrder
 pub mod Worked
+pub mod Plans

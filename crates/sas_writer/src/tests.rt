@@ -1,8 +1,12 @@
 //! Written texts, worked out by hand, and what is read of them.
 
+ghost use Rattle.std.specs.Prelude.{◌<◌, All};
+
+use crate::plans::sas_plan_text;
 use crate::writing::write_sas;
 use fdr::FdrTask;
 use sasfile::read_sas;
+use std::alloc::Global;
 use std::process::Abort;
 use std::test::Fail;
 
@@ -67,5 +71,37 @@ fn writes_what_is_worked_out(rt: HostRuntime) -> Result<(), Fail> {
         assert_eq!(rt; written.as_slice(), wanted.as_bytes());
         have_same_parts(&rt, &read_sas(rt.alloc(), &written)?, &task);
     }
+    Ok(())
+}
+
+/// The text of a plan for a task of two operators.
+fn plan_of(
+    rt: &impl Abort,
+    alloc: Global,
+    text: &str,
+    plan: &[usize],
+    cost: u64,
+) -> Result<String, Fail>
+    requires { All (λ o. o < 2) plan.now }
+{
+    let task = read_sas(alloc, text.as_bytes())?;
+    assert_eq!(rt; task.operator_count(), 2);
+    Ok(sas_plan_text(alloc, &task, plan, cost)?)
+}
+
+#[test]
+fn plans_are_written(rt: HostRuntime) -> Result<(), Fail> {
+    let walk = plan_of(&rt, rt.alloc(), WALK, &[0, 1], 2)?;
+    assert_eq!(rt;
+        walk.as_str(),
+        "(go a b)\n(go b c)\n; cost = 2 (unit cost)\n"
+    );
+    let none = plan_of(&rt, rt.alloc(), WALK, &[], 0)?;
+    assert_eq!(rt; none.as_str(), "; cost = 0 (unit cost)\n");
+    let rooms = plan_of(&rt, rt.alloc(), ROOMS, &[1, 0, 1], 7)?;
+    assert_eq!(rt;
+        rooms.as_str(),
+        "(leave q)\n(enter q)\n(leave q)\n; cost = 7 (general cost)\n"
+    );
     Ok(())
 }

@@ -8,3 +8,4 @@ pub mod ColumnsSoFar
 pub mod MadeColumns
 pub mod ColumnLists
 pub mod ChosenPatterns
+pub mod CostPartitioned

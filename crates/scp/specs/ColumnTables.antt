@@ -5,12 +5,14 @@ use Rattle.fdr.specs.Tasks.{FiniteDomainTask}
 use Rattle.abstraction.specs.Abstractions as abstraction
 use Rattle.certificates.specs.Certificates.{Table}
 use Rattle.checker_clauses.specs.Clauses.{has_form, table_of}
+use Rattle.cert_text.specs.Lawful.{IsTable}
 
--- a table that has its form for the task
+-- a table that has its form for the task and a text
 pub record ColumnTable : Type 0 where
   pub task : FiniteDomainTask
   pub table : Table
   pub formed : has_form task table ≡ true
+  pub lawful : ∥ IsTable table ∥₁
 
 -- the table on its projection
 abbrev pub on_projection : ColumnTable → abstraction.Table

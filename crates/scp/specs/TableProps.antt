@@ -1,11 +1,11 @@
--- That a table has a text is told in one way.
+-- That a table has a text is told in one way, and so is that columns have one.
 use Rattle.std.specs.Prelude.{ℕ, ◌≤◌, ◌^◌, List, [], ◌∷◌}
 use Rattle.std.specs.List.{AllByRecursion}
 use native.Mathlib.Bridge.{le_prop}
 use Rattle.cost.specs.Distances.{Distance, Finite, Infinite, IsWithin}
 use Rattle.certificates.specs.declared.table.Share.{Share}
 use Rattle.certificates.specs.Certificates.{Table}
-use Rattle.cert_text.specs.Lawful.{IsShort, IsIncreasing, IsShare, IsTable}
+use Rattle.cert_text.specs.Lawful.{IsShort, IsIncreasing, IsShare, IsTable, IsColumn, AreColumns}
 
 below_prop : (m n : ℕ) → IsProp (m ≤ n)
 below_prop m n = hlevel le_prop
@@ -49,4 +49,17 @@ table_prop t x y = λ i. record {
     few = below_prop _ _ x.values.few y.values.few i;
     each = all_prop (IsWithin (2 ^ 55)) (within_prop (2 ^ 55)) t.values x.values.each y.values.each i;
   };
+}
+
+column_prop : (column : List Table) → IsProp (IsColumn column)
+column_prop column x y = λ i. record {
+  some = none_prop _ x.some y.some i;
+  few = below_prop _ _ x.few y.few i;
+  tables = all_prop IsTable table_prop column x.tables y.tables i;
+}
+
+pub columns_prop : (columns : List (List Table)) → IsProp (AreColumns columns)
+columns_prop columns x y = λ i. record {
+  few = below_prop _ _ x.few y.few i;
+  each = all_prop IsColumn column_prop columns x.each y.each i;
 }

@@ -24,6 +24,7 @@ fn cyclic_order(
     ensures patterns { IfOk result (λ order. All (λ p. IsPattern task.now (2 ^ 24) p.items) order.items) }
     ensures some { IfOk result (λ order. All (λ p. p.items ≢ []) order.items) }
     ensures len { IfOk result (λ order. length order.items ≡ length patterns.now) }
+    ensures none_empty { IfOk result (λ order. order.items ≢ []) }
 {
     let mut order = Vec::with_capacity(alloc, patterns.len())?;
     for place in 0..patterns.len() {
@@ -49,6 +50,8 @@ fn orders_of(
     ensures patterns { IfOk result (λ orders. All (λ order. All (λ p. IsPattern task.now (2 ^ 24) p.items) order.items) orders.items) }
     ensures some { IfOk result (λ orders. All (λ order. All (λ p. p.items ≢ []) order.items) orders.items) }
     ensures few { IfOk result (λ orders. All (λ order. length order.items ≤ 64) orders.items) }
+    ensures few_columns { IfOk result (λ orders. length orders.items ≤ 64) }
+    ensures none_empty { IfOk result (λ orders. All (λ order. order.items ≢ []) orders.items) }
 {
     let mut orders = Vec::new(alloc);
     for first in 0..patterns.len().min(MOST_COLUMNS) {

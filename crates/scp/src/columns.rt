@@ -2,13 +2,13 @@
 
 ghost use Rattle.std.specs.Prelude.{◌≡◌, ◌≢◌, ◌≤◌, ◌^◌, ℕ, List, [], length, map, All, IfOk};
 ghost use Rattle.std.specs.List.{AllZip};
-ghost use Rattle.cost.specs.Distances.{Finite, ◌≤ᵈ◌};
+ghost use Rattle.cost.specs.Distances.{Finite, ◌≤ᵈ◌, IsWithin};
 ghost use Rattle.fdr.specs.Tasks.{ranges, IsState, LeadsToGoal, plan_cost};
 ghost use Rattle.abstraction.specs.Columns as spec;
 ghost use Rattle.checker_clauses.specs.Clauses.{heuristic_of};
 ghost use Rattle.patterns.specs.Patterns.{IsPattern};
 ghost use Rattle.scp.specs.ColumnTables.{on_projection};
-ghost use Rattle.scp.specs.Partitions.{IsMadeFrom, patterns_of};
+ghost use Rattle.scp.specs.Partitions.{AreCostPartitioned, IsMadeFrom, patterns_of};
 
 use crate::column::make_column;
 use crate::table::ColumnTable;
@@ -36,6 +36,8 @@ pub struct Columns<'a> {
     task: &'a FdrTask,
     columns: Vec<Vec<ColumnTable<'a>>>,
     ghost of_task: { All (λ column. All (λ t. t.task ≡ task.now) column.items) columns.items },
+    ghost few_columns: { length columns.items ≤ 64 },
+    ghost none_empty: { All (λ column. column.items ≢ []) columns.items },
     ghost few: { All (λ column. length column.items ≤ 64) columns.items },
     ghost divided: { ∥ All (λ column. spec.IsColumn task.now (map on_projection column.items)) columns.items ∥₁ },
 }
@@ -53,6 +55,27 @@ impl<'a> Model for Columns<'a> {
 impl<'a> Columns<'a> {
     ghost use Rattle.scp.specs.ColumnTables.{tables_of};
 
+    /// The task.
+    pub fn task(&self) -> &'a FdrTask
+        ensures { result.now ≡ self.now.task }
+    {
+        self.task
+    }
+
+    /// Recalls what holds of all columns: their tables divide the operators' costs, so that their values bound what every plan
+    /// costs, and each value is infinite or at most 2^61.
+    pub fn recall(&self)
+        ensures partitioned { ∥ AreCostPartitioned self.now.task self.now.columns ∥₁ }
+        ensures bound { (plan state : List ℕ) → IsState (ranges self.now.task) state → LeadsToGoal self.now.task state plan →
+            heuristic_of self.now.task self.now.columns state ≤ᵈ Finite (plan_cost self.now.task plan) }
+        ensures small { (state : List ℕ) → IsState (ranges self.now.task) state →
+            IsWithin (2 ^ 61) (heuristic_of self.now.task self.now.columns state) }
+    {
+        // the type's invariant is told where a field is read
+        let _ = self.columns.len();
+        self.task.recall();
+    }
+
     /// The tables of each column.
     pub fn tables(&self) -> &[Vec<ColumnTable<'a>>]
         ensures { map tables_of result.now ≡ self.now.columns }
@@ -67,6 +90,7 @@ impl<'a> Columns<'a> {
         ensures value { result ≡ heuristic_of self.now.task self.now.columns state.now }
         ensures bound { (plan : List ℕ) → LeadsToGoal self.now.task state.now plan →
             result ≤ᵈ Finite (plan_cost self.now.task plan) }
+        ensures small { IsWithin (2 ^ 61) result }
     {
         self.task.recall();
         let mut greatest = Dist::ZERO;
@@ -86,6 +110,8 @@ pub fn make_columns<'a>(
     requires patterns { All (λ order. All (λ p. IsPattern task.now (2 ^ 24) p.items) order.items) orders.now }
     requires some { All (λ order. All (λ p. p.items ≢ []) order.items) orders.now }
     requires few { All (λ order. length order.items ≤ 64) orders.now }
+    requires few_columns { length orders.now ≤ 64 }
+    requires none_empty { All (λ order. order.items ≢ []) orders.now }
     ensures task { IfOk result (λ c. c.task ≡ task.now) }
     ensures made { IfOk result (λ c. AllZip (IsMadeFrom task.now) (map patterns_of orders.now) c.columns) }
 {

@@ -30,7 +30,7 @@ impl<'a> Model for ColumnTable<'a> {
 
     ghost Value = { spec.ColumnTable };
 
-    ghost view = { λ t. record { task = t.projection.task; table = kept.table_of t.table; formed = t.has_form } };
+    ghost view = { λ t. record { task = t.projection.task; table = kept.table_of t.table; formed = t.has_form; lawful = ∣ t.is_table ∣₁ } };
 }
 
 impl<'a> ColumnTable<'a> {

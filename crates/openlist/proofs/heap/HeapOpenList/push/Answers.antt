@@ -1,0 +1,5 @@
+use Rattle.std.proofs.lemmas.List.Sorted.{IsPermutation-map}
+use Rattle.openlist.proofs.heap.HeapOpenList.push.Goals as goal
+
+pub returns-clause-pushed : goal.returns-clause-pushed
+returns-clause-pushed c = rw (← c.self.view_is) (IsPermutation-map (λ r. r.0) _ _ c.in_ok-push.ensures.permutation)

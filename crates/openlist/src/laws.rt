@@ -1,0 +1,32 @@
+//! Laws of the order of entries. Each function states some as its contract, for all entries, and its body is empty.
+
+ghost use Rattle.std.specs.Prelude.{◌≡◌, ◌≤◌, ◌⊎◌, ℕ, List, true, false, Contains, IsPermutation};
+ghost use Rattle.openlist.specs.declared.entry.OpenEntry.{OpenEntry};
+ghost use Rattle.openlist.specs.OpenLists.{comes_first, IsFirst, entry_of};
+
+/// The order of entries is a total order, f does not fall along it, and which entry is the first of some is the same however
+/// these are arranged: there is at most one such entry.
+pub fn entries_are_ordered()
+    ensures reflexive { (x : OpenEntry) → comes_first x x ≡ true }
+    ensures total { (x y : OpenEntry) → (comes_first x y ≡ true) ⊎ (comes_first y x ≡ true) }
+    ensures transitive { (x y z : OpenEntry) →
+        comes_first x y ≡ true → comes_first y z ≡ true → comes_first x z ≡ true }
+    ensures antisymmetric { (x y : OpenEntry) → comes_first x y ≡ true → comes_first y x ≡ true → x ≡ y }
+    ensures rises { (x y : OpenEntry) → comes_first x y ≡ true → x.f ≤ y.f }
+    ensures arranged { (x : OpenEntry) (xs ys : List OpenEntry) → IsPermutation xs ys → IsFirst x xs → IsFirst x ys }
+    ensures unique { (x y : OpenEntry) (xs : List OpenEntry) →
+        Contains xs x → IsFirst x xs → Contains xs y → IsFirst y xs → x ≡ y }
+{}
+
+/// Entries in their order: a lower f comes first whatever the rank, then a lower cost, then fewer operators, then an earlier
+/// place.
+pub fn worked_examples()
+    ensures f { comes_first (entry_of 65535 9 9 4) (entry_of 65536 0 0 3) ≡ true }
+    ensures f_is_higher { comes_first (entry_of 65536 0 0 3) (entry_of 65535 9 9 4) ≡ false }
+    ensures cost { comes_first (entry_of 3 1 9 8) (entry_of 3 2 0 0) ≡ true }
+    ensures cost_is_higher { comes_first (entry_of 3 2 0 0) (entry_of 3 1 9 8) ≡ false }
+    ensures steps { comes_first (entry_of 3 1 1 2) (entry_of 3 1 2 1) ≡ true }
+    ensures steps_are_more { comes_first (entry_of 3 1 2 1) (entry_of 3 1 1 2) ≡ false }
+    ensures place { comes_first (entry_of 3 1 1 2) (entry_of 3 1 1 7) ≡ true }
+    ensures place_is_later { comes_first (entry_of 3 1 1 7) (entry_of 3 1 1 2) ≡ false }
+{}

@@ -1,0 +1,14 @@
+//! Open lists of best-first search: which state of those not yet expanded comes next (Hart, Nilsson and Raphael 1968).
+#![tactic(auto)]
+
+mod entry;
+mod heap;
+mod laws;
+mod open_list;
+#[cfg(test)]
+mod tests;
+
+pub use entry::{OpenEntry, Rank};
+pub use heap::Heap;
+pub use laws::{entries_are_ordered, worked_examples};
+pub use open_list::OpenList;
