@@ -1,0 +1,70 @@
+-- The states that were reached, each with the least rank at which it was (best-first search: Hart, Nilsson and Raphael 1968).
+use Rattle.std.specs.Prelude.{ℕ, suc, false, if◌then◌else◌, List, [], ◌∷◌, Option, Some}
+use Rattle.std.specs.Option.{option_map}
+use Rattle.families.specs.Owners as machine
+use Rattle.families.specs.Owners.{Node, same_state, rank_less}
+use Rattle.openlist.specs.declared.entry.Rank.{Rank}
+use Rattle.closed.specs.declared.message.Parent.{Parent}
+use Rattle.closed.specs.declared.message.Message.{Message}
+use Rattle.closed.specs.declared.table.Entry.{Entry}
+use Rattle.closed.specs.declared.table.Outcome.{Outcome}
+use Rattle.closed.specs.declared.table.Outcome.TheVariants.{New, Better, Kept}
+
+-- ---- what lies in memory
+
+abbrev pub parent_of : Parent → machine.Parent
+parent_of p = record { worker = p.worker; index = p.index; operator = p.operator }
+
+abbrev pub message_of : Message → machine.Message
+message_of m =
+    record { state = m.state.values.items; cost = m.rank.cost; steps = m.rank.steps; parent = parent_of m.parent }
+
+-- a state with what is kept of it
+abbrev pub node_with : List ℕ → Entry → Node
+node_with state e =
+    record {
+      state = state;
+      cost = e.rank.cost;
+      steps = e.rank.steps;
+      parent = option_map parent_of e.parent;
+      expanded = e.expanded;
+    }
+
+-- a state that is reached at a rank from a parent, and is not expanded
+abbrev pub fresh : List ℕ → Rank → Option Parent → Node
+fresh state rank parent = node_with state (record { rank = rank; parent = parent; expanded = false })
+
+-- ---- the table
+
+-- how many values each variable has, and the states that were reached
+pub record Table : Type 0 where
+  pub ranges : List ℕ
+  pub nodes : List Node
+
+-- the nodes after a state is reached: each state is there once, with the least rank at which it was
+abbrev pub reached : List Node → Node → List Node
+reached [] m = m ∷ []
+reached (n ∷ ns) m =
+    if same_state n.state m.state
+    then (if rank_less m.cost m.steps n.cost n.steps then m ∷ ns else n ∷ ns)
+    else n ∷ reached ns m
+
+-- what comes of reaching a state, where the first node stands at a place
+abbrev pub outcome_from : ℕ → List Node → Node → Outcome
+outcome_from i [] m = New i
+outcome_from i (n ∷ ns) m =
+    if same_state n.state m.state
+    then (if rank_less m.cost m.steps n.cost n.steps then Better i else Kept)
+    else outcome_from (suc i) ns m
+
+abbrev pub outcome_of : List Node → Node → Outcome
+outcome_of nodes m = outcome_from 0 nodes m
+
+-- what comes of reaching one state after the other
+abbrev pub outcomes_of : List Node → List Node → List Outcome
+outcomes_of nodes [] = []
+outcomes_of nodes (m ∷ ms) = outcome_of nodes m ∷ outcomes_of (reached nodes m) ms
+
+-- the node of a message's state
+abbrev pub arrival : Message → Node
+arrival m = fresh m.state.values.items m.rank (Some m.parent)

@@ -1,0 +1,37 @@
+//! Laws of the nodes that are reached. Each function states some as its contract, for all nodes, and its body is empty.
+
+ghost use Rattle.std.specs.Prelude.{◌≡◌, ℕ, List, map, fold, Some, slice_get};
+ghost use Rattle.families.specs.Owners as machine;
+ghost use Rattle.families.specs.Owners.{Node, node_of, improve};
+ghost use Rattle.openlist.specs.declared.entry.Rank.{Rank};
+ghost use Rattle.closed.specs.declared.message.Message.{Message};
+ghost use Rattle.closed.specs.declared.message.Parent.{Parent};
+ghost use Rattle.closed.specs.declared.table.Outcome.TheVariants.{New, Better, Kept};
+ghost use Rattle.closed.specs.Tables.{parent_of, message_of, fresh, reached, outcome_of, arrival};
+ghost use Rattle.closed.specs.Outcomes.{ComesLast, GivesWay, Stays};
+
+/// Reaching the states of messages does to the nodes what an owner of states does that takes the messages, and so does reaching
+/// a state from one of its own.
+pub fn reaching_is_improving()
+    ensures message { (nodes : List Node) (m : machine.Message) → reached nodes (node_of m) ≡ improve nodes m }
+    ensures arrival { (m : Message) → arrival m ≡ node_of (message_of m) }
+    ensures all { (nodes : List Node) (ms : List Message) →
+        fold reached nodes (map arrival ms) ≡ fold improve nodes (map message_of ms) }
+    ensures own { (nodes : List Node) (state : List ℕ) (rank : Rank) (p : Parent) →
+        reached nodes (fresh state rank (Some p)) ≡
+        improve nodes (record { state = state; cost = rank.cost; steps = rank.steps; parent = parent_of p }) }
+{}
+
+/// An outcome tells where the state's node stands, at what rank it stood before, and what the nodes become.
+pub fn outcomes_tell()
+    ensures new { (nodes : List Node) (m : Node) (i : ℕ) → outcome_of nodes m ≡ New i → ComesLast nodes m i }
+    ensures better { (nodes : List Node) (m : Node) (i : ℕ) → outcome_of nodes m ≡ Better i → GivesWay nodes m i }
+    ensures kept { (nodes : List Node) (m : Node) → outcome_of nodes m ≡ Kept → Stays nodes m }
+{}
+
+/// The node that is reached stands at the outcome's place then.
+pub fn outcomes_place()
+    ensures new { (nodes : List Node) (m : Node) (i : ℕ) → outcome_of nodes m ≡ New i → slice_get (reached nodes m) i ≡ Some m }
+    ensures better { (nodes : List Node) (m : Node) (i : ℕ) → outcome_of nodes m ≡ Better i →
+        slice_get (reached nodes m) i ≡ Some m }
+{}

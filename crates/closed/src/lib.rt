@@ -1,0 +1,17 @@
+//! The states that an owner of a search has reached, each with the least rank at which it was (best-first search: Hart, Nilsson
+//! and Raphael 1968).
+#![tactic(auto)]
+
+mod laws;
+mod message;
+mod states;
+mod table;
+
+pub use laws::{outcomes_place, outcomes_tell, reaching_is_improving};
+pub use message::{Message, Parent};
+pub use table::{ClosedTable, Entry, Outcome};
+
+#[cfg(test)]
+mod sample;
+#[cfg(test)]
+mod tests;

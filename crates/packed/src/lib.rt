@@ -1,0 +1,15 @@
+//! Forms in which the states of a finite-domain task are kept.
+#![tactic(auto)]
+
+mod form;
+mod layout;
+mod plain;
+
+pub use form::StateForm;
+pub use layout::Layout;
+pub use plain::Plain;
+
+#[cfg(test)]
+mod sample;
+#[cfg(test)]
+mod tests;

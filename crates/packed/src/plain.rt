@@ -1,0 +1,55 @@
+//! States as lists of values.
+
+ghost use Rattle.std.specs.Prelude.{◌≡◌, ◌↔◌, ℕ, List, length, IsTrue, IfOk};
+
+use crate::form::StateForm;
+use crate::layout::Layout;
+use std::alloc::{AllocError, Global};
+
+/// A state as the list of its values, 4 bytes each.
+#[derive(Drop, Debug, PartialEq, Eq, Hash)]
+pub struct Plain {
+    values: Vec<u32>,
+}
+
+impl StateForm for Plain {
+    ghost use Rattle.std.specs.Cmp.Lexicographic.{bytes_decides};
+    ghost use Rattle.fdr.specs.Tasks.{IsState};
+
+    ghost IsForm = { λ ranges f. IsState ranges f.values.items };
+
+    ghost values = { λ ranges f. f.values.items };
+
+    ghost state = { λ ranges f form. form };
+
+    ghost equal = { λ ranges f g _ _ same. (bytes_decides f.values.items g.values.items).1 same };
+
+    ghost same = { λ ranges f g _ _ same. (bytes_decides f.values.items g.values.items).0 same };
+
+    fn pack(alloc: Global, layout: &Layout, state: &[u32]) -> Result<Plain, AllocError> {
+        let _ = layout;
+        Ok(Plain {
+            values: Vec::from_slice(alloc, state)?,
+        })
+    }
+
+    fn is_form(&self, layout: &Layout) -> bool {
+        layout.is_state(&self.values)
+    }
+
+    fn repack(&mut self, layout: &Layout, state: &[u32]) {
+        let _ = layout;
+        self.values.copy_from_slice(state);
+    }
+
+    fn unpack(&self, layout: &Layout, state: &mut [u32]) {
+        let _ = layout;
+        state.copy_from_slice(&self.values);
+    }
+
+    fn copy(&self, alloc: Global) -> Result<Plain, AllocError> {
+        Ok(Plain {
+            values: Vec::from_slice(alloc, &self.values)?,
+        })
+    }
+}
