@@ -1,0 +1,102 @@
+-- A queue of the list is an outbox.
+use Rattle.std.proofs.Common.{◌≡◌, ℕ, zero, suc, ◌+◌, ◌<◌, List, [], ◌∷◌, ◌++◌, map, length, length-append, deque_len, Option, Some, None, refl, sym, ap, ◌∙◌, subst, arith, get_or}
+use Rattle.std.specs.Prelude.{slice_set, replicate, MatchOption, IfNone}
+use Rattle.std.specs.Global.{Global}
+use Rattle.std.specs.declared.collections.VecDeque.{VecDeque}
+use Rattle.std.proofs.lemmas.List.{map_push, map-append, map-set}
+use Rattle.families.specs.Owners as machine
+use Rattle.families.specs.Owners.{list_at}
+use Rattle.families.specs.Worlds.{waiting}
+use Rattle.closed.specs.declared.message.Message.{Message}
+use Rattle.closed.specs.Tables.{message_of}
+use Rattle.owner.specs.Outboxes.{boxes_of}
+
+abbrev pub box_of : VecDeque Message Global → List machine.Message
+box_of q = map message_of q.items
+
+pub box_at : (qs : List (VecDeque Message Global)) (v : ℕ) (d : VecDeque Message Global) → v < length qs → list_at (boxes_of qs) v ≡ box_of (get_or qs v d)
+box_at [] v d lt = absurd (omega arith)
+box_at (x ∷ qs) zero d lt = refl
+box_at (x ∷ qs) (suc v) d lt = box_at qs v d (omega arith)
+
+pub box_set : (qs : List (List machine.Message)) (v : ℕ) (q : List machine.Message) → v < length qs → list_at (slice_set qs v q) v ≡ q
+box_set [] v q lt = absurd (omega arith)
+box_set (x ∷ qs) zero q lt = refl
+box_set (x ∷ qs) (suc v) q lt = box_set qs v q (omega arith)
+
+set_box : (qs : List (List machine.Message)) (v : ℕ) → slice_set qs v (list_at qs v) ≡ qs
+set_box [] v = refl
+set_box (x ∷ qs) zero = refl
+set_box (x ∷ qs) (suc v) = ap (λ l. x ∷ l) (set_box qs v)
+
+pub boxes_length : (qs : List (VecDeque Message Global)) → length (boxes_of qs) ≡ length qs
+boxes_length [] = refl
+boxes_length (x ∷ qs) = ap suc (boxes_length qs)
+
+-- a message pushed at the end
+pub pushed : (qs : List (VecDeque Message Global)) (v : ℕ) (old new : VecDeque Message Global) (m : Message) → v < length qs
+    → old ≡ get_or qs v old → new.items ≡ old.items ++ m ∷ []
+    → boxes_of (slice_set qs v new) ≡ slice_set (boxes_of qs) v (list_at (boxes_of qs) v ++ message_of m ∷ [])
+pushed qs v old new m lt at is =
+    map-set box_of qs v new
+    ∙ ap (slice_set (boxes_of qs) v)
+    (ap (map message_of) is
+    ∙ (map_push message_of old.items m ∙ ap (λ l. l ++ message_of m ∷ []) (sym (box_at qs v old lt ∙ ap box_of (sym at)))))
+
+-- nothing pushed
+pub unpushed : (qs : List (VecDeque Message Global)) (v : ℕ) (old new : VecDeque Message Global) → v < length qs → old ≡ get_or qs v old
+    → new.items ≡ old.items → boxes_of (slice_set qs v new) ≡ boxes_of qs
+unpushed qs v old new lt at is =
+    map-set box_of qs v new
+    ∙ (ap (slice_set (boxes_of qs) v) (ap (map message_of) is ∙ sym (box_at qs v old lt ∙ ap box_of (sym at))) ∙ set_box (boxes_of qs) v)
+
+at_new : (qs : List (VecDeque Message Global)) (v : ℕ) (new : VecDeque Message Global) → v < length qs
+    → list_at (boxes_of (slice_set qs v new)) v ≡ box_of new
+at_new qs v new lt =
+    ap (λ l. list_at l v) (map-set box_of qs v new)
+    ∙ box_set (boxes_of qs) v (box_of new) (subst (λ n. v < n) (sym (boxes_length qs)) lt)
+
+pub others : (qs : List (VecDeque Message Global)) (v : ℕ) (new : VecDeque Message Global) → v < length qs
+    → boxes_of (slice_set qs v new) ≡ slice_set (boxes_of qs) v (list_at (boxes_of (slice_set qs v new)) v)
+others qs v new lt = map-set box_of qs v new ∙ ap (slice_set (boxes_of qs) v) (sym (at_new qs v new lt))
+
+pub popped : (qs : List (VecDeque Message Global)) (v : ℕ) (old new : VecDeque Message Global) (gone : List Message) → v < length qs
+    → old ≡ get_or qs v old → old.items ≡ gone ++ new.items
+    → list_at (boxes_of qs) v ≡ map message_of gone ++ list_at (boxes_of (slice_set qs v new)) v
+popped qs v old new gone lt at is =
+    (box_at qs v old lt ∙ ap box_of (sym at))
+    ∙ (ap (map message_of) is ∙ (map-append message_of gone new.items ∙ ap (λ l. map message_of gone ++ l) (sym (at_new qs v new lt))))
+
+-- ---- how many messages wait
+
+waiting_set : (bs : List (List machine.Message)) (v : ℕ) (m : machine.Message) → v < length bs
+    → waiting (slice_set bs v (list_at bs v ++ m ∷ [])) ≡ waiting bs + 1
+waiting_set [] v m lt = absurd (omega arith)
+waiting_set (b ∷ bs) zero m lt = omega (arith, length-append b (m ∷ []))
+waiting_set (b ∷ bs) (suc v) m lt = omega (arith, waiting_set bs v m (omega arith))
+
+pub waiting_posted : (bs bs' : List (List machine.Message)) (v : ℕ) (m : machine.Message) → v < length bs
+    → bs' ≡ slice_set bs v (list_at bs v ++ m ∷ []) → waiting bs' ≡ waiting bs + 1
+waiting_posted bs bs' v m lt is = ap waiting is ∙ waiting_set bs v m lt
+
+-- one more empty queue
+more : (n : ℕ) → replicate n [] ++ [] ∷ [] ≡ replicate {A = List machine.Message} (n + 1) []
+more zero = refl
+more (suc n) = let e : suc n + 1 ≡ suc (n + 1) = omega arith in ap (λ l. [] ∷ l) (more n) ∙ ap (λ k. replicate k []) (sym e)
+
+pub boxes_more : (qs : List (VecDeque Message Global)) (qs' : List (VecDeque Message Global)) (q : VecDeque Message Global) (n : ℕ)
+    → qs' ≡ qs ++ q ∷ [] → q.items ≡ [] → boxes_of qs ≡ replicate n [] → boxes_of qs' ≡ replicate (n + 1) []
+boxes_more qs qs' q n pushed none is =
+    ap boxes_of pushed
+    ∙ (map_push box_of qs q ∙ ((λ j. is j ++ map message_of (none j) ∷ []) ∙ more n))
+
+no_items : (xs : List Message) (n : ℕ) → n ≡ length xs → n ≡ 0 → xs ≡ []
+no_items [] n e zero_is = refl
+no_items (x ∷ xs) n e zero_is = absurd (omega (arith, e, zero_is))
+
+-- nothing popped
+pub none_popped : (r : Option Message) (qs : List (VecDeque Message Global)) (v : ℕ) (old : VecDeque Message Global) (Emptied : Type 0) (Rest : Message → Type 0) → v < length qs → old ≡ get_or qs v old
+    → MatchOption r ((deque_len old ≡ 0) × Emptied) Rest → IfNone r (list_at (boxes_of qs) v ≡ [])
+none_popped None qs v old Emptied Rest lt at is =
+    box_at qs v old lt ∙ (ap box_of (sym at) ∙ ap (map message_of) (no_items old.items old.len old.ok.0 is.0))
+none_popped (Some m) qs v old Emptied Rest lt at is = tt

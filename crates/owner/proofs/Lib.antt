@@ -1,0 +1,10 @@
+pub mod Entries
+pub mod Outcomes
+pub mod Queues
+pub mod Currents
+pub mod Boxing
+pub mod Results
+pub mod Choosing
+pub mod Owning
+pub mod Stepping
+pub mod Expanding

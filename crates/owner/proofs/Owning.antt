@@ -1,0 +1,289 @@
+-- What every owner keeps stays where it takes a state, or an outbox changes.
+use Rattle.std.proofs.Common.{◌≡◌, ℕ, zero, suc, ◌+◌, ◌<◌, ◌≤◌, ◌^◌, Bool, true, false, ◌==◌, List, [], ◌∷◌, ◌++◌, ◌&&◌, map, length, deque_len, Option, Some, None, All, refl, sym, ap, ◌∙◌, subst, ⊎_elim, arith, true≢false, cond, length-set}
+use Rattle.std.specs.Prelude.{slice_set, replicate, IfSome, is_some}
+use Rattle.std.proofs.lemmas.List.{length-replicate}
+use Rattle.std.specs.Global.{Global}
+use Rattle.std.specs.declared.collections.VecDeque.{VecDeque}
+use Rattle.std.specs.List.{list_all}
+use Rattle.std.proofs.lemmas.Bool.Decides.{nat_tests}
+use Rattle.std.specs.Option.{option_to_list}
+use Rattle.std.proofs.lemmas.Bool.{eq-eqb, cases_lt}
+use Rattle.std.proofs.lemmas.List.Elements.{All-nil, All-cons, All-append, All-head, All-tail}
+use Rattle.cost.specs.Distances.{Distance, Finite, is_at_most, lesser}
+use Rattle.fdr.specs.Tasks.{ranges, IsState, is_goal_state}
+use Rattle.families.specs.Owners as machine
+use Rattle.families.specs.Owners.{At, list_at, SearchSpace, Node, Owner, f_value, node_of, improve, marked, took, treat, posted}
+use Rattle.families.specs.Worlds.{no_open, idle, is_empty}
+use Rattle.families.proofs.Lists.{set_cases}
+use Rattle.families.proofs.Nodes.{improve_at, mark_at}
+use Rattle.openlist.specs.declared.entry.Rank.{Rank}
+use Rattle.openlist.specs.declared.entry.OpenEntry.{OpenEntry}
+use Rattle.closed.specs.declared.message.Parent.{Parent}
+use Rattle.closed.specs.declared.message.Message.{Message}
+use Rattle.closed.specs.Tables.{reached, fresh, message_of}
+use Rattle.owner.specs.Spaces.{SpaceOf, searched}
+use Rattle.owner.specs.Owned.{OwnerOf, space_of, under, IsMessageTo, IsKept}
+use Rattle.owner.specs.Queues.{ReachedOf, message_at, h_of, IsLeast}
+use Rattle.owner.specs.Outboxes.{boxes_of}
+use Rattle.owner.specs.Held.{IsOwner}
+use Rattle.owner.proofs.Outcomes.{reached_improves}
+use Rattle.owner.proofs.Boxing.{box_of}
+use Rattle.owner.proofs.Choosing.{no_open_some, both_false}
+
+-- ---- a state of its own is taken
+
+module _ {S : Type 0} (owner : S → List ℕ → ℕ → ℕ) (o : OwnerOf S) where
+  -- the owner with other nodes and another best cost
+  abbrev pub with_nodes : SpaceOf S → List Node → Distance → OwnerOf S
+  with_nodes space nodes best = record {
+    space = space;
+    worker = o.worker;
+    nodes = nodes;
+    outboxes = o.outboxes;
+    best = best;
+    expansions = o.expansions;
+  }
+
+  pub taken_kept : (space : SpaceOf S) (nodes : List Node) (best : Distance) (state : List ℕ) (rank : Rank) (parent : Parent)
+      → IsOwner owner o → IsMessageTo (space_of owner o) o.worker (message_at state rank parent) → space ≡ o.space
+      → nodes ≡ reached o.nodes (fresh state rank (Some parent)) → IsOwner owner (with_nodes space nodes best)
+  taken_kept space nodes best state rank parent h m same is =
+      subst (λ (s : SpaceOf S). IsOwner owner (with_nodes s nodes best)) (sym same)
+      (subst (λ (ns : List Node). IsOwner owner (with_nodes o.space ns best)) (sym (is ∙ reached_improves o.nodes (message_at state rank parent)))
+      (record {
+        owners = h.owners;
+        nodes = λ i n at. ⊎_elim (λ (p : At o.nodes i n). h.nodes i n p)
+            (λ (p : node_of (message_at state rank parent) ≡ n). subst (λ (x : Node). IsKept (space_of owner o) o.worker x) p (record {
+              state = m.state;
+              owner = m.owner;
+              cost = m.cost;
+              steps = m.steps;
+            }))
+            (improve_at o.nodes (message_at state rank parent) i n at);
+        messages = h.messages;
+        counted = h.counted;
+      }))
+
+  pub taken_is : (space : SpaceOf S) (nodes : List Node) (best bound : Distance) (state : List ℕ) (rank : Rank) (parent : Parent)
+      → nodes ≡ reached o.nodes (fresh state rank (Some parent))
+      → best ≡ cond (is_goal_state o.space.task state) (lesser o.best (Finite rank.cost)) o.best
+      → under (with_nodes space nodes best) bound ≡ took (space_of owner o) (under o bound) (message_at state rank parent)
+  taken_is space nodes best bound state rank parent is b =
+      let ns = is ∙ reached_improves o.nodes (message_at state rank parent) in
+      λ j. record { nodes = ns j; outboxes = o.outboxes; bound = bound; best = b j }
+
+  -- ---- an outbox changes
+
+  abbrev pub with_boxes : List (List machine.Message) → OwnerOf S
+  with_boxes boxes = record {
+    space = o.space;
+    worker = o.worker;
+    nodes = o.nodes;
+    outboxes = boxes;
+    best = o.best;
+    expansions = o.expansions;
+  }
+
+  boxes_kept : (boxes : List (List machine.Message)) → length boxes ≡ length o.outboxes → IsOwner owner o
+      → ((to : ℕ) → to < length o.outboxes → All (IsMessageTo (space_of owner o) to) (list_at boxes to)) → IsOwner owner (with_boxes boxes)
+  boxes_kept boxes e h each = record {
+    owners = subst (λ n. o.worker < n) (sym e) h.owners;
+    nodes = λ i n at. subst (λ k. IsKept (searched owner o.space k) o.worker n) (sym e) (h.nodes i n at);
+    messages = λ to lt. subst (λ k. All (IsMessageTo (searched owner o.space k) to) (list_at boxes to)) (sym e)
+        (each to (subst (λ n. to < n) e lt));
+    counted = h.counted;
+  }
+
+  pub posted_kept : (boxes : List (List machine.Message)) (to : ℕ) (m : machine.Message) → IsOwner owner o
+      → IsMessageTo (space_of owner o) to m → boxes ≡ slice_set o.outboxes to (list_at o.outboxes to ++ m ∷ [])
+      → IsOwner owner (with_boxes boxes)
+  posted_kept boxes to m h fits is =
+      boxes_kept boxes (ap length is ∙ length-set o.outboxes to (list_at o.outboxes to ++ m ∷ [])) h
+      (λ v lt. subst (λ (bs : List (List machine.Message)). All (IsMessageTo (space_of owner o) v) (list_at bs v)) (sym is)
+      (set_cases o.outboxes to (list_at o.outboxes to ++ m ∷ []) v (All (IsMessageTo (space_of owner o) v))
+      (λ same. All-append (IsMessageTo (space_of owner o) v) (list_at o.outboxes to) (m ∷ [])
+      (subst (λ k. All (IsMessageTo (space_of owner o) v) (list_at o.outboxes k)) same (h.messages v lt))
+      (one v (subst (λ k. IsMessageTo (space_of owner o) k m) (sym same) fits)))
+      (h.messages v lt)))
+    where
+      one : (v : ℕ) → IsMessageTo (space_of owner o) v m → All (IsMessageTo (space_of owner o) v) (m ∷ [])
+      one v f zero d lt = f
+      one v f (suc k) d lt = absurd (omega arith)
+
+  rest_all : (P : machine.Message → Type 0) (r : Option Message) (xs : List machine.Message)
+      → All P (map message_of (option_to_list r) ++ xs) → All P xs
+  rest_all P None xs h = h
+  rest_all P (Some x) xs h = All-tail P (message_of x) xs h
+
+  first_all : (P : machine.Message → Type 0) (r : Option Message) (xs : List machine.Message)
+      → All P (map message_of (option_to_list r) ++ xs) → IfSome r (λ x. P (message_of x))
+  first_all P None xs h = tt
+  first_all P (Some x) xs h = All-head P (message_of x) xs h
+
+  pub popped_kept : (boxes : List (List machine.Message)) (to : ℕ) (r : Option Message) → IsOwner owner o → to < length o.outboxes
+      → list_at o.outboxes to ≡ map message_of (option_to_list r) ++ list_at boxes to
+      → boxes ≡ slice_set o.outboxes to (list_at boxes to) → IsOwner owner (with_boxes boxes)
+  popped_kept boxes to r h lt first is =
+      boxes_kept boxes (ap length is ∙ length-set o.outboxes to (list_at boxes to)) h
+      (λ v lt'. subst (λ (bs : List (List machine.Message)). All (IsMessageTo (space_of owner o) v) (list_at bs v)) (sym is)
+      (set_cases o.outboxes to (list_at boxes to) v (All (IsMessageTo (space_of owner o) v))
+      (λ same. subst (λ k. All (IsMessageTo (space_of owner o) k) (list_at boxes to)) (sym same)
+      (rest_all (IsMessageTo (space_of owner o) to) r (list_at boxes to)
+      (subst (λ (ms : List machine.Message). All (IsMessageTo (space_of owner o) to) ms) first (h.messages to lt))))
+      (h.messages v lt')))
+
+  pub popped_fits : (boxes : List (List machine.Message)) (to : ℕ) (r : Option Message) → IsOwner owner o → to < length o.outboxes
+      → list_at o.outboxes to ≡ map message_of (option_to_list r) ++ list_at boxes to
+      → IfSome r (λ m. IsMessageTo (space_of owner o) to (message_of m))
+  popped_fits boxes to r h lt first =
+      first_all (IsMessageTo (space_of owner o) to) r (list_at boxes to)
+      (subst (λ (ms : List machine.Message). All (IsMessageTo (space_of owner o) to) ms) first (h.messages to lt))
+
+-- ---- a successor is treated
+
+pub took_treats : (space : SearchSpace) (me : ℕ) (o : Owner) (m : machine.Message) → is_at_most o.bound (f_value space m.state m.cost) ≡ false
+    → space.owner_of m.state ≡ me → took space o m ≡ treat space me o m
+took_treats space me o m below mine =
+    sym ((λ j. cond (below j) o (cond (own j) (took space o m) (posted space o m))))
+  where
+    own : (space.owner_of m.state == me) ≡ true
+    own = eq-eqb (space.owner_of m.state) me mine
+
+-- the message of a state that was packed
+pub packed_fits : {S : Type 0} (owner : S → List ℕ → ℕ → ℕ) (o : OwnerOf S) (to : ℕ) (state state' : List ℕ) (rank : Rank) (parent : Parent)
+    → state' ≡ state → IsState (ranges o.space.task) state → owner o.space.spread state (length o.outboxes) ≡ to → rank.cost ≤ 2 ^ 62
+    → rank.steps ≤ 2 ^ 62 → IsMessageTo (space_of owner o) to (message_at state' rank parent)
+packed_fits owner o to state state' rank parent same ok mine cost steps =
+    subst (λ s. IsMessageTo (space_of owner o) to (message_at s rank parent)) (sym same)
+    (record { state = ok; owner = mine; cost = cost; steps = steps })
+
+-- ---- the next node is marked
+
+-- the owner after its next node is marked
+abbrev pub IsMarkedAs : {S : Type 0} → OwnerOf S → OwnerOf S → Type 0
+IsMarkedAs old new = (e : OpenEntry) (n : Node) → IsLeast (h_of old.space) old.nodes e → At old.nodes e.index n
+    → new ≡ record old {
+      nodes = slice_set old.nodes e.index (marked n);
+      expansions = cond (is_some old.space.limit) (suc old.expansions) old.expansions;
+    }
+
+module _ {S : Type 0} (owner : S → List ℕ → ℕ → ℕ) (o : OwnerOf S) where
+  abbrev pub with_marked : SpaceOf S → List Node → ℕ → OwnerOf S
+  with_marked space nodes expansions = record {
+    space = space;
+    worker = o.worker;
+    nodes = nodes;
+    outboxes = o.outboxes;
+    best = o.best;
+    expansions = expansions;
+  }
+
+  pub marked_kept : (space : SpaceOf S) (nodes : List Node) (expansions : ℕ) (i : ℕ) (n : Node) → IsOwner owner o → space ≡ o.space
+      → At o.nodes i n → nodes ≡ slice_set o.nodes i (marked n) → IfSome o.space.limit (λ limit. expansions ≤ limit)
+      → IsOwner owner (with_marked space nodes expansions)
+  marked_kept space nodes expansions i n h same there is few =
+      subst (λ (s : SpaceOf S). IsOwner owner (with_marked s nodes expansions)) (sym same)
+      (subst (λ (ns : List Node). IsOwner owner (with_marked o.space ns expansions)) (sym is)
+      (record {
+        owners = h.owners;
+        nodes = λ j x at. ⊎_elim
+            (λ (p : (j ≡ i) × (marked n ≡ x)). let k = h.nodes i n there in
+            subst (λ (y : Node). IsKept (space_of owner o) o.worker y) p.1 (record {
+              state = k.state;
+              owner = k.owner;
+              cost = k.cost;
+              steps = k.steps;
+            }))
+            (λ (p : At o.nodes j x). h.nodes j x p)
+            (mark_at o.nodes i (marked n) j x at);
+        messages = h.messages;
+        counted = few;
+      }))
+
+  pub marked_as : (space : SpaceOf S) (nodes : List Node) (expansions : ℕ) → space ≡ o.space
+      → ((e : OpenEntry) (n : Node) → IsLeast (h_of o.space) o.nodes e → At o.nodes e.index n → nodes ≡ slice_set o.nodes e.index (marked n))
+      → expansions ≡ cond (is_some o.space.limit) (suc o.expansions) o.expansions
+      → IsMarkedAs o (with_marked space nodes expansions)
+  marked_as space nodes expansions same is count e n least at =
+      let ns = is e n least at in
+      λ j. record { space = same j; worker = o.worker; nodes = ns j; outboxes = o.outboxes; best = o.best; expansions = count j }
+
+pub counted_more : (limit : Option ℕ) (k : ℕ) → (limit ≡ Some k → ⊥) → IfSome limit (λ l. k ≤ l) → IfSome limit (λ l. k + 1 ≤ l)
+counted_more None k other h = tt
+counted_more (Some l) k other h =
+    ⊎_elim (λ (p : k < l). let q : k + 1 ≤ l = omega arith in q)
+    (λ (p : l ≤ k). let same : l ≡ k = omega arith in absurd (other (ap Some same))) (cases_lt k l)
+
+-- ---- what all owners keep, at each place
+
+pub all_from_at : {X : Type 0} (P : X → Type 0) (xs : List X) → ((i : ℕ) (x : X) → At xs i x → P x) → All P xs
+all_from_at P [] h = All-nil P
+all_from_at P (x ∷ xs) h = All-cons P x xs (h 0 x refl) (all_from_at P xs (λ i y at. h (suc i) y at))
+
+pub idle_not : (r : Option OpenEntry) (space : SearchSpace) (o : Owner) → is_some r ≡ true
+    → IfSome r (λ e. IsLeast space.heuristic o.nodes e × (is_at_most o.bound (Finite e.f) ≡ false)) → false ≡ idle space o
+idle_not None space o some h = absurd (true≢false (sym some))
+idle_not (Some e) space o some h = sym (both_false (no_open space o) (list_all is_empty o.outboxes) (no_open_some space o e h.0 h.1))
+
+pub none_from : {X : Type 0} (r : Option X) → is_some r ≡ false → r ≡ None
+none_from None h = refl
+none_from (Some x) h = absurd (true≢false h)
+
+box_empty : (q : VecDeque Message Global) → (deque_len q == 0) ≡ is_empty (box_of q)
+box_empty q = go q.items q.len (sym q.ok.0)
+  where
+    go : (xs : List Message) (n : ℕ) → length xs ≡ n → (n == 0) ≡ is_empty (map message_of xs)
+    go [] n e = eq-eqb n 0 (sym e)
+    go (x ∷ xs) n e = not_zero n (length xs) (sym e)
+      where
+        not_zero : (n k : ℕ) → n ≡ suc k → (n == 0) ≡ false
+        not_zero n k e = grind (arith, nat_tests)
+
+pub boxes_empty : (qs : List (VecDeque Message Global)) → list_all (λ q. deque_len q == 0) qs ≡ list_all is_empty (boxes_of qs)
+boxes_empty [] = refl
+boxes_empty (q ∷ qs) = λ j. box_empty q j && boxes_empty qs j
+
+pub idle_from : (space : SearchSpace) (o : Owner) (b : Bool) → no_open space o ≡ true → b ≡ list_all is_empty o.outboxes → b ≡ idle space o
+idle_from space o b none is = is ∙ sym (ap (λ t. t && list_all is_empty o.outboxes) none)
+
+-- ---- the beginning
+
+list_at_none : {X : Type 0} (n to : ℕ) → list_at (replicate {A = List X} n []) to ≡ []
+list_at_none zero to = refl
+list_at_none (suc n) zero = refl
+list_at_none (suc n) (suc to) = list_at_none n to
+
+none_counted : (limit : Option ℕ) → IfSome limit (λ l. 0 ≤ l)
+none_counted None = tt
+none_counted (Some l) = omega arith
+
+-- an owner at the beginning keeps what every owner does, where its nodes are its own
+pub start_kept : {S : Type 0} (owner : S → List ℕ → ℕ → ℕ) (space : SpaceOf S) (r : ReachedOf S) (worker n : ℕ) (boxes : List (List machine.Message)) (best : Distance)
+    → worker < n → boxes ≡ replicate n [] → r.space ≡ space → ((i : ℕ) (m : Node) → At r.nodes i m → IsKept (searched owner space n) worker m)
+    → IsOwner owner (record { space = r.space; worker = worker; nodes = r.nodes; outboxes = boxes; best = best; expansions = 0 })
+start_kept {S = S} owner space r worker n boxes best lt empty same kept =
+    subst (λ (bs : List (List machine.Message)). IsOwner owner (record { space = r.space; worker = worker; nodes = r.nodes; outboxes = bs; best = best; expansions = 0 })) (sym empty)
+    (subst (λ (s : SpaceOf S). IsOwner owner (record { space = s; worker = worker; nodes = r.nodes; outboxes = replicate n []; best = best; expansions = 0 })) (sym same)
+    (record {
+      owners = let long = length-replicate {A = List machine.Message} n [] in omega (arith, lt, long);
+      nodes = λ i m at. subst (λ k. IsKept (searched owner space k) worker m) (sym (length-replicate {A = List machine.Message} n [])) (kept i m at);
+      messages = λ to below. subst (All (IsMessageTo (searched owner space (length (replicate {A = List machine.Message} n []))) to)) (sym (list_at_none n to))
+          (All-nil (IsMessageTo (searched owner space (length (replicate {A = List machine.Message} n []))) to));
+      counted = none_counted space.limit;
+    }))
+
+-- the first state of an owner is its own
+pub first_kept : {S : Type 0} (owner : S → List ℕ → ℕ → ℕ) (space : SpaceOf S) (worker n : ℕ) (state : List ℕ) (old r : ReachedOf S) → old ≡ record { space = space; nodes = [] }
+    → r.nodes ≡ reached old.nodes (fresh state (record { cost = 0; steps = 0 }) None) → IsState (ranges space.task) state → owner space.spread state n ≡ worker
+    → (i : ℕ) (m : Node) → At r.nodes i m → IsKept (searched owner space n) worker m
+first_kept {S = S} owner space worker n state old r is nodes known own i m at =
+    go i (subst (λ (ns : List Node). At ns i m) (nodes ∙ ap (λ (o : ReachedOf S). reached o.nodes (fresh state (record { cost = 0; steps = 0 }) None)) is) at)
+  where
+    go : (i : ℕ) → At (fresh state (record { cost = 0; steps = 0 }) None ∷ []) i m → IsKept (searched owner space n) worker m
+    go zero same = subst (IsKept (searched owner space n) worker) same (record { state = known; owner = own; cost = omega arith; steps = omega arith })
+    go (suc i) same = absurd same
+
+-- an owner without states has none that is not its own
+pub none_kept : {S : Type 0} (owner : S → List ℕ → ℕ → ℕ) (space : SpaceOf S) (worker n : ℕ) (r : ReachedOf S) → r ≡ record { space = space; nodes = [] }
+    → (i : ℕ) (m : Node) → At r.nodes i m → IsKept (searched owner space n) worker m
+none_kept {S = S} owner space worker n r is i m at = absurd (subst (λ (o : ReachedOf S). At o.nodes i m) is at)

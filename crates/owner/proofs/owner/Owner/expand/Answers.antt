@@ -1,0 +1,110 @@
+use Rattle.std.proofs.Common.{◌≡◌, true, false, Some, All, sym, ap, ◌∙◌, subst, refl, true≢false}
+use Rattle.std.specs.List.{list_any}
+use Rattle.fdr.specs.Tasks.{FiniteDomainTask, ranges, IsState, applies_at}
+use Rattle.successor_generator.specs.Applicable.{applicable_operators}
+use Rattle.families.specs.Worlds.{no_open}
+use Rattle.owner.specs.declared.fault.OwnerFault.TheVariants.{TotalTooLarge}
+use Rattle.owner.specs.Spaces.{SpaceOf}
+use Rattle.owner.specs.Owned.{OwnerOf, space_of, under, IsRefusal, Expands}
+use Rattle.owner.specs.Held.{IsSmallStep}
+use Rattle.owner.proofs.Choosing.{is_next, no_open_some}
+use Rattle.owner.proofs.Outcomes.{get_at}
+use Rattle.owner.proofs.Expanding.{is_large, least_index, least_cost, least_steps, least_state, all_apply, all_small, large_successor, expands}
+use Rattle.owner.proofs.owner.Owner.expand.Goals as goal
+
+pub returns-in_default-clause-expanded : goal.returns-in_default-clause-expanded
+returns-in_default-clause-expanded g c = (
+  subst (λ (x : OwnerOf g.row.S.Denot). no_open (space_of g.S.Spread.owner x) (under x c.args.bound) ≡ true) c.self.view_is
+      (c.next.ensures.none c.in_default.is),
+  refl,
+)
+
+pub returns-then-is_at_limit-clause-refused : goal.returns-then-is_at_limit-clause-refused
+returns-then-is_at_limit-clause-refused g c =
+    let h = c.self.inside.holdings in (
+      subst (λ (x : OwnerOf g.row.S.Denot). no_open (space_of g.S.Spread.owner x) (under x c.args.bound) ≡ false) c.self.view_is
+          (no_open_some (space_of g.S.Spread.owner h) (under h c.args.bound) c.in-Some.next c.in-Some.ensures.some.0 c.in-Some.ensures.some.1),
+      subst (λ (x : OwnerOf g.row.S.Denot). x.space.limit ≡ Some x.expansions) c.self.view_is (c.if-is_at_limit.ensures.0 refl),
+      refl,
+    )
+
+pub read_state-requires-clause-index : goal.read_state-requires-clause-index
+read_state-requires-clause-index g c =
+    least_index g.S.Spread.owner c.self.inside.holdings c.in-Some.next c.in-Some.ensures.some.0
+
+pub has_large_successor-requires-clause-cost : goal.has_large_successor-requires-clause-cost
+has_large_successor-requires-clause-cost g c =
+    least_cost g.S.Spread.owner c.self.inside.holdings c.in-Some.next c.in-Some.ensures.some.0 c.recall.ensures
+
+pub has_large_successor-requires-clause-steps : goal.has_large_successor-requires-clause-steps
+has_large_successor-requires-clause-steps g c =
+    least_steps g.S.Spread.owner c.self.inside.holdings c.in-Some.next c.in-Some.ensures.some.0 c.recall.ensures
+
+pub returns-then-has_large_successor-clause-refused : goal.returns-then-has_large_successor-clause-refused
+returns-then-has_large_successor-clause-refused g c =
+    let h = c.self.inside.holdings in
+    let e = c.in-Some.next in
+    let l = c.in-Some.ensures.some.0 in
+    let s = c.deref.ensures.value ∙ c.read_state.ensures.state l.node (get_at h.nodes e.index l.node l.there) in
+    let task = c.task.ensures ∙ ap (λ (x : SpaceOf g.row.S.Denot). x.task) c.space-space.ensures in
+    let found = c.deref-2.ensures.value ∙ (c.in_ok-applicable.ensures.found
+    ∙ ap (λ (x : SpaceOf g.row.S.Denot). applicable_operators x.task c.deref.result.now) c.space-space.ensures) in
+    let large = sym (c.if-has_large_successor.ensures
+    ∙ ap (λ (t : FiniteDomainTask). list_any (is_large t e.rank) c.deref-2.result.now) task) in
+    subst (λ (x : OwnerOf g.row.S.Denot). IsRefusal g.S.Spread.owner c.args.bound x h TotalTooLarge) c.self.view_is (
+      e.index,
+      l.node,
+      is_next (space_of g.S.Spread.owner h) h.nodes c.args.bound e l c.in-Some.ensures.some.1,
+      (λ p. true≢false (sym (c.if-is_at_limit.ensures.1 p))),
+      large_successor h.space.task c.deref.result.now c.deref-2.result.now e.rank l.node found s l.cost l.steps large,
+      refl,
+    )
+
+pub treat_successors-requires-clause-state : goal.treat_successors-requires-clause-state
+treat_successors-requires-clause-state g c =
+    let h = c.self.inside.holdings in
+    let e = c.in-Some.next in
+    let l = c.in-Some.ensures.some.0 in
+    let s = c.deref-3.ensures.value ∙ c.read_state.ensures.state l.node (get_at h.nodes e.index l.node l.there) in
+    subst (λ (x : OwnerOf g.row.S.Denot). IsState (ranges x.space.task) c.deref-3.result.now) (sym (c.expand_next.ensures.nodes e l.node l l.there))
+    (least_state g.S.Spread.owner h e l c.deref-3.result.now c.recall.ensures s)
+
+pub treat_successors-requires-clause-apply : goal.treat_successors-requires-clause-apply
+treat_successors-requires-clause-apply g c =
+    let h = c.self.inside.holdings in
+    let e = c.in-Some.next in
+    let l = c.in-Some.ensures.some.0 in
+    let found = c.deref-4.ensures.value ∙ (c.in_ok-applicable.ensures.found
+    ∙ (λ j. applicable_operators ((c.space-space.ensures j).task) ((c.deref.ensures.value ∙ sym c.deref-3.ensures.value) j))) in
+    subst (λ (x : OwnerOf g.row.S.Denot). All (λ o. applies_at x.space.task o c.deref-3.result.now ≡ true) c.deref-4.result.now)
+    (sym (c.expand_next.ensures.nodes e l.node l l.there))
+    (all_apply h.space.task c.deref-3.result.now c.deref-4.result.now found)
+
+pub treat_successors-requires-clause-small : goal.treat_successors-requires-clause-small
+treat_successors-requires-clause-small g c =
+    let h = c.self.inside.holdings in
+    let e = c.in-Some.next in
+    let l = c.in-Some.ensures.some.0 in
+    let task = c.task.ensures ∙ ap (λ (x : SpaceOf g.row.S.Denot). x.task) c.space-space.ensures in
+    let none = sym (c.if-has_large_successor.ensures
+    ∙ (λ j. list_any (is_large (task j) e.rank) ((c.deref-2.ensures.value ∙ sym c.deref-4.ensures.value) j))) in
+    subst (λ (x : OwnerOf g.row.S.Denot). All (IsSmallStep x.space.task e.rank) c.deref-4.result.now)
+    (sym (c.expand_next.ensures.nodes e l.node l l.there))
+    (all_small h.space.task e.rank c.deref-4.result.now none)
+
+pub returns-clause-expanded : goal.returns-clause-expanded
+returns-clause-expanded g c =
+    let h = c.self.inside.holdings in
+    let e = c.in-Some.next in
+    let l = c.in-Some.ensures.some.0 in
+    let s = c.deref-3.ensures.value ∙ c.read_state.ensures.state l.node (get_at h.nodes e.index l.node l.there) in
+    let task = c.task.ensures ∙ ap (λ (x : SpaceOf g.row.S.Denot). x.task) c.space-space.ensures in
+    let found = c.deref-4.ensures.value ∙ (c.in_ok-applicable.ensures.found
+    ∙ (λ j. applicable_operators ((c.space-space.ensures j).task) ((c.deref.ensures.value ∙ sym c.deref-3.ensures.value) j))) in
+    let none = sym (c.if-has_large_successor.ensures
+    ∙ (λ j. list_any (is_large (task j) e.rank) ((c.deref-2.ensures.value ∙ sym c.deref-4.ensures.value) j))) in
+    subst (λ (x : OwnerOf g.row.S.Denot). Expands g.S.Spread.owner c.args.bound x c.in_ok-posted.posted c.treat_successors.new.holdings) c.self.view_is
+    (expands g.S.Spread.owner h e l c.args.bound c.deref-3.result.now c.deref-4.result.now c.in_ok-posted.posted c.expand_next.new.self
+    c.treat_successors.new.holdings c.in-Some.ensures.some.1 (λ p. true≢false (sym (c.if-is_at_limit.ensures.1 p))) s found none
+    (c.expand_next.ensures.nodes e l.node l l.there) c.in_ok-posted.ensures.treated c.in_ok-posted.ensures.posted
+    c.treat_successors.ensures.space c.treat_successors.ensures.worker c.treat_successors.ensures.expansions)

@@ -1,0 +1,117 @@
+-- One owner of states as it lies in memory, and what expanding its next node comes to (hash distributed A*: Kishimoto, Fukunaga
+-- and Botea 2013).
+use Rattle.std.specs.Prelude.{◌≡◌, ◌≢◌, ℕ, suc, ◌+◌, ◌<◌, ◌≤◌, ◌^◌, ◌⊎◌, Bool, true, false, ◌&&◌, ◌||◌, not, ◌==◌, nat_le, if◌then◌else◌, List, [], ◌∷◌, length, Option, Some, None, is_some}
+use Rattle.cost.specs.Distances.{Distance, Infinite, is_at_most, lesser}
+use Rattle.fdr.specs.Tasks.{FiniteDomainTask, ranges, IsState, applies_at, cost_of}
+use Rattle.families.specs.Owners.{At, SearchSpace, Message, Node, Owner, f_value, rank_less, expanded_at}
+use Rattle.families.specs.Worlds.{no_open, waiting}
+use Rattle.owner.specs.declared.fault.OwnerFault.{OwnerFault}
+use Rattle.owner.specs.declared.fault.OwnerFault.TheVariants.{OutOfMemory, TotalTooLarge, LimitReached}
+use Rattle.owner.specs.Spaces.{SpaceOf, searched}
+
+-- the space and the owner's number; its nodes; an outbox for each owner, oldest message first; the least cost at which a goal state
+-- was taken; and, under a limit, how often it expanded a node
+pub record OwnerOf (S : Type 0) : Type 0 where
+  pub space : SpaceOf S
+  pub worker : ℕ
+  pub nodes : List Node
+  pub outboxes : List (List Message)
+  pub best : Distance
+  pub expansions : ℕ
+
+-- the space as the owners search it, of which each has an outbox
+abbrev pub space_of : {S : Type 0} → (S → List ℕ → ℕ → ℕ) → OwnerOf S → SearchSpace
+space_of owner o = searched owner o.space (length o.outboxes)
+
+-- the owner, where this is the bound that it has seen last
+abbrev pub under : {S : Type 0} → OwnerOf S → Distance → Owner
+under o bound = record { nodes = o.nodes; outboxes = o.outboxes; bound = bound; best = o.best }
+
+-- a path may cost so much, and have so many operators
+abbrev pub most_total : ℕ
+most_total = 2 ^ 62
+
+-- a message that this owner may be handed: its state is one of the task and this owner's, and its rank is not too great
+pub record IsMessageTo (space : SearchSpace) (to : ℕ) (m : Message) : Type 0 where
+  pub state : IsState (ranges space.task) m.state
+  pub owner : space.owner_of m.state ≡ to
+  pub cost : m.cost ≤ most_total
+  pub steps : m.steps ≤ most_total
+
+-- ---- the next node
+
+-- what comes first: less f, then a lesser rank, then an earlier place
+abbrev pub goes_before : SearchSpace → ℕ → Node → ℕ → Node → Bool
+goes_before space i m j n =
+    not (is_at_most (f_value space n.state n.cost) (f_value space m.state m.cost))
+    || (is_at_most (f_value space m.state m.cost) (f_value space n.state n.cost)
+    && (rank_less m.cost m.steps n.cost n.steps
+    || ((m.cost == n.cost) && ((m.steps == n.steps) && nat_le i j))))
+
+-- an open node: not expanded, and its f-value is finite
+abbrev pub is_open : SearchSpace → Node → Bool
+is_open space n = not n.expanded && not (is_at_most Infinite (f_value space n.state n.cost))
+
+-- the node at the place is open, its f-value is below the bound, and it goes before all open nodes
+pub record IsNext (space : SearchSpace) (nodes : List Node) (bound : Distance) (i : ℕ) (n : Node) : Type 0 where
+  pub there : At nodes i n
+  pub open_node : is_open space n ≡ true
+  pub below : is_at_most bound (f_value space n.state n.cost) ≡ false
+  pub first : (j : ℕ) (x : Node) → At nodes j x → is_open space x ≡ true → goes_before space i n j x ≡ true
+
+-- each successor of the node is at a total that is not too great
+abbrev pub HasSmallSuccessors : FiniteDomainTask → Node → Type 0
+HasSmallSuccessors task n =
+    (o : ℕ) → applies_at task o n.state ≡ true → (n.cost + cost_of task o ≤ most_total) × (suc n.steps ≤ most_total)
+
+-- a successor of the node is at too great a total
+abbrev pub HasLargeSuccessor : FiniteDomainTask → Node → Type 0
+HasLargeSuccessor task n =
+    (o : ℕ) × (applies_at task o n.state ≡ true)
+    × ((most_total < n.cost + cost_of task o) ⊎ (most_total < suc n.steps))
+
+-- ---- expanding it
+
+-- the owner's next node is expanded under the bound, and so many messages are put into outboxes
+pub record Expands {S : Type 0} (owner : S → List ℕ → ℕ → ℕ) (bound : Distance) (old : OwnerOf S) (posted : ℕ) (new : OwnerOf S)
+    : Type 0 where
+  pub index : ℕ
+  pub node : Node
+  pub next : IsNext (space_of owner old) old.nodes bound index node
+  pub allowed : old.space.limit ≢ Some old.expansions
+  pub small : HasSmallSuccessors old.space.task node
+  pub after : under new bound ≡ expanded_at (space_of owner old) old.worker (under old bound) index (Some node)
+  pub put_out : waiting new.outboxes ≡ waiting old.outboxes + posted
+  pub space : new.space ≡ old.space
+  pub worker : new.worker ≡ old.worker
+  pub counted : new.expansions ≡ (if is_some old.space.limit then suc old.expansions else old.expansions)
+
+-- what the owner answers to a request to expand its next node: nothing where there is none below the bound, else how many messages
+-- it put into outboxes
+abbrev pub IsExpansion : {S : Type 0} → (S → List ℕ → ℕ → ℕ) → Distance → OwnerOf S → OwnerOf S → Option ℕ → Type 0
+IsExpansion owner bound old new None = (no_open (space_of owner old) (under old bound) ≡ true) × (new ≡ old)
+IsExpansion owner bound old new (Some posted) = Expands owner bound old posted new
+
+-- why it is refused; but for want of memory the owner is as it was
+abbrev pub IsRefusal : {S : Type 0} → (S → List ℕ → ℕ → ℕ) → Distance → OwnerOf S → OwnerOf S → OwnerFault → Type 0
+IsRefusal owner bound old new OutOfMemory = Unit {0}
+IsRefusal owner bound old new LimitReached =
+    (no_open (space_of owner old) (under old bound) ≡ false) × (old.space.limit ≡ Some old.expansions) × (new ≡ old)
+IsRefusal owner bound old new TotalTooLarge =
+    (i : ℕ) × (n : Node) × IsNext (space_of owner old) old.nodes bound i n × (old.space.limit ≢ Some old.expansions)
+    × HasLargeSuccessor old.space.task n × (new ≡ old)
+
+-- ---- what the owner keeps
+
+-- the least f-value of the nodes that are not expanded, infinite where there is none
+abbrev pub least_open : SearchSpace → List Node → Distance
+least_open space [] = Infinite
+least_open space (n ∷ ns) =
+    lesser (if n.expanded then Infinite else f_value space n.state n.cost) (least_open space ns)
+
+-- nodes are of states of the task that are the owner's, at ranks that are not too great
+pub record IsKept (space : SearchSpace) (worker : ℕ) (n : Node) : Type 0 where
+  pub state : IsState (ranges space.task) n.state
+  pub owner : space.owner_of n.state ≡ worker
+  pub cost : n.cost ≤ most_total
+  pub steps : n.steps ≤ most_total

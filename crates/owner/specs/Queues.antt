@@ -1,0 +1,78 @@
+-- The open list of an owner against its nodes. Entries are left in it that are out of date: of nodes that were reached at a lesser
+-- rank since, or were expanded. The first entry never is.
+use Rattle.std.specs.Prelude.{◌≡◌, ℕ, ◌≤◌, ◌^◌, true, false, List, [], ◌∷◌, Option, Some, None, Contains}
+use Rattle.cost.specs.Distances.{Distance, Finite, ◌+ᵈ◌}
+use Rattle.checker_clauses.specs.Clauses.{heuristic_of}
+use Rattle.families.specs.Owners as machine
+use Rattle.families.specs.Owners.{At, Node}
+use Rattle.openlist.specs.declared.entry.Rank.{Rank}
+use Rattle.openlist.specs.declared.entry.OpenEntry.{OpenEntry}
+use Rattle.openlist.specs.OpenLists.{comes_first, IsFirst, entry_of}
+use Rattle.closed.specs.declared.message.Parent.{Parent}
+use Rattle.closed.specs.declared.table.Outcome.{Outcome}
+use Rattle.closed.specs.declared.table.Outcome.TheVariants.{New, Better, Kept}
+use Rattle.closed.specs.Tables.{parent_of}
+use Rattle.owner.specs.Spaces.{SpaceOf}
+
+-- the space and the states that were reached in it
+pub record ReachedOf (S : Type 0) : Type 0 where
+  pub space : SpaceOf S
+  pub nodes : List Node
+
+abbrev pub h_of : {S : Type 0} → SpaceOf S → List ℕ → Distance
+h_of space = heuristic_of space.task space.columns
+
+-- the message of these parts
+abbrev pub message_at : List ℕ → Rank → Parent → machine.Message
+message_at state rank parent = record { state = state; cost = rank.cost; steps = rank.steps; parent = parent_of parent }
+
+-- the entry is of a node that was reached at its rank, and since then perhaps at a lesser one
+pub record IsOf (h : List ℕ → Distance) (nodes : List Node) (e : OpenEntry) : Type 0 where
+  pub node : Node
+  pub there : At nodes e.index node
+  pub f : Finite e.rank.cost +ᵈ h node.state ≡ Finite e.f
+  pub within : e.f ≤ 2 ^ 63
+  pub cost : node.cost ≤ e.rank.cost
+  pub steps : node.cost ≡ e.rank.cost → node.steps ≤ e.rank.steps
+
+-- the entry is of a node that is not expanded and has its rank
+pub record IsCurrent (nodes : List Node) (e : OpenEntry) : Type 0 where
+  pub node : Node
+  pub there : At nodes e.index node
+  pub waits : node.expanded ≡ false
+  pub cost : node.cost ≡ e.rank.cost
+  pub steps : node.steps ≡ e.rank.steps
+
+-- each open node has its entry, and each entry is of a node
+pub record AreQueued (h : List ℕ → Distance) (nodes : List Node) (entries : List OpenEntry) : Type 0 where
+  pub complete : (i : ℕ) (n : Node) (f : ℕ) → At nodes i n → n.expanded ≡ false → Finite n.cost +ᵈ h n.state ≡ Finite f
+      → Contains entries (entry_of f n.cost n.steps i)
+  pub sound : (e : OpenEntry) → Contains entries e → IsOf h nodes e
+
+-- and the first entry is not out of date
+pub record IsQueue (h : List ℕ → Distance) (nodes : List Node) (entries : List OpenEntry) : Type 0 where
+  pub queued : AreQueued h nodes entries
+  pub top : (e : OpenEntry) → Contains entries e → IsFirst e entries → IsCurrent nodes e
+
+-- the entry is of an open node that goes before all open nodes
+pub record IsLeast (h : List ℕ → Distance) (nodes : List Node) (e : OpenEntry) : Type 0 where
+  pub node : Node
+  pub there : At nodes e.index node
+  pub waits : node.expanded ≡ false
+  pub cost : node.cost ≡ e.rank.cost
+  pub steps : node.steps ≡ e.rank.steps
+  pub f : Finite node.cost +ᵈ h node.state ≡ Finite e.f
+  pub within : e.f ≤ 2 ^ 63
+  pub first : (j : ℕ) (x : Node) (f : ℕ) → At nodes j x → x.expanded ≡ false → Finite x.cost +ᵈ h x.state ≡ Finite f
+      → comes_first e (entry_of f x.cost x.steps j) ≡ true
+
+-- no node is open
+abbrev pub HasNoneOpen : (List ℕ → Distance) → List Node → Type 0
+HasNoneOpen h nodes = (i : ℕ) (n : Node) (f : ℕ) → At nodes i n → n.expanded ≡ false → Finite n.cost +ᵈ h n.state ≡ Finite f → ⊥
+
+-- the entry that goes into the open list where a state is reached at this f-value, if that is finite
+abbrev pub added : Option ℕ → Rank → Outcome → List OpenEntry
+added None rank outcome = []
+added (Some f) rank (New i) = record { f = f; rank = rank; index = i } ∷ []
+added (Some f) rank (Better i) = record { f = f; rank = rank; index = i } ∷ []
+added (Some f) rank Kept = []

@@ -1,0 +1,29 @@
+//! Why an owner expands no node.
+
+ghost use Rattle.std.specs.Prelude.{◌≡◌};
+ghost use Rattle.owner.specs.declared.fault.OwnerFault.TheVariants.{OutOfMemory};
+
+use std::alloc::AllocError;
+use thiserror::Error;
+
+/// Why an owner does not expand its next node.
+#[derive(Clone, Copy, Debug, PartialEq, Eq, Error)]
+pub enum OwnerFault {
+    /// Memory ran out.
+    #[error("out of memory")]
+    OutOfMemory,
+    /// A successor would be reached at a cost, or over a number of operators, past 2^62.
+    #[error("a path past 2^62")]
+    TotalTooLarge,
+    /// The owner has expanded as many nodes as it may.
+    #[error("the limit on expansions is reached")]
+    LimitReached,
+}
+
+impl From<AllocError> for OwnerFault {
+    ghost from_gives = { λ _ e. e ≡ OutOfMemory };
+
+    fn from(_e: AllocError) -> OwnerFault {
+        OwnerFault::OutOfMemory
+    }
+}

@@ -1,0 +1,341 @@
+//! What an owner has, beside room to work in.
+
+ghost use Rattle.std.specs.Prelude.{◌≡◌, ◌≢◌, ℕ, suc, ◌+◌, ◌<◌, ◌≤◌, ◌^◌, ◌++◌, ◌∷◌, [], ◌==◌, length, map, slice_get, slice_set, replicate, Some, None, true, false, is_some, if◌then◌else◌, IsTrue, ◌↔◌, IfOk, IfSome, IfNone, OnOk, OnErr};
+ghost use Rattle.std.specs.List.{list_all};
+ghost use Rattle.std.specs.VecDeque.{deque_len};
+ghost use Rattle.std.specs.Option.{option_to_list};
+ghost use Rattle.cost.specs.Distances.{Distance, Infinite, is_at_most, Finite};
+ghost use Rattle.fdr.specs.Tasks.{ranges, IsState};
+ghost use Rattle.families.specs.Owners.{At, Node, list_at, marked, took, treat, start_owner};
+ghost use Rattle.families.specs.Worlds.{idle, no_open, waiting};
+ghost use Rattle.openlist.specs.declared.entry.OpenEntry.{OpenEntry as EntryOf};
+ghost use Rattle.closed.specs.Tables.{message_of, node_with};
+ghost use Rattle.owner.specs.Spaces.{searched};
+ghost use Rattle.owner.specs.Owned.{space_of, under, most_total, IsMessageTo, IsNext, least_open};
+ghost use Rattle.owner.specs.Queues.{h_of, message_at, IsLeast};
+ghost use Rattle.owner.specs.Outboxes.{boxes_of};
+ghost use Rattle.owner.specs.Held.{IsOwner};
+
+use crate::reached::Reached;
+use crate::space::Space;
+use closed::{Entry, Message, Parent};
+use cost::Dist;
+use openlist::{OpenEntry, Rank};
+use packed::{Plain, StateForm};
+use spread::Spread;
+use std::alloc::{AllocError, Global};
+use std::collections::VecDeque;
+use std::marker::Model;
+
+/// What an owner has: the states that it has taken, an outbox for each owner, and the least cost at which it has taken a goal
+/// state. A contract sees it as the owner.
+#[derive(Drop)]
+pub(crate) struct Holdings<'a, S: Spread + Drop> {
+    worker: usize,
+    reached: Reached<'a, S>,
+    outboxes: Vec<VecDeque<Message>>,
+    best: Dist,
+    expansions: u64,
+}
+
+impl<'a, S: Spread + Drop> Model for Holdings<'a, S> {
+    ghost use Rattle.owner.specs.Outboxes.{boxes_of};
+    ghost use Rattle.owner.specs.Owned.{OwnerOf};
+    ghost use Rattle.owner.specs.Held.{IsOwner};
+
+    ghost Value = { OwnerOf S };
+
+    ghost view = { λ o. record {
+      space = o.reached.space;
+      worker = o.worker;
+      nodes = o.reached.nodes;
+      outboxes = boxes_of o.outboxes.items;
+      best = o.best;
+      expansions = o.expansions;
+    } };
+
+    ghost invariant = { λ o. IsOwner S.owner (record {
+      space = o.reached.space;
+      worker = o.worker;
+      nodes = o.reached.nodes;
+      outboxes = boxes_of o.outboxes.items;
+      best = o.best;
+      expansions = o.expansions;
+    }) };
+}
+
+/// So many empty outboxes. An `Err` is of too little memory.
+fn empty_outboxes(alloc: Global, owners: usize) -> Result<Vec<VecDeque<Message>>, AllocError>
+    ensures { IfOk result (λ queues. boxes_of queues.items ≡ replicate owners []) }
+{
+    let mut outboxes = Vec::with_capacity(alloc, owners)?;
+    for _ in 0..owners {
+        outboxes.push(VecDeque::new(alloc))?;
+    }
+    Ok(outboxes)
+}
+
+/// Puts a message last into the outbox for that owner. An `Err` is of too little memory, and leaves the outboxes as they were.
+fn post(
+    outboxes: &mut Vec<VecDeque<Message>>,
+    to: usize,
+    message: Message,
+) -> Result<(), AllocError>
+    requires { to < length outboxes.old.items }
+    ensures posted { OnOk result (boxes_of outboxes.new.items ≡ slice_set (boxes_of outboxes.old.items) to (list_at (boxes_of outboxes.old.items) to ++ message_of message ∷ [])) }
+    ensures unchanged { OnErr result (boxes_of outboxes.new.items ≡ boxes_of outboxes.old.items) }
+{
+    outboxes[to].push_back(message)?;
+    Ok(())
+}
+
+/// Takes the oldest message out of the outbox for that owner.
+fn take_out(outboxes: &mut Vec<VecDeque<Message>>, to: usize) -> Option<Message>
+    requires { to < length outboxes.old.items }
+    ensures first { list_at (boxes_of outboxes.old.items) to ≡ map message_of (option_to_list result) ++ list_at (boxes_of outboxes.new.items) to }
+    ensures others { boxes_of outboxes.new.items ≡ slice_set (boxes_of outboxes.old.items) to (list_at (boxes_of outboxes.new.items) to) }
+    ensures none { IfNone result (list_at (boxes_of outboxes.old.items) to ≡ []) }
+{
+    outboxes[to].pop_front()
+}
+
+/// Whether all outboxes are empty.
+fn are_empty(outboxes: &[VecDeque<Message>]) -> bool
+    ensures { result ≡ list_all (λ q. deque_len q == 0) outboxes.now }
+{
+    outboxes.iter().all(|queue| queue.is_empty())
+}
+
+/// Whether the distance is at most the other.
+fn is_within(distance: Dist, other: Dist) -> bool
+    ensures { result ≡ is_at_most distance other }
+{
+    distance <= other
+}
+
+/// A number that is not too great as a distance.
+fn finite(value: u64) -> Dist
+    requires { value ≤ 2 ^ 63 }
+    ensures { result ≡ Finite value }
+{
+    Dist::fin(value).unwrap()
+}
+
+impl<'a, S: Spread + Drop> Holdings<'a, S> {
+    /// What the `worker`-th of `owners` has at the beginning, counted from 0. An `Err` is of too little memory.
+    pub(crate) fn start(
+        alloc: Global,
+        space: &'a Space<'a, S>,
+        worker: usize,
+        owners: usize,
+    ) -> Result<Holdings<'a, S>, AllocError>
+        requires { worker < owners }
+        ensures started { IfOk result (λ o. under o Infinite ≡ start_owner (searched S.owner space.now owners) (S.owner space.now.spread space.now.task.initial owners == worker)) }
+        ensures space { IfOk result (λ o. o.space ≡ space.now) }
+        ensures worker { IfOk result (λ o. o.worker ≡ worker) }
+        ensures expansions { IfOk result (λ o. o.expansions ≡ 0) }
+        ensures owners { IfOk result (λ o. length o.outboxes ≡ owners) }
+    {
+        let task = space.task();
+        let mut reached = Reached::new(alloc, space)?;
+        let mut best = Dist::inf();
+        if space.owner_of(task.initial(), owners) == worker {
+            reached.reach(task.initial(), Rank { cost: 0, steps: 0 }, None)?;
+            if task.is_goal(task.initial()) {
+                best = Dist::ZERO;
+            }
+        }
+        Ok(Holdings {
+            worker,
+            reached,
+            outboxes: empty_outboxes(alloc, owners)?,
+            best,
+            expansions: 0,
+        })
+    }
+
+    /// Takes a state of its own. An `Err` is of too little memory, and changes nothing.
+    pub(crate) fn take(
+        &mut self,
+        state: &[u32],
+        rank: Rank,
+        parent: Parent,
+    ) -> Result<(), AllocError>
+        requires { IsMessageTo (space_of S.owner self.old) self.old.worker (message_at state.now rank parent) }
+        ensures taken { OnOk result ((bound : Distance) → under self.new bound ≡ took (space_of S.owner self.old) (under self.old bound) (message_at state.now rank parent)) }
+        ensures space { self.new.space ≡ self.old.space }
+        ensures worker { self.new.worker ≡ self.old.worker }
+        ensures expansions { self.new.expansions ≡ self.old.expansions }
+        ensures unchanged { OnErr result (self.new ≡ self.old) }
+    {
+        self.reached.reach(state, rank, Some(parent))?;
+        if self.reached.space().task().is_goal(state) {
+            self.best = self.best.min(finite(rank.cost));
+        }
+        Ok(())
+    }
+
+    /// Treats a successor: it is dropped where its f-value reaches the bound, taken where it is this owner's, and else put into the
+    /// outbox for its owner. Gives whether it was put out. An `Err` is of too little memory.
+    pub(crate) fn treat(
+        &mut self,
+        alloc: Global,
+        bound: Dist,
+        state: &[u32],
+        rank: Rank,
+        parent: Parent,
+    ) -> Result<bool, AllocError>
+        requires state { IsState (ranges self.old.space.task) state.now }
+        requires cost { rank.cost ≤ most_total }
+        requires steps { rank.steps ≤ most_total }
+        ensures treated { OnOk result (under self.new bound ≡ treat (space_of S.owner self.old) self.old.worker (under self.old bound) (message_at state.now rank parent)) }
+        ensures posted { IfOk result (λ posted. waiting self.new.outboxes ≡ waiting self.old.outboxes + (if posted then 1 else 0)) }
+        ensures owners { length self.new.outboxes ≡ length self.old.outboxes }
+        ensures space { self.new.space ≡ self.old.space }
+        ensures worker { self.new.worker ≡ self.old.worker }
+        ensures expansions { self.new.expansions ≡ self.old.expansions }
+    {
+        let space = self.reached.space();
+        if is_within(bound, space.f(state, rank.cost)) {
+            return Ok(false); // no memory is taken for it
+        }
+        let to = space.owner_of(state, self.outboxes.len());
+        if to == self.worker {
+            self.take(state, rank, parent)?;
+            return Ok(false);
+        }
+        let state = Plain::pack(alloc, space.layout(), state)?;
+        let message = Message {
+            state,
+            rank,
+            parent,
+        };
+        post(&mut self.outboxes, to, message)?;
+        Ok(true)
+    }
+
+    /// The entry of the open node that is to be expanded next, if its f-value is below the bound.
+    pub(crate) fn next(&self, bound: Dist) -> Option<OpenEntry>
+        ensures some { IfSome result (λ e. IsLeast (h_of self.now.space) self.now.nodes e × (is_at_most bound (Finite e.f) ≡ false)) }
+        ensures none { result ≡ None → no_open (space_of S.owner self.now) (under self.now bound) ≡ true }
+    {
+        let entry = self.reached.least()?;
+        if is_within(bound, finite(entry.f)) {
+            return None;
+        }
+        Some(entry)
+    }
+
+    /// Whether it has expanded as many nodes as it may.
+    pub(crate) fn is_at_limit(&self) -> bool
+        ensures { IsTrue result ↔ (self.now.space.limit ≡ Some self.now.expansions) }
+    {
+        self.reached.space().limit() == Some(self.expansions)
+    }
+
+    /// Notes that the node that is to be expanded next is expanded.
+    pub(crate) fn expand_next(&mut self)
+        requires allowed { self.old.space.limit ≢ Some self.old.expansions }
+        requires some { (e : EntryOf) × IsLeast (h_of self.old.space) self.old.nodes e }
+        ensures nodes { (e : EntryOf) (n : Node) → IsLeast (h_of self.old.space) self.old.nodes e → At self.old.nodes e.index n →
+            self.new ≡ record self.old {
+              nodes = slice_set self.old.nodes e.index (marked n);
+              expansions = if is_some self.old.space.limit then suc self.old.expansions else self.old.expansions;
+            } }
+        ensures space { self.new.space ≡ self.old.space }
+        ensures worker { self.new.worker ≡ self.old.worker }
+        ensures owners { self.new.outboxes ≡ self.old.outboxes }
+    {
+        self.reached.expand_least();
+        if self.reached.space().limit().is_some() {
+            self.expansions += 1;
+        }
+    }
+
+    /// The oldest message for that owner, which is then in no outbox; `None` where there is none.
+    pub(crate) fn next_out(&mut self, to: usize) -> Option<Message>
+        requires { to < length self.old.outboxes }
+        ensures first { list_at self.old.outboxes to ≡ map message_of (option_to_list result) ++ list_at self.new.outboxes to }
+        ensures others { self.new ≡ record self.old { outboxes = slice_set self.old.outboxes to (list_at self.new.outboxes to) } }
+        ensures fits { IfSome result (λ m. IsMessageTo (space_of S.owner self.old) to (message_of m)) }
+        ensures none { IfNone result (list_at self.old.outboxes to ≡ []) }
+    {
+        take_out(&mut self.outboxes, to)
+    }
+
+    /// Whether there is nothing to expand below the bound and nothing to hand out.
+    pub(crate) fn is_idle(&self, bound: Dist) -> bool
+        ensures { result ≡ idle (space_of S.owner self.now) (under self.now bound) }
+    {
+        self.next(bound).is_none() && are_empty(&self.outboxes)
+    }
+
+    /// The least f-value of the nodes that are not expanded.
+    pub(crate) fn least_open(&self) -> Dist
+        ensures { result ≡ least_open (space_of S.owner self.now) self.now.nodes }
+    {
+        match self.reached.least() {
+            Some(entry) => finite(entry.f),
+            None => Dist::inf(),
+        }
+    }
+
+    pub(crate) fn best(&self) -> Dist
+        ensures { result ≡ self.now.best }
+    {
+        self.best
+    }
+
+    pub(crate) fn worker(&self) -> usize
+        ensures { result ≡ self.now.worker }
+    {
+        self.worker
+    }
+
+    pub(crate) fn space(&self) -> &'a Space<'a, S>
+        ensures { result.now ≡ self.now.space }
+    {
+        self.reached.space()
+    }
+
+    pub(crate) fn expansions(&self) -> u64
+        ensures { result ≡ self.now.expansions }
+    {
+        self.expansions
+    }
+
+    pub(crate) fn outbox(&self, to: usize) -> &VecDeque<Message>
+        requires { to < length self.now.outboxes }
+        ensures { map message_of result.now.items ≡ list_at self.now.outboxes to }
+    {
+        &self.outboxes[to]
+    }
+
+    pub(crate) fn len(&self) -> usize
+        ensures { result ≡ length self.now.nodes }
+    {
+        self.reached.len()
+    }
+
+    pub(crate) fn entry(&self, index: usize) -> Entry
+        requires { index < length self.now.nodes }
+        ensures { (n : Node) → slice_get self.now.nodes index ≡ Some n → n ≡ node_with n.state result }
+    {
+        self.reached.entry(index)
+    }
+
+    pub(crate) fn copy_state(&self, index: usize, state: &mut [u32])
+        requires index { index < length self.now.nodes }
+        requires len { length state.old ≡ length self.now.space.task.value_names }
+        ensures { (n : Node) → slice_get self.now.nodes index ≡ Some n → state.new ≡ n.state }
+    {
+        self.reached.copy_state(index, state)
+    }
+
+    /// What holds of every owner. The body tells what the type keeps.
+    pub(crate) fn recall(&self)
+        ensures { IsOwner S.owner self.now }
+    {
+        let _worker = self.worker;
+    }
+}

@@ -1,0 +1,20 @@
+//! One owner of states of a search that is divided among several (hash distributed A*: Kishimoto, Fukunaga and Botea 2013).
+#![tactic(auto)]
+
+mod fault;
+mod holdings;
+mod owner;
+mod reached;
+mod space;
+mod successors;
+
+pub use closed::{Entry, Message, Parent};
+pub use fault::OwnerFault;
+pub use openlist::Rank;
+pub use owner::Owner;
+pub use space::Space;
+
+#[cfg(test)]
+mod sample;
+#[cfg(test)]
+mod tests;

@@ -1,0 +1,254 @@
+//! The owner.
+
+ghost use Rattle.std.specs.Prelude.{◌≡◌, ℕ, ◌<◌, ◌≤◌, ◌++◌, ◌∷◌, [], ◌==◌, length, map, slice_get, slice_set, Some, All, IfOk, IfErr, IfSome, IfNone, OnOk};
+ghost use Rattle.std.specs.Option.{option_to_list};
+ghost use Rattle.cost.specs.Distances.{Distance, Infinite};
+ghost use Rattle.fdr.specs.Tasks.{IsState};
+ghost use Rattle.families.specs.Owners.{Node, list_at, took, start_owner};
+ghost use Rattle.families.specs.Worlds.{idle};
+ghost use Rattle.families.specs.Families.{IsSearchSpace, IsLowerBound};
+ghost use Rattle.closed.specs.Tables.{message_of, node_with};
+ghost use Rattle.owner.specs.Spaces.{searched};
+ghost use Rattle.owner.specs.Owned.{space_of, under, IsMessageTo, IsExpansion, IsRefusal, IsKept, least_open};
+
+use crate::fault::OwnerFault;
+use crate::holdings::Holdings;
+use crate::space::Space;
+use crate::successors::{has_large_successor, treat_successors};
+use closed::{Entry, Message};
+use cost::Dist;
+use packed::{Layout, StateForm};
+use spread::Spread;
+use std::alloc::{AllocError, Global};
+use std::collections::VecDeque;
+use std::marker::Model;
+
+/// One owner of states: the states that it has taken, those of them that it has yet to expand, an outbox for each owner, and the
+/// least cost at which it has taken a goal state. A contract sees it without the bound that it has seen last, which is handed to
+/// each call that needs it.
+#[derive(Drop)]
+pub struct Owner<'a, S: Spread + Drop> {
+    alloc: Global,
+    holdings: Holdings<'a, S>,
+    // room for a state, for a successor of it, and for the operators that apply in it
+    state: Vec<u32>,
+    successor: Vec<u32>,
+    applicable: Vec<usize>,
+}
+
+impl<'a, S: Spread + Drop> Model for Owner<'a, S> {
+    ghost use Rattle.std.specs.Prelude.{◌≡◌, length};
+    ghost use Rattle.owner.specs.Owned.{OwnerOf};
+
+    ghost Value = { OwnerOf S };
+
+    ghost view = { λ o. o.holdings };
+
+    ghost invariant = { λ o.
+        (length o.state.items ≡ length o.holdings.space.task.value_names)
+        × (length o.successor.items ≡ length o.holdings.space.task.value_names) };
+}
+
+/// Writes the values of a message's state.
+fn unpack(message: &Message, layout: &Layout, state: &mut Vec<u32>)
+    requires form { IsState layout.now message.now.state.values.items }
+    requires len { length state.old.items ≡ length layout.now }
+    ensures { state.new.items ≡ message.now.state.values.items }
+{
+    message.state.unpack(layout, state);
+}
+
+/// Writes the values of the state at that place.
+fn read_state<S: Spread + Drop>(holdings: &Holdings<'_, S>, index: usize, state: &mut Vec<u32>)
+    requires index { index < length holdings.now.nodes }
+    requires len { length state.old.items ≡ length holdings.now.space.task.value_names }
+    ensures state { (n : Node) → slice_get holdings.now.nodes index ≡ Some n → state.new.items ≡ n.state }
+    ensures len { length state.new.items ≡ length state.old.items }
+{
+    holdings.copy_state(index, state)
+}
+
+impl<'a, S: Spread + Drop> Owner<'a, S> {
+    /// An owner at the beginning, the `worker`-th of `owners`, counted from 0; the owner of the initial state has it, at cost 0. An
+    /// `Err` is of too little memory.
+    pub fn start(
+        alloc: Global,
+        space: &'a Space<'a, S>,
+        worker: usize,
+        owners: usize,
+    ) -> Result<Owner<'a, S>, AllocError>
+        requires { worker < owners }
+        ensures started { IfOk result (λ o. under o Infinite ≡ start_owner (searched S.owner space.now owners) (S.owner space.now.spread space.now.task.initial owners == worker)) }
+        ensures space { IfOk result (λ o. o.space ≡ space.now) }
+        ensures worker { IfOk result (λ o. o.worker ≡ worker) }
+        ensures expansions { IfOk result (λ o. o.expansions ≡ 0) }
+        ensures owners { IfOk result (λ o. length o.outboxes ≡ owners) }
+    {
+        let width = space.task().variable_count();
+        Ok(Owner {
+            alloc,
+            holdings: Holdings::start(alloc, space, worker, owners)?,
+            state: vec![in alloc; 0; width]?,
+            successor: vec![in alloc; 0; width]?,
+            applicable: Vec::new(alloc),
+        })
+    }
+
+    /// Takes a message. An `Err` is of too little memory; it gives the message back and leaves the owner as it was.
+    pub fn take(&mut self, message: Message) -> Result<(), (Message, AllocError)>
+        requires { IsMessageTo (space_of S.owner self.old) self.old.worker (message_of message) }
+        ensures taken { OnOk result ((bound : Distance) → under self.new bound ≡ took (space_of S.owner self.old) (under self.old bound) (message_of message)) }
+        ensures space { self.new.space ≡ self.old.space }
+        ensures worker { self.new.worker ≡ self.old.worker }
+        ensures expansions { self.new.expansions ≡ self.old.expansions }
+        ensures refused { IfErr result (λ e. (message_of e.0 ≡ message_of message) × (self.new ≡ self.old)) }
+    {
+        unpack(&message, self.holdings.space().layout(), &mut self.state);
+        match self
+            .holdings
+            .take(&self.state, message.rank, message.parent)
+        {
+            Ok(()) => Ok(()),
+            Err(error) => Err((message, error)),
+        }
+    }
+
+    /// Expands the next node whose f-value is below the bound, which is the one that the owner has seen last: of least f, of these
+    /// the one of the least rank, and of these the one reached first. Its successors whose f-value reaches the bound are dropped,
+    /// those that this owner has are taken, and the others are put into outboxes.
+    ///
+    /// Gives how many messages were put into outboxes, or `None` where there is no such node; that changes nothing. A fault leaves
+    /// the owner as it was, except `OutOfMemory`, after which it is only good to be let go.
+    pub fn expand(&mut self, bound: Dist) -> Result<Option<usize>, OwnerFault>
+        ensures expanded { IfOk result (IsExpansion S.owner bound self.old self.new) }
+        ensures refused { IfErr result (IsRefusal S.owner bound self.old self.new) }
+        ensures space { self.new.space ≡ self.old.space }
+        ensures worker { self.new.worker ≡ self.old.worker }
+        ensures owners { length self.new.outboxes ≡ length self.old.outboxes }
+    {
+        let Some(next) = self.holdings.next(bound) else {
+            return Ok(None);
+        };
+        if self.holdings.is_at_limit() {
+            return Err(OwnerFault::LimitReached);
+        }
+        self.holdings.recall(); // the node is of a state of the task, and its rank is not too great
+        let space = self.holdings.space();
+        read_state(&self.holdings, next.index, &mut self.state);
+        space.applicable(&self.state, &mut self.applicable)?;
+        if has_large_successor(space.task(), &self.applicable, next.rank) {
+            return Err(OwnerFault::TotalTooLarge);
+        }
+        self.holdings.expand_next();
+        let posted = treat_successors(
+            self.alloc,
+            &mut self.holdings,
+            bound,
+            next,
+            &self.state,
+            &self.applicable,
+            &mut self.successor,
+        )?;
+        Ok(Some(posted))
+    }
+
+    /// The oldest message for that owner, which is then in no outbox; `None` where there is none. No memory is taken.
+    pub fn next_out(&mut self, to: usize) -> Option<Message>
+        requires { to < length self.old.outboxes }
+        ensures first { list_at self.old.outboxes to ≡ map message_of (option_to_list result) ++ list_at self.new.outboxes to }
+        ensures others { self.new ≡ record self.old { outboxes = slice_set self.old.outboxes to (list_at self.new.outboxes to) } }
+        ensures fits { IfSome result (λ m. IsMessageTo (space_of S.owner self.old) to (message_of m)) }
+        ensures none { IfNone result (list_at self.old.outboxes to ≡ []) }
+    {
+        self.holdings.next_out(to)
+    }
+
+    /// Whether there is nothing to expand below the bound and nothing to hand out. No memory is taken.
+    pub fn is_idle(&self, bound: Dist) -> bool
+        ensures { result ≡ idle (space_of S.owner self.now) (under self.now bound) }
+    {
+        self.holdings.is_idle(bound)
+    }
+
+    /// The least cost at which a goal state was taken, infinite where none was. No memory is taken.
+    pub fn best_goal(&self) -> Dist
+        ensures { result ≡ self.now.best }
+    {
+        self.holdings.best()
+    }
+
+    /// The least f-value of the nodes that are not expanded, infinite where there is none. No memory is taken.
+    pub fn least_open(&self) -> Dist
+        ensures { result ≡ least_open (space_of S.owner self.now) self.now.nodes }
+    {
+        self.holdings.least_open()
+    }
+
+    /// How many messages are in the outbox for that owner.
+    pub fn outbox_len(&self, to: usize) -> usize
+        requires { to < length self.now.outboxes }
+        ensures { result ≡ length (list_at self.now.outboxes to) }
+    {
+        self.holdings.outbox(to).len()
+    }
+
+    /// The messages in the outbox for that owner, the oldest first.
+    pub fn outbox(&self, to: usize) -> &VecDeque<Message>
+        requires { to < length self.now.outboxes }
+        ensures { map message_of result.now.items ≡ list_at self.now.outboxes to }
+    {
+        self.holdings.outbox(to)
+    }
+
+    /// How often it expanded a node, counted where there is a limit on that, and 0 otherwise.
+    pub fn expansions(&self) -> u64
+        ensures { result ≡ self.now.expansions }
+    {
+        self.holdings.expansions()
+    }
+
+    /// The space that it searches.
+    pub fn space(&self) -> &'a Space<'a, S>
+        ensures { result.now ≡ self.now.space }
+    {
+        self.holdings.space()
+    }
+
+    /// How many states it has taken.
+    pub fn len(&self) -> usize
+        ensures { result ≡ length self.now.nodes }
+    {
+        self.holdings.len()
+    }
+
+    /// What is kept of the state at that place, counted from 0.
+    pub fn entry(&self, index: usize) -> Entry
+        requires { index < length self.now.nodes }
+        ensures { (n : Node) → slice_get self.now.nodes index ≡ Some n → n ≡ node_with n.state result }
+    {
+        self.holdings.entry(index)
+    }
+
+    /// Writes the values of the state at that place.
+    pub fn copy_state(&self, index: usize, state: &mut [u32])
+        requires index { index < length self.now.nodes }
+        requires len { length state.old ≡ length self.now.space.task.value_names }
+        ensures { (n : Node) → slice_get self.now.nodes index ≡ Some n → state.new ≡ n.state }
+    {
+        self.holdings.copy_state(index, state)
+    }
+
+    /// What holds of every owner: nodes and messages are of states of the task, each where it belongs, at totals of at most 2^62. The
+    /// body tells what the type keeps.
+    pub fn recall(&self)
+        ensures space { IsSearchSpace (space_of S.owner self.now) }
+        ensures lower { IsLowerBound self.now.space.task (space_of S.owner self.now).heuristic }
+        ensures owners { self.now.worker < length self.now.outboxes }
+        ensures nodes { All (IsKept (space_of S.owner self.now) self.now.worker) self.now.nodes }
+        ensures messages { (to : ℕ) → to < length self.now.outboxes →
+            All (IsMessageTo (space_of S.owner self.now) to) (list_at self.now.outboxes to) }
+    {
+        self.holdings.recall();
+        self.holdings.space().recall();
+    }
+}

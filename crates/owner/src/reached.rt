@@ -1,0 +1,169 @@
+//! The states that an owner has reached, and which of them it expands next.
+
+ghost use Rattle.std.specs.Prelude.{◌≡◌, ℕ, ◌<◌, ◌≤◌, ◌^◌, ◌++◌, ◌∷◌, [], length, slice_get, slice_set, Some, List, All, Option, IfOk, OnOk, OnErr, IfSome, IfNone, IsTrue};
+ghost use Rattle.std.specs.List.Sorted.{IsPermutation};
+ghost use Rattle.cost.specs.Distances.{Distance, Finite, ◌+ᵈ◌, distance_of};
+ghost use Rattle.fdr.specs.Tasks.{ranges, IsState};
+ghost use Rattle.families.specs.Owners.{At, Node, marked};
+ghost use Rattle.openlist.specs.declared.entry.OpenEntry.{OpenEntry as EntryOf};
+ghost use Rattle.openlist.specs.Heaps.{HasRoomFor};
+ghost use Rattle.closed.specs.Tables.{reached, fresh, node_with};
+ghost use Rattle.owner.specs.Queues.{added, h_of, IsCurrent, AreQueued, IsQueue, IsLeast, HasNoneOpen};
+
+use crate::space::Space;
+use closed::{ClosedTable, Entry, Outcome, Parent};
+use openlist::{Heap, OpenEntry, OpenList, Rank};
+use spread::Spread;
+use std::alloc::{AllocError, Global};
+use std::marker::Model;
+
+/// The states that were reached, and the open ones in the order in which they are to be expanded. A contract sees the space and a
+/// node for each state.
+#[derive(Drop)]
+pub(crate) struct Reached<'a, S: Spread + Drop> {
+    space: &'a Space<'a, S>,
+    table: ClosedTable,
+    // the open nodes, and nodes as they were before they were improved or expanded
+    queue: Heap,
+}
+
+impl<'a, S: Spread + Drop> Model for Reached<'a, S> {
+    ghost use Rattle.std.specs.Prelude.{◌≡◌};
+    ghost use Rattle.fdr.specs.Tasks.{ranges};
+    ghost use Rattle.owner.specs.Queues.{ReachedOf, IsQueue, h_of};
+
+    ghost Value = { ReachedOf S };
+
+    ghost view = { λ r. record { space = r.space.now; nodes = r.table.nodes } };
+
+    ghost invariant = { λ r. (r.table.ranges ≡ ranges r.space.now.task) × IsQueue (h_of r.space.now) r.table.nodes r.queue.entries };
+}
+
+/// Makes room for an entry of this f-value, if it is finite.
+fn make_room(heap: &mut Heap, f: Option<u64>) -> Result<(), AllocError>
+    ensures entries { IsPermutation heap.old.entries heap.new.entries }
+    ensures room { OnOk result (IfSome f (λ f. HasRoomFor heap.new (f ∷ []))) }
+{
+    match f {
+        Some(f) => heap.reserve(&[f]),
+        None => Ok(()),
+    }
+}
+
+/// Puts the entry of a state in that was reached, if it is new or was improved, and its f-value is finite.
+fn put_in(heap: &mut Heap, f: Option<u64>, rank: Rank, outcome: Outcome)
+    requires { IfSome f (λ f. HasRoomFor heap.old (f ∷ [])) }
+    ensures { IsPermutation (added f rank outcome ++ heap.old.entries) heap.new.entries }
+{
+    if let (Some(f), Outcome::New(index) | Outcome::Better(index)) = (f, outcome) {
+        let pushed = heap.push(OpenEntry { f, rank, index });
+        let _ = pushed; // there is room
+    }
+}
+
+/// Whether the entry's node is not expanded and has the entry's rank.
+fn is_current(table: &ClosedTable, entry: OpenEntry) -> bool
+    requires { entry.index < length table.now.nodes }
+    ensures current { IsTrue result → IsCurrent table.now.nodes entry }
+    ensures stale { IsCurrent table.now.nodes entry → IsTrue result }
+{
+    let node = table.entry(entry.index);
+    !node.expanded && node.rank == entry.rank
+}
+
+/// Takes entries that are out of date from the top, until the first one is not.
+fn drop_stale(table: &ClosedTable, heap: &mut Heap)
+    requires { All (λ e. e.index < length table.now.nodes) heap.old.entries }
+    ensures { (h : List ℕ → Distance) → AreQueued h table.now.nodes heap.old.entries → IsQueue h table.now.nodes heap.new.entries }
+{
+    while let Some(entry) = heap.least() {
+        if is_current(table, entry) {
+            return;
+        }
+        let _ = heap.pop();
+    }
+}
+
+impl<'a, S: Spread + Drop> Reached<'a, S> {
+    /// None of the states. An `Err` is of too little memory.
+    pub(crate) fn new(alloc: Global, space: &'a Space<'a, S>) -> Result<Reached<'a, S>, AllocError>
+        ensures { IfOk result (λ r. r ≡ record { space = space.now; nodes = [] }) }
+    {
+        Ok(Reached {
+            space,
+            table: ClosedTable::new(alloc, space.task())?,
+            queue: Heap::new(alloc),
+        })
+    }
+
+    /// The space.
+    pub(crate) fn space(&self) -> &'a Space<'a, S>
+        ensures { result.now ≡ self.now.space }
+    {
+        self.space
+    }
+
+    /// Notes that a state was reached. An `Err` is of too little memory, and changes nothing.
+    pub(crate) fn reach(
+        &mut self,
+        state: &[u32],
+        rank: Rank,
+        parent: Option<Parent>,
+    ) -> Result<(), AllocError>
+        requires state { IsState (ranges self.old.space.task) state.now }
+        requires cost { rank.cost ≤ 2 ^ 62 }
+        ensures nodes { OnOk result (self.new.nodes ≡ reached self.old.nodes (fresh state.now rank parent)) }
+        ensures space { self.new.space ≡ self.old.space }
+        ensures unchanged { OnErr result (self.new ≡ self.old) }
+    {
+        let f = self.space.f(state, rank.cost).get();
+        make_room(&mut self.queue, f)?;
+        let outcome = self.table.improve(state, rank, parent)?;
+        put_in(&mut self.queue, f, rank, outcome);
+        Ok(())
+    }
+
+    /// The entry of the open node that is to be expanded next.
+    pub(crate) fn least(&self) -> Option<OpenEntry>
+        ensures some { IfSome result (IsLeast (h_of self.now.space) self.now.nodes) }
+        ensures none { IfNone result (HasNoneOpen (h_of self.now.space) self.now.nodes) }
+    {
+        self.queue.least()
+    }
+
+    /// Notes that the node that is to be expanded next is expanded.
+    pub(crate) fn expand_least(&mut self)
+        ensures nodes { (e : EntryOf) (n : Node) → IsLeast (h_of self.old.space) self.old.nodes e → At self.old.nodes e.index n →
+            self.new.nodes ≡ slice_set self.old.nodes e.index (marked n) }
+        ensures space { self.new.space ≡ self.old.space }
+    {
+        if let Some(entry) = self.queue.pop() {
+            self.table.mark_expanded(entry.index);
+            drop_stale(&self.table, &mut self.queue);
+        }
+    }
+
+    /// How many states there are.
+    pub(crate) fn len(&self) -> usize
+        ensures { result ≡ length self.now.nodes }
+    {
+        self.table.len()
+    }
+
+    /// What is kept of the state at that place.
+    pub(crate) fn entry(&self, index: usize) -> Entry
+        requires { index < length self.now.nodes }
+        ensures { (n : Node) → slice_get self.now.nodes index ≡ Some n → n ≡ node_with n.state result }
+    {
+        self.table.entry(index)
+    }
+
+    /// Writes the values of the state at that place.
+    pub(crate) fn copy_state(&self, index: usize, state: &mut [u32])
+        requires index { index < length self.now.nodes }
+        requires len { length state.old ≡ length self.now.space.task.value_names }
+        ensures { (n : Node) → slice_get self.now.nodes index ≡ Some n → state.new ≡ n.state }
+    {
+        self.table.copy_state(index, state)
+    }
+}

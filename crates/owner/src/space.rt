@@ -1,0 +1,138 @@
+//! What is searched.
+
+ghost use Rattle.std.specs.Prelude.{◌≡◌, ◌<◌, ◌≤◌, ◌^◌, [], length, IfOk, OnOk, OnErr};
+ghost use Rattle.cost.specs.Distances.{◌+ᵈ◌, Finite};
+ghost use Rattle.checker_clauses.specs.Clauses.{heuristic_of};
+ghost use Rattle.fdr.specs.Tasks as tasks;
+ghost use Rattle.fdr.specs.Tasks.{IsState, IsTask};
+ghost use Rattle.families.specs.Families.{IsLowerBound};
+ghost use Rattle.successor_generator.specs.Applicable.{applicable_operators};
+
+use cost::Dist;
+use fdr::FdrTask;
+use packed::Layout;
+use scp::Columns;
+use spread::Spread;
+use std::alloc::{AllocError, Global};
+use std::marker::Model;
+use successor_generator::SuccessorGenerator;
+
+/// What owners search: a task, the columns of its heuristic, which owner has which state, and how many nodes each owner may
+/// expand, if there is a limit. A contract sees the task, the tables, the spread and the limit.
+#[derive(Drop)]
+pub struct Space<'a, S: Spread + Drop> {
+    task: &'a FdrTask,
+    columns: Columns<'a>,
+    spread: S,
+    limit: Option<u64>,
+    generator: SuccessorGenerator<'a>,
+    layout: Layout,
+    ghost columns_are_of_task: { columns.task ≡ task.now },
+    ghost spread_is_of_task: { S.ranges spread ≡ tasks.ranges task.now },
+    ghost generator_is_of_task: { generator ≡ task.now },
+    ghost layout_is_of_task: { layout ≡ tasks.ranges task.now },
+}
+
+impl<'a, S: Spread + Drop> Model for Space<'a, S> {
+    ghost use Rattle.owner.specs.Spaces.{SpaceOf};
+
+    ghost Value = { SpaceOf S };
+
+    ghost view = { λ s. record { task = s.task.now; columns = s.columns.columns; spread = s.spread; limit = s.limit } };
+}
+
+impl<'a, S: Spread + Drop> Space<'a, S> {
+    /// The space of a task. An `Err` is of too little memory.
+    pub fn new(
+        alloc: Global,
+        task: &'a FdrTask,
+        columns: Columns<'a>,
+        spread: S,
+        limit: Option<u64>,
+    ) -> Result<Space<'a, S>, AllocError>
+        requires columns { columns.task ≡ task.now }
+        requires spread { S.ranges spread ≡ tasks.ranges task.now }
+        ensures { IfOk result (λ s. s ≡ record { task = task.now; columns = columns.entry.columns; spread = spread; limit = limit }) }
+    {
+        let generator = SuccessorGenerator::new(alloc, task)?;
+        let layout = Layout::new(alloc, task)?;
+        Ok(Space {
+            task,
+            columns,
+            spread,
+            limit,
+            generator,
+            layout,
+        })
+    }
+
+    /// The task.
+    pub fn task(&self) -> &'a FdrTask
+        ensures { result.now ≡ self.now.task }
+    {
+        self.task
+    }
+
+    /// The columns of the heuristic.
+    pub fn columns(&self) -> &Columns<'a>
+        ensures { result.now ≡ record { task = self.now.task; columns = self.now.columns } }
+    {
+        &self.columns
+    }
+
+    /// What forms of its states need to know of the task.
+    pub fn layout(&self) -> &Layout
+        ensures { result.now ≡ tasks.ranges self.now.task }
+    {
+        &self.layout
+    }
+
+    /// What a plan through the state, reached at this cost, costs at least by the heuristic: f = g + h. The cost is at most 2^62.
+    pub fn f(&self, state: &[u32], cost: u64) -> Dist
+        requires state { IsState (tasks.ranges self.now.task) state.now }
+        requires cost { cost ≤ 2 ^ 62 }
+        ensures { result ≡ Finite cost +ᵈ heuristic_of self.now.task self.now.columns state.now }
+    {
+        match self.columns.h(state).get() {
+            Some(h) => Dist::fin(cost + h).unwrap(), // at most 2^62 + 2^61
+            None => Dist::inf(),
+        }
+    }
+
+    /// The owner of a state, among so many.
+    pub fn owner_of(&self, state: &[u32], owners: usize) -> usize
+        requires owners { 0 < owners }
+        requires state { IsState (tasks.ranges self.now.task) state.now }
+        ensures value { result ≡ S.owner self.now.spread state.now owners }
+        ensures below { result < owners }
+    {
+        self.spread.owner_of(state, owners)
+    }
+
+    /// Puts the numbers of the operators that apply in the state, in increasing order, in place of what `found` holds. An `Err` is
+    /// of too little memory, and leaves `found` empty.
+    pub fn applicable(&self, state: &[u32], found: &mut Vec<usize>) -> Result<(), AllocError>
+        requires { length state.now ≡ length self.now.task.value_names }
+        ensures found { OnOk result (found.new.items ≡ applicable_operators self.now.task state.now) }
+        ensures none { OnErr result (found.new.items ≡ []) }
+    {
+        self.generator.applicable(state, found)
+    }
+
+    /// The task is one, each state of it has an owner, and the heuristic is at most the cost of any operators that lead to a goal
+    /// state. The body tells what the parts keep.
+    pub fn recall(&self)
+        ensures task { IsTask self.now.task }
+        ensures lower { IsLowerBound self.now.task (heuristic_of self.now.task self.now.columns) }
+    {
+        self.task.recall();
+        self.columns.recall();
+    }
+
+    /// How many nodes each owner may expand, if there is a limit.
+    pub fn limit(&self) -> Option<u64>
+        ensures { result ≡ self.now.limit }
+    {
+        self.limit
+    }
+}

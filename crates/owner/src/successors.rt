@@ -1,0 +1,101 @@
+//! The successors of a node that is expanded.
+
+ghost use Rattle.std.specs.Prelude.{◌≡◌, ◌+◌, ◌<◌, ◌≤◌, ◌||◌, nat_lt, length, true, if◌then◌else◌, ℕ, List, Some, None, filter_map, All, IfOk, OnOk};
+ghost use Rattle.std.specs.List.{list_any};
+ghost use Rattle.fdr.specs.Tasks.{ranges, IsState, applies_at, cost_of, step};
+ghost use Rattle.families.specs.Owners.{treat, treat_all, successor_by, message_to};
+ghost use Rattle.families.specs.Worlds.{waiting};
+ghost use Rattle.closed.specs.Tables.{fresh};
+ghost use Rattle.owner.specs.Owned.{space_of, under, most_total};
+ghost use Rattle.owner.specs.Held.{IsSmallStep};
+
+use crate::holdings::Holdings;
+use closed::Parent;
+use cost::Dist;
+use fdr::FdrTask;
+use openlist::{OpenEntry, Rank};
+use spread::Spread;
+use std::alloc::{AllocError, Global};
+
+/// The greatest cost of a path, and the greatest number of operators on it, 2^62.
+const MOST_TOTAL: u64 = 4_611_686_018_427_387_904;
+
+/// Whether one of the operators leads from this rank to one that is too great.
+pub(crate) fn has_large_successor(task: &FdrTask, operators: &[usize], rank: Rank) -> bool
+    requires cost { rank.cost ≤ most_total }
+    requires steps { rank.steps ≤ most_total }
+    ensures { result ≡ list_any (λ o. nat_lt most_total (rank.cost + cost_of task.now o) || nat_lt most_total (rank.steps + 1)) operators.now }
+{
+    operators.iter().any(|operator| {
+        rank.cost + task.cost(*operator).get() > MOST_TOTAL || rank.steps + 1 > MOST_TOTAL
+    })
+}
+
+/// Treats the successor by one operator of the state that is expanded; the buffer is for use within. Gives whether it was put into
+/// an outbox.
+fn treat_successor<S: Spread + Drop>(
+    alloc: Global,
+    holdings: &mut Holdings<'_, S>,
+    bound: Dist,
+    next: OpenEntry,
+    state: &[u32],
+    operator: usize,
+    successor: &mut [u32],
+) -> Result<bool, AllocError>
+    requires state { IsState (ranges holdings.old.space.task) state.now }
+    requires buffer { length successor.old ≡ length state.now }
+    requires applies { applies_at holdings.old.space.task operator state.now ≡ true }
+    requires small { IsSmallStep holdings.old.space.task next.rank operator }
+    ensures treated { OnOk result ((t : List ℕ) → step holdings.old.space.task state.now operator ≡ Some t → under holdings.new bound ≡ treat (space_of S.owner holdings.old) holdings.old.worker (under holdings.old bound) (message_to holdings.old.space.task holdings.old.worker next.index (fresh state.now next.rank None) operator t)) }
+    ensures posted { IfOk result (λ posted. waiting holdings.new.outboxes ≡ waiting holdings.old.outboxes + (if posted then 1 else 0)) }
+    ensures owners { length holdings.new.outboxes ≡ length holdings.old.outboxes }
+    ensures space { holdings.new.space ≡ holdings.old.space }
+    ensures worker { holdings.new.worker ≡ holdings.old.worker }
+    ensures expansions { holdings.new.expansions ≡ holdings.old.expansions }
+{
+    let task = holdings.space().task();
+    task.recall(); // a successor of a state is a state
+    successor.copy_from_slice(state);
+    task.apply(operator, successor);
+    let rank = Rank {
+        cost: next.rank.cost + task.cost(operator).get(),
+        steps: next.rank.steps + 1,
+    };
+    let parent = Parent {
+        worker: holdings.worker(),
+        index: next.index,
+        operator,
+    };
+    holdings.treat(alloc, bound, successor, rank, parent)
+}
+
+/// Treats the successors by these operators, in their order, of the state that is expanded; the buffer is for use within. Gives how
+/// many were put into outboxes. An `Err` is of too little memory.
+pub(crate) fn treat_successors<S: Spread + Drop>(
+    alloc: Global,
+    holdings: &mut Holdings<'_, S>,
+    bound: Dist,
+    next: OpenEntry,
+    state: &[u32],
+    operators: &[usize],
+    successor: &mut [u32],
+) -> Result<usize, AllocError>
+    requires state { IsState (ranges holdings.old.space.task) state.now }
+    requires buffer { length successor.old ≡ length state.now }
+    requires apply { All (λ o. applies_at holdings.old.space.task o state.now ≡ true) operators.now }
+    requires small { All (IsSmallStep holdings.old.space.task next.rank) operators.now }
+    ensures treated { OnOk result (under holdings.new bound ≡ treat_all (space_of S.owner holdings.old) holdings.old.worker (under holdings.old bound) (filter_map (successor_by holdings.old.space.task holdings.old.worker next.index (fresh state.now next.rank None)) operators.now)) }
+    ensures posted { IfOk result (λ posted. waiting holdings.new.outboxes ≡ waiting holdings.old.outboxes + posted) }
+    ensures owners { length holdings.new.outboxes ≡ length holdings.old.outboxes }
+    ensures space { holdings.new.space ≡ holdings.old.space }
+    ensures worker { holdings.new.worker ≡ holdings.old.worker }
+    ensures expansions { holdings.new.expansions ≡ holdings.old.expansions }
+{
+    let mut posted = 0;
+    for &operator in operators {
+        if treat_successor(alloc, holdings, bound, next, state, operator, successor)? {
+            posted += 1;
+        }
+    }
+    Ok(posted)
+}
