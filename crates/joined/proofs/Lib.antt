@@ -1,0 +1,5 @@
+pub mod Places
+pub mod Leasts
+pub mod Pending
+pub mod BestGoals
+pub mod Families

@@ -1,0 +1,4 @@
+pub mod Views
+pub mod Ends
+pub mod Pending
+pub mod Goals

@@ -1,0 +1,15 @@
+//! The end of a search by owners of states, whatever their schedule was (hash distributed A*: Kishimoto, Fukunaga and Botea 2013).
+#![tactic(auto)]
+
+mod answer;
+mod best;
+mod joined;
+mod laws;
+mod packet;
+mod settled;
+
+pub use answer::SearchAnswer;
+pub use joined::Joined;
+pub use laws::{best_goal_costs_bound, settled_as_family};
+pub use packet::Packet;
+pub use settled::settled_bound;
