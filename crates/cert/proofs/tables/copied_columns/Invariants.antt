@@ -1,0 +1,7 @@
+use Rattle.std.proofs.Common.{◌≡◌, map, take}
+use Rattle.certificates.specs.Views as kept
+use Rattle.scp.specs.ColumnTables.{tables_of}
+use Rattle.cert.proofs.tables.copied_columns.Given as goal
+
+abbrev pub invariant-loop-column : goal.invariant-loop-column
+invariant-loop-column l = kept.columns_of l.copy.items ≡ map tables_of (take l.column-index l.columns)

@@ -1,0 +1,19 @@
+-- The states that owners have expanded.
+use Rattle.std.specs.Prelude.{◌≡◌, ℕ, ◌*◌, List, length, flat_map}
+use Rattle.certificates.specs.Certificates.{Entry}
+use Rattle.certificates.specs.Kept.{entries}
+use Rattle.families.specs.Families.{expanded_of}
+use Rattle.owner.specs.Owned.{OwnerOf}
+use Rattle.cert.specs.declared.states.ExpandedStates.{ExpandedStates}
+
+-- the nodes that are expanded, of one owner after the other
+abbrev pub closed_in : {S : Type 0} → List (OwnerOf S) → List Entry
+closed_in owners = flat_map (λ o. expanded_of o.nodes) owners
+
+-- the states with their costs, each of so many values
+abbrev pub listed : ℕ → ExpandedStates → List Entry
+listed width states = entries width states.costs.items states.values.items
+
+-- there are so many values for each cost
+abbrev pub IsLong : ℕ → ExpandedStates → Type 0
+IsLong width states = length states.values.items ≡ length states.costs.items * width

@@ -1,0 +1,18 @@
+//! Certificates that are made from what a search closed: closed lists in order, and the law that a finished closed list, with
+//! columns that divide the operators' costs, is a certificate that holds.
+#![tactic(auto)]
+
+mod laws;
+mod making;
+mod sorting;
+mod states;
+mod tables;
+
+pub use laws::{
+    finished_list_has_text, finished_list_is_held, order_does_not_matter, sorted_once_rises,
+};
+pub use making::cert_of;
+pub use sorting::sorted_list;
+
+#[cfg(test)]
+mod tests;

@@ -1,0 +1,65 @@
+//! Certificates of searches.
+
+ghost use Rattle.std.specs.Prelude.{◌≡◌, ◌<◌, ◌^◌, length, map, IfOk};
+ghost use Rattle.std.specs.List.Sorted.{IsPermutation};
+ghost use Rattle.cost.specs.Distances.{Distance, least};
+ghost use Rattle.certificates.specs.Views.{kind_of};
+ghost use Rattle.cert_text.specs.Lawful.{IsLawfulKind, IsLawful};
+ghost use Rattle.checker_clauses.specs.Violations.{IsHeld};
+ghost use Rattle.joined.specs.Ends.{IsSettledAt, space_at};
+ghost use Rattle.cert.specs.Expanded.{closed_in};
+ghost use Rattle.cert.specs.Orders.{IsRising};
+
+use crate::sorting::sorted_list;
+use crate::states::expanded_states;
+use crate::tables::copied_columns;
+use certificates::{Certificate, CertificateKind};
+use cost::Dist;
+use joined::Joined;
+use owner::Owner;
+use spread::Spread;
+use std::alloc::{AllocError, Global};
+
+/// The least cost at which any of the owners took a goal state, infinite where none did.
+fn best_of_owners<S: Spread + Drop>(owners: &[Owner<'_, S>]) -> Dist
+    ensures { result ≡ least (map (λ o. o.best) owners.now) }
+{
+    let mut best = Dist::inf();
+    for owner in owners {
+        best = best.min(owner.best_goal());
+    }
+    best
+}
+
+/// The certificate of a search: the bound is the least cost at which a goal state was taken, infinite where none was; the columns are
+/// those of the heuristic; and the closed states are those expanded at their present ranks, of all owners, in the lexicographic order
+/// of their values.
+///
+/// Where the search is settled at a bound, that is the certificate's, and the certificate fails nowhere: every plan costs at least as
+/// much. It has a text then, if its kind has one and there are fewer than 2^32 closed states. An `Err` is of too little memory.
+pub fn cert_of<'a, S: Spread + Drop>(
+    alloc: Global,
+    joined: &Joined<'a, S>,
+    kind: CertificateKind,
+) -> Result<Certificate, AllocError>
+    ensures kind { IfOk result (λ c. c.kind ≡ kind_of kind) }
+    ensures columns { IfOk result (λ c. c.columns ≡ joined.now.space.columns) }
+    ensures closed { IfOk result (λ c. IsPermutation (closed_in joined.now.owners) c.closed) }
+    ensures rising { IfOk result (λ c. IsRising c.closed) }
+    ensures bound { IfOk result (λ c. c.bound ≡ least (map (λ o. o.best) joined.now.owners)) }
+    ensures held { (bound : Distance) → IsSettledAt (space_at S.owner joined.now) joined.now.owners joined.now.left bound →
+        IfOk result (λ c. (c.bound ≡ bound) × IsHeld joined.now.space.task c) }
+    ensures lawful { (bound : Distance) → IsSettledAt (space_at S.owner joined.now) joined.now.owners joined.now.left bound →
+        IsLawfulKind (kind_of kind) → length (closed_in joined.now.owners) < 2 ^ 32 → IfOk result IsLawful }
+{
+    joined.recall();
+    let space = joined.space();
+    space.task().recall();
+    space.columns().recall();
+    let width = space.task().variable_count();
+    let states = expanded_states(alloc, width, joined.owners())?;
+    let closed = sorted_list(alloc, width, &states.costs, &states.values)?;
+    let columns = copied_columns(alloc, space.columns().tables())?;
+    let bound = best_of_owners(joined.owners());
+    Ok(Certificate::new(kind, bound, columns, closed))
+}

@@ -1,0 +1,65 @@
+//! The states that owners have expanded.
+
+ghost use Rattle.std.specs.Prelude.{◌≡◌, ◌≤◌, ◌++◌, length, All, IfOk, OnOk};
+ghost use Rattle.families.specs.Families.{expanded_of};
+ghost use Rattle.owner.specs.Owned.{most_total};
+ghost use Rattle.cert.specs.Expanded.{closed_in, listed, IsLong};
+
+use owner::Owner;
+use spread::Spread;
+use std::alloc::{AllocError, Global};
+
+/// States that were expanded.
+#[derive(Drop)]
+pub(crate) struct ExpandedStates {
+    pub(crate) costs: Vec<u64>,
+    // those of one state behind those of another
+    pub(crate) values: Vec<u32>,
+}
+
+impl ExpandedStates {
+    /// Adds the states that an owner has expanded at their present ranks; the buffer is for use within.
+    fn push_owner<S: Spread + Drop>(
+        &mut self,
+        owner: &Owner<'_, S>,
+        state: &mut [u32],
+    ) -> Result<(), AllocError>
+        requires buffer { length state.old ≡ length owner.now.space.task.value_names }
+        requires long { IsLong (length state.old) self.old }
+        ensures states { OnOk result (listed (length state.old) self.new ≡ listed (length state.old) self.old ++ expanded_of owner.now.nodes) }
+        ensures long { OnOk result (IsLong (length state.old) self.new) }
+    {
+        for index in 0..owner.len() {
+            let entry = owner.entry(index);
+            if entry.expanded {
+                owner.copy_state(index, state);
+                self.costs.push(entry.rank.cost)?;
+                self.values.extend_from_slice(state)?;
+            }
+        }
+        Ok(())
+    }
+}
+
+/// The states of so many values that these owners have expanded at their present ranks. An `Err` is of too little memory.
+pub(crate) fn expanded_states<S: Spread + Drop>(
+    alloc: Global,
+    width: usize,
+    owners: &[Owner<'_, S>],
+) -> Result<ExpandedStates, AllocError>
+    requires { All (λ o. length o.space.task.value_names ≡ width) owners.now }
+    ensures states { IfOk result (λ states. listed width states ≡ closed_in owners.now) }
+    ensures long { IfOk result (IsLong width) }
+    ensures cheap { OnOk result (All (λ o. All (λ n. n.cost ≤ most_total) o.nodes) owners.now) }
+{
+    let mut state = vec![in alloc; 0u32; width]?;
+    let mut states = ExpandedStates {
+        costs: Vec::new(alloc),
+        values: Vec::new(alloc),
+    };
+    for owner in owners {
+        owner.recall();
+        states.push_owner(owner, &mut state)?;
+    }
+    Ok(states)
+}
