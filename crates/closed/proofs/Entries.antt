@@ -116,7 +116,8 @@ module _ (m : Node) where
       subst (λ (k : ℕ). slice_get (values_of entries) k ≡ Some found.entry) here found.there in
       let same : found.entry ≡ e = cc in
       subst
-      (λ (x : Entry). outcome_of (nodes_of entries) m ≡ (if rank_less m.cost m.steps x.rank.cost x.rank.steps then Better i else Kept))
+      (λ (x : Entry). outcome_of (nodes_of entries) m
+      ≡ (if rank_less m.cost m.steps x.rank.cost x.rank.steps then Better i else Kept))
       same
       (found.outcome 0
       ∙ ap (λ (k : ℕ). if rank_less m.cost m.steps found.entry.rank.cost found.entry.rank.steps then Better k else Kept)

@@ -15,7 +15,8 @@ with_entry-past [] i e past = refl
 with_entry-past (n ∷ ns) zero e past = absurd (omega arith)
 with_entry-past (n ∷ ns) (suc i) e past = ap (λ (xs : List Node). n ∷ xs) (with_entry-past ns i e (omega arith))
 
-take-with_entry : (len : ℕ) (nodes : List Node) (i : ℕ) (e : Entry) → with_entry (take len nodes) i e ≡ take len (with_entry nodes i e)
+take-with_entry : (len : ℕ) (nodes : List Node) (i : ℕ) (e : Entry) →
+    with_entry (take len nodes) i e ≡ take len (with_entry nodes i e)
 take-with_entry zero nodes i e = refl
 take-with_entry (suc len) [] i e = refl
 take-with_entry (suc len) (n ∷ ns) zero e = refl

@@ -142,8 +142,8 @@ impl States {
         Ok(())
     }
 
-    /// Notes that a state was reached. An `Err` is of too little memory, comes only for a state that is new, and leaves the states
-    /// as they were.
+    /// Notes that a state was reached. An `Err` is of too little memory, comes only for a state that is new, and leaves the
+    /// states as they were.
     pub(crate) fn reach(&mut self, state: &Plain, entry: Entry) -> Result<Outcome, AllocError>
         requires { IsState self.old.ranges state.now.values.items }
         ensures nodes { OnOk result (self.new.nodes ≡ reached self.old.nodes (node_with state.now.values.items entry)) }

@@ -165,7 +165,8 @@ impl ClosedTable {
     /// Notes that the state at that place is expanded at its rank.
     pub fn mark_expanded(&mut self, index: usize)
         requires { index < length self.old.nodes }
-        ensures nodes { (n : Node) → slice_get self.old.nodes index ≡ Some n → self.new.nodes ≡ slice_set self.old.nodes index (marked n) }
+        ensures nodes { (n : Node) → slice_get self.old.nodes index ≡ Some n →
+            self.new.nodes ≡ slice_set self.old.nodes index (marked n) }
         ensures ranges { self.new.ranges ≡ self.old.ranges }
     {
         self.states.mark_expanded(index);

@@ -35,4 +35,5 @@ returns-clause-taken_back c len within =
     let m = node_with c.args.state.now.values.items c.args.entry in
     ap (λ (ns : List Node). taken_back c.note.new.replaced.items (take len ns)) c.in_ok-write.ensures.nodes
     ∙ taken_back-reached c.args.self.now.nodes c.args.replaced.now.items len m c.outcome-outcome.result
-    c.note.new.replaced.items (c.outcome-outcome.ensures c.args.entry.parent c.args.entry.expanded) within c.in_ok-note.ensures.noted
+    c.note.new.replaced.items (c.outcome-outcome.ensures c.args.entry.parent c.args.entry.expanded) within
+    c.in_ok-note.ensures.noted

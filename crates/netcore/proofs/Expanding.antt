@@ -1,0 +1,233 @@
+-- Expanding a node, and owners that are changed.
+use Rattle.std.proofs.Common.{◌≡◌, ◌≢◌, ℕ, zero, suc, ◌≤◌, Bool, true, false, not, ◌||◌, List, [], ◌∷◌, length, Option, Some, None, refl, sym, ap, ◌∙◌, subst, inl, inr, ⊎_elim, arith, is_some}
+use Rattle.std.specs.Prelude.{slice_get, slice_set}
+use Rattle.std.specs.List.{list_all}
+use Rattle.std.specs.Option.{option_map_or}
+use Rattle.std.proofs.lemmas.Option.{slice_get_past}
+use Rattle.std.proofs.lemmas.List.{length-set}
+use Rattle.std.proofs.lemmas.Bool.{true≢false, cases_Bool, and_parts, and_from, and_left, and_right, or_cases, or_left, or_right, or_from, not-true, not_from_false}
+use Rattle.cost.specs.Distances.{Distance, Infinite, is_at_most}
+use Rattle.cost.proofs.DistanceLaws.{at_most_through, at_most_infinite, is_at_most-true, is_at_most-from, is_at_most-false, below_is_at_most}
+use Rattle.families.specs.Owners.{At, SearchSpace, Node, Owner, Log, Expand as Expanding, f_value, may_expand, expanded_at, happens}
+use Rattle.families.specs.Worlds.{World, Expands, no_open, MayExpandAt}
+use Rattle.families.proofs.Lists.{at_once}
+use Rattle.owner.specs.Spaces.{searched}
+use Rattle.owner.specs.Owned as owned
+use Rattle.owner.specs.Owned.{OwnerOf, under, space_of, IsNext, is_open, goes_before, IsExpansion, IsRefusal}
+use Rattle.owner.specs.declared.fault.OwnerFault.{OwnerFault}
+use Rattle.owner.specs.declared.fault.OwnerFault.TheVariants.{OutOfMemory, TotalTooLarge, LimitReached}
+use Rattle.netcore.specs.declared.step.WorldStep.{WorldStep}
+use Rattle.netcore.specs.declared.step.WorldStep.TheVariants.{Expand}
+use Rattle.netcore.specs.Worlds.{WorldOf, space_in, Shows, Steps, IsStepRefusal}
+use Rattle.netcore.specs.Possible.{at_owner}
+use Rattle.netcore.specs.Kept.{IsStepDone, IsStepRefused, IsWorld}
+use Rattle.netcore.proofs.Places.{at_below, at_read, at_set, set_same, set_there, set_elsewhere}
+use Rattle.netcore.proofs.Shown.{shown, shown_same, nothing_done, kept, run_after, HasRun}
+
+-- ---- nodes
+all_from : (test : Node → Bool) (ns : List Node) → ((i : ℕ) (x : Node) → At ns i x → test x ≡ true) → list_all test ns ≡ true
+all_from test [] h = refl
+all_from test (x ∷ ns) h = and_from _ _ (h zero x refl) (all_from test ns (λ i y at. h (suc i) y at))
+
+one_fails : (test : Node → Bool) (ns : List Node) (i : ℕ) (x : Node) → At ns i x → test x ≡ false → list_all test ns ≡ false
+one_fails test [] i x at e = absurd at
+one_fails test (y ∷ ns) zero x at e = and_left _ _ (ap test at ∙ e)
+one_fails test (y ∷ ns) (suc i) x at e = and_right _ _ (one_fails test ns i x at e)
+
+-- what comes first is of least f-value
+first_is_least : (space : SearchSpace) (i : ℕ) (n : Node) (j : ℕ) (x : Node) → goes_before space i n j x ≡ true
+    → is_at_most (f_value space n.state n.cost) (f_value space x.state x.cost) ≡ true
+first_is_least space i n j x h =
+    let f = f_value space n.state n.cost in
+    let e = f_value space x.state x.cost in
+    ⊎_elim
+    (λ (above : not (is_at_most e f) ≡ true). is_at_most-from f e (below_is_at_most f e (is_at_most-false e f (not-true (is_at_most e f) above))))
+    (λ (rest : _ ≡ true). (and_parts (is_at_most f e) _ rest).0)
+    (or_cases (not (is_at_most e f)) _ h)
+
+past_or_open : (space : SearchSpace) (o : Owner) (i : ℕ) (n : Node) (j : ℕ) (x : Node)
+    → (is_open space x ≡ true → goes_before space i n j x ≡ true)
+    → (x.expanded || is_at_most (f_value space n.state n.cost) (f_value space x.state x.cost)) ≡ true
+past_or_open space o i n j x first =
+    let f = f_value space n.state n.cost in
+    let e = f_value space x.state x.cost in
+    ⊎_elim
+    (λ (done : x.expanded ≡ true). or_left x.expanded (is_at_most f e) done)
+    (λ (there : x.expanded ≡ false). or_right x.expanded (is_at_most f e) (⊎_elim
+    (λ (endless : is_at_most Infinite e ≡ true). is_at_most-from f e
+    (at_most_through f Infinite e (at_most_infinite f) (is_at_most-true Infinite e endless)))
+    (λ (finite : is_at_most Infinite e ≡ false). first_is_least space i n j x
+    (first (and_from (not x.expanded) (not (is_at_most Infinite e)) (not_from_false x.expanded there) (not_from_false (is_at_most Infinite e) finite))))
+    (cases_Bool (is_at_most Infinite e))))
+    (cases_Bool x.expanded)
+
+pub next_may : (space : SearchSpace) (o : Owner) (i : ℕ) (n : Node) → IsNext space o.nodes o.bound i n → may_expand space o n ≡ true
+unfolding may_expand
+next_may space o i n next =
+    and_from _ _ (and_parts (not n.expanded) _ next.open_node).0
+    (and_from _ _ (not_from_false (is_at_most o.bound (f_value space n.state n.cost)) next.below)
+    (all_from (λ x. x.expanded || is_at_most (f_value space n.state n.cost) (f_value space x.state x.cost)) o.nodes
+    (λ j x at. past_or_open space o i n j x (next.first j x at))))
+
+pub next_open : (space : SearchSpace) (o : Owner) (i : ℕ) (n : Node) → IsNext space o.nodes o.bound i n → no_open space o ≡ false
+next_open space o i n next = one_fails (λ x. x.expanded || is_at_most o.bound (f_value space x.state x.cost)) o.nodes i n next.there
+    (or_from n.expanded (is_at_most o.bound (f_value space n.state n.cost)) (not-true n.expanded (and_parts (not n.expanded) _ next.open_node).0) next.below)
+
+module _ {S : Type 0} (owner : S → List ℕ → ℕ → ℕ) where
+  -- ---- one owner and its bound
+  pub at_owner_here : (w : WorldOf S) (v : ℕ) (o : OwnerOf S) (b : Distance) (holds : OwnerOf S → Distance → Bool)
+      → At w.owners v o → At w.seen v b → at_owner w v holds ≡ holds o b
+  at_owner_here w v o b holds at seen =
+      ap (λ x. option_map_or (λ (p : OwnerOf S). option_map_or (holds p) (slice_get w.seen v) false) x false) (at_read w.owners v o at)
+      ∙ ap (λ x. option_map_or (holds o) x false) (at_read w.seen v b seen)
+
+  pub at_owner_past : (w : WorldOf S) (v : ℕ) (holds : OwnerOf S → Distance → Bool) → length w.owners ≤ v → at_owner w v holds ≡ false
+  at_owner_past w v holds le =
+      ap (λ x. option_map_or (λ (p : OwnerOf S). option_map_or (holds p) (slice_get w.seen v) false) x false) (slice_get_past w.owners v le)
+
+  pub owner_space : (w : WorldOf S) (v : ℕ) (o : OwnerOf S) → IsWorld owner w → At w.owners v o → space_of owner o ≡ space_in owner w
+  owner_space w v o is at = ap (λ s. searched owner s (length o.outboxes)) (is.spaces v o at)
+      ∙ ap (λ n. searched owner w.space n) (is.outboxes v o at)
+
+  pub here_one : (old : WorldOf S) (v : ℕ) (p : OwnerOf S) (b : Distance) (l : Log) → At old.seen v b → l.owner ≡ under p b
+      → (q : OwnerOf S) (c : Distance) → At (slice_set old.owners v p) v q → At old.seen v c → l.owner ≡ under q c
+  here_one old v p b l seen is q c at seen2 =
+      is ∙ (ap (λ z. under z b) (set_there old.owners v p q at) ∙ ap (λ z. under q z) (at_once old.seen v b c seen seen2))
+
+  pub there_one : (old : WorldOf S) (v : ℕ) (p : OwnerOf S) (u : ℕ) (q : OwnerOf S) (c : Distance) → u ≢ v
+      → At (slice_set old.owners v p) u q → At old.seen u c → At old.owners u q × At old.seen u c
+  there_one old v p u q c ne at seen = (set_elsewhere old.owners v p u q ne at, seen)
+
+  pub one_owner : (old : WorldOf S) (v : ℕ) (o p : OwnerOf S) → At old.owners v o → p.space ≡ o.space → p.worker ≡ o.worker
+      → length p.outboxes ≡ length o.outboxes → (u : ℕ) (q : OwnerOf S) → At (slice_set old.owners v p) u q
+      → (r : OwnerOf S) × At old.owners u r × (q.space ≡ r.space) × (q.worker ≡ r.worker) × (length q.outboxes ≡ length r.outboxes)
+  one_owner old v o p at a b c u q there = ⊎_elim
+      (λ (h : (u ≡ v) × (p ≡ q)). (
+        o,
+        subst (λ k. At old.owners k o) (sym h.0) at,
+        sym (ap (λ (z : OwnerOf S). z.space) h.1) ∙ a,
+        sym (ap (λ (z : OwnerOf S). z.worker) h.1) ∙ b,
+        sym (ap (λ (z : OwnerOf S). length z.outboxes) h.1) ∙ c,
+      ))
+      (λ (h : (u ≢ v) × At old.owners u q). (q, h.1, refl, refl, refl))
+      (at_set old.owners v p u q there)
+
+  abbrev pub with_owner : WorldOf S → ℕ → OwnerOf S → Bool → WorldOf S
+  with_owner w v p spent = record w { owners = slice_set w.owners v p; spent = spent }
+
+  pub kept_with_owner : (old : WorldOf S) (v : ℕ) (o p : OwnerOf S) (spent : Bool) → IsWorld owner old → At old.owners v o → p.space ≡ o.space
+      → p.worker ≡ o.worker → length p.outboxes ≡ length o.outboxes → (spent ≡ false → HasRun owner (with_owner old v p spent))
+      → IsWorld owner (with_owner old v p spent)
+  kept_with_owner old v o p spent is at a b c run =
+      kept owner old (with_owner old v p spent) is refl (length-set old.owners v p) refl refl refl (one_owner old v o p at a b c) is.messages run
+
+  -- ---- nothing to expand
+  pub stays : (old : WorldOf S) (v : ℕ) (world : World) → Shows owner old world → no_open (space_in owner old) (world.logs v).owner ≡ true
+      → Steps owner old world (Expand v) old
+  stays old v world shows none =
+      let space = space_in owner old in
+      let i = length (world.logs v).owner.nodes in
+      record {
+        step = Expands v i;
+        does = (i, refl, inr none);
+        shown = shown_same owner old world v (happens space v (world.logs v) (Expanding i)) shows
+            (ap (λ x. expanded_at space v (world.logs v).owner i x) (slice_get_past (world.logs v).owner.nodes i (omega arith)));
+      }
+
+  pub expand_past : (old : WorldOf S) (v : ℕ) → length old.owners ≤ v → IsStepDone owner old old (Expand v) false
+  expand_past old v le = nothing_done owner old (Expand v) false refl (at_owner_past old v _ le)
+      (λ world shows. stays old v world shows
+      (ap (λ (ns : List Node). list_all (λ n. n.expanded || is_at_most (world.logs v).owner.bound (f_value (space_in owner old) n.state n.cost)) ns) (shows.others v le).nodes))
+
+  -- ---- a node is expanded
+  pub expand_one : (old : WorldOf S) (v : ℕ) (o p : OwnerOf S) (b : Distance) (posted : ℕ) → IsWorld owner old → At old.owners v o → At old.seen v b
+      → owned.Expands owner b o posted p → IsStepDone owner old (with_owner old v p old.spent) (Expand v) true
+  expand_one old v o p b posted is at seen done =
+      let space = space_in owner old in
+      let same = owner_space old v o is at in
+      let next : IsNext space o.nodes b done.index done.node = subst (λ s. IsNext s o.nodes b done.index done.node) same done.next in
+      let after : under p b ≡ expanded_at space v (under o b) done.index (Some done.node) =
+      done.after ∙ (ap (λ s. expanded_at s o.worker (under o b) done.index (Some done.node)) same
+      ∙ ap (λ k. expanded_at space k (under o b) done.index (Some done.node)) (is.workers v o at)) in
+      record {
+        stepped = λ world shows.
+            let x : (world.logs v).owner ≡ under o b = shows.owners v o b at seen in
+            record {
+              step = Expands v done.index;
+              does = (
+                done.index,
+                refl,
+                inl (subst (λ w. MayExpandAt space w done.index) (sym x)
+                    (done.node, next.there, next_may space (under o b) done.index done.node next)),
+              );
+              shown = shown owner old (with_owner old v p old.spent) world v (happens space v (world.logs v) (Expanding done.index))
+                  world.underway world.bound world.resting shows refl (length-set old.owners v p)
+                  (here_one old v p b (happens space v (world.logs v) (Expanding done.index)) seen
+                  (ap (λ w. expanded_at space v w done.index (slice_get w.nodes done.index)) x
+                  ∙ (ap (λ k. expanded_at space v (under o b) done.index k) (at_read o.nodes done.index done.node next.there) ∙ sym after)))
+                  (there_one old v p)
+                  (λ le. let lt = at_below old.owners v o at in absurd (omega arith))
+                  shows.underway shows.bound shows.resting;
+            };
+        changed_is = sym (at_owner_here old v o b _ at seen ∙ ap not (next_open space (under o b) done.index done.node next));
+        unchanged = λ e. absurd (true≢false e);
+        space = refl;
+        owners = length-set old.owners v p;
+        spent = refl;
+      }
+
+  pub expand_done : (old : WorldOf S) (v : ℕ) (o p : OwnerOf S) (b : Distance) (posted : Option ℕ) → IsWorld owner old → At old.owners v o
+      → At old.seen v b → IsExpansion owner b o p posted → IsStepDone owner old (with_owner old v p old.spent) (Expand v) (is_some posted)
+  expand_done old v o p b (Some posted) is at seen done = expand_one old v o p b posted is at seen done
+  expand_done old v o p b None is at seen (none, unchanged) =
+      let same = owner_space old v o is at in
+      let none_in : no_open (space_in owner old) (under o b) ≡ true = subst (λ s. no_open s (under o b) ≡ true) same none in
+      let as_it_was : with_owner old v p old.spent ≡ old =
+      ap (λ (os : List (OwnerOf S)). record old { owners = os }) (ap (λ z. slice_set old.owners v z) unchanged ∙ set_same old.owners v o at) in
+      subst (λ w. IsStepDone owner old w (Expand v) false) (sym as_it_was)
+      (nothing_done owner old (Expand v) false refl (at_owner_here old v o b _ at seen ∙ ap not none_in)
+      (λ world shows. stays old v world shows (subst (λ w. no_open (space_in owner old) w ≡ true) (sym (shows.owners v o b at seen)) none_in)))
+
+  pub expand_kept : (old : WorldOf S) (v : ℕ) (o p : OwnerOf S) (b : Distance) (posted : Option ℕ) → IsWorld owner old → At old.owners v o
+      → At old.seen v b → IsExpansion owner b o p posted → p.space ≡ o.space → p.worker ≡ o.worker → length p.outboxes ≡ length o.outboxes
+      → IsWorld owner (with_owner old v p old.spent)
+  expand_kept old v o p b posted is at seen done e f n = kept_with_owner old v o p old.spent is at e f n
+      (run_after owner old (with_owner old v p old.spent) (Expand v) (is_some posted) (expand_done old v o p b posted is at seen done) is)
+
+  -- ---- refused
+  pub lost_kept : (old : WorldOf S) (v : ℕ) (o p : OwnerOf S) → IsWorld owner old → At old.owners v o
+      → p.space ≡ o.space → p.worker ≡ o.worker → length p.outboxes ≡ length o.outboxes → IsWorld owner (with_owner old v p true)
+  lost_kept old v o p is at e f n = kept_with_owner old v o p true is at e f n (λ h. absurd (true≢false h))
+
+  pub lost : (old : WorldOf S) (v : ℕ) (p : OwnerOf S) (asked : WorldStep) → IsStepRefused owner old (with_owner old v p true) asked OutOfMemory
+  lost old v p asked = record { refused = tt; space = refl; owners = length-set old.owners v p }
+
+  refused_same : (b : Distance) (o p : OwnerOf S) (e : OwnerFault) → IsRefusal owner b o p e → (e ≡ OutOfMemory → ⊥) → p ≡ o
+  refused_same b o p OutOfMemory h ne = absurd (ne refl)
+  refused_same b o p LimitReached (some, limit, same) ne = same
+  refused_same b o p TotalTooLarge (i, n, next, allowed, large, same) ne = same
+
+  refused_again : (b : Distance) (o p : OwnerOf S) (e : OwnerFault) → IsRefusal owner b o p e → IsRefusal owner b o o e
+  refused_again b o p OutOfMemory h = tt
+  refused_again b o p LimitReached (some, limit, same) = (some, limit, refl)
+  refused_again b o p TotalTooLarge (i, n, next, allowed, large, same) = (i, n, next, allowed, large, refl)
+
+  pub refused_as_it_was : (old : WorldOf S) (v : ℕ) (o p : OwnerOf S) (b : Distance) (e : OwnerFault) → At old.owners v o
+      → IsRefusal owner b o p e → (e ≡ OutOfMemory → ⊥) → with_owner old v p old.spent ≡ old
+  refused_as_it_was old v o p b e at refusal ne =
+      ap (λ (os : List (OwnerOf S)). record old { owners = os })
+      (ap (λ z. slice_set old.owners v z) (refused_same b o p e refusal ne) ∙ set_same old.owners v o at)
+
+  refusal_at : (old : WorldOf S) (v : ℕ) (o : OwnerOf S) (b : Distance) (e : OwnerFault) (new : WorldOf S) → At old.owners v o → At old.seen v b
+      → IsRefusal owner b o o e → new ≡ old → IsStepRefusal owner old new (Expand v) e
+  refusal_at old v o b OutOfMemory new at seen refusal same = tt
+  refusal_at old v o b LimitReached new at seen refusal same = (v, o, b, refl, at, seen, refusal, same)
+  refusal_at old v o b TotalTooLarge new at seen refusal same = (v, o, b, refl, at, seen, refusal, same)
+
+  pub expand_refused : (old : WorldOf S) (v : ℕ) (o p : OwnerOf S) (b : Distance) (e : OwnerFault) → At old.owners v o → At old.seen v b
+      → IsRefusal owner b o p e → (e ≡ OutOfMemory → ⊥) → IsStepRefused owner old (with_owner old v p old.spent) (Expand v) e
+  expand_refused old v o p b e at seen refusal ne = record {
+    refused = refusal_at old v o b e (with_owner old v p old.spent) at seen (refused_again b o p e refusal) (refused_as_it_was old v o p b e at refusal ne);
+    space = refl;
+    owners = length-set old.owners v p;
+  }

@@ -1,0 +1,11 @@
+pub mod Places
+pub mod Queues
+pub mod Shown
+pub mod Expanding
+pub mod Sending
+pub mod Delivering
+pub mod Bounding
+pub mod Starting
+pub mod Running
+pub mod Ending
+pub mod Counting

@@ -1,0 +1,176 @@
+-- Messages that go underway.
+use Rattle.std.proofs.Common.{◌≡◌, ◌≢◌, ℕ, ◌<◌, ◌≤◌, true, false, not, List, [], ◌∷◌, ◌++◌, length, All, refl, sym, ap, ◌∙◌, subst, ⊎_elim, arith}
+use Rattle.std.specs.Prelude.{slice_set}
+use Rattle.std.proofs.lemmas.List.{length-set}
+use Rattle.std.proofs.lemmas.List.Elements.{All-append, All-cons, All-nil}
+use Rattle.std.proofs.lemmas.Bool.{true≢false}
+use Rattle.cost.specs.Distances.{Distance}
+use Rattle.families.specs.Owners as machine
+use Rattle.families.specs.Owners.{At, SearchSpace, Message, Packet, Log, HandOut, list_at, handed_out, happens, put}
+use Rattle.families.specs.Worlds.{World, Sends, is_empty, sent}
+use Rattle.owner.specs.Owned.{OwnerOf, under, space_of, IsMessageTo}
+use Rattle.netcore.specs.declared.step.WorldStep.TheVariants.{Send}
+use Rattle.netcore.specs.Worlds.{WorldOf, space_in, packets_to, Shows, Steps}
+use Rattle.netcore.specs.Kept.{IsStepDone, IsWorld}
+use Rattle.netcore.proofs.Places.{at_below, at_set, at_own, list_past, set_same}
+use Rattle.netcore.proofs.Queues.{sent_here, sent_there}
+use Rattle.netcore.proofs.Shown.{shown, nothing_done, kept, run_after}
+use Rattle.netcore.proofs.Expanding.{at_owner_here, at_owner_past, owner_space, here_one, there_one, one_owner, with_owner, kept_with_owner}
+
+module _ {S : Type 0} (owner : S → List ℕ → ℕ → ℕ) where
+  -- ---- nothing to send
+  unsent : (old : WorldOf S) (v to : ℕ) (world : World) → Shows owner old world → list_at (world.logs v).owner.outboxes to ≡ []
+      → Steps owner old world (Send v to) old
+  unsent old v to world shows none = record {
+    step = Sends v to;
+    does = refl;
+    shown = subst (Shows owner old) (sym (ap (sent (space_in owner old) world v to) none)) shows;
+  }
+
+  pub send_past : (old : WorldOf S) (v to : ℕ) → length old.owners ≤ v → IsStepDone owner old old (Send v to) false
+  send_past old v to le = nothing_done owner old (Send v to) false refl (at_owner_past owner old v _ le)
+      (λ world shows. unsent old v to world shows ((shows.others v le).outboxes to))
+
+  pub send_none : (old : WorldOf S) (v to : ℕ) (o : OwnerOf S) (b : Distance) → At old.owners v o → At old.seen v b → list_at o.outboxes to ≡ []
+      → IsStepDone owner old old (Send v to) false
+  send_none old v to o b at seen none =
+      nothing_done owner old (Send v to) false refl (at_owner_here owner old v o b _ at seen ∙ ap (λ q. not (is_empty q)) none)
+      (λ world shows. unsent old v to world shows (ap (λ w. list_at w.outboxes to) (shows.owners v o b at seen) ∙ none))
+
+  -- an outbox to an owner that there is not
+  pub send_to_past : (old : WorldOf S) (v to : ℕ) (o : OwnerOf S) (b : Distance) → IsWorld owner old → At old.owners v o → At old.seen v b
+      → length old.owners ≤ to → IsStepDone owner old old (Send v to) false
+  send_to_past old v to o b is at seen le = send_none old v to o b at seen
+      (list_past o.outboxes to (let n = is.outboxes v o at in omega arith))
+
+  -- ---- a message is sent
+  abbrev pub packet_from : ℕ → Message → Packet
+  packet_from v m = record { sender = v; message = m }
+
+  abbrev pub with_sent : WorldOf S → ℕ → OwnerOf S → ℕ → List Packet → WorldOf S
+  with_sent w v p to q = record w { owners = slice_set w.owners v p; underway = slice_set w.underway to q }
+
+  -- the owner's oldest message for another is taken out
+  pub record IsHandOut (old : WorldOf S) (v to : ℕ) (o p : OwnerOf S) (b : Distance) (q : List Packet) (m : Message) : Type 0 where
+    pub at : At old.owners v o
+    pub seen : At old.seen v b
+    pub queue : At old.underway to q
+    pub first : list_at o.outboxes to ≡ m ∷ list_at p.outboxes to
+    pub others : p ≡ record o { outboxes = slice_set o.outboxes to (list_at p.outboxes to) }
+    pub fits : IsMessageTo (space_of owner o) to m
+
+  fits_in : (old : WorldOf S) (v to : ℕ) (o p : OwnerOf S) (b : Distance) (q : List Packet) (m : Message) → IsWorld owner old
+      → IsHandOut old v to o p b q m → IsMessageTo (space_in owner old) to m
+  fits_in old v to o p b q m is out = subst (λ s. IsMessageTo s to m) (owner_space owner old v o is out.at) out.fits
+
+  log_after : (old : WorldOf S) (v to : ℕ) (o p : OwnerOf S) (b : Distance) (q : List Packet) (m : Message) (world : World)
+      → Shows owner old world → IsHandOut old v to o p b q m
+      → (happens (space_in owner old) v (world.logs v) (HandOut to)).owner ≡ under p b
+  log_after old v to o p b q m world shows out =
+      let x : (world.logs v).owner ≡ under o b = shows.owners v o b out.at out.seen in
+      let rest = list_at p.outboxes to in
+      ap (λ ms. (handed_out to (world.logs v) ms).owner) (ap (λ w. list_at w.outboxes to) x ∙ out.first)
+      ∙ (ap (λ (w : machine.Owner). let after : machine.Owner = record { nodes = w.nodes; outboxes = slice_set w.outboxes to rest; bound = w.bound; best = w.best } in after) x
+      ∙ sym (ap (λ z. under z b) out.others))
+
+  queues_after : (old : WorldOf S) (v to : ℕ) (o p : OwnerOf S) (b : Distance) (q : List Packet) (m : Message) (world : World)
+      → IsWorld owner old → Shows owner old world → IsHandOut old v to o p b q m
+      → (u : ℕ) (ps : List Packet) → At (slice_set old.underway to (q ++ packet_from v m ∷ [])) u ps
+      → packets_to (space_in owner old) u (world.underway ++ packet_from v m ∷ []) ≡ ps
+  queues_after old v to o p b q m world is shows out u ps there =
+      let space = space_in owner old in
+      let mine : space.owner_of m.state ≡ to = (fits_in old v to o p b q m is out).owner in
+      ⊎_elim
+      (λ (h : (u ≡ to) × (q ++ packet_from v m ∷ [] ≡ ps)). subst (λ k. packets_to space k (world.underway ++ packet_from v m ∷ []) ≡ ps) (sym h.0)
+      (sent_here space to world.underway (packet_from v m) mine
+      ∙ (ap (λ z. z ++ packet_from v m ∷ []) (shows.underway to q out.queue) ∙ h.1)))
+      (λ (h : (u ≢ to) × At old.underway u ps). sent_there space u world.underway (packet_from v m) (λ e. h.0 (sym e ∙ mine))
+      ∙ shows.underway u ps h.1)
+      (at_set old.underway to (q ++ packet_from v m ∷ []) u ps there)
+
+  pub send_done : (old : WorldOf S) (v to : ℕ) (o p : OwnerOf S) (b : Distance) (q : List Packet) (m : Message) → IsWorld owner old
+      → IsHandOut old v to o p b q m → IsStepDone owner old (with_sent old v p to (q ++ packet_from v m ∷ [])) (Send v to) true
+  send_done old v to o p b q m is out =
+      let space = space_in owner old in
+      let new = with_sent old v p to (q ++ packet_from v m ∷ []) in
+      record {
+        stepped = λ world shows.
+            let y : list_at (world.logs v).owner.outboxes to ≡ m ∷ list_at p.outboxes to =
+            ap (λ w. list_at w.outboxes to) (shows.owners v o b out.at out.seen) ∙ out.first in
+            record {
+              step = Sends v to;
+              does = refl;
+              shown = subst (Shows owner new) (sym (ap (sent space world v to) y))
+                  (shown owner old new world v (happens space v (world.logs v) (HandOut to)) (world.underway ++ packet_from v m ∷ []) world.bound
+                  world.resting shows refl (length-set old.owners v p)
+                  (here_one owner old v p b (happens space v (world.logs v) (HandOut to)) out.seen (log_after old v to o p b q m world shows out))
+                  (there_one owner old v p)
+                  (λ le. let lt = at_below old.owners v o out.at in absurd (omega arith))
+                  (queues_after old v to o p b q m world is shows out)
+                  shows.bound shows.resting);
+            };
+        changed_is = sym (at_owner_here owner old v o b _ out.at out.seen ∙ ap (λ z. not (is_empty z)) out.first);
+        unchanged = λ e. absurd (true≢false e);
+        space = refl;
+        owners = length-set old.owners v p;
+        spent = refl;
+      }
+
+  handed_same : (v to : ℕ) (o p : OwnerOf S) → p ≡ record o { outboxes = slice_set o.outboxes to (list_at p.outboxes to) }
+      → (p.space ≡ o.space) × (p.worker ≡ o.worker) × (length p.outboxes ≡ length o.outboxes)
+  handed_same v to o p e = (
+    ap (λ (z : OwnerOf S). z.space) e,
+    ap (λ (z : OwnerOf S). z.worker) e,
+    ap (λ (z : OwnerOf S). length z.outboxes) e ∙ length-set o.outboxes to (list_at p.outboxes to),
+  )
+
+  pub send_kept : (old : WorldOf S) (v to : ℕ) (o p : OwnerOf S) (b : Distance) (q : List Packet) (m : Message) → IsWorld owner old
+      → IsHandOut old v to o p b q m → IsWorld owner (with_sent old v p to (q ++ packet_from v m ∷ []))
+  send_kept old v to o p b q m is out =
+      let new = with_sent old v p to (q ++ packet_from v m ∷ []) in
+      let space = space_in owner old in
+      let (e, f, n) = handed_same v to o p out.others in
+      kept owner old new is refl (length-set old.owners v p) (length-set old.underway to (q ++ packet_from v m ∷ [])) refl refl
+      (one_owner owner old v o p out.at e f n)
+      (λ u ps there. ⊎_elim
+      (λ (h : (u ≡ to) × (q ++ packet_from v m ∷ [] ≡ ps)). subst (λ zs. All (λ z. IsMessageTo space u z.message) zs) h.1
+      (subst (λ k. All (λ z. IsMessageTo space k z.message) (q ++ packet_from v m ∷ [])) (sym h.0)
+      (All-append (λ (z : Packet). IsMessageTo space to z.message) q (packet_from v m ∷ []) (is.messages to q out.queue)
+      (All-cons (λ (z : Packet). IsMessageTo space to z.message) (packet_from v m) [] (fits_in old v to o p b q m is out)
+      (All-nil (λ (z : Packet). IsMessageTo space to z.message))))))
+      (λ (h : (u ≢ to) × At old.underway u ps). is.messages u ps h.1)
+      (at_set old.underway to (q ++ packet_from v m ∷ []) u ps there))
+      (run_after owner old new (Send v to) true (send_done old v to o p b q m is out) is)
+
+  -- ---- it is lost
+  pub send_lost_kept : (old : WorldOf S) (v to : ℕ) (o p : OwnerOf S) (b : Distance) (q : List Packet) (m : Message) → IsWorld owner old
+      → IsHandOut old v to o p b q m → IsWorld owner (with_owner owner old v p true)
+  send_lost_kept old v to o p b q m is out =
+      let (e, f, n) = handed_same v to o p out.others in
+      kept_with_owner owner old v o p true is out.at e f n (λ h. absurd (true≢false h))
+
+  -- nothing was taken out
+  pub record IsEmptyHandOut (old : WorldOf S) (v to : ℕ) (o p : OwnerOf S) (b : Distance) : Type 0 where
+    pub at : At old.owners v o
+    pub seen : At old.seen v b
+    pub within : to < length o.outboxes
+    pub none : list_at o.outboxes to ≡ []
+    pub first : list_at o.outboxes to ≡ list_at p.outboxes to
+    pub others : p ≡ record o { outboxes = slice_set o.outboxes to (list_at p.outboxes to) }
+
+  pub send_nothing : (old : WorldOf S) (v to : ℕ) (o p : OwnerOf S) (b : Distance) → IsEmptyHandOut old v to o p b
+      → with_owner owner old v p old.spent ≡ old
+  send_nothing old v to o p b out =
+      let as_it_was : p ≡ o = out.others ∙ (ap (λ (q : List Message). record o { outboxes = slice_set o.outboxes to q }) (sym out.first)
+      ∙ ap (λ (qs : List (List Message)). record o { outboxes = qs })
+      (set_same o.outboxes to (list_at o.outboxes to) (at_own o.outboxes to out.within))) in
+      ap (λ (os : List (OwnerOf S)). record old { owners = os }) (ap (λ z. slice_set old.owners v z) as_it_was ∙ set_same old.owners v o out.at)
+
+  pub send_nothing_done : (old : WorldOf S) (v to : ℕ) (o p : OwnerOf S) (b : Distance) → IsEmptyHandOut old v to o p b
+      → IsStepDone owner old (with_owner owner old v p old.spent) (Send v to) false
+  send_nothing_done old v to o p b out = subst (λ w. IsStepDone owner old w (Send v to) false) (sym (send_nothing old v to o p b out))
+      (send_none old v to o b out.at out.seen out.none)
+
+  pub send_nothing_kept : (old : WorldOf S) (v to : ℕ) (o p : OwnerOf S) (b : Distance) → IsWorld owner old → IsEmptyHandOut old v to o p b
+      → IsWorld owner (with_owner owner old v p old.spent)
+  send_nothing_kept old v to o p b is out = subst (IsWorld owner) (sym (send_nothing old v to o p b out)) is

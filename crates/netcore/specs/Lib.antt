@@ -1,0 +1,4 @@
+pub mod Worlds
+pub mod Possible
+pub mod Kept
+pub mod Starts

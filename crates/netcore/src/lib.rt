@@ -1,0 +1,11 @@
+//! Owners of states in one thread, with the messages between them delivered in any order: the core of a search that is divided among
+//! owners, whatever its schedule (hash distributed A*: Kishimoto, Fukunaga and Botea 2013).
+#![tactic(auto)]
+
+mod counts;
+mod step;
+mod world;
+
+pub use joined::{Joined, Packet, SearchAnswer};
+pub use step::WorldStep;
+pub use world::World;

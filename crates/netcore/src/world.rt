@@ -1,0 +1,342 @@
+//! The world of the owners.
+
+ghost use Rattle.std.specs.Prelude.{◌≡◌, ℕ, ◌<◌, ◌-◌, ◌^◌, min, List, [], Option, false, map, length, slice_get, replicate, IfOk, IfErr, MatchResult};
+ghost use Rattle.fdr.specs.Tasks.{ranges, IsState};
+ghost use Rattle.families.specs.Worlds as machine;
+ghost use Rattle.cost.specs.Distances.{Distance};
+ghost use Rattle.families.specs.Worlds.{world_start, family_of, IsQuiet};
+ghost use Rattle.owner.specs.Spaces.{searched};
+ghost use Rattle.netcore.specs.declared.step.WorldStep.{WorldStep};
+ghost use Rattle.netcore.specs.Worlds.{space_in, left_in, world_after_run, Shows, Steps, IsAfter, IsStepRefusal, IsRunRefusal};
+ghost use Rattle.netcore.specs.Possible.{would_change};
+ghost use Rattle.netcore.specs.Kept.{IsStepDone, IsStepRefused};
+ghost use Rattle.netcore.specs.Starts.{IsFirstOwner};
+ghost use Rattle.netcore.specs.declared.step.WorldStep.TheVariants.{Expand, Send, Deliver, Offer, Look, Rest};
+ghost use Rattle.joined.specs.Ends.{IsEndOf, IsSettledAnswer, answer_of};
+ghost use Rattle.joined.specs.Views.{packets_in};
+ghost use Rattle.families.specs.Owners.{At};
+ghost use Rattle.owner.specs.Owned.{OwnerOf};
+ghost use Rattle.owner.specs.declared.fault.OwnerFault.TheVariants.{OutOfMemory};
+
+use crate::counts::{awake_count, underway_count, waiting_count};
+use crate::step::WorldStep;
+use cost::Dist;
+use joined::{Joined, Packet, SearchAnswer, settled_bound};
+use owner::{Owner, OwnerFault, Space};
+use spread::Spread;
+use std::alloc::{AllocError, Global};
+use std::collections::VecDeque;
+use std::marker::Model;
+
+/// Owners of states, the messages underway to each of them, the bounds that they have seen last, the least cost offered, and who is at
+/// rest.
+#[derive(Drop)]
+pub struct World<'a, S: Spread + Drop> {
+    space: &'a Space<'a, S>,
+    owners: Vec<Owner<'a, S>>,
+    underway: Vec<VecDeque<Packet>>,
+    seen: Vec<Dist>,
+    bound: Dist,
+    resting: Vec<bool>,
+    // a step ran out of memory half way, so the owners are at the end of no run
+    spent: bool,
+}
+
+impl<'a, S: Spread + Drop> Model for World<'a, S> {
+    ghost use Rattle.std.specs.Prelude.{map};
+    ghost use Rattle.netcore.specs.Worlds.{WorldOf};
+    ghost use Rattle.joined.specs.Views.{packets_in};
+
+    ghost Value = { WorldOf S };
+
+    ghost view = { λ w. record {
+      space = w.space.now;
+      owners = w.owners.items;
+      underway = map packets_in w.underway.items;
+      seen = w.seen.items;
+      bound = w.bound;
+      resting = w.resting.items;
+      spent = w.spent;
+    } };
+
+    ghost use Rattle.netcore.specs.Kept.{IsWorld};
+
+    ghost invariant = { λ w. IsWorld S.owner (record {
+      space = w.space.now;
+      owners = w.owners.items;
+      underway = map packets_in w.underway.items;
+      seen = w.seen.items;
+      bound = w.bound;
+      resting = w.resting.items;
+      spent = w.spent;
+    }) };
+}
+
+/// Owners at the beginning, each with its number. An `Err` is of too little memory.
+fn first_owners<'a, S: Spread + Drop>(
+    alloc: Global,
+    space: &'a Space<'a, S>,
+    count: usize,
+) -> Result<Vec<Owner<'a, S>>, AllocError>
+    ensures len { IfOk result (λ owners. length owners.items ≡ count) }
+    ensures each { IfOk result (λ owners. (v : ℕ) (o : OwnerOf S) → At owners.items v o → IsFirstOwner S.owner space.now count v o) }
+{
+    let mut owners = Vec::with_capacity(alloc, count)?;
+    for worker in 0..count {
+        owners.push(Owner::start(alloc, space, worker, count)?)?;
+    }
+    Ok(owners)
+}
+
+/// As many queues with no message. An `Err` is of too little memory.
+fn empty_queues(alloc: Global, count: usize) -> Result<Vec<VecDeque<Packet>>, AllocError>
+    ensures { IfOk result (λ queues. map packets_in queues.items ≡ replicate count []) }
+{
+    let mut queues = Vec::with_capacity(alloc, count)?;
+    for _ in 0..count {
+        queues.push(VecDeque::new(alloc))?;
+    }
+    Ok(queues)
+}
+
+impl<'a, S: Spread + Drop> World<'a, S> {
+    /// A world at its beginning: every owner is active and has seen no bound, and the owner of the initial state has it. An `Err` is of
+    /// too little memory.
+    pub fn start(
+        alloc: Global,
+        space: &'a Space<'a, S>,
+        owners: usize,
+    ) -> Result<World<'a, S>, AllocError>
+        requires { 0 < owners }
+        ensures started { IfOk result (λ w. Shows S.owner w (world_start (searched S.owner space.now owners))) }
+        ensures space { IfOk result (λ w. w.space ≡ space.now) }
+        ensures owners { IfOk result (λ w. length w.owners ≡ owners) }
+        ensures whole { IfOk result (λ w. w.spent ≡ false) }
+    {
+        Ok(World {
+            space,
+            owners: first_owners(alloc, space, owners)?,
+            underway: empty_queues(alloc, owners)?,
+            seen: vec![in alloc; Dist::inf(); owners]?,
+            bound: Dist::inf(),
+            resting: vec![in alloc; false; owners]?,
+            spent: false,
+        })
+    }
+
+    /// The worker expands its next node below the bound that it has seen.
+    fn expand(&mut self, worker: usize) -> Result<bool, OwnerFault>
+        ensures { MatchResult result (IsStepDone S.owner self.old self.new (Expand worker)) (IsStepRefused S.owner self.old self.new (Expand worker)) }
+    {
+        if worker >= self.owners.len() {
+            return Ok(false);
+        }
+        match self.owners[worker].expand(self.seen[worker]) {
+            Ok(posted) => Ok(posted.is_some()),
+            Err(OwnerFault::OutOfMemory) => {
+                self.spent = true;
+                Err(OwnerFault::OutOfMemory)
+            }
+            Err(OwnerFault::TotalTooLarge) => Err(OwnerFault::TotalTooLarge),
+            Err(OwnerFault::LimitReached) => Err(OwnerFault::LimitReached),
+        }
+    }
+
+    /// The worker's oldest message for another goes underway.
+    fn send(&mut self, worker: usize, to: usize) -> Result<bool, AllocError>
+        ensures { MatchResult result (IsStepDone S.owner self.old self.new (Send worker to)) (λ _. IsStepRefused S.owner self.old self.new (Send worker to) OutOfMemory) }
+    {
+        if worker >= self.owners.len() {
+            return Ok(false);
+        }
+        if to >= self.owners.len() {
+            return Ok(false);
+        }
+        let Some(message) = self.owners[worker].next_out(to) else {
+            return Ok(false);
+        };
+        let packet = Packet {
+            sender: worker,
+            message,
+        };
+        match self.underway[to].push_back(packet) {
+            Ok(()) => Ok(true),
+            Err(_) => {
+                self.spent = true;
+                Err(AllocError)
+            }
+        }
+    }
+
+    /// The worker takes the message of that number of those underway to it, and is at rest no more.
+    fn deliver(&mut self, worker: usize, number: usize) -> Result<bool, AllocError>
+        ensures { MatchResult result (IsStepDone S.owner self.old self.new (Deliver worker number)) (λ _. IsStepRefused S.owner self.old self.new (Deliver worker number) OutOfMemory) }
+    {
+        if worker >= self.owners.len() {
+            return Ok(false);
+        }
+        let Some(packet) = self.underway[worker].remove(number) else {
+            return Ok(false);
+        };
+        match self.owners[worker].take(packet.message) {
+            Ok(()) => {
+                self.resting[worker] = false;
+                Ok(true)
+            }
+            Err(_) => {
+                self.spent = true;
+                Err(AllocError)
+            }
+        }
+    }
+
+    /// The bound becomes the lesser of itself and the least cost at which the worker has taken a goal state.
+    fn offer(&mut self, worker: usize) -> bool
+        ensures { IsStepDone S.owner self.old self.new (Offer worker) result }
+    {
+        if worker >= self.owners.len() {
+            return false;
+        }
+        let best = self.owners[worker].best_goal();
+        if best >= self.bound {
+            return false;
+        }
+        self.bound = best;
+        true
+    }
+
+    /// The worker sees the present bound.
+    fn look(&mut self, worker: usize) -> bool
+        ensures { IsStepDone S.owner self.old self.new (Look worker) result }
+    {
+        if worker >= self.owners.len() {
+            return false;
+        }
+        if self.seen[worker].cmp(&self.bound).is_eq() {
+            return false;
+        }
+        self.seen[worker] = self.bound;
+        true
+    }
+
+    /// The worker is at rest if it has nothing to expand and nothing to send.
+    fn rest(&mut self, worker: usize) -> bool
+        ensures { IsStepDone S.owner self.old self.new (Rest worker) result }
+    {
+        if worker >= self.owners.len() {
+            return false;
+        }
+        if self.resting[worker] {
+            return false;
+        }
+        if !self.owners[worker].is_idle(self.seen[worker]) {
+            return false;
+        }
+        self.resting[worker] = true;
+        true
+    }
+
+    /// Does a step. Gives whether something changed. A fault is that of the owner that is to expand a node, and leaves the world as it
+    /// was, except `OutOfMemory`, after which it is only good to be let go.
+    pub fn step(&mut self, step: WorldStep) -> Result<bool, OwnerFault>
+        ensures stepped { (world : machine.World) → Shows S.owner self.old world → IfOk result (λ _. Steps S.owner self.old world step self.new) }
+        ensures changed { IfOk result (λ changed. changed ≡ would_change S.owner self.old step) }
+        ensures unchanged { IfOk result (λ changed. changed ≡ false → self.new ≡ self.old) }
+        ensures refused { IfErr result (IsStepRefusal S.owner self.old self.new step) }
+        ensures space { self.new.space ≡ self.old.space }
+        ensures owners { length self.new.owners ≡ length self.old.owners }
+        ensures whole { IfOk result (λ _. self.new.spent ≡ self.old.spent) }
+    {
+        match step {
+            WorldStep::Expand(worker) => self.expand(worker),
+            WorldStep::Send(worker, to) => Ok(self.send(worker, to)?),
+            WorldStep::Deliver(worker, number) => Ok(self.deliver(worker, number)?),
+            WorldStep::Offer(worker) => Ok(self.offer(worker)),
+            WorldStep::Look(worker) => Ok(self.look(worker)),
+            WorldStep::Rest(worker) => Ok(self.rest(worker)),
+        }
+    }
+
+    /// The world after these steps, from the beginning. A fault is that of a step.
+    pub fn run(
+        alloc: Global,
+        space: &'a Space<'a, S>,
+        owners: usize,
+        steps: &[WorldStep],
+    ) -> Result<World<'a, S>, OwnerFault>
+        requires { 0 < owners }
+        ensures run { IfOk result (IsAfter S.owner (searched S.owner space.now owners) steps.now) }
+        ensures refused { IfErr result (IsRunRefusal S.owner (searched S.owner space.now owners) steps.now) }
+        ensures space { IfOk result (λ w. w.space ≡ space.now) }
+        ensures owners { IfOk result (λ w. length w.owners ≡ owners) }
+        ensures whole { IfOk result (λ w. w.spent ≡ false) }
+    {
+        let mut world = World::start(alloc, space, owners)?;
+        for step in steps {
+            world.step(*step)?;
+        }
+        Ok(world)
+    }
+
+    /// The number of messages that were made and not taken, and of owners that are not at rest, at most 2^128 - 1.
+    pub fn count(&self) -> u128
+        ensures count { (world : machine.World) → Shows S.owner self.now world → result ≡ min (machine.count (space_in S.owner self.now) world) (2 ^ 128 - 1) }
+        ensures quiet { result ≡ 0 → (asked : List WorldStep) (after : IsAfter S.owner (space_in S.owner self.now) asked self.now) →
+            IsQuiet (space_in S.owner self.now) (world_after_run (space_in S.owner self.now) after.steps) }
+    {
+        let first = &self.owners[0];
+        first.recall();
+        let messages = underway_count(&self.underway).saturating_add(waiting_count(&self.owners));
+        messages.saturating_add(awake_count(&self.resting) as u128)
+    }
+
+    /// The bound at which the owners are settled: the least cost at which a goal state was taken, infinite where none was, if nothing
+    /// pending could lead to less. `None` where they are not. An `Err` is of too little memory.
+    pub fn settled(&self, alloc: Global) -> Result<Option<Dist>, AllocError>
+        ensures { IfOk result (IsSettledAnswer (space_in S.owner self.now) self.now.owners (left_in self.now)) }
+    {
+        settled_bound(alloc, self.space, &self.owners, &self.underway)
+    }
+
+    /// What the owners have found: the cost of a cheapest plan or that there is none, or `None` where they are not settled. An `Err` is of
+    /// too little memory.
+    pub fn answer(&self, alloc: Global) -> Result<Option<SearchAnswer>, AllocError>
+        ensures { IfOk result (λ answer. (at : Option Distance) × IsSettledAnswer (space_in S.owner self.now) self.now.owners (left_in self.now) at × (answer ≡ answer_of at)) }
+    {
+        let Some(bound) = self.settled(alloc)? else {
+            return Ok(None);
+        };
+        match bound.get() {
+            Some(cost) => Ok(Some(SearchAnswer::Solved(cost))),
+            None => Ok(Some(SearchAnswer::Unsolvable)),
+        }
+    }
+
+    /// What the search has come to, as the end of a lawful family. No step may have run out of memory.
+    pub fn joined(self) -> Joined<'a, S>
+        requires { self.spent ≡ false }
+        ensures shown { (asked : List WorldStep) (after : IsAfter S.owner (space_in S.owner self.entry) asked self.entry) →
+            IsEndOf S.owner result (family_of (world_after_run (space_in S.owner self.entry) after.steps)) }
+        ensures space { result.space ≡ self.entry.space }
+        ensures owners { result.owners ≡ self.entry.owners }
+    {
+        let first = &self.owners[0];
+        first.recall();
+        Joined::new(self.space, self.owners, self.underway)
+    }
+
+    /// Whether a step ran out of memory half way. Such a world is only good to be let go.
+    pub fn is_spent(&self) -> bool
+        ensures { result ≡ self.now.spent }
+    {
+        self.spent
+    }
+
+    /// Every world is the one after some run, unless a step ran out of memory. The body tells what the type keeps.
+    pub fn recall(&self)
+        ensures run { self.now.spent ≡ false → ∥ ((asked : List WorldStep) × IsAfter S.owner (space_in S.owner self.now) asked self.now) ∥₁ }
+        ensures some { 0 < length self.now.owners }
+    {
+        let _ = &self.spent;
+    }
+}

@@ -1,0 +1,5 @@
+pub mod Schedules
+pub mod PlanTexts
+pub mod Spelled
+pub mod Ends
+pub mod Answering

@@ -1,0 +1,18 @@
+use Rattle.std.proofs.Common.{refl, subst, sym}
+use Rattle.cost.specs.Distances.{Infinite}
+use Rattle.solver.specs.declared.found.Found.{Found}
+use Rattle.solver.specs.declared.sas.SasAnswer.TheVariants.{Solved, Unsolvable}
+use Rattle.solver.specs.SasAnswers.{IsAnswerFor, IsFoundFor}
+use Rattle.solver.proofs.Spelled.{accepted}
+use Rattle.solver.proofs.sas.answer_texts.Goals as goal
+
+pub returns-in_ok-solution_texts-in-Solved : goal.returns-in_ok-solution_texts-in-Solved
+returns-in_ok-solution_texts-in-Solved c = λ sas spells.
+    subst (λ (f : Found). IsAnswerFor sas c.args.task.now f (Solved c.in_ok-solution_texts-in-Solved.field-0)) (sym c.in-Solved.is)
+    (c.in_ok-solution_texts-in-Solved.field-0, refl, c.in_ok-solution_texts-in-Solved.ensures sas spells)
+
+pub returns-in_ok-write_cert-in-Unsolvable : goal.returns-in_ok-write_cert-in-Unsolvable
+returns-in_ok-write_cert-in-Unsolvable c = λ sas spells.
+    let holds = subst (IsFoundFor c.args.task.now) c.in-Unsolvable.is c.requires in
+    subst (λ (f : Found). IsAnswerFor sas c.args.task.now f (Unsolvable c.in_ok-write_cert-in-Unsolvable.field-0)) (sym c.in-Unsolvable.is)
+    (c.in_ok-write_cert-in-Unsolvable.field-0, refl, accepted sas c.args.task.now Infinite c.in-Unsolvable.certificate c.in_ok-write_cert-in-Unsolvable.field-0.items spells holds.1 c.in_ok-write_cert-in-Unsolvable.ensures)

@@ -1,0 +1,4 @@
+pub mod Choices
+pub mod Findings
+pub mod Schedules
+pub mod SasAnswers
