@@ -1,7 +1,5 @@
-use Rattle.std.proofs.Common.{◌≡◌, subst, sym, ap, ◌∙◌}
+use Rattle.std.proofs.Common.{subst, sym, ap, ◌∙◌}
 use Rattle.fdr.specs.Tasks.{FiniteDomainTask, ranges, IsState}
-use Rattle.owner.specs.Spaces.{SpaceOf}
-use Rattle.owner.specs.Owned.{OwnerOf}
 use Rattle.owner.specs.Queues.{ReachedOf}
 use Rattle.owner.specs.Outboxes.{boxes_of}
 use Rattle.owner.specs.Held.{IsOwner}
