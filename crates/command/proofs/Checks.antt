@@ -7,8 +7,8 @@ use Rattle.cert_text.specs.declared.fault.CertFault.TheVariants as cert
 use Rattle.checker.specs.declared.fault.CheckFault.{CheckFault}
 use Rattle.checker.specs.declared.fault.CheckFault.TheVariants as check
 use Rattle.device.specs.Events.{Event}
-use Rattle.command.specs.declared.fault.Fault.{Fault}
-use Rattle.command.specs.Faults.{fault_status, fault_of_sas, fault_of_cert, fault_of_check}
+use Rattle.replies.specs.declared.fault.Fault.{Fault}
+use Rattle.replies.specs.Faults.{fault_status, fault_of_sas, fault_of_cert, fault_of_check}
 use Rattle.command.specs.Checking.{AskForCheck, IsCheckRefusal, Checks}
 
 -- a fault of the text of a task is no failure of the device

@@ -1,9 +1,9 @@
 -- Refusals of a certificate's check for a planning task.
 use Rattle.std.proofs.Common.{◌≡◌, ◌≢◌, ℕ, List, arith, subst}
 use Rattle.device.specs.Events.{Event}
-use Rattle.command.specs.declared.fault.Fault.{Fault}
-use Rattle.command.specs.declared.fault.Fault.TheVariants.{OutOfMemory, CannotRead, CannotWrite, Task, Plan, Sas, Cert, GroundLimit, TaskTooLarge}
-use Rattle.command.specs.Faults.{fault_status}
+use Rattle.replies.specs.declared.fault.Fault.{Fault}
+use Rattle.replies.specs.declared.fault.Fault.TheVariants.{OutOfMemory, CannotRead, CannotWrite, Task, Plan, Sas, Cert, GroundLimit, TaskTooLarge, TotalTooLarge}
+use Rattle.replies.specs.Faults.{fault_status}
 use Rattle.command.specs.PlanningChecking.{IsPlanningCheckRefusal, ChecksPlanning}
 
 -- a text's refusal is no failure of the device
@@ -17,6 +17,7 @@ planning_refusal_status domain problem cert (Sas e) refused = elim refused [ ]
 planning_refusal_status domain problem cert (Cert e) refused = λ seven. absurd (omega arith)
 planning_refusal_status domain problem cert GroundLimit refused = λ seven. absurd (omega arith)
 planning_refusal_status domain problem cert (TaskTooLarge table) refused = λ seven. absurd (omega arith)
+planning_refusal_status domain problem cert TotalTooLarge refused = elim refused [ ]
 
 -- files by other names for their names
 pub renamed_planning : (h new : List Event) (d d' p p' l l' : List ℕ) (status : ℕ) → d' ≡ d → p' ≡ p → l' ≡ l → ChecksPlanning h new d' p' l' status → ChecksPlanning h new d p l status

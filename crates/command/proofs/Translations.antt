@@ -3,11 +3,11 @@ use Rattle.std.proofs.Common.{◌≡◌, ◌≢◌, ◌≤◌, ◌+◌, ℕ, Lis
 use Rattle.std.specs.Prelude.{Option, Some, Result, Ok, Err, Vec, IfOk, IfErr}
 use Rattle.std.specs.Option.{option_map}
 use Rattle.device.specs.Events.{Event, HasPut, Adds}
-use Rattle.command.specs.declared.fault.Fault.{Fault}
-use Rattle.command.specs.declared.fault.Fault.TheVariants.{OutOfMemory, CannotRead, CannotWrite, Task, Plan, Sas, Cert, GroundLimit, TaskTooLarge}
-use Rattle.command.specs.Faults.{fault_status}
-use Rattle.command.specs.Runs.{IsQuiet, Follows}
-use Rattle.command.specs.Translating.{IsTranslationRefusal, task_reads, Translates}
+use Rattle.replies.specs.declared.fault.Fault.{Fault}
+use Rattle.replies.specs.declared.fault.Fault.TheVariants.{OutOfMemory, CannotRead, CannotWrite, Task, Plan, Sas, Cert, GroundLimit, TaskTooLarge, TotalTooLarge}
+use Rattle.replies.specs.Faults.{fault_status}
+use Rattle.replies.specs.Runs.{IsQuiet, Follows}
+use Rattle.command.specs.Translating.{IsTranslationRefusal, Translates}
 
 -- a text's refusal is no failure of the device
 pub translation_refusal_status : (domain problem : List ℕ) (e : Fault) → IsTranslationRefusal domain problem e → fault_status e ≢ 7
@@ -20,6 +20,7 @@ translation_refusal_status domain problem (Sas e) refused = elim refused [ ]
 translation_refusal_status domain problem (Cert e) refused = elim refused [ ]
 translation_refusal_status domain problem GroundLimit refused = λ seven. absurd (omega arith)
 translation_refusal_status domain problem (TaskTooLarge table) refused = λ seven. absurd (omega arith)
+translation_refusal_status domain problem TotalTooLarge refused = elim refused [ ]
 
 -- what follows the reading of files, where no call of the device failed
 pub text_replied : {Z : Type 0} (Texts : List ℕ → Type 0) (Refuses : Fault → Type 0) (answer : Result (Vec ℕ Z) Fault) (mid new : Option (List Event)) (h : List Event) (status : ℕ)
@@ -41,14 +42,6 @@ pub text_reply_failed : {V : Type 0} (Refuses : Fault → Type 0) (answer : Resu
     → (status ≡ 7 → IfOk answer (λ t. old + 1 ≤ new)) → IfErr answer (λ e. status ≡ fault_status e) → status ≡ 7 → old + 1 ≤ new
 text_reply_failed Refuses (Ok t) status old new other refused counted fault_is seven = counted seven
 text_reply_failed Refuses (Err e) status old new other refused counted fault_is seven = absurd (other e refused (sym fault_is ∙ seven))
-
--- two files were read
-pub task_reads_same : (mid : Option (List Event)) (h : List Event) (domain d d' problem p p' : List ℕ) → d' ≡ d → p' ≡ p
-    → mid ≡ Some (h ++ task_reads domain d problem p) → mid ≡ Some (h ++ task_reads domain d' problem p')
-task_reads_same mid h domain d d' problem p p' d_is p_is mid_is =
-    mid_is
-    ∙ ap (λ (x : List ℕ). Some (h ++ task_reads domain x problem p)) (sym d_is)
-    ∙ ap (λ (x : List ℕ). Some (h ++ task_reads domain d' problem x)) (sym p_is)
 
 -- files by other names for their names
 pub renamed_translates : (h new : List Event) (d d' p p' : List ℕ) (status : ℕ) → d' ≡ d → p' ≡ p → Translates h new d' p' status → Translates h new d p status

@@ -2,9 +2,9 @@
 use Rattle.std.proofs.Common.{◌≡◌, ◌≢◌, ℕ, List, ◌++◌, refl, sym, ap, subst, ◌∙◌, arith}
 use Rattle.std.specs.Prelude.{Option, Some, None, IsSomeAnd}
 use Rattle.device.specs.Events.{Event}
-use Rattle.command.specs.declared.fault.Fault.{Fault}
-use Rattle.command.specs.declared.fault.Fault.TheVariants.{OutOfMemory, CannotRead, CannotWrite, Task, Plan, Sas, Cert, GroundLimit, TaskTooLarge}
-use Rattle.command.specs.Faults.{fault_status}
+use Rattle.replies.specs.declared.fault.Fault.{Fault}
+use Rattle.replies.specs.declared.fault.Fault.TheVariants.{OutOfMemory, CannotRead, CannotWrite, Task, Plan, Sas, Cert, GroundLimit, TaskTooLarge, TotalTooLarge}
+use Rattle.replies.specs.Faults.{fault_status}
 use Rattle.command.specs.Answers.{IsRefusal}
 use Rattle.command.specs.Validation.{reads, Validates}
 
@@ -19,6 +19,7 @@ refusal_status domain problem plan (Sas e) refused = elim refused [ ]
 refusal_status domain problem plan (Cert e) refused = elim refused [ ]
 refusal_status domain problem plan GroundLimit refused = elim refused [ ]
 refusal_status domain problem plan (TaskTooLarge table) refused = elim refused [ ]
+refusal_status domain problem plan TotalTooLarge refused = elim refused [ ]
 
 -- three files were read
 pub reads_same : (mid : Option (List Event)) (h : List Event) (domain d d' problem p p' plan l l' : List ℕ)

@@ -11,9 +11,9 @@ use Rattle.validate.specs.Written.{verdict_line_of}
 use Rattle.validate.specs.declared.verdict.Verdict.{Verdict}
 use Rattle.validate.specs.declared.verdict.Verdict.TheVariants.{Valid, NoSuchAction, NotApplicable, GoalOpen}
 use Rattle.validate.specs.declared.plan.PlanFault.TheVariants as plan_fault
-use Rattle.command.specs.Words.{word_of_fault}
-use Rattle.command.specs.declared.fault.Fault.{Fault}
-use Rattle.command.specs.declared.fault.Fault.TheVariants.{OutOfMemory, CannotRead, CannotWrite, Task, Plan, Sas, Cert, GroundLimit, TaskTooLarge}
+use Rattle.replies.specs.Words.{word_of_fault}
+use Rattle.replies.specs.declared.fault.Fault.{Fault}
+use Rattle.replies.specs.declared.fault.Fault.TheVariants.{OutOfMemory, CannotRead, CannotWrite, Task, Plan, Sas, Cert, GroundLimit, TaskTooLarge, TotalTooLarge}
 
 -- the exit status of a verdict
 abbrev pub verdict_status : Verdict → ℕ
@@ -33,18 +33,6 @@ pub record IsAnswer (domain problem plan line : List ℕ) (status : ℕ) : Type 
   pub line_is : line ≡ verdict_line_of task verdict
   pub status_is : status ≡ verdict_status verdict
 
--- The texts of a domain and a problem are refused for their first fault, with the word that it names, or memory ran out.
-abbrev pub IsTaskReport : List ℕ → List ℕ → Fault → Type 0
-IsTaskReport domain problem OutOfMemory = Unit {0}
-IsTaskReport domain problem (CannotRead file) = ⊥
-IsTaskReport domain problem (CannotWrite file) = ⊥
-IsTaskReport domain problem (Task e word) = (e ≢ task_fault.OutOfMemory) × IsTaskRefusal domain problem e × (option_map string_bytes word ≡ word_of_fault domain problem e)
-IsTaskReport domain problem (Plan e) = ⊥
-IsTaskReport domain problem (Sas e) = ⊥
-IsTaskReport domain problem (Cert e) = ⊥
-IsTaskReport domain problem GroundLimit = ⊥
-IsTaskReport domain problem (TaskTooLarge table) = ⊥
-
 -- The texts are refused: the first two for their first fault, with the word that it names, or the plan for its own
 -- where they spell a task.
 abbrev pub IsRefusal : List ℕ → List ℕ → List ℕ → Fault → Type 0
@@ -57,3 +45,4 @@ IsRefusal domain problem plan (Sas e) = ⊥
 IsRefusal domain problem plan (Cert e) = ⊥
 IsRefusal domain problem plan GroundLimit = ⊥
 IsRefusal domain problem plan (TaskTooLarge table) = ⊥
+IsRefusal domain problem plan TotalTooLarge = ⊥

@@ -6,9 +6,9 @@ use Rattle.checker.specs.Answers.{IsAnswer, IsRefusal}
 use Rattle.checker.specs.declared.verdict.Verdict.{Verdict}
 use Rattle.checker.specs.declared.verdict.Verdict.TheVariants.{Accepted, Rejected}
 use Rattle.checker.specs.declared.fault.CheckFault.{CheckFault}
-use Rattle.command.specs.declared.fault.Fault.{Fault}
-use Rattle.command.specs.Faults.{fault_of_check}
-use Rattle.command.specs.Runs.{is_operand, Follows}
+use Rattle.replies.specs.declared.fault.Fault.{Fault}
+use Rattle.replies.specs.Faults.{fault_of_check}
+use Rattle.replies.specs.Runs.{is_operand, Follows}
 
 -- the words ask for a check: the program's name, `check-sas`, and two files
 pub record AskForCheck (words : List (List ℕ)) (sas cert : List ℕ) : Type 0 where

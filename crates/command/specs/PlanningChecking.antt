@@ -6,11 +6,11 @@ use Rattle.pddl_checker.specs.Answers as checked
 use Rattle.pddl_checker.specs.declared.verdict.PlanningVerdict.{PlanningVerdict}
 use Rattle.pddl_checker.specs.declared.verdict.PlanningVerdict.TheVariants.{Accepted, Rejected}
 use Rattle.pddl_checker.specs.declared.fault.PlanningCheckFault.TheVariants as check
-use Rattle.command.specs.Answers.{IsTaskReport}
-use Rattle.command.specs.Runs.{is_operand, Follows}
+use Rattle.replies.specs.Reports.{IsTaskReport}
+use Rattle.replies.specs.Runs.{is_operand, Follows}
 use Rattle.command.specs.Validation.{reads}
-use Rattle.command.specs.declared.fault.Fault.{Fault}
-use Rattle.command.specs.declared.fault.Fault.TheVariants.{OutOfMemory, CannotRead, CannotWrite, Task, Plan, Sas, Cert, GroundLimit, TaskTooLarge}
+use Rattle.replies.specs.declared.fault.Fault.{Fault}
+use Rattle.replies.specs.declared.fault.Fault.TheVariants.{OutOfMemory, CannotRead, CannotWrite, Task, Plan, Sas, Cert, GroundLimit, TaskTooLarge, TotalTooLarge}
 
 -- the exit status of a verdict on a certificate
 abbrev pub planning_check_status : PlanningVerdict → ℕ
@@ -35,6 +35,7 @@ IsPlanningCheckRefusal domain problem cert (Sas e) = ⊥
 IsPlanningCheckRefusal domain problem cert (Cert e) = checked.IsRefusal domain problem cert (check.Cert e)
 IsPlanningCheckRefusal domain problem cert GroundLimit = checked.IsRefusal domain problem cert check.GroundLimit
 IsPlanningCheckRefusal domain problem cert (TaskTooLarge table) = checked.IsRefusal domain problem cert (check.Limit table)
+IsPlanningCheckRefusal domain problem cert TotalTooLarge = ⊥
 
 -- the words ask for a check: the program's name, `check`, and three files
 pub record AskForPlanningCheck (words : List (List ℕ)) (domain problem cert : List ℕ) : Type 0 where

@@ -1,15 +1,15 @@
 -- The translation of a planning task: what is answered for its two texts.
 use Rattle.std.specs.Prelude.{◌≡◌, ℕ, true, List, [], ◌∷◌, ◌++◌, length, map, codes}
-use Rattle.device.specs.Events.{Event, HasRead}
+use Rattle.device.specs.Events.{Event}
 use Rattle.planning.specs.Planning.{PlanningTask}
 use Rattle.pddl.specs.Texts.{SpellTask}
 use Rattle.translate.specs.Translated.{TranslatedTask, IsTranslation, HasSamePlans, IsUntranslated}
 use Rattle.translate_vars.specs.declared.fault.TranslateFault.TheVariants as translating
 use Rattle.sas_writer.specs.Written.{written}
-use Rattle.command.specs.Answers.{IsTaskReport}
-use Rattle.command.specs.Runs.{is_operand, Follows}
-use Rattle.command.specs.declared.fault.Fault.{Fault}
-use Rattle.command.specs.declared.fault.Fault.TheVariants.{OutOfMemory, CannotRead, CannotWrite, Task, Plan, Sas, Cert, GroundLimit, TaskTooLarge}
+use Rattle.replies.specs.Reports.{IsTaskReport}
+use Rattle.replies.specs.Runs.{is_operand, Follows, task_reads}
+use Rattle.replies.specs.declared.fault.Fault.{Fault}
+use Rattle.replies.specs.declared.fault.Fault.TheVariants.{OutOfMemory, CannotRead, CannotWrite, Task, Plan, Sas, Cert, GroundLimit, TaskTooLarge, TotalTooLarge}
 
 -- The texts spell a task, and the text is the one that is written of a translation of it, which has the same plans.
 pub record IsTranslationText (domain problem text : List ℕ) : Type 0 where
@@ -32,6 +32,7 @@ IsTranslationRefusal domain problem (Cert e) = ⊥
 IsTranslationRefusal domain problem GroundLimit = (task : PlanningTask) × SpellTask domain problem task × IsUntranslated task translating.GroundLimit
 IsTranslationRefusal domain problem (TaskTooLarge table) =
     (task : PlanningTask) × SpellTask domain problem task × IsUntranslated task (translating.Limit table)
+IsTranslationRefusal domain problem TotalTooLarge = ⊥
 
 -- the words ask for a translation: the program's name, `translate`, and two files
 pub record AskForTranslation (words : List (List ℕ)) (domain problem : List ℕ) : Type 0 where
@@ -39,10 +40,6 @@ pub record AskForTranslation (words : List (List ℕ)) (domain problem : List �
   pub are : words ≡ program ∷ codes "translate" ∷ domain ∷ problem ∷ []
   pub domain_is : is_operand domain ≡ true
   pub problem_is : is_operand problem ≡ true
-
--- two files were read
-abbrev pub task_reads : List ℕ → List ℕ → List ℕ → List ℕ → List Event
-task_reads domain d problem p = HasRead domain d ∷ HasRead problem p ∷ []
 
 -- the text is a translation's, and the status 0
 abbrev pub IsTranslationAnswer : List ℕ → List ℕ → List ℕ → ℕ → Type 0

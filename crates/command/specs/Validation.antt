@@ -1,7 +1,7 @@
 -- The validation of a plan: the words that ask for it, and what it does.
 use Rattle.std.specs.Prelude.{◌≡◌, ℕ, true, List, [], ◌∷◌, ◌++◌, codes}
 use Rattle.device.specs.Events.{Event, HasRead}
-use Rattle.command.specs.Runs.{is_operand, Follows}
+use Rattle.replies.specs.Runs.{is_operand, Follows}
 use Rattle.command.specs.Answers.{IsAnswer, IsRefusal}
 
 -- the words ask for a plan's validation: the program's name, `validate`, and three files

@@ -3,13 +3,12 @@
 ghost use Rattle.std.specs.Prelude.{◌≡◌, ◌≢◌, ◌≤◌, ◌+◌, ◌++◌, List, Some, IfOk, IfErr, OnOk, codes, string_bytes};
 ghost use Rattle.device.specs.Events.{Event};
 ghost use Rattle.checker.specs.Verdicts.{verdict_text};
-ghost use Rattle.command.specs.Runs.{IsDeviceFault};
+ghost use Rattle.replies.specs.Runs.{IsDeviceFault};
 ghost use Rattle.command.specs.Checking.{check_status, IsCheckAnswer, IsCheckRefusal, check_reads, Checks};
 
-use crate::fault::{Fault, FileWord};
-use crate::surroundings::{read_file, reply, report};
 use checker::{Verdict, check_sas_owned};
 use device::Device;
+use replies::{Fault, FileWord, read_file, reply, report};
 use std::alloc::{AllocError, Global};
 
 /// The exit status of a verdict: 0 where the certificate is accepted, else 3.

@@ -3,7 +3,7 @@
 ghost use Rattle.std.specs.Prelude.{◌≡◌, ◌≢◌, ◌≤◌, ◌+◌, ℕ, List, codes, length, slice_get, Some, IfOk, IfSome, OnErr, IsSomeAnd};
 ghost use Rattle.names.specs.Names.{texts_of};
 ghost use Rattle.device.specs.Events.{Event};
-ghost use Rattle.command.specs.Runs.{is_operand};
+ghost use Rattle.replies.specs.Runs.{is_operand};
 ghost use Rattle.command.specs.Validation.{AskForValidation, Validates};
 ghost use Rattle.command.specs.Checking.{AskForCheck, Checks};
 ghost use Rattle.command.specs.PlanningChecking.{AskForPlanningCheck, ChecksPlanning};
@@ -11,16 +11,17 @@ ghost use Rattle.command.specs.Translating.{AskForTranslation, Translates};
 
 use crate::checking::run_check;
 use crate::planning_check::run_planning_check;
-use crate::surroundings::put_text;
+use crate::solve_words::{solve_by_words, solve_command, solve_sas_by_words, solve_sas_command};
 use crate::translation::run_translation;
 use crate::validation::run_validation;
 use clap::error::ErrorKind;
 use clap::{Arg, Command, Error};
 use device::Device;
+use replies::put_text;
 use std::alloc::{AllocError, Global};
 
 const ABOUT: &str =
-    "Validates PDDL plans, checks certificates of lower bounds and translates planning tasks, with a proved verdict";
+    "Validates PDDL plans, checks certificates of lower bounds, and translates and solves planning tasks, with a proved verdict";
 
 const VALIDATE_ABOUT: &str = "Says whether a plan is valid and what it costs";
 
@@ -163,7 +164,9 @@ fn program_command<'a>(alloc: Global) -> Result<Command<'a>, AllocError> {
         .subcommand(validate_command(alloc)?)?
         .subcommand(check_sas_command(alloc)?)?
         .subcommand(check_command(alloc)?)?
-        .subcommand(translate_command(alloc)?)
+        .subcommand(translate_command(alloc)?)?
+        .subcommand(solve_command(alloc, "solve")?)?
+        .subcommand(solve_sas_command(alloc, "solve-sas")?)
 }
 
 /// What the words ask for, told by the command-line library.
@@ -195,6 +198,8 @@ fn run_words<D: Device, R: AllocGlobal>(
             let problem = files.get_str("PROBLEM").unwrap_or("");
             Ok(run_translation(alloc, device, domain, problem))
         }
+        Some(("solve", words)) => solve_by_words(rt, device, words),
+        Some(("solve-sas", words)) => solve_sas_by_words(rt, device, words),
         Some((_, files)) => {
             let domain = files.get_str("DOMAIN").unwrap_or("");
             let problem = files.get_str("PROBLEM").unwrap_or("");
@@ -347,9 +352,9 @@ fn run_others<D: Device, R: AllocGlobal>(words: &[String], device: &mut D, rt: &
 
 /// The whole program: does what the words ask for, the first of which is the program's name, and gives the exit status.
 ///
-/// Files are read, and text is written, through the device. 0: valid, accepted, or help was shown; 1: a text is refused; 2: the
-/// words ask for nothing; 3: the plan is not valid, or the certificate is rejected; 6: memory was refused; 7: the device failed to
-/// read a file or to write. A report on standard error that fails leaves the status as it is.
+/// Files are read, and text is written, through the device. 0: valid, accepted, translated or solved, or help was shown; 1: a text is refused; 2: the
+/// words ask for nothing; 3: the plan is not valid, or the certificate is rejected; 4: there is no plan; 5: a search came to a limit;
+/// 6: memory was refused; 7: the device failed to read a file or to write. A report on standard error that fails leaves the status as it is.
 pub fn run<D: Device, R: AllocGlobal>(words: &[String], device: &mut D, rt: &R) -> u8
     ensures validates { (h : List Event) (domain problem plan : List ℕ) → D.history device.old ≡ Some h → AskForValidation (texts_of words.now) domain problem plan →
         D.failure_count device.new ≡ D.failure_count device.old → result ≢ 6 →

@@ -3,13 +3,12 @@
 
 mod checking;
 mod command_line;
-mod fault;
+mod options;
 mod planning_check;
-mod surroundings;
+mod solve_words;
 mod translation;
 mod validation;
 mod verdict;
 
 pub use command_line::run;
-pub use fault::{Fault, FileWord};
 pub use verdict::verdict_of;

@@ -5,14 +5,12 @@ ghost use Rattle.pddl_checker.specs.Judgements.{verdict_text};
 ghost use Rattle.pddl_checker.specs.Answers as checked;
 ghost use Rattle.device.specs.Events.{Event};
 ghost use Rattle.command.specs.Validation.{reads};
-ghost use Rattle.command.specs.Runs.{IsDeviceFault};
+ghost use Rattle.replies.specs.Runs.{IsDeviceFault};
 ghost use Rattle.command.specs.PlanningChecking.{planning_check_status, IsPlanningCheckAnswer, IsPlanningCheckRefusal, ChecksPlanning};
 
-use crate::fault::{Fault, FileWord};
-use crate::surroundings::{read_file, reply, report};
-use crate::verdict::task_fault;
 use device::Device;
 use pddl_checker::{PlanningCheckFault, PlanningVerdict, check_pddl};
+use replies::{Fault, FileWord, read_file, reply, report, task_fault};
 use std::alloc::{AllocError, Global};
 
 /// The exit status of a verdict: 0 where the certificate is accepted, else 3.

@@ -1,21 +1,19 @@
 //! The command that translates a planning task, over any device.
 
-ghost use Rattle.std.specs.Prelude.{◌≡◌, ◌≢◌, ◌≤◌, ◌+◌, ◌++◌, ℕ, List, Some, map, length, All, IsTrue, IfOk, IfErr, OnOk};
+ghost use Rattle.std.specs.Prelude.{◌≡◌, ◌≢◌, ◌≤◌, ◌+◌, ◌++◌, ℕ, List, Some, map, length, All, IsTrue, IfOk, IfErr};
 ghost use Rattle.planning.specs.Planning.{IsPlanningTask, IsActionOf, IsAtomOf, has_small_costs, Action};
 ghost use Rattle.planning.specs.Atoms.{Literal};
 ghost use Rattle.pddl.specs.Texts.{SpellTask};
 ghost use Rattle.sas_writer.specs.Written.{written};
 ghost use Rattle.device.specs.Events.{Event, HasPut, Adds};
-ghost use Rattle.command.specs.Faults.{fault_status};
-ghost use Rattle.command.specs.Runs.{IsDeviceFault, IsQuiet};
-ghost use Rattle.command.specs.Translating.{IsTranslationText, IsTranslationRefusal, task_reads, Translates};
+ghost use Rattle.replies.specs.Faults.{fault_status};
+ghost use Rattle.replies.specs.Runs.{IsQuiet};
+ghost use Rattle.command.specs.Translating.{IsTranslationText, IsTranslationRefusal, Translates};
 
-use crate::fault::{Fault, FileWord};
-use crate::surroundings::{put_text, read_file, report};
-use crate::verdict::task_fault;
 use device::Device;
 use pddl::read_task;
 use planning::Task;
+use replies::{Fault, put_text, read_task_files, report, task_fault};
 use sas_writer::write_sas;
 use std::alloc::{AllocError, Global};
 use translate::{Translated, translate};
@@ -78,23 +76,6 @@ fn translation_of(alloc: Global, domain: &[u8], problem: &[u8]) -> Result<Vec<u8
     }
 }
 
-/// Reads the two files, in this order.
-fn read_texts<D: Device>(
-    alloc: Global,
-    device: &mut D,
-    domain: &str,
-    problem: &str,
-) -> Result<(Vec<u8>, Vec<u8>), Fault>
-    ensures told { (h : List Event) → D.history device.old ≡ Some h →
-        IfOk result (λ t. D.history device.new ≡ Some (h ++ task_reads domain.now t.0.items problem.now t.1.items)) }
-    ensures same { OnOk result (D.failure_count device.new ≡ D.failure_count device.old) }
-    ensures failed { IfErr result (λ e. IsDeviceFault e (D.failure_count device.old) (D.failure_count device.new)) }
-{
-    let domain = read_file(alloc, device, domain, FileWord::Domain)?;
-    let problem = read_file(alloc, device, problem, FileWord::Problem)?;
-    Ok((domain, problem))
-}
-
 /// Replies to the texts of a task: puts out the text of its translation, or reports their fault. Gives the exit status.
 fn reply_text<D: Device>(alloc: Global, device: &mut D, answer: &Result<Vec<u8>, Fault>) -> u8
     ensures answered { result ≢ 6 → result ≢ 7 → IfOk answer.now (λ text. Adds (D.history device.old) (D.history device.new) (HasPut text.items)) }
@@ -116,7 +97,7 @@ pub fn run_translation<D: Device>(alloc: Global, device: &mut D, domain: &str, p
         (new : List Event) × (D.history device.new ≡ Some new) × Translates h new domain.now problem.now result }
     ensures device_failed { result ≡ 7 → D.failure_count device.old + 1 ≤ D.failure_count device.new }
 {
-    match read_texts(alloc, device, domain, problem) {
+    match read_task_files(alloc, device, domain, problem) {
         Ok((domain, problem)) => {
             let answer = translation_of(alloc, &domain, &problem);
             reply_text(alloc, device, &answer)

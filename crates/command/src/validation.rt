@@ -2,13 +2,12 @@
 
 ghost use Rattle.std.specs.Prelude.{◌≡◌, ◌≢◌, ◌≤◌, ◌+◌, ◌++◌, List, Some, IfOk, IfErr, OnOk};
 ghost use Rattle.device.specs.Events.{Event};
-ghost use Rattle.command.specs.Runs.{IsDeviceFault};
+ghost use Rattle.replies.specs.Runs.{IsDeviceFault};
 ghost use Rattle.command.specs.Validation.{reads, Validates};
 
-use crate::fault::{Fault, FileWord};
-use crate::surroundings::{read_file, reply, report};
 use crate::verdict::verdict_of;
 use device::Device;
+use replies::{Fault, FileWord, read_file, reply, report};
 use std::alloc::Global;
 
 /// The texts of a domain, a problem and a plan.

@@ -2,18 +2,16 @@
 
 ghost use Rattle.std.specs.Prelude.{◌≡◌, ◌≤◌, ℕ, List, IsTrue, IfOk, IfErr, string_bytes};
 ghost use Rattle.planning.specs.Planning.{PlanningTask, has_small_costs};
-ghost use Rattle.pddl.specs.Texts.{SpellTask, IsTaskRefusal};
+ghost use Rattle.pddl.specs.Texts.{SpellTask};
 ghost use Rattle.validate.specs.PlanTexts.{IsPlanFault};
 ghost use Rattle.validate.specs.Verdicts.{IsVerdict, CostsAtMost};
 ghost use Rattle.validate.specs.Written.{verdict_line_of};
 ghost use Rattle.validate.specs.declared.verdict.Verdict.{Verdict};
-ghost use Rattle.command.specs.Words.{is_letter, first_word, word_at, text_of};
-ghost use Rattle.command.specs.Answers.{IsAnswer, IsRefusal, IsTaskReport, verdict_status};
+ghost use Rattle.command.specs.Answers.{IsAnswer, IsRefusal, verdict_status};
 
-use crate::fault::Fault;
-use pddl::{PddlFault, read_task};
-use pddl_syntax::{Fault as TextFault, FaultKind, PlanningFile};
+use pddl::read_task;
 use planning::Task;
+use replies::{Fault, task_fault};
 use std::alloc::{AllocError, Global};
 use validate::{Plan, PlanFault, Verdict, read_plan, validate, verdict_line};
 
@@ -25,76 +23,6 @@ fn verdict_status(verdict: &Verdict) -> u8
     match verdict {
         Verdict::Valid(_) => 0,
         Verdict::NoSuchAction(_) | Verdict::NotApplicable(_, _) | Verdict::GoalOpen(_) => 3,
-    }
-}
-
-/// Whether a word has this byte.
-fn is_letter(byte: u8) -> bool
-    ensures { result ≡ is_letter byte }
-{
-    match byte {
-        b'(' | b')' | b';' => false,
-        33..=126 => true,
-        _ => false,
-    }
-}
-
-/// The word that a text begins with, in lower case; empty where it begins with no letter.
-fn first_word(alloc: Global, text: &[u8]) -> Result<String, AllocError>
-    ensures { IfOk result (λ word. string_bytes word ≡ first_word text.now) }
-{
-    let mut word = String::new(alloc);
-    for byte in text {
-        let byte = *byte;
-        if !is_letter(byte) {
-            return Ok(word);
-        }
-        word.push(byte.to_ascii_lowercase() as char)?;
-    }
-    Ok(word)
-}
-
-/// The word that stands at a byte of a text, in lower case.
-fn word_at(alloc: Global, text: &[u8], at: usize) -> Result<String, AllocError>
-    ensures { IfOk result (λ word. string_bytes word ≡ word_at text.now at) }
-{
-    match text.get(at..) {
-        Some(rest) => first_word(alloc, rest),
-        None => Ok(String::new(alloc)),
-    }
-}
-
-/// The text of a file.
-fn text_of<'a>(file: PlanningFile, domain: &'a [u8], problem: &'a [u8]) -> &'a [u8]
-    ensures { result.now ≡ text_of file domain.now problem.now }
-{
-    match file {
-        PlanningFile::Domain => domain,
-        PlanningFile::Problem => problem,
-    }
-}
-
-/// The fault with the word that it is printed with, if it has one.
-pub(crate) fn task_fault(alloc: Global, fault: PddlFault, domain: &[u8], problem: &[u8]) -> Fault
-    ensures report { IsTaskRefusal domain.now problem.now fault → IsTaskReport domain.now problem.now result }
-    ensures refusal { (plan : List ℕ) → IsTaskRefusal domain.now problem.now fault → IsRefusal domain.now problem.now plan result }
-{
-    match fault {
-        PddlFault::OutOfMemory => Fault::OutOfMemory,
-        PddlFault::Tree(_, _) => Fault::Task(fault, None),
-        PddlFault::Section(
-            file,
-            TextFault {
-                kind: FaultKind::Unsupported,
-                at,
-            },
-        ) => {
-            match word_at(alloc, text_of(file, domain, problem), at) {
-                Ok(word) => Fault::Task(fault, Some(word)),
-                Err(_) => Fault::OutOfMemory,
-            }
-        }
-        PddlFault::Section(_, _) => Fault::Task(fault, None),
     }
 }
 

@@ -9,3 +9,5 @@ pub mod Starting
 pub mod Running
 pub mod Ending
 pub mod Counting
+pub mod Choosing
+pub mod Changing

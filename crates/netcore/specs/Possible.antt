@@ -1,12 +1,15 @@
 -- The steps that would change something in a world of owners.
-use Rattle.std.specs.Prelude.{ℕ, Bool, false, not, ◌&&◌, nat_lt, List, length, slice_get}
+use Rattle.std.specs.Prelude.{ℕ, suc, Bool, false, not, ◌&&◌, nat_lt, List, [], ◌∷◌, ◌++◌, length, map, filter, flat_map, slice_get}
+use Rattle.std.specs.List.{range_with_len}
 use Rattle.std.specs.Option.{option_map_or}
 use Rattle.cost.specs.Distances.{Distance, is_at_most, is_below}
-use Rattle.families.specs.Owners.{list_at}
+use Rattle.families.specs.Owners.{Packet, list_at}
 use Rattle.families.specs.Worlds.{no_open, idle, is_empty}
 use Rattle.owner.specs.Owned.{OwnerOf, under}
 use Rattle.netcore.specs.declared.step.WorldStep.{WorldStep}
 use Rattle.netcore.specs.declared.step.WorldStep.TheVariants.{Expand, Send, Deliver, Offer, Look, Rest}
+use Rattle.netcore.specs.declared.possible.OwnStep.{OwnStep}
+use Rattle.netcore.specs.declared.possible.OwnStep.TheVariants as own
 use Rattle.netcore.specs.Worlds.{WorldOf, space_in}
 
 -- what holds of the owner of a number and the bound that it has seen last; false where there is no such owner
@@ -27,3 +30,33 @@ would_change owner w (Offer v) = at_owner w v (λ o b. is_below o.best w.bound)
 would_change owner w (Look v) = at_owner w v (λ o b. differ b w.bound)
 would_change owner w (Rest v) =
     at_owner w v (λ o b. option_map_or not (slice_get w.resting v) false && idle (space_in owner w) (under o b))
+
+-- the numbers below n
+abbrev pub below : ℕ → List ℕ
+below n = range_with_len 0 n
+
+-- the owner's step of this kind
+abbrev pub own_step : OwnStep → ℕ → WorldStep
+own_step own.Expand v = Expand v
+own_step own.Offer v = Offer v
+own_step own.Look v = Look v
+own_step own.Rest v = Rest v
+
+-- a step for each owner that would change something
+abbrev pub by_owner : {S : Type 0} → (S → List ℕ → ℕ → ℕ) → WorldOf S → (ℕ → WorldStep) → List WorldStep
+by_owner owner w step = filter (would_change owner w) (map step (below (length w.owners)))
+
+-- the steps that send a message of an owner
+abbrev pub sends_of : {S : Type 0} → (S → List ℕ → ℕ → ℕ) → WorldOf S → ℕ → List WorldStep
+sends_of owner w v = filter (would_change owner w) (map (Send v) (below (length w.owners)))
+
+-- a step for each message underway, from this owner on
+abbrev pub deliveries : ℕ → List (List Packet) → List WorldStep
+deliveries v [] = []
+deliveries v (ps ∷ queues) = map (Deliver v) (below (length ps)) ++ deliveries (suc v) queues
+
+-- all steps that would change something, by kind, each by increasing numbers
+abbrev pub possible_steps : {S : Type 0} → (S → List ℕ → ℕ → ℕ) → WorldOf S → List WorldStep
+possible_steps owner w =
+    by_owner owner w Expand ++ flat_map (sends_of owner w) (below (length w.owners)) ++ deliveries 0 w.underway
+    ++ by_owner owner w Offer ++ by_owner owner w Look ++ by_owner owner w Rest

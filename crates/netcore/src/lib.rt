@@ -3,9 +3,15 @@
 #![tactic(auto)]
 
 mod counts;
+mod possible;
 mod step;
 mod world;
 
 pub use joined::{Joined, Packet, SearchAnswer};
 pub use step::WorldStep;
 pub use world::World;
+
+#[cfg(test)]
+mod sample;
+#[cfg(test)]
+mod tests;

@@ -32,12 +32,12 @@ use std::marker::Model;
 /// rest.
 #[derive(Drop)]
 pub struct World<'a, S: Spread + Drop> {
-    space: &'a Space<'a, S>,
-    owners: Vec<Owner<'a, S>>,
-    underway: Vec<VecDeque<Packet>>,
-    seen: Vec<Dist>,
-    bound: Dist,
-    resting: Vec<bool>,
+    pub(crate) space: &'a Space<'a, S>,
+    pub(crate) owners: Vec<Owner<'a, S>>,
+    pub(crate) underway: Vec<VecDeque<Packet>>,
+    pub(crate) seen: Vec<Dist>,
+    pub(crate) bound: Dist,
+    pub(crate) resting: Vec<bool>,
     // a step ran out of memory half way, so the owners are at the end of no run
     spent: bool,
 }
@@ -319,6 +319,7 @@ impl<'a, S: Spread + Drop> World<'a, S> {
             IsEndOf S.owner result (family_of (world_after_run (space_in S.owner self.entry) after.steps)) }
         ensures space { result.space ≡ self.entry.space }
         ensures owners { result.owners ≡ self.entry.owners }
+        ensures left { result.left ≡ left_in self.entry }
     {
         let first = &self.owners[0];
         first.recall();

@@ -4,6 +4,8 @@
 #[cfg(test)]
 mod gripper;
 #[cfg(test)]
+mod proposals;
+#[cfg(test)]
 mod road;
 #[cfg(test)]
 mod rows;

@@ -1,7 +1,7 @@
 //! The lines of the faults of finite-domain tasks, certificates and files, without the program's name and the line's end.
 
 use cert_text::CertFault;
-use command::{Fault, FileWord};
+use replies::{Fault, FileWord};
 use fdr::TaskLimit;
 use sasfile::SasFault;
 use std::test::Fail;

@@ -109,7 +109,7 @@ schema_read d a =
 
 -- ---- ground actions
 
-fits_there : (task : PlanningTask) (types os : List ℕ) → fits task types os ≡ true → (length types ≡ length os) × All (λ o. o < length task.object_types) os
+pub fits_there : (task : PlanningTask) (types os : List ℕ) → fits task types os ≡ true → (length types ≡ length os) × All (λ o. o < length task.object_types) os
 fits_there task [] [] h = (refl, All-nil (λ (o : ℕ). o < length task.object_types))
 fits_there task [] (o ∷ os) h = absurd cc
 fits_there task (t ∷ types) [] h = absurd cc
@@ -131,7 +131,7 @@ added_known P os (e ∷ es) h = by e.positive (added_known P os es (All-tail (λ
     by false later = later
 
 -- the action that a schema gives for these objects
-abbrev instance : PlanningTask → ℕ → List ℕ → Schema → Action
+abbrev pub instance : PlanningTask → ℕ → List ℕ → Schema → Action
 instance task number os schema = record {
   schema = number;
   objects = os;

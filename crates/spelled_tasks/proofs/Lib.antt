@@ -7,3 +7,4 @@ pub mod AddedAtoms
 pub mod KnownAtoms
 pub mod Words
 pub mod WordNames
+pub mod DistinctNames

@@ -2,6 +2,7 @@
 
 ghost use Rattle.std.specs.Prelude.{◌≡◌, ℕ, List, length};
 ghost use Rattle.planning.specs.Planning.{PlanningTask, IsPlanningTask};
+ghost use Rattle.names.specs.Names.{AreDistinct};
 ghost use Rattle.pddl.specs.Texts.{SpellTask};
 ghost use Rattle.spelled_tasks.specs.Known.{KnowsItsAtoms, HasWords};
 
@@ -26,4 +27,11 @@ pub fn spelled_numbers_have_names()
     ensures predicates { (domain problem : List ℕ) (t : PlanningTask) → SpellTask domain problem t → length t.arities ≡ length t.vocabulary.predicates }
     ensures objects { (domain problem : List ℕ) (t : PlanningTask) → SpellTask domain problem t → length t.object_types ≡ length t.vocabulary.objects }
     ensures schemas { (domain problem : List ℕ) (t : PlanningTask) → SpellTask domain problem t → length t.schemas ≡ length t.vocabulary.schemas }
+{}
+
+/// No two of its objects have one name, nor two of its predicates or schemas.
+pub fn spelled_names_are_distinct()
+    ensures objects { (domain problem : List ℕ) (t : PlanningTask) → SpellTask domain problem t → AreDistinct t.vocabulary.objects }
+    ensures predicates { (domain problem : List ℕ) (t : PlanningTask) → SpellTask domain problem t → AreDistinct t.vocabulary.predicates }
+    ensures schemas { (domain problem : List ℕ) (t : PlanningTask) → SpellTask domain problem t → AreDistinct t.vocabulary.schemas }
 {}

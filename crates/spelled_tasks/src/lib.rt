@@ -5,6 +5,6 @@
 mod laws;
 
 pub use laws::{
-    spelled_atoms_are_known, spelled_goal_is_consistent, spelled_names_are_words,
-    spelled_numbers_have_names,
+    spelled_atoms_are_known, spelled_goal_is_consistent, spelled_names_are_distinct,
+    spelled_names_are_words, spelled_numbers_have_names,
 };

@@ -1,6 +1,6 @@
 use Rattle.std.proofs.Common.{◌≡◌, ◌≢◌, ◌≤◌, ◌+◌, ◌++◌, arith, append_assoc}
 use Rattle.command.specs.Checking.{IsCheckAnswer, IsCheckRefusal, check_reads}
-use Rattle.command.proofs.Replies.{replied, reply_failed}
+use Rattle.replies.proofs.Replies.{replied, reply_failed}
 use Rattle.command.proofs.Checks.{check_refusal_status}
 use Rattle.command.proofs.checking.run_check.Goals as goal
 

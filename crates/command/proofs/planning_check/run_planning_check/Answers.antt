@@ -1,7 +1,7 @@
 use Rattle.std.proofs.Common.{◌≡◌, ◌≢◌, ◌≤◌, ◌+◌, ◌++◌, arith, append_assoc}
 use Rattle.command.specs.PlanningChecking.{IsPlanningCheckAnswer, IsPlanningCheckRefusal}
 use Rattle.command.specs.Validation.{reads}
-use Rattle.command.proofs.Replies.{replied, reply_failed}
+use Rattle.replies.proofs.Replies.{replied, reply_failed}
 use Rattle.command.proofs.Validations.{reads_same}
 use Rattle.command.proofs.PlanningChecks.{planning_refusal_status}
 use Rattle.command.proofs.planning_check.run_planning_check.Goals as goal

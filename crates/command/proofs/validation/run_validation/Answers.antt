@@ -1,7 +1,7 @@
 use Rattle.std.proofs.Common.{◌≡◌, ◌≢◌, ◌≤◌, ◌+◌, ◌++◌, arith, append_assoc}
 use Rattle.command.specs.Answers.{IsAnswer, IsRefusal}
 use Rattle.command.specs.Validation.{reads}
-use Rattle.command.proofs.Replies.{replied, reply_failed}
+use Rattle.replies.proofs.Replies.{replied, reply_failed}
 use Rattle.command.proofs.Validations.{refusal_status, reads_same}
 use Rattle.command.proofs.validation.run_validation.Goals as goal
 

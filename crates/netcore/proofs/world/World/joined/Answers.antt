@@ -1,4 +1,4 @@
-use Rattle.std.proofs.Common.{◌∙◌, ap, subst}
+use Rattle.std.proofs.Common.{◌∙◌, ap, sym, subst}
 use Rattle.families.specs.Families.{IsSearchSpace}
 use Rattle.netcore.specs.Worlds.{WorldOf}
 use Rattle.netcore.proofs.Places.{at_here}
@@ -22,3 +22,6 @@ returns-clause-shown g c =
     let sp = subst IsSearchSpace (owner_space g.S.Spread.owner _ 0 c.index-first.result.now c.self.invariant at) c.recall.ensures.space in
     rw (c.new.ensures, ← c.self.view_is, ← joined_same c.self.inside.underway.items)
     (λ asked after. end_from g.S.Spread.owner _ asked after c.self.invariant sp)
+
+pub returns-clause-left : goal.returns-clause-left
+returns-clause-left g c = rw (c.new.ensures, ← c.self.view_is) (sym (joined_same c.self.inside.underway.items))

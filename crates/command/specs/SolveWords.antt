@@ -1,0 +1,24 @@
+-- What a solve command does by its words.
+use Rattle.std.specs.Prelude.{ℕ, List, [], Option, codes, unwrap_or}
+use Rattle.device.specs.Events.{Event}
+use Rattle.solve_command.specs.declared.settings.Settings.{Settings}
+use Rattle.solve_command.specs.Solving.{Solves}
+use Rattle.solve_command.specs.SasSolving.{SolvesSas}
+use Rattle.solve_command.specs.Texts.{files_of}
+use Rattle.command.specs.Options.{AreSettingsOf}
+
+-- the value of an operand, or where it has none the empty text
+abbrev pub operand : (List ℕ → Option (List ℕ)) → List ℕ → List ℕ
+operand value name = unwrap_or (value name) []
+
+-- the planning task of these files is solved as the options ask for
+pub record SolvesByWords (value : List ℕ → Option (List ℕ)) (old new : List Event) (status : ℕ) : Type 0 where
+  pub settings : Settings
+  pub asked : AreSettingsOf value settings
+  pub solves : Solves old new (operand value (codes "DOMAIN")) (operand value (codes "PROBLEM")) settings.options (files_of settings) status
+
+-- the finite-domain task of this file is solved as the options ask for
+pub record SolvesSasByWords (value : List ℕ → Option (List ℕ)) (old new : List Event) (status : ℕ) : Type 0 where
+  pub settings : Settings
+  pub asked : AreSettingsOf value settings
+  pub solves : SolvesSas old new (operand value (codes "SAS")) settings.options (files_of settings) status

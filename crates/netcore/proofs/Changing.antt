@@ -1,0 +1,99 @@
+-- Whether a step would change something, as it is tested in memory.
+use Rattle.std.proofs.Common.{◌≡◌, ℕ, ◌<◌, ◌≤◌, Bool, true, false, not, ◌&&◌, ◌||◌, ◌==◌, List, [], ◌∷◌, length, min, refl, sym, ap, ◌∙◌, ⊎_elim, arith, cond}
+use Rattle.std.specs.Prelude.{nat_lt, nat_le}
+use Rattle.std.specs.List.{list_all}
+use Rattle.std.specs.Option.{option_map_or}
+use Rattle.std.specs.Ordering.{is_lt}
+use Rattle.std.specs.declared.cmp.Ordering.TheVariants.{Less, Equal, Greater}
+use Rattle.std.proofs.lemmas.Bool.{cases_lt, le-leb, lt-leb, le-ltb, lt-ltb}
+use Rattle.std.proofs.lemmas.Bool.Decides.{nat_tests}
+use Rattle.cost.specs.Distances.{Distance, Finite, Infinite, is_at_most, is_below, distance_cmp, lesser}
+use Rattle.families.specs.Owners.{At, SearchSpace, Node, list_at, f_value}
+use Rattle.families.specs.Worlds.{no_open, idle, is_empty}
+use Rattle.owner.specs.Owned.{OwnerOf, under, space_of, least_open}
+use Rattle.netcore.specs.declared.step.WorldStep.TheVariants.{Expand, Send, Rest}
+use Rattle.netcore.specs.Worlds.{WorldOf, space_in}
+use Rattle.netcore.specs.Possible.{would_change}
+use Rattle.netcore.specs.Kept.{IsWorld}
+use Rattle.netcore.proofs.Places.{at_read, list_past}
+use Rattle.netcore.proofs.Expanding.{at_owner_here, owner_space}
+
+less_of : (a e : Bool) → is_lt (cond a Less (cond e Equal Greater)) ≡ a
+less_of true e = refl
+less_of false true = refl
+less_of false false = refl
+
+pub less : (x y : Distance) → is_lt (distance_cmp x y) ≡ is_below x y
+less (Finite m) (Finite n) = less_of (nat_lt m n) (m == n)
+less (Finite m) Infinite = refl
+less Infinite (Finite n) = refl
+less Infinite Infinite = refl
+
+number_below : (m n : ℕ) → nat_lt m n ≡ not (nat_le n m)
+number_below m n = ⊎_elim
+    (λ (lt : m < n). lt-ltb m n lt ∙ ap not (sym (lt-leb n m lt)))
+    (λ (le : n ≤ m). le-ltb m n le ∙ ap not (sym (le-leb n m le)))
+    (cases_lt m n)
+
+below_is_not : (x y : Distance) → is_below x y ≡ not (is_at_most y x)
+below_is_not (Finite m) (Finite n) = number_below m n
+below_is_not (Finite m) Infinite = refl
+below_is_not Infinite (Finite n) = refl
+below_is_not Infinite Infinite = refl
+
+number_at_most : (b m n : ℕ) → nat_le b (min m n) ≡ (nat_le b m && nat_le b n)
+number_at_most b m n = grind (arith, nat_tests)
+
+and_true : (x : Bool) → x ≡ (x && true)
+and_true true = refl
+and_true false = refl
+
+at_most_both_of : (b x y : Distance) → is_at_most b (lesser x y) ≡ (is_at_most b x && is_at_most b y)
+at_most_both_of (Finite b) (Finite m) (Finite n) = number_at_most b m n
+at_most_both_of Infinite (Finite m) (Finite n) = refl
+at_most_both_of b (Finite m) Infinite = and_true (is_at_most b (Finite m))
+at_most_both_of b Infinite y = refl
+
+or_infinite : (b f : Distance) (e : Bool) → is_at_most b (cond e Infinite f) ≡ (e || is_at_most b f)
+or_infinite b f true = refl
+or_infinite b f false = refl
+
+reaches_all : (space : SearchSpace) (b : Distance) (ns : List Node)
+    → is_at_most b (least_open space ns) ≡ list_all (λ n. n.expanded || is_at_most b (f_value space n.state n.cost)) ns
+reaches_all space b [] = refl
+reaches_all space b (n ∷ ns) =
+    let f = f_value space n.state n.cost in
+    at_most_both_of b (cond n.expanded Infinite f) (least_open space ns)
+    ∙ (ap (λ x. x && is_at_most b (least_open space ns)) (or_infinite b f n.expanded)
+    ∙ ap (λ x. (n.expanded || is_at_most b f) && x) (reaches_all space b ns))
+
+some_open : (space : SearchSpace) (b : Distance) (ns : List Node)
+    → is_below (least_open space ns) b ≡ not (list_all (λ n. n.expanded || is_at_most b (f_value space n.state n.cost)) ns)
+some_open space b ns = below_is_not (least_open space ns) b ∙ ap not (reaches_all space b ns)
+
+some_waiting : {X : Type 0} (q : List X) → nat_lt 0 (length q) ≡ not (is_empty q)
+some_waiting [] = refl
+some_waiting (x ∷ q) = lt-ltb 0 (length (x ∷ q)) (omega arith)
+
+module _ {S : Type 0} (owner : S → List ℕ → ℕ → ℕ) where
+  pub expand_test : (w : WorldOf S) (v : ℕ) (o : OwnerOf S) (b : Distance) → IsWorld owner w → At w.owners v o → At w.seen v b
+      → is_below (least_open (space_of owner o) o.nodes) b ≡ would_change owner w (Expand v)
+  expand_test w v o b is at seen = some_open (space_of owner o) b o.nodes
+      ∙ (ap (λ s. not (no_open s (under o b))) (owner_space owner w v o is at) ∙ sym (at_owner_here owner w v o b _ at seen))
+
+  pub send_test : (w : WorldOf S) (v to : ℕ) (o : OwnerOf S) (b : Distance) → IsWorld owner w → At w.owners v o → At w.seen v b
+      → nat_lt 0 (length (list_at o.outboxes to)) ≡ would_change owner w (Send v to)
+  send_test w v to o b is at seen = some_waiting (list_at o.outboxes to) ∙ sym (at_owner_here owner w v o b _ at seen)
+
+  pub send_to_past_test : (w : WorldOf S) (v to : ℕ) (o : OwnerOf S) (b : Distance) → IsWorld owner w → At w.owners v o → At w.seen v b
+      → length w.owners ≤ to → false ≡ would_change owner w (Send v to)
+  send_to_past_test w v to o b is at seen le =
+      sym (at_owner_here owner w v o b _ at seen
+      ∙ ap (λ q. not (is_empty q)) (list_past o.outboxes to (let n = is.outboxes v o at in omega arith)))
+
+  pub rest_test : (w : WorldOf S) (v : ℕ) (o : OwnerOf S) (b : Distance) → IsWorld owner w → At w.owners v o → At w.seen v b
+      → At w.resting v false → idle (space_of owner o) (under o b) ≡ would_change owner w (Rest v)
+  rest_test w v o b is at seen awake =
+      ap (λ s. idle s (under o b)) (owner_space owner w v o is at)
+      ∙ sym (at_owner_here owner w v o b _ at seen
+      ∙ ap (λ x. option_map_or not x false && idle (space_in owner w) (under o b)) (at_read w.resting v false awake))

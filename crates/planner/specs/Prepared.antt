@@ -1,0 +1,16 @@
+-- A planning task that is ready for a search.
+use Rattle.std.specs.Prelude.{◌≡◌, ℕ, List}
+use Rattle.planning.specs.Planning.{PlanningTask}
+use Rattle.pddl.specs.Texts.{SpellTask}
+use Rattle.certificates.specs.Views.{kind_of}
+use Rattle.translate.specs.Translated.{IsTranslation, HasSamePlans}
+use Rattle.planning_kind.specs.Kinds.{translation_kind}
+use Rattle.planner.specs.declared.preparing.Prepared.{Prepared}
+
+-- the texts spell a task, of which this is a translation with the same plans and what certificates for it count on
+pub record IsPrepared (domain problem : List ℕ) (p : Prepared) : Type 0 where
+  pub task : PlanningTask
+  pub spelled : SpellTask domain problem task
+  pub translation : IsTranslation task p.translated
+  pub same : HasSamePlans task p.translated
+  pub kind_is : kind_of p.kind ≡ translation_kind task p.translated

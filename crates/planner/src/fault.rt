@@ -1,0 +1,44 @@
+//! Why there is no answer.
+
+ghost use Rattle.std.specs.Prelude.{◌≡◌};
+ghost use Rattle.planner.specs.declared.fault.PlanningFault.TheVariants.{OutOfMemory};
+ghost use Rattle.planner.specs.Faults.{fault_of_search};
+
+use fdr::TaskLimit;
+use pddl::PddlFault;
+use solver::SearchFault;
+use std::alloc::AllocError;
+
+/// Why a planning task is not solved.
+#[derive(Debug, Drop)]
+pub enum PlanningFault {
+    /// Memory ran out. It says nothing of the texts.
+    OutOfMemory,
+    /// The domain's or the problem's text is refused.
+    Task(PddlFault),
+    /// F20: the task has more atoms or actions than may be listed.
+    GroundLimit,
+    /// F18: its translation has more variables, values of a variable or operators than it may have.
+    TaskTooLarge(TaskLimit),
+    /// F60: a path would cost more, or have more actions, than 2^62.
+    TotalTooLarge,
+}
+
+impl From<AllocError> for PlanningFault {
+    ghost from_gives = { λ _ e. e ≡ OutOfMemory };
+
+    fn from(_e: AllocError) -> PlanningFault {
+        PlanningFault::OutOfMemory
+    }
+}
+
+impl From<SearchFault> for PlanningFault {
+    ghost from_gives = { λ fault e. e ≡ fault_of_search fault };
+
+    fn from(fault: SearchFault) -> PlanningFault {
+        match fault {
+            SearchFault::OutOfMemory => PlanningFault::OutOfMemory,
+            SearchFault::TotalTooLarge => PlanningFault::TotalTooLarge,
+        }
+    }
+}

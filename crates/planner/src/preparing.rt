@@ -1,0 +1,74 @@
+//! Planning tasks from their texts, made ready for a search.
+
+ghost use Rattle.std.specs.Prelude.{◌≡◌, ◌≤◌, ℕ, List, All, IsTrue, IfOk, IfErr};
+ghost use Rattle.planning.specs.Planning.{IsPlanningTask, IsActionOf, IsAtomOf, has_small_costs, Action};
+ghost use Rattle.planning.specs.Atoms.{Literal};
+ghost use Rattle.pddl.specs.Texts.{SpellTask};
+ghost use Rattle.translate.specs.Translated.{IsTranslation, HasSamePlans};
+ghost use Rattle.planner.specs.Prepared.{IsPrepared};
+ghost use Rattle.planner.specs.Answers.{IsPlanningRefusal};
+
+use crate::fault::PlanningFault;
+use certificates::CertificateKind;
+use pddl::{PddlFault, read_task};
+use planning::Task;
+use planning_kind::translation_kind;
+use std::alloc::Global;
+use translate::{Translated, translate};
+use translate_vars::TranslateFault;
+
+/// A task's translation, with what certificates for it count on.
+#[derive(Drop)]
+pub(crate) struct Prepared {
+    pub(crate) translated: Translated,
+    pub(crate) kind: CertificateKind,
+}
+
+/// The task that the texts spell, or the fault that goes first.
+fn task_of(alloc: Global, domain: &[u8], problem: &[u8]) -> Result<Task, PlanningFault>
+    ensures found { IfOk result (λ task. SpellTask domain.now problem.now task) }
+    ensures small { IfOk result (λ task. IsTrue (has_small_costs task)) }
+    ensures costs { IfOk result (λ task. (a : Action) → IsActionOf task a → a.cost ≤ 2147483647) }
+    ensures fault { IfErr result (IsPlanningRefusal domain.now problem.now (λ task e. ⊥)) }
+{
+    match read_task(alloc, domain, problem) {
+        Ok(task) => Ok(task),
+        Err(PddlFault::OutOfMemory) => Err(PlanningFault::OutOfMemory),
+        Err(fault) => Err(PlanningFault::Task(fault)),
+    }
+}
+
+/// The task's translation.
+fn translation_of(alloc: Global, task: &Task) -> Result<Translated, PlanningFault>
+    requires small { IsTrue (has_small_costs task.now) }
+    requires costs { (a : Action) → IsActionOf task.now a → a.cost ≤ 2147483647 }
+    requires initial { All (IsAtomOf task.now) task.now.initial }
+    requires goals { All (λ (l : Literal). IsAtomOf task.now l.atom) task.now.goal }
+    requires added { (a : Action) → IsActionOf task.now a → All (IsAtomOf task.now) a.adds }
+    requires well { IsPlanningTask task.now }
+    ensures translation { IfOk result (IsTranslation task.now) }
+    ensures plans { IfOk result (HasSamePlans task.now) }
+    ensures refused { (domain problem : List ℕ) → SpellTask domain problem task.now → IfErr result (IsPlanningRefusal domain problem (λ task e. ⊥)) }
+{
+    match translate(alloc, task) {
+        Ok(translated) => Ok(translated),
+        Err(TranslateFault::GroundLimit) => Err(PlanningFault::GroundLimit),
+        Err(TranslateFault::Limit(table)) => Err(PlanningFault::TaskTooLarge(table)),
+        Err(_) => Err(PlanningFault::OutOfMemory),
+    }
+}
+
+/// The translation of the task that the texts spell, with what certificates for it count on.
+pub(crate) fn prepare(
+    alloc: Global,
+    domain: &[u8],
+    problem: &[u8],
+) -> Result<Prepared, PlanningFault>
+    ensures prepared { IfOk result (IsPrepared domain.now problem.now) }
+    ensures refused { IfErr result (IsPlanningRefusal domain.now problem.now (λ task e. ⊥)) }
+{
+    let task = task_of(alloc, domain, problem)?;
+    let translated = translation_of(alloc, &task)?;
+    let kind = translation_kind(alloc, &task, &translated)?;
+    Ok(Prepared { translated, kind })
+}

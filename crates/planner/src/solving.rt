@@ -1,0 +1,129 @@
+//! Planning tasks from their texts.
+
+ghost use Rattle.std.specs.Prelude.{◌≡◌, ℕ, List, IfOk, IfErr};
+ghost use Rattle.fdr.specs.Tasks.{IsPlan};
+ghost use Rattle.planning.specs.Planning.{PlanningTask};
+ghost use Rattle.pddl.specs.Texts.{SpellTask};
+ghost use Rattle.translate.specs.Translated.{IsTranslation, HasSamePlans};
+ghost use Rattle.planning_kind.specs.Kinds.{translation_kind};
+ghost use Rattle.solver.specs.Findings.{IsSolution, IsTrueOf};
+ghost use Rattle.solver.specs.Searches.{IsSettledAfter, IsShortAfter, IsRefusedAfter, IsSettledBySome, IsShortBySome, IsRefusedBySome};
+ghost use Rattle.planner.specs.Answers.{IsPlanningAnswer, IsPlanningRefusal, IsPlanningSolution, HasTextsOf};
+
+use crate::fault::PlanningFault;
+use crate::preparing::{Prepared, prepare};
+use cert_text::write_cert;
+use netcore::WorldStep;
+use planning_plans::named_steps;
+use sas_writer::sas_plan_text;
+use solver::{Found, Options, Solution, found_after, found_by_seed};
+use std::alloc::{AllocError, Global};
+use translate::Translated;
+use validate::Step;
+
+/// A cheapest plan of a planning task.
+#[derive(Drop)]
+pub struct PlanningSolution {
+    /// What it costs.
+    pub cost: u64,
+    /// Its steps.
+    pub plan: Vec<Step>,
+    /// The plan as a text.
+    pub plan_text: String,
+    /// The text of a certificate that no valid plan costs less.
+    pub cert: Vec<u8>,
+}
+
+/// What is answered for a planning task.
+#[derive(Drop)]
+pub enum PlanningAnswer {
+    /// A cheapest plan.
+    Solved(PlanningSolution),
+    /// There is no valid plan; the text of a certificate of that.
+    Unsolvable(Vec<u8>),
+    /// The search was stopped before it found the one or the other.
+    Limit,
+}
+
+/// The texts of a plan of the translation and of its certificate.
+fn solution_texts(
+    alloc: Global,
+    translated: &Translated,
+    solution: Solution,
+) -> Result<PlanningSolution, AllocError>
+    requires { IsPlan translated.now.task solution.plan.items }
+    ensures solution { (domain problem : List ℕ) (task : PlanningTask) → SpellTask domain problem task → IsTranslation task translated.now →
+        HasSamePlans task translated.now → IsSolution translated.now.task (translation_kind task translated.now) solution →
+        IfOk result (IsPlanningSolution domain problem task) }
+    ensures cost { IfOk result (λ s. s.cost ≡ solution.cost) }
+{
+    let plan = named_steps(alloc, translated.task(), &solution.plan)?;
+    let plan_text = sas_plan_text(alloc, translated.task(), &solution.plan, solution.cost)?;
+    let cert = write_cert(alloc, &solution.certificate)?;
+    Ok(PlanningSolution {
+        cost: solution.cost,
+        plan,
+        plan_text,
+        cert,
+    })
+}
+
+/// The texts of what a search for the translation has found.
+fn answer_texts(
+    alloc: Global,
+    translated: &Translated,
+    found: Found,
+) -> Result<PlanningAnswer, AllocError>
+    requires { (task : PlanningTask) × IsTrueOf translated.now.task (translation_kind task translated.now) found }
+    ensures { (domain problem : List ℕ) (task : PlanningTask) → SpellTask domain problem task → IsTranslation task translated.now →
+        HasSamePlans task translated.now → IsTrueOf translated.now.task (translation_kind task translated.now) found →
+        IfOk result (HasTextsOf domain problem task found) }
+{
+    match found {
+        Found::Solved(solution) => Ok(PlanningAnswer::Solved(solution_texts(
+            alloc, translated, solution,
+        )?)),
+        Found::Unsolvable(certificate) => {
+            Ok(PlanningAnswer::Unsolvable(write_cert(alloc, &certificate)?))
+        }
+        Found::Unsettled => Ok(PlanningAnswer::Limit),
+    }
+}
+
+/// The answer for the task of two texts, after these steps of a world of owners: a cheapest plan, or that there is none, with a
+/// certificate that the checker accepts, or `Limit` where the owners are not settled by then or one is to expand more nodes than it may.
+///
+/// A fault is the one of the texts that goes first, or a limit that is passed; or `TotalTooLarge`, of a step; or of too little memory.
+pub fn solve_steps<R: AllocGlobal>(
+    rt: &R,
+    domain: &[u8],
+    problem: &[u8],
+    options: &Options,
+    steps: &[WorldStep],
+) -> Result<PlanningAnswer, PlanningFault>
+    ensures answer { IfOk result (IsPlanningAnswer domain.now problem.now (IsSettledAfter options.now steps.now) (IsShortAfter options.now steps.now)) }
+    ensures refused { IfErr result (IsPlanningRefusal domain.now problem.now (IsRefusedAfter options.now steps.now)) }
+{
+    let alloc = rt.alloc();
+    let Prepared { translated, kind } = prepare(alloc, domain, problem)?;
+    let found = found_after(alloc, translated.task(), options, steps, kind)?;
+    Ok(answer_texts(alloc, &translated, found)?)
+}
+
+/// The answer for the task of two texts, after steps that are drawn from a seed, as many as the options allow. What is promised is what
+/// `solve_steps` promises of the steps drawn.
+pub fn simulate<R: AllocGlobal>(
+    rt: &R,
+    domain: &[u8],
+    problem: &[u8],
+    options: &Options,
+    seed: u64,
+) -> Result<PlanningAnswer, PlanningFault>
+    ensures answer { IfOk result (IsPlanningAnswer domain.now problem.now (IsSettledBySome options.now) (IsShortBySome options.now)) }
+    ensures refused { IfErr result (IsPlanningRefusal domain.now problem.now (IsRefusedBySome options.now)) }
+{
+    let alloc = rt.alloc();
+    let Prepared { translated, kind } = prepare(alloc, domain, problem)?;
+    let found = found_by_seed(alloc, translated.task(), options, seed, kind)?;
+    Ok(answer_texts(alloc, &translated, found)?)
+}

@@ -1,0 +1,2 @@
+pub mod NamedAtoms
+pub mod KindLaws

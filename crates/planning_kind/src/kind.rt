@@ -1,0 +1,93 @@
+//! What a certificate of a translated planning task counts on.
+
+ghost use Rattle.std.specs.Prelude.{◌≡◌, ◌<◌, ◌^◌, [], map, slice_index_or, All, IfOk};
+ghost use Rattle.names.specs.Names.{texts_of};
+ghost use Rattle.translate.specs.Translated.{IsTranslation};
+ghost use Rattle.certificates.specs.Views.{atom_of, variable_of, kind_of};
+ghost use Rattle.pddl_checker.specs.Naming.{words_of};
+ghost use Rattle.planning_kind.specs.Kinds.{listing, translation_kind};
+
+use certificates::{AtomParts, AtomVariable, CertificateKind};
+use names::Names;
+use planning::{GroundAtom, Task, Vocabulary};
+use std::alloc::{AllocError, Global};
+use translate::Translated;
+use variables::ListedVariable;
+
+// The name of a number, and nothing where there is none.
+fn name_of(names: &Names, number: usize) -> &str
+    ensures { result.now ≡ slice_index_or names.now number [] }
+{
+    names.name(number).unwrap_or("")
+}
+
+// An atom's words: its predicate's name, and the names of its objects.
+fn words_of(alloc: Global, names: &Vocabulary, atom: &GroundAtom) -> Result<Vec<String>, AllocError>
+    ensures { IfOk result (λ words. texts_of words.items ≡ words_of names.now atom.now) }
+{
+    let mut words = Vec::new(alloc);
+    words.push(String::from_str(alloc, name_of(&names.predicates, atom.predicate))?)?;
+    for object in atom.objects.as_slice() {
+        words.push(String::from_str(alloc, name_of(&names.objects, *object))?)?;
+    }
+    Ok(words)
+}
+
+// The words of each atom.
+fn words_of_all(
+    alloc: Global,
+    names: &Vocabulary,
+    atoms: &[GroundAtom],
+) -> Result<Vec<Vec<String>>, AllocError>
+    ensures { IfOk result (λ words. map atom_of words.items ≡ map (words_of names.now) atoms.now) }
+{
+    let mut words = Vec::new(alloc);
+    for atom in atoms {
+        words.push(words_of(alloc, names, atom)?)?;
+    }
+    Ok(words)
+}
+
+// Places as they are kept in a certificate.
+fn short_places(alloc: Global, places: &[usize]) -> Result<Vec<u32>, AllocError>
+    requires { All (λ p. p < 2 ^ 32) places.now }
+    ensures { IfOk result (λ numbers. numbers.items ≡ places.now) }
+{
+    let mut numbers = Vec::new(alloc);
+    for place in places {
+        numbers.push(*place as u32)?;
+    }
+    Ok(numbers)
+}
+
+// Variables as they are kept in a certificate.
+fn certificate_variables(
+    alloc: Global,
+    variables: &[ListedVariable],
+) -> Result<Vec<AtomVariable>, AllocError>
+    requires { All (λ v. All (λ p. p < 2 ^ 32) v.places) variables.now }
+    ensures { IfOk result (λ kept. map variable_of kept.items ≡ map listing variables.now) }
+{
+    let mut kept = Vec::new(alloc);
+    for variable in variables {
+        kept.push(AtomVariable {
+            has_none_value: variable.has_none,
+            atoms: short_places(alloc, &variable.places)?,
+        })?;
+    }
+    Ok(kept)
+}
+
+/// What a certificate of a translated task counts on. An `Err` is of too little memory.
+pub fn translation_kind(
+    alloc: Global,
+    task: &Task,
+    translated: &Translated,
+) -> Result<CertificateKind, AllocError>
+    requires { IsTranslation task.now translated.now }
+    ensures { IfOk result (λ kind. kind_of kind ≡ translation_kind task.now translated.now) }
+{
+    let atoms = words_of_all(alloc, &task.vocabulary, translated.atoms().as_slice())?;
+    let variables = certificate_variables(alloc, translated.variables())?;
+    Ok(CertificateKind::Pddl(AtomParts { atoms, variables }))
+}

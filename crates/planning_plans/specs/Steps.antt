@@ -1,0 +1,19 @@
+-- The steps that operators' names spell.
+use Rattle.std.specs.Prelude.{ℕ, ◌==◌, List, [], ◌∷◌, slice_get}
+use Rattle.std.specs.List.{slice_split}
+use Rattle.std.specs.Option.{option_map_or}
+use Rattle.fdr.specs.Tasks.{FiniteDomainTask}
+use Rattle.validate.specs.Steps.{Step}
+
+-- the words of a text, with single blanks between them
+abbrev pub words_of : List ℕ → List (List ℕ)
+words_of text = slice_split (λ b. b == 32) text
+
+-- the first of the words names the schema, and the others the objects
+abbrev pub step_of_words : List (List ℕ) → Step
+step_of_words [] = record { name = []; arguments = [] }
+step_of_words (w ∷ ws) = record { name = w; arguments = ws }
+
+-- the step that the name of the operator of that number spells
+abbrev pub operator_step : FiniteDomainTask → ℕ → Step
+operator_step task o = step_of_words (words_of (option_map_or (λ op. op.name) (slice_get task.operators o) []))

@@ -1,0 +1,14 @@
+//! A planning task's plan, by its words, from the operators of the task's translation.
+#![tactic(auto)]
+
+mod laws;
+mod steps;
+
+pub use laws::{
+    translated_plan_has_same_text, translated_plan_is_valid, translation_can_be_written,
+    valid_plan_has_verdict,
+};
+pub use steps::named_steps;
+
+#[cfg(test)]
+mod tests;

@@ -1,0 +1,10 @@
+//! What every command does with its device: it reads files, replies with an answer, and reports a fault as it is printed.
+#![tactic(auto)]
+
+mod fault;
+mod reports;
+mod surroundings;
+
+pub use fault::{Fault, FileWord};
+pub use reports::task_fault;
+pub use surroundings::{put_text, read_file, read_task_files, reply, report};

@@ -1,0 +1,71 @@
+-- Refusals of the texts of tasks, and answers by their texts.
+use Rattle.std.proofs.Common.{◌≡◌, ◌≢◌, ℕ, List, ◌++◌, sym, ap, ◌∙◌, ◌⊎◌, arith, inl, inr}
+use Rattle.std.specs.Prelude.{Option, Some}
+use Rattle.device.specs.Events.{Event}
+use Rattle.solver.specs.Choices.{Choices}
+use Rattle.solver.specs.Searches.{IsSettledBySome, IsShortBySome}
+use Rattle.solver.specs.SasAnswers.{IsSasAnswer}
+use Rattle.solver.specs.declared.sas.SasAnswer.{SasAnswer}
+use Rattle.planner.specs.Answers.{IsPlanningAnswer}
+use Rattle.planner.specs.declared.solving.PlanningAnswer.{PlanningAnswer}
+use Rattle.replies.specs.Faults.{fault_status}
+use Rattle.replies.specs.Runs.{IsQuiet}
+use Rattle.replies.specs.declared.fault.Fault.{Fault}
+use Rattle.replies.specs.declared.fault.Fault.TheVariants.{OutOfMemory, CannotRead, CannotWrite, Task, Plan, Sas, Cert, GroundLimit, TaskTooLarge, TotalTooLarge}
+use Rattle.solve_command.specs.Outputs.{OutputFiles}
+use Rattle.solve_command.specs.Solving.{outputs, answer_status, IsSolveRefusal}
+use Rattle.solve_command.specs.SasSolving.{sas_outputs, sas_answer_status, IsSasSolveRefusal}
+use Rattle.solve_command.specs.Texts.{IsAnsweredBy, IsSasAnsweredBy}
+use Rattle.solve_command.proofs.Replying.{Replies}
+
+-- a refusal is no failure of the device
+pub solve_refusal_status : (domain problem : List ℕ) (choices : Choices) (e : Fault) → IsSolveRefusal domain problem choices e → fault_status e ≢ 7
+solve_refusal_status domain problem choices OutOfMemory refused = λ seven. absurd (omega arith)
+solve_refusal_status domain problem choices (CannotRead file) refused = elim refused [ ]
+solve_refusal_status domain problem choices (CannotWrite file) refused = elim refused [ ]
+solve_refusal_status domain problem choices (Task e word) refused = λ seven. absurd (omega arith)
+solve_refusal_status domain problem choices (Plan e) refused = elim refused [ ]
+solve_refusal_status domain problem choices (Sas e) refused = elim refused [ ]
+solve_refusal_status domain problem choices (Cert e) refused = elim refused [ ]
+solve_refusal_status domain problem choices GroundLimit refused = λ seven. absurd (omega arith)
+solve_refusal_status domain problem choices (TaskTooLarge table) refused = λ seven. absurd (omega arith)
+solve_refusal_status domain problem choices TotalTooLarge refused = λ seven. absurd (omega arith)
+
+-- a refusal is no failure of the device
+pub sas_refusal_status : (sas : List ℕ) (choices : Choices) (e : Fault) → IsSasSolveRefusal sas choices e → fault_status e ≢ 7
+sas_refusal_status sas choices OutOfMemory refused = λ seven. absurd (omega arith)
+sas_refusal_status sas choices (CannotRead file) refused = elim refused [ ]
+sas_refusal_status sas choices (CannotWrite file) refused = elim refused [ ]
+sas_refusal_status sas choices (Task e word) refused = elim refused [ ]
+sas_refusal_status sas choices (Plan e) refused = elim refused [ ]
+sas_refusal_status sas choices (Sas e) refused = λ seven. absurd (omega arith)
+sas_refusal_status sas choices (Cert e) refused = elim refused [ ]
+sas_refusal_status sas choices GroundLimit refused = elim refused [ ]
+sas_refusal_status sas choices (TaskTooLarge table) refused = elim refused [ ]
+sas_refusal_status sas choices TotalTooLarge refused = λ seven. absurd (omega arith)
+
+-- what follows the reading of a planning task
+abbrev pub FollowsTask : List ℕ → List ℕ → Choices → OutputFiles → List Event → ℕ → Type 0
+FollowsTask domain problem choices files later status =
+    ((answer : PlanningAnswer) × IsPlanningAnswer domain problem (IsSettledBySome choices) (IsShortBySome choices) answer
+    × (later ≡ outputs files answer) × (status ≡ answer_status answer))
+    ⊎ ((e : Fault) × IsSolveRefusal domain problem choices e × (status ≡ fault_status e) × IsQuiet later)
+
+pub replied_answers : (domain problem : List ℕ) (choices : Choices) (files : OutputFiles) (later : List Event) (status : ℕ)
+    → Replies (IsAnsweredBy domain problem choices) (IsSolveRefusal domain problem choices) files later status → FollowsTask domain problem choices files later status
+replied_answers domain problem choices files later status (inl r) =
+    inl (r.1.answer, r.1.holds, r.2 ∙ r.1.outputs_are files, r.3 ∙ r.1.status_is)
+replied_answers domain problem choices files later status (inr r) = inr r
+
+-- what follows the reading of a finite-domain task
+abbrev pub FollowsSas : List ℕ → Choices → OutputFiles → List Event → ℕ → Type 0
+FollowsSas sas choices files later status =
+    ((answer : SasAnswer) × IsSasAnswer sas (IsSettledBySome choices) (IsShortBySome choices) answer
+    × (later ≡ sas_outputs files answer) × (status ≡ sas_answer_status answer))
+    ⊎ ((e : Fault) × IsSasSolveRefusal sas choices e × (status ≡ fault_status e) × IsQuiet later)
+
+pub replied_sas : (sas : List ℕ) (choices : Choices) (files : OutputFiles) (later : List Event) (status : ℕ)
+    → Replies (IsSasAnsweredBy sas choices) (IsSasSolveRefusal sas choices) files later status → FollowsSas sas choices files later status
+replied_sas sas choices files later status (inl r) =
+    inl (r.1.answer, r.1.holds, r.2 ∙ r.1.outputs_are files, r.3 ∙ r.1.status_is)
+replied_sas sas choices files later status (inr r) = inr r

@@ -1,0 +1,4 @@
+pub mod Outputs
+pub mod Solving
+pub mod SasSolving
+pub mod Texts

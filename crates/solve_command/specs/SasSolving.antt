@@ -1,0 +1,49 @@
+-- The command that solves a finite-domain task: what it reads, writes and puts out.
+use Rattle.std.specs.Prelude.{◌≡◌, ℕ, ◌⊎◌, List, [], ◌∷◌, ◌++◌, codes}
+use Rattle.std.specs.String.{string_bytes}
+use Rattle.device.specs.Events.{Event, HasRead, HasPut}
+use Rattle.solver.specs.Choices.{Choices}
+use Rattle.solver.specs.Searches.{IsSettledBySome, IsShortBySome, IsRefusedBySome}
+use Rattle.solver.specs.SasAnswers.{IsSasAnswer, IsSasRefusal}
+use Rattle.solver.specs.declared.fault.SasSolveFault.TheVariants as solve
+use Rattle.solver.specs.declared.sas.SasAnswer.{SasAnswer}
+use Rattle.solver.specs.declared.sas.SasAnswer.TheVariants.{Solved, Unsolvable, Limit}
+use Rattle.replies.specs.Faults.{fault_status}
+use Rattle.replies.specs.Runs.{IsQuiet}
+use Rattle.replies.specs.declared.fault.Fault.{Fault}
+use Rattle.replies.specs.declared.fault.Fault.TheVariants.{OutOfMemory, CannotRead, CannotWrite, Task, Plan, Sas, Cert, GroundLimit, TaskTooLarge, TotalTooLarge}
+use Rattle.solve_command.specs.Outputs.{OutputFiles, writes}
+
+-- the certificate's file is written first, then the plan's, and then a line or the plan is put out
+abbrev pub sas_outputs : OutputFiles → SasAnswer → List Event
+sas_outputs files (Solved s) = writes files.cert s.cert.items ++ writes files.plan (string_bytes s.plan_text) ++ HasPut (string_bytes s.plan_text) ∷ []
+sas_outputs files (Unsolvable cert) = writes files.cert cert.items ++ HasPut (codes "unsolvable\n") ∷ []
+sas_outputs files Limit = HasPut (codes "limit\n") ∷ []
+
+-- the exit status of an answer
+abbrev pub sas_answer_status : SasAnswer → ℕ
+sas_answer_status (Solved s) = 0
+sas_answer_status (Unsolvable cert) = 4
+sas_answer_status Limit = 5
+
+-- a fault of the solver is reported as this
+abbrev pub IsSasSolveRefusal : List ℕ → Choices → Fault → Type 0
+IsSasSolveRefusal sas choices OutOfMemory = Unit {0}
+IsSasSolveRefusal sas choices (CannotRead file) = ⊥
+IsSasSolveRefusal sas choices (CannotWrite file) = ⊥
+IsSasSolveRefusal sas choices (Task e word) = ⊥
+IsSasSolveRefusal sas choices (Plan e) = ⊥
+IsSasSolveRefusal sas choices (Sas e) = IsSasRefusal sas (IsRefusedBySome choices) (solve.Sas e)
+IsSasSolveRefusal sas choices (Cert e) = ⊥
+IsSasSolveRefusal sas choices GroundLimit = ⊥
+IsSasSolveRefusal sas choices (TaskTooLarge table) = ⊥
+IsSasSolveRefusal sas choices TotalTooLarge = IsSasRefusal sas (IsRefusedBySome choices) solve.TotalTooLarge
+
+-- The file is read, and then an answer is written and put out, or the text is refused.
+pub record SolvesSas (old new : List Event) (sas : List ℕ) (choices : Choices) (files : OutputFiles) (status : ℕ) : Type 0 where
+  pub sas_text : List ℕ
+  pub later : List Event
+  pub events : new ≡ old ++ (HasRead sas sas_text ∷ later)
+  pub follows : ((answer : SasAnswer) × IsSasAnswer sas_text (IsSettledBySome choices) (IsShortBySome choices) answer
+      × (later ≡ sas_outputs files answer) × (status ≡ sas_answer_status answer))
+      ⊎ ((e : Fault) × IsSasSolveRefusal sas_text choices e × (status ≡ fault_status e) × IsQuiet later)

@@ -1,0 +1,51 @@
+-- The command that solves a planning task: what it reads, writes and puts out.
+use Rattle.std.specs.Prelude.{◌≡◌, ℕ, ◌⊎◌, List, [], ◌∷◌, ◌++◌, codes}
+use Rattle.std.specs.String.{string_bytes}
+use Rattle.device.specs.Events.{Event, HasPut}
+use Rattle.solver.specs.Choices.{Choices}
+use Rattle.solver.specs.Searches.{IsSettledBySome, IsShortBySome, IsRefusedBySome}
+use Rattle.planner.specs.Answers.{IsPlanningAnswer, IsPlanningRefusal}
+use Rattle.planner.specs.declared.fault.PlanningFault.TheVariants as planning
+use Rattle.planner.specs.declared.solving.PlanningAnswer.{PlanningAnswer}
+use Rattle.planner.specs.declared.solving.PlanningAnswer.TheVariants.{Solved, Unsolvable, Limit}
+use Rattle.replies.specs.Faults.{fault_status}
+use Rattle.replies.specs.Reports.{IsTaskReport}
+use Rattle.replies.specs.Runs.{IsQuiet, task_reads}
+use Rattle.replies.specs.declared.fault.Fault.{Fault}
+use Rattle.replies.specs.declared.fault.Fault.TheVariants.{OutOfMemory, CannotRead, CannotWrite, Task, Plan, Sas, Cert, GroundLimit, TaskTooLarge, TotalTooLarge}
+use Rattle.solve_command.specs.Outputs.{OutputFiles, writes}
+
+-- the certificate's file is written first, then the plan's, and then a line or the plan is put out
+abbrev pub outputs : OutputFiles → PlanningAnswer → List Event
+outputs files (Solved s) = writes files.cert s.cert.items ++ writes files.plan (string_bytes s.plan_text) ++ HasPut (string_bytes s.plan_text) ∷ []
+outputs files (Unsolvable cert) = writes files.cert cert.items ++ HasPut (codes "unsolvable\n") ∷ []
+outputs files Limit = HasPut (codes "limit\n") ∷ []
+
+-- the exit status of an answer
+abbrev pub answer_status : PlanningAnswer → ℕ
+answer_status (Solved s) = 0
+answer_status (Unsolvable cert) = 4
+answer_status Limit = 5
+
+-- a fault of the planner is reported as this
+abbrev pub IsSolveRefusal : List ℕ → List ℕ → Choices → Fault → Type 0
+IsSolveRefusal domain problem choices OutOfMemory = Unit {0}
+IsSolveRefusal domain problem choices (CannotRead file) = ⊥
+IsSolveRefusal domain problem choices (CannotWrite file) = ⊥
+IsSolveRefusal domain problem choices (Task e word) = IsTaskReport domain problem (Task e word)
+IsSolveRefusal domain problem choices (Plan e) = ⊥
+IsSolveRefusal domain problem choices (Sas e) = ⊥
+IsSolveRefusal domain problem choices (Cert e) = ⊥
+IsSolveRefusal domain problem choices GroundLimit = IsPlanningRefusal domain problem (IsRefusedBySome choices) planning.GroundLimit
+IsSolveRefusal domain problem choices (TaskTooLarge table) = IsPlanningRefusal domain problem (IsRefusedBySome choices) (planning.TaskTooLarge table)
+IsSolveRefusal domain problem choices TotalTooLarge = IsPlanningRefusal domain problem (IsRefusedBySome choices) planning.TotalTooLarge
+
+-- The two files are read, in this order, and then an answer is written and put out, or one of the texts is refused.
+pub record Solves (old new : List Event) (domain problem : List ℕ) (choices : Choices) (files : OutputFiles) (status : ℕ) : Type 0 where
+  pub domain_text : List ℕ
+  pub problem_text : List ℕ
+  pub later : List Event
+  pub events : new ≡ old ++ (task_reads domain domain_text problem problem_text ++ later)
+  pub follows : ((answer : PlanningAnswer) × IsPlanningAnswer domain_text problem_text (IsSettledBySome choices) (IsShortBySome choices) answer
+      × (later ≡ outputs files answer) × (status ≡ answer_status answer))
+      ⊎ ((e : Fault) × IsSolveRefusal domain_text problem_text choices e × (status ≡ fault_status e) × IsQuiet later)

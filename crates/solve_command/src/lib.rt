@@ -1,0 +1,11 @@
+//! The commands that solve a task over any device: what each reads, writes and puts out, and the status that it ends with.
+#![tactic(auto)]
+
+mod outputs;
+mod sas_solving;
+mod settings;
+mod solving;
+
+pub use sas_solving::run_solve_sas;
+pub use settings::Settings;
+pub use solving::run_solve;

@@ -1,0 +1,9 @@
+//! The whole program over tasks that it solves.
+#![tactic(auto)]
+
+#[cfg(test)]
+mod answers;
+#[cfg(test)]
+mod options;
+#[cfg(test)]
+mod runs;

@@ -1,0 +1,44 @@
+//! Runs of a solve command over files in memory, and what they are to write.
+
+use command::run;
+use device::{MemoryDevice, Recorded};
+use program_runs::{CALLS_OF_A_RUN, Outcome, program_words, recorded};
+use std::process::Abort;
+use std::test::Fail;
+
+/// What the program does over these files: what it puts out and reports, its status, and the names of the files that it writes, in their
+/// order, with a space behind each.
+pub(crate) fn solved<R: AllocGlobal>(
+    rt: &R,
+    words: &[&str],
+    files: &[(&str, &[u8])],
+) -> Result<(Outcome, String), Fail> {
+    let words = program_words(rt.alloc(), words)?;
+    let mut device = MemoryDevice::new(rt.alloc(), files, CALLS_OF_A_RUN);
+    let status = run(&words, &mut device, rt);
+    let mut written = String::new(rt.alloc());
+    for event in device.events() {
+        if let Recorded::Written(name, _) = event {
+            written.push_str(name.as_str())?;
+            written.push(' ')?;
+        }
+    }
+    Ok((recorded(rt.alloc(), device.events(), status)?, written))
+}
+
+/// Checks that the words give this text on standard output, with this status and these files, and no report.
+pub(crate) fn puts<R: Abort + AllocGlobal>(
+    rt: &R,
+    words: &[&str],
+    files: &[(&str, &[u8])],
+    text: &str,
+    status: u8,
+    written: &str,
+) -> Result<(), Fail> {
+    let (outcome, names) = solved(rt, words, files)?;
+    assert_eq!(rt; outcome.out.as_str(), text, "at {words:?}");
+    assert_eq!(rt; outcome.err.as_str(), "", "at {words:?}");
+    assert_eq!(rt; outcome.status, status, "at {words:?}");
+    assert_eq!(rt; names.as_str(), written, "at {words:?}");
+    Ok(())
+}

@@ -1,0 +1,6 @@
+pub mod Schedules
+pub mod PlanTexts
+pub mod Spelled
+pub mod Ends
+pub mod WorldEnds
+pub mod Answering

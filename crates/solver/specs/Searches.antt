@@ -1,0 +1,71 @@
+-- How a search for a task ends: settled at a bound, or stopped short.
+use Rattle.std.specs.Prelude.{◌≡◌, ◌≢◌, ℕ, ◌<◌, ◌≤◌, ◌⊎◌, List, length}
+use Rattle.cost.specs.Distances.{Distance}
+use Rattle.fdr.specs.Tasks.{FiniteDomainTask}
+use Rattle.families.specs.Worlds as machine
+use Rattle.spread.specs.Spreads as spread
+use Rattle.spread.specs.Spreads.{zobrist_owner}
+use Rattle.owner.specs.Spaces.{SpaceOf, searched}
+use Rattle.owner.specs.declared.fault.OwnerFault.TheVariants as owner_fault
+use Rattle.joined.specs.Ends.{IsSettledAt}
+use Rattle.netcore.specs.declared.step.WorldStep.{WorldStep}
+use Rattle.netcore.specs.Worlds.{WorldOf, Shows, IsAfter, IsRunRefusal, space_in, left_in}
+use Rattle.solver.specs.Choices.{Choices}
+use Rattle.solver.specs.declared.fault.SearchFault.{SearchFault}
+use Rattle.solver.specs.declared.fault.SearchFault.TheVariants.{OutOfMemory, TotalTooLarge}
+
+-- a space of the task, with the states spread by a hash and this limit
+pub record IsSpaceFor (task : FiniteDomainTask) (choices : Choices) (space : SpaceOf spread.Zobrist) : Type 0 where
+  pub task_is : space.task ≡ task
+  pub limit_is : space.limit ≡ choices.limit
+
+-- the world of so many owners after the steps
+abbrev pub IsWorldAfter : SpaceOf spread.Zobrist → Choices → List WorldStep → WorldOf spread.Zobrist → Type 0
+IsWorldAfter space choices steps w = IsAfter zobrist_owner (searched zobrist_owner space choices.workers) steps w
+
+-- the owners of a world are settled at the bound
+abbrev pub IsSettledWorld : WorldOf spread.Zobrist → Distance → Type 0
+IsSettledWorld w bound = IsSettledAt (space_in zobrist_owner w) w.owners (left_in w) bound
+
+-- one of the steps is refused, for this fault
+abbrev pub IsRefusedRun : SpaceOf spread.Zobrist → Choices → List WorldStep → Rattle.owner.specs.declared.fault.OwnerFault.OwnerFault → Type 0
+IsRefusedRun space choices steps e = IsRunRefusal zobrist_owner (searched zobrist_owner space choices.workers) steps e
+
+-- ---- by a list of steps
+
+-- after the steps the owners are settled at the bound
+abbrev pub IsSettledAfter : Choices → List WorldStep → FiniteDomainTask → Distance → Type 0
+IsSettledAfter choices steps task bound =
+    (space : SpaceOf spread.Zobrist) × IsSpaceFor task choices space
+    × ((w : WorldOf spread.Zobrist) × IsWorldAfter space choices steps w × IsSettledWorld w bound)
+
+-- after the steps the owners are not settled, or one of the steps asks an owner to expand more nodes than it may
+abbrev pub IsShortAfter : Choices → List WorldStep → FiniteDomainTask → Type 0
+IsShortAfter choices steps task =
+    (space : SpaceOf spread.Zobrist) × IsSpaceFor task choices space
+    × (IsRefusedRun space choices steps owner_fault.LimitReached
+    ⊎ ((w : WorldOf spread.Zobrist) × IsWorldAfter space choices steps w × ((bound : Distance) → IsSettledWorld w bound → ⊥)))
+
+-- a step leads past the greatest total, unless memory ran out
+abbrev pub IsRefusedAfter : Choices → List WorldStep → FiniteDomainTask → SearchFault → Type 0
+IsRefusedAfter choices steps task OutOfMemory = Unit {0}
+IsRefusedAfter choices steps task TotalTooLarge =
+    (space : SpaceOf spread.Zobrist) × IsSpaceFor task choices space × IsRefusedRun space choices steps owner_fault.TotalTooLarge
+
+-- ---- by steps that are drawn
+
+-- after some steps, not more than may be, the owners are settled at the bound
+abbrev pub IsSettledBySome : Choices → FiniteDomainTask → Distance → Type 0
+IsSettledBySome choices task bound = (steps : List WorldStep) × (length steps ≤ choices.steps) × IsSettledAfter choices steps task bound
+
+-- after as many steps as may be something is left to do, or a step asks an owner to expand more nodes than it may
+abbrev pub IsShortBySome : Choices → FiniteDomainTask → Type 0
+IsShortBySome choices task =
+    (steps : List WorldStep) × (space : SpaceOf spread.Zobrist) × IsSpaceFor task choices space
+    × (IsRefusedRun space choices steps owner_fault.LimitReached
+    ⊎ ((length steps ≡ choices.steps) × ((w : WorldOf spread.Zobrist) × IsWorldAfter space choices steps w
+    × ((world : machine.World) → Shows zobrist_owner w world → 0 < machine.count (space_in zobrist_owner w) world))))
+
+-- a step leads past the greatest total, unless memory ran out
+abbrev pub IsRefusedBySome : Choices → FiniteDomainTask → SearchFault → Type 0
+IsRefusedBySome choices task e = (steps : List WorldStep) × IsRefusedAfter choices steps task e

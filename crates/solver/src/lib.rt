@@ -1,0 +1,16 @@
+//! Solving: from the texts of a task and a schedule of owners' steps to a cheapest plan, or that there is none, with a certificate.
+#![tactic(auto)]
+
+mod fault;
+mod found;
+mod options;
+mod sas;
+mod schedule;
+mod searching;
+
+pub use fault::{SasSolveFault, SearchFault};
+pub use found::{Found, Solution, found_by};
+pub use options::Options;
+pub use sas::{SasAnswer, SasSolution, simulate_sas, solve_sas_steps};
+pub use schedule::simulated;
+pub use searching::{found_after, found_by_seed};

@@ -1,0 +1,124 @@
+//! Finite-domain tasks from their texts.
+
+ghost use Rattle.std.specs.Prelude.{◌≡◌, ℕ, List, IfOk, IfErr};
+ghost use Rattle.certificates.specs.Certificates.{FiniteDomain};
+ghost use Rattle.sasfile.specs.SasTexts.{SpellsTask};
+ghost use Rattle.solver.specs.Findings.{IsSolution, IsTrueOf};
+ghost use Rattle.solver.specs.Searches.{IsSettledAfter, IsShortAfter, IsRefusedAfter, IsSettledBySome, IsShortBySome, IsRefusedBySome};
+ghost use Rattle.solver.specs.SasAnswers.{IsSasAnswer, IsSasRefusal, IsSasSolution, HasTextsOf};
+
+use crate::fault::SasSolveFault;
+use crate::found::{Found, Solution};
+use crate::options::Options;
+use crate::searching::{found_after, found_by_seed};
+use cert_text::write_cert;
+use certificates::CertificateKind;
+use fdr::FdrTask;
+use netcore::WorldStep;
+use sas_writer::sas_plan_text;
+use sasfile::{SasFault, read_sas};
+use std::alloc::{AllocError, Global};
+
+/// A cheapest plan of a finite-domain task.
+#[derive(Drop)]
+pub struct SasSolution {
+    /// What it costs.
+    pub cost: u64,
+    /// The numbers of its operators, in their order.
+    pub plan: Vec<usize>,
+    /// The plan as a text.
+    pub plan_text: String,
+    /// The text of a certificate that no plan costs less.
+    pub cert: Vec<u8>,
+}
+
+/// What is answered for a finite-domain task.
+#[derive(Drop)]
+pub enum SasAnswer {
+    /// A cheapest plan.
+    Solved(SasSolution),
+    /// There is no plan; the text of a certificate of that.
+    Unsolvable(Vec<u8>),
+    /// The search was stopped before it found the one or the other.
+    Limit,
+}
+
+/// The task that the text spells, or the text's first fault.
+fn read_task(alloc: Global, sas: &[u8]) -> Result<FdrTask, SasSolveFault>
+    ensures found { IfOk result (λ task. SpellsTask sas.now task) }
+    ensures fault { IfErr result (IsSasRefusal sas.now (λ task e. ⊥)) }
+{
+    match read_sas(alloc, sas) {
+        Ok(task) => Ok(task),
+        Err(SasFault::OutOfMemory) => Err(SasSolveFault::OutOfMemory),
+        Err(fault) => Err(SasSolveFault::Sas(fault)),
+    }
+}
+
+/// The texts of a plan and of its certificate.
+fn solution_texts(
+    alloc: Global,
+    task: &FdrTask,
+    solution: Solution,
+) -> Result<SasSolution, AllocError>
+    requires { IsSolution task.now FiniteDomain solution }
+    ensures solution { (sas : List ℕ) → SpellsTask sas task.now → IfOk result (IsSasSolution sas task.now) }
+    ensures cost { IfOk result (λ s. s.cost ≡ solution.cost) }
+{
+    let plan_text = sas_plan_text(alloc, task, &solution.plan, solution.cost)?;
+    let cert = write_cert(alloc, &solution.certificate)?;
+    Ok(SasSolution {
+        cost: solution.cost,
+        plan: solution.plan,
+        plan_text,
+        cert,
+    })
+}
+
+/// The texts of what a search has found.
+fn answer_texts(alloc: Global, task: &FdrTask, found: Found) -> Result<SasAnswer, AllocError>
+    requires { IsTrueOf task.now FiniteDomain found }
+    ensures { (sas : List ℕ) → SpellsTask sas task.now → IfOk result (HasTextsOf sas task.now found) }
+{
+    match found {
+        Found::Solved(solution) => Ok(SasAnswer::Solved(solution_texts(alloc, task, solution)?)),
+        Found::Unsolvable(certificate) => Ok(SasAnswer::Unsolvable(write_cert(alloc, &certificate)?)),
+        Found::Unsettled => Ok(SasAnswer::Limit),
+    }
+}
+
+/// The answer for the task that the text spells, after these steps of a world of owners: a cheapest plan, or that there is none, with a
+/// certificate that the checker accepts, or `Limit` where the owners are not settled by then or one is to expand more nodes than it may.
+///
+/// A fault is the first of the text; or `TotalTooLarge`, of a step; or of too little memory.
+pub fn solve_sas_steps<R: AllocGlobal>(
+    rt: &R,
+    sas: &[u8],
+    options: &Options,
+    steps: &[WorldStep],
+) -> Result<SasAnswer, SasSolveFault>
+    ensures answer { IfOk result (IsSasAnswer sas.now (IsSettledAfter options.now steps.now) (IsShortAfter options.now steps.now)) }
+    ensures refused { IfErr result (IsSasRefusal sas.now (IsRefusedAfter options.now steps.now)) }
+{
+    let alloc = rt.alloc();
+    let task = read_task(alloc, sas)?;
+    let found = found_after(alloc, &task, options, steps, CertificateKind::Sas)?;
+    Ok(answer_texts(alloc, &task, found)?)
+}
+
+/// The answer for the task that the text spells, after steps that are drawn from a seed, as many as the options allow. What is promised is
+/// what `solve_sas_steps` promises of the steps drawn.
+pub fn simulate_sas<R: AllocGlobal>(
+    rt: &R,
+    sas: &[u8],
+    options: &Options,
+    seed: u64,
+) -> Result<SasAnswer, SasSolveFault>
+    ensures answer { IfOk result (IsSasAnswer sas.now (IsSettledBySome options.now) (IsShortBySome options.now)) }
+    ensures refused { IfErr result (IsSasRefusal sas.now (IsRefusedBySome options.now)) }
+{
+    let alloc = rt.alloc();
+    let task = read_task(alloc, sas)?;
+    let found = found_by_seed(alloc, &task, options, seed, CertificateKind::Sas)?;
+    Ok(answer_texts(alloc, &task, found)?)
+}

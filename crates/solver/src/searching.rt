@@ -1,0 +1,79 @@
+//! Searches for a task, by a schedule that is given or drawn.
+
+ghost use Rattle.std.specs.Prelude.{◌≡◌, IfOk, IfErr};
+ghost use Rattle.certificates.specs.Views.{kind_of};
+ghost use Rattle.solver.specs.Findings.{IsFinding};
+ghost use Rattle.solver.specs.Searches.{IsSettledAfter, IsShortAfter, IsRefusedAfter, IsSettledBySome, IsShortBySome, IsRefusedBySome};
+
+use crate::fault::SearchFault;
+use crate::found::{Found, found_by};
+use crate::options::Options;
+use crate::schedule::simulated;
+use certificates::CertificateKind;
+use fdr::FdrTask;
+use netcore::{World, WorldStep};
+use owner::{OwnerFault, Space};
+use scp::choose_columns;
+use spread::Zobrist;
+use std::alloc::{AllocError, Global};
+
+/// What is searched for a task: columns of tables as large as the options say, and a spread of its states by a hash.
+fn space_for<'a>(
+    alloc: Global,
+    task: &'a FdrTask,
+    options: &Options,
+) -> Result<Space<'a, Zobrist<'a>>, AllocError>
+    ensures task { IfOk result (λ s. s.task ≡ task.now) }
+    ensures limit { IfOk result (λ s. s.limit ≡ options.now.limit) }
+{
+    let columns = choose_columns(alloc, task, options.table())?;
+    let spread = Zobrist::new(alloc, task)?;
+    Space::new(alloc, task, columns, spread, options.limit())
+}
+
+/// What is found of the task after these steps of a world of owners: a cheapest plan, or that there is none, with a certificate of that
+/// kind; `Unsettled` where the owners are not settled by then, or one is to expand more nodes than it may.
+///
+/// A fault is that of a step, or of too little memory.
+pub fn found_after<'a>(
+    alloc: Global,
+    task: &'a FdrTask,
+    options: &Options,
+    steps: &[WorldStep],
+    kind: CertificateKind,
+) -> Result<Found, SearchFault>
+    ensures found { IfOk result (IsFinding task.now (kind_of kind) (IsSettledAfter options.now steps.now task.now) (IsShortAfter options.now steps.now task.now)) }
+    ensures refused { IfErr result (IsRefusedAfter options.now steps.now task.now) }
+{
+    let space: Space<'a, Zobrist<'a>> = space_for(alloc, task, options)?;
+    match World::run(alloc, &space, options.workers(), steps) {
+        Ok(world) => Ok(found_by(alloc, &world.joined(), kind)?),
+        Err(OwnerFault::LimitReached) => Ok(Found::Unsettled),
+        Err(OwnerFault::TotalTooLarge) => Err(SearchFault::TotalTooLarge),
+        Err(OwnerFault::OutOfMemory) => Err(SearchFault::OutOfMemory),
+    }
+}
+
+/// What is found of the task after steps that are drawn from the seed, as many as the options allow: a cheapest plan, or that there is none,
+/// with a certificate of that kind; `Unsettled` where something is left to do by then, or an owner is to expand more nodes than it may.
+///
+/// A fault is that of a step, or of too little memory.
+pub fn found_by_seed<'a>(
+    alloc: Global,
+    task: &'a FdrTask,
+    options: &Options,
+    seed: u64,
+    kind: CertificateKind,
+) -> Result<Found, SearchFault>
+    ensures found { IfOk result (IsFinding task.now (kind_of kind) (IsSettledBySome options.now task.now) (IsShortBySome options.now task.now)) }
+    ensures refused { IfErr result (IsRefusedBySome options.now task.now) }
+{
+    let space: Space<'a, Zobrist<'a>> = space_for(alloc, task, options)?;
+    match simulated(alloc, &space, options.workers(), seed, options.steps()) {
+        Ok(Some(world)) => Ok(found_by(alloc, &world.joined(), kind)?),
+        Ok(None) => Ok(Found::Unsettled),
+        Err(OwnerFault::LimitReached) => Ok(Found::Unsettled),
+        Err(OwnerFault::TotalTooLarge) => Err(SearchFault::TotalTooLarge),
+        Err(OwnerFault::OutOfMemory) => Err(SearchFault::OutOfMemory),
+    }
+}

@@ -1,5 +1,0 @@
-pub mod Schedules
-pub mod PlanTexts
-pub mod Spelled
-pub mod Ends
-pub mod Answering

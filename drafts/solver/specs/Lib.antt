@@ -1,4 +1,0 @@
-pub mod Choices
-pub mod Findings
-pub mod Schedules
-pub mod SasAnswers
