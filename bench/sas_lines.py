@@ -1,10 +1,16 @@
 """The lines of the text of a finite-domain task, `output.sas`, version 3, for the generators of this folder."""
 
 
+def transition_lines(name, prevails, effects, cost):
+    """An operator of that cost that gives variables values. `effects` are triples of a variable, its value before, of which -1 stands for
+    any, and its value after."""
+    return ["begin_operator", name, str(len(prevails)), *(f"{v} {d}" for v, d in prevails), str(len(effects)),
+            *(f"0 {variable} {before} {after}" for variable, before, after in effects), str(cost), "end_operator"]
+
+
 def operator_lines(name, prevails, variable, before, after):
     """An operator that costs 1 and gives the variable the value. A `before` of -1 stands for any value."""
-    return ["begin_operator", name, str(len(prevails)), *(f"{v} {d}" for v, d in prevails), "1",
-            f"0 {variable} {before} {after}", "1", "end_operator"]
+    return transition_lines(name, prevails, [(variable, before, after)], 1)
 
 
 def task_lines(metric, name, ranges, goals, operators):

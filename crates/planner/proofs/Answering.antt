@@ -69,15 +69,14 @@ module _ (domain problem : List ℕ) (p : Prepared) (is : IsPrepared domain prob
       → HasTextsOf d q task f answer)
       → IsPlanningAnswer domain problem settled short answer
   answer_for settled short f answer found texts =
-      let true_there = subst (λ (k : Kind). IsTrueOf p.translated.task k f) is.kind_is (true_of p.translated.task (kind_of p.kind) (settled p.translated.task) (short p.translated.task) f found) in
-      (
+      let true_there = subst (λ (k : Kind). IsTrueOf p.translated.task k f) is.kind_is (true_of p.translated.task (kind_of p.kind) (settled p.translated.task) (short p.translated.task) f found) in (
         is.task,
         is.spelled,
         (
           p.translated,
           is.translation,
           answered domain problem is.task p.translated.task (kind_of p.kind) (settled p.translated.task) (short p.translated.task) f answer found
-          (texts domain problem is.task is.spelled is.translation is.same true_there),
+              (texts domain problem is.task is.spelled is.translation is.same true_there),
         ),
       )
 

@@ -7,5 +7,5 @@ mod preparing;
 mod solving;
 
 pub use fault::PlanningFault;
-pub use solving::{PlanningAnswer, PlanningSolution, simulate, solve_steps};
 pub use solver::Options;
+pub use solving::{PlanningAnswer, PlanningSolution, simulate, solve_steps};

@@ -1,13 +1,11 @@
 -- Ground actions have the numbers of schemas and objects that are there.
-use Rattle.std.proofs.Common.{◌≡◌, ℕ, ◌<◌, true, false, ◌&&◌, List, [], ◌∷◌, Option, Some, None, refl, if◌then◌else◌}
+use Rattle.std.proofs.Common.{◌≡◌, ◌<◌, true, ◌&&◌, Some, None, if◌then◌else◌}
 use Rattle.std.specs.Prelude.{All, length, slice_get}
-use Rattle.std.specs.List.{list_all, filter_map}
-use Rattle.std.specs.Option.{option_map_or}
+use Rattle.std.specs.List.{list_all}
 use Rattle.std.proofs.lemmas.Bool.{and_parts}
-use Rattle.std.proofs.lemmas.List.Elements.{All-nil, All-cons}
 use Rattle.std.proofs.lemmas.Option.{slice_get_within, cond_some, option_and_then_some}
 use Rattle.spelled_tasks.proofs.AddedAtoms.{fits_there, instance}
-use Rattle.planning.specs.Planning.{PlanningTask, Schema, Action, IsActionOf, is_of_type, is_below, fits, literal_of, atoms_of, cost_of_schema, equality_holds, has_values, has_instance}
+use Rattle.planning.specs.Planning.{PlanningTask, Schema, Action, IsActionOf, fits, equality_holds, has_values, has_instance}
 
 pub action_numbers : (task : PlanningTask) (a : Action) → IsActionOf task a → (a.schema < length task.schemas) × All (λ o. o < length task.object_types) a.objects
 action_numbers task a is =

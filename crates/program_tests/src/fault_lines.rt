@@ -1,8 +1,8 @@
 //! The lines of the faults of finite-domain tasks, certificates and files, without the program's name and the line's end.
 
 use cert_text::CertFault;
-use replies::{Fault, FileWord};
 use fdr::TaskLimit;
+use replies::{Fault, FileWord};
 use sasfile::SasFault;
 use std::test::Fail;
 

@@ -3,3 +3,5 @@
 
 #[cfg(test)]
 mod schedules;
+#[cfg(test)]
+mod totals;

@@ -5,8 +5,8 @@ use cert_text::write_cert;
 use certificates::CertificateKind;
 use extract::plan_of;
 use fdr::FdrTask;
-use netcore::{SearchAnswer, World, WorldStep};
 use netcore::WorldStep::{Deliver, Expand, Look, Offer, Rest, Send};
+use netcore::{SearchAnswer, World, WorldStep};
 use owner::Space;
 use sasfile::read_sas;
 use scp::make_columns;
@@ -16,7 +16,7 @@ use std::process::Abort;
 use std::test::Fail;
 
 /// One variable of three values, from 0 to 2. Operators 0: 0 to 1 at cost 0; 1: 1 to 0 at cost 0; 2: 1 to 2 at cost 1.
-const CYCLE: &str = "begin_version
+pub(crate) const CYCLE: &str = "begin_version
 3
 end_version
 begin_metric
@@ -296,5 +296,13 @@ fn detours(rt: HostRuntime) -> Result<(), Fail> {
     for steps in [DETOUR_IMPROVED, DETOUR_GOAL_FIRST] {
         settle_text(&rt, rt.alloc(), DETOUR, steps, 3, &[3], DETOUR_CERTIFICATE)?;
     }
-    settle_text(&rt, rt.alloc(), DETOUR, DETOUR_DROPPED, 3, &[3], DETOUR_LONG_CERTIFICATE)
+    settle_text(
+        &rt,
+        rt.alloc(),
+        DETOUR,
+        DETOUR_DROPPED,
+        3,
+        &[3],
+        DETOUR_LONG_CERTIFICATE,
+    )
 }

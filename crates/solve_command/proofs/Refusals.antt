@@ -1,6 +1,5 @@
 -- Refusals of the texts of tasks, and answers by their texts.
-use Rattle.std.proofs.Common.{◌≡◌, ◌≢◌, ℕ, List, ◌++◌, sym, ap, ◌∙◌, ◌⊎◌, arith, inl, inr}
-use Rattle.std.specs.Prelude.{Option, Some}
+use Rattle.std.proofs.Common.{◌≡◌, ◌≢◌, ℕ, List, ◌∙◌, ◌⊎◌, arith, inl, inr}
 use Rattle.device.specs.Events.{Event}
 use Rattle.solver.specs.Choices.{Choices}
 use Rattle.solver.specs.Searches.{IsSettledBySome, IsShortBySome}

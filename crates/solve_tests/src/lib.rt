@@ -7,3 +7,5 @@ mod answers;
 mod options;
 #[cfg(test)]
 mod runs;
+#[cfg(test)]
+mod tasks;

@@ -1,6 +1,6 @@
 -- From what a search has found to what is answered.
-use Rattle.std.proofs.Common.{◌≡◌, ◌≢◌, ℕ, List, refl, sym, ap, subst}
-use Rattle.cost.specs.Distances.{Distance, Finite, Infinite}
+use Rattle.std.proofs.Common.{ℕ, List, sym, subst}
+use Rattle.cost.specs.Distances.{Distance, Finite}
 use Rattle.fdr.specs.Tasks.{FiniteDomainTask}
 use Rattle.certificates.specs.Certificates.{Kind, FiniteDomain}
 use Rattle.sasfile.specs.SasTexts.{SpellsTask}

@@ -1,10 +1,10 @@
 -- What a search that is settled has found.
-use Rattle.std.proofs.Common.{◌≡◌, ℕ, ◌<◌, ◌^◌, List, length, None, refl, sym, subst, ◌∙◌}
+use Rattle.std.proofs.Common.{◌≡◌, ℕ, ◌<◌, ◌^◌, List, length, None, sym, subst}
 use Rattle.std.proofs.Math.Logic.{∥∥₁_elim}
 use Rattle.cost.specs.Distances.{Distance, Finite, Infinite}
-use Rattle.fdr.specs.Tasks.{FiniteDomainTask, IsTask, EveryPlanCostsAtLeast, HasNoPlan, IsPlan}
-use Rattle.families.specs.Owners.{At, SearchSpace, Node}
-use Rattle.families.specs.Families.{Family, IsSearchSpace, IsGoalNode}
+use Rattle.fdr.specs.Tasks.{FiniteDomainTask, IsTask, EveryPlanCostsAtLeast, HasNoPlan}
+use Rattle.families.specs.Owners.{At, Node}
+use Rattle.families.specs.Families.{Family, IsSearchSpace}
 use Rattle.families.proofs.Plans.{best_node}
 use Rattle.std.specs.List.Sorted.{IsPermutation}
 use Rattle.std.proofs.lemmas.List.Sorted.{length_permutation}
@@ -13,7 +13,7 @@ use Rattle.cert_text.specs.Lawful.{IsLawful, IsLawfulKind}
 use Rattle.solver.specs.Findings.{IsCertificateOf}
 use Rattle.checker_clauses.specs.Violations.{IsHeld}
 use Rattle.checker_clauses.proofs.Bounds.{held_implies_bound}
-use Rattle.joined.specs.Ends.{EndOf, IsEndOf, IsForm, IsSettledAt, IsBestGoal, IsGoalNodeAt, space_at}
+use Rattle.joined.specs.Ends.{EndOf, IsEndOf, IsSettledAt, IsBestGoal, space_at}
 use Rattle.joined.proofs.Families.{to_family}
 use Rattle.joined.proofs.Places.{at_some}
 

@@ -1,6 +1,6 @@
 -- The operators of a plan exist.
-use Rattle.std.proofs.Common.{◌≡◌, ℕ, zero, suc, ◌<◌, List, [], ◌∷◌, length, Option, Some, None, IsSomeAnd, refl, subst, sym, ap, ◌∙◌, arith}
-use Rattle.std.specs.Prelude.{option_and_then, slice_get, All, Bool, true, false, if◌then◌else◌}
+use Rattle.std.proofs.Common.{◌≡◌, ℕ, zero, suc, ◌<◌, List, [], ◌∷◌, length, Option, Some, None, IsSomeAnd, refl, arith}
+use Rattle.std.specs.Prelude.{option_and_then, slice_get, All, true, if◌then◌else◌}
 use Rattle.std.proofs.lemmas.List.Elements.{All-cons, All-nil}
 use Rattle.fdr.specs.Tasks.{FiniteDomainTask, Operator, IsPlan, step, state_after, applies, successor, is_goal_state}
 

@@ -7,7 +7,7 @@ use Rattle.owner.specs.Spaces.{SpaceOf, searched}
 use Rattle.owner.specs.declared.fault.OwnerFault.{OwnerFault}
 use Rattle.owner.specs.declared.fault.OwnerFault.TheVariants.{OutOfMemory, TotalTooLarge, LimitReached}
 use Rattle.netcore.specs.declared.step.WorldStep.{WorldStep}
-use Rattle.netcore.specs.Worlds.{WorldOf, Shows, Steps, IsAfter, IsStepRefusal, IsRunRefusal, space_in, world_after_run}
+use Rattle.netcore.specs.Worlds.{WorldOf, Shows, Steps, IsAfter, IsStepRefusal, space_in, world_after_run}
 use Rattle.netcore.proofs.Shown.{after_step}
 use Rattle.solver.specs.Schedules.{IsSimulated, IsSimulationRefusal}
 
@@ -66,8 +66,7 @@ pub ended : {S : Type 0} (owner : S → List ℕ → ℕ → ℕ) (over : SpaceO
     → ((asked : List WorldStep) (after : IsAfter owner (space_in owner w) asked w) → IsQuiet (space_in owner w) (world_after_run (space_in owner w) after.steps))
     → IsSimulated owner over n most (Some w)
 ended owner over n taken most w so_far le quiet =
-    let long = so_far.long in
-    (
+    let long = so_far.long in (
       so_far.asked,
       so_far.after,
       omega (arith, long, le),
@@ -75,7 +74,7 @@ ended owner over n taken most w so_far le quiet =
       so_far.owners,
       so_far.whole,
       subst (λ (sp : SearchSpace). (after : IsAfter owner sp so_far.asked w) → IsQuiet sp (world_after_run sp after.steps)) (same_space owner over n w so_far.space so_far.owners) (quiet so_far.asked)
-      so_far.after,
+          so_far.after,
     )
 
 some_left : (n m count : ℕ) → count ≡ min n m → count ≢ 0 → 0 < n

@@ -1,18 +1,15 @@
 -- A certificate that holds is accepted by its text.
-use Rattle.std.proofs.Common.{◌≡◌, ℕ, suc, ◌+◌, ◌<◌, ◌≤◌, ◌^◌, List, [], ◌∷◌, ◌++◌, length, map, refl, sym, ap, subst, ◌∙◌, arith}
+use Rattle.std.proofs.Common.{◌≡◌, ℕ, ◌<◌, ◌≤◌, ◌^◌, List, [], ◌∷◌, ◌++◌, length, sym, ap, subst, arith}
 use Rattle.std.proofs.lemmas.List.{length-append, length-map}
-use Rattle.std.proofs.lemmas.Grind.{flat_map-append}
-use Rattle.std.specs.Prelude.{codes, decimal}
-use Rattle.std.specs.List.{flat_map}
-use Rattle.cost.specs.Distances.{Distance, distance_text}
+use Rattle.std.specs.Prelude.{codes}
+use Rattle.cost.specs.Distances.{Distance}
 use Rattle.fdr.specs.Tasks.{FiniteDomainTask}
 use Rattle.sasfile.specs.SasTexts.{SpellsTask}
 use Rattle.checker.specs.Answers.{is_for_finite_domain}
-use Rattle.cert_text.specs.Lawful.{IsLawfulKind}
 use Rattle.solver.specs.Findings.{IsCertificateOf}
 use Rattle.solver.specs.SasAnswers.{IsAccepted}
-use Rattle.certificates.specs.Certificates.{Kind, FiniteDomain, Entry, CertificateValue}
-use Rattle.cert_text.specs.Spelling.{spelling, text_of, line_text, lines, kind_line, kind_lines, columns_lines, closed_lines, entry_line}
+use Rattle.certificates.specs.Certificates.{FiniteDomain, CertificateValue}
+use Rattle.cert_text.specs.Spelling.{spelling, text_of, line_text, lines, kind_lines, columns_lines, closed_lines, entry_line}
 
 line_has_byte : (words : List (List ℕ)) → 1 ≤ length (line_text words)
 line_has_byte words = let e = length-append (Rattle.cert_text.specs.Pieces.joined 32 words) (10 ∷ []) in omega (arith, e)

@@ -1,5 +1,5 @@
 -- What is found at the end of a world is found of its task.
-use Rattle.std.proofs.Common.{◌≡◌, ℕ, ◌≤◌, List, length, refl, sym, ap, subst, ◌∙◌, inl, inr, Some}
+use Rattle.std.proofs.Common.{◌≡◌, ℕ, ◌≤◌, List, length, sym, ap, subst, ◌∙◌, inr, Some}
 use Rattle.cost.specs.Distances.{Distance, Finite, Infinite}
 use Rattle.fdr.specs.Tasks.{FiniteDomainTask, HasNoPlan}
 use Rattle.certificates.specs.Certificates.{Kind}
@@ -18,7 +18,7 @@ use Rattle.solver.specs.Choices.{Choices}
 use Rattle.solver.specs.Findings.{IsFinding, IsFound, IsSettledEnd, IsSolution, IsCertificateOf}
 use Rattle.solver.specs.Schedules.{IsSimulated}
 use Rattle.solver.proofs.Schedules.{same_space}
-use Rattle.solver.specs.Searches.{IsSpaceFor, IsWorldAfter, IsSettledWorld, IsSettledAfter, IsShortAfter, IsSettledBySome}
+use Rattle.solver.specs.Searches.{IsSpaceFor, IsWorldAfter, IsSettledAfter, IsShortAfter, IsSettledBySome}
 use Rattle.solver.specs.declared.found.Found.{Found}
 use Rattle.solver.specs.declared.found.Found.TheVariants.{Solved, Unsolvable, Unsettled}
 

@@ -82,7 +82,10 @@ fn answer_texts(alloc: Global, task: &FdrTask, found: Found) -> Result<SasAnswer
 {
     match found {
         Found::Solved(solution) => Ok(SasAnswer::Solved(solution_texts(alloc, task, solution)?)),
-        Found::Unsolvable(certificate) => Ok(SasAnswer::Unsolvable(write_cert(alloc, &certificate)?)),
+        Found::Unsolvable(certificate) => Ok(SasAnswer::Unsolvable(write_cert(
+            alloc,
+            &certificate,
+        )?)),
         Found::Unsettled => Ok(SasAnswer::Limit),
     }
 }

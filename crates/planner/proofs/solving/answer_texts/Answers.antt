@@ -1,4 +1,4 @@
-use Rattle.std.proofs.Common.{◌≡◌, refl, subst, sym, List, ℕ}
+use Rattle.std.proofs.Common.{refl, subst, sym}
 use Rattle.cost.specs.Distances.{Infinite}
 use Rattle.planning_kind.specs.Kinds.{translation_kind}
 use Rattle.solver.specs.declared.found.Found.{Found}

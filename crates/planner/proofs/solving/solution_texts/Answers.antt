@@ -1,4 +1,4 @@
-use Rattle.std.proofs.Common.{List, ℕ, ◌<◌, length, subst, sym, ap, ◌∙◌, ◌≡◌, refl}
+use Rattle.std.proofs.Common.{List, ℕ, ◌<◌, length, subst, sym, ap, ◌∙◌, refl}
 use Rattle.std.specs.Prelude.{All}
 use Rattle.fdr.specs.Tasks.{FiniteDomainTask}
 use Rattle.sas_writer.specs.Plans.{sas_plan_text}

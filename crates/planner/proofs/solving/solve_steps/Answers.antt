@@ -1,4 +1,4 @@
-use Rattle.std.proofs.Common.{subst, refl, ◌≡◌}
+use Rattle.std.proofs.Common.{subst, refl}
 use Rattle.std.proofs.lemmas.Result.{err_from_is_err_and}
 use Rattle.fdr.specs.Tasks.{FiniteDomainTask}
 use Rattle.solver.specs.Searches.{IsSettledAfter, IsShortAfter, IsRefusedAfter}

@@ -1,5 +1,5 @@
-use Rattle.std.proofs.Common.{subst, ◌≡◌, sym, Some}
-use Rattle.cost.specs.Distances.{Distance, Infinite}
+use Rattle.std.proofs.Common.{subst}
+use Rattle.cost.specs.Distances.{Infinite}
 use Rattle.certificates.specs.Views.{kind_of}
 use Rattle.joined.specs.Ends.{IsSettledAnswer, IsSettledAt, space_at}
 use Rattle.cert.specs.Expanded.{closed_in}
@@ -12,8 +12,7 @@ returns-in_ok-cert_of-in-None-get g c =
     let settled = subst (IsSettledAnswer (space_at g.S.Spread.owner e) e.owners e.left) c.in-Some.is c.in_ok-settled.ensures in
     let settled_there = subst (IsSettledAt (space_at g.S.Spread.owner e) e.owners e.left) c.in-None-get.ensures.value settled in
     let told = c.in_ok-cert_of-in-None-get.ensures in
-    let held = told.held Infinite settled_there in
-    (
+    let held = told.held Infinite settled_there in (
       none_of e.space.task c.in_ok-cert_of-in-None-get.field-0 c.recall.ensures.space.task held.0 held.1,
       certified e.space.task (kind_of c.args.kind) Infinite c.in_ok-cert_of-in-None-get.field-0 (closed_in e.owners) told.kind told.closed held (told.lawful Infinite settled_there),
       settled_there,

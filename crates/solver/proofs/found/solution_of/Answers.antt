@@ -1,4 +1,4 @@
-use Rattle.std.proofs.Common.{subst, ◌≡◌}
+use Rattle.std.proofs.Common.{subst}
 use Rattle.cost.specs.Distances.{Finite}
 use Rattle.certificates.specs.Views.{kind_of}
 use Rattle.joined.specs.Ends.{IsBestGoal}

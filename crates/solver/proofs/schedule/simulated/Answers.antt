@@ -1,4 +1,4 @@
-use Rattle.std.proofs.Common.{◌≡◌, ◌^◌, ◌-◌, arith}
+use Rattle.std.proofs.Common.{◌^◌, ◌-◌, arith}
 use Rattle.std.proofs.lemmas.Result.{err_from_is_err_and}
 use Rattle.solver.proofs.Schedules.{begun, one_more, one_refused, ended, cut}
 use Rattle.solver.proofs.schedule.simulated.Goals as goal

@@ -1,4 +1,3 @@
-use Rattle.std.proofs.Common.{◌≡◌, ◌∙◌, sym, subst, ap}
 use Rattle.certificates.specs.Views.{kind_of}
 use Rattle.solver.proofs.WorldEnds.{found_after_steps}
 use Rattle.solver.proofs.searching.found_after.Goals as goal

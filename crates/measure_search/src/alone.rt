@@ -1,0 +1,36 @@
+//! One owner that has all states.
+
+ghost use Rattle.std.specs.Prelude.{◌≤◌, IfOk};
+
+use cost::Dist;
+use owner::{Owner, OwnerFault, Space};
+use spread::Spread;
+use std::alloc::Global;
+
+/// Expands so many nodes, or as many as there are to expand. Gives how many.
+fn expand_times<S: Spread + Drop>(owner: &mut Owner<'_, S>, times: u64) -> Result<u64, OwnerFault>
+    ensures { IfOk result (λ count. count ≤ times) }
+{
+    for done in 0..times {
+        if owner.expand(Dist::inf())?.is_none() {
+            return Ok(done);
+        }
+    }
+    Ok(times)
+}
+
+/// What an owner has come to that expands so many nodes, or all: how many it expanded, how many states it keeps, and the least f-value of
+/// those that are not expanded.
+pub(crate) fn expand_alone<'a, S: Spread + Drop>(
+    alloc: Global,
+    space: &'a Space<'a, S>,
+    steps: u64,
+) -> Result<String, OwnerFault> {
+    let mut owner = Owner::start(alloc, space, 0, 1)?;
+    let expansions = expand_times(&mut owner, steps)?;
+    let (kept, least) = (owner.len(), owner.least_open());
+    let line = format!(in alloc;
+        "{expansions} expansions, {kept} states kept, least open f {least}\n"
+    )?;
+    Ok(line)
+}

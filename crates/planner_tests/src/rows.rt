@@ -1,0 +1,159 @@
+//! What is checked of each task.
+
+ghost use Rattle.std.specs.Prelude.{◌≤◌, ◌^◌};
+
+use cost::Dist;
+use pddl::read_task;
+use pddl_checker::{PlanningVerdict, check_pddl};
+use planner::{Options, PlanningAnswer, PlanningSolution, simulate};
+use std::process::Abort;
+use std::test::Fail;
+use validate::{Verdict, read_plan, validate};
+
+/// Seeds of schedules, from 0 on.
+const SEEDS: u64 = 20;
+
+/// As many abstract states as a table has at most: so few that searches have something to do.
+const TABLE: usize = 100;
+
+/// Checks that the checker, which knows the texts alone, accepts the certificate for this bound.
+pub(crate) fn certifies<R: Abort + AllocGlobal>(
+    rt: &R,
+    domain: &str,
+    problem: &str,
+    cert: &[u8],
+    bound: Dist,
+) -> Result<(), Fail> {
+    match check_pddl(rt, domain.as_bytes(), problem.as_bytes(), cert)? {
+        PlanningVerdict::Accepted(accepted) => assert_eq!(rt; accepted, bound),
+        PlanningVerdict::Rejected(violation) => panic!(rt; "rejected {violation}"),
+    }
+    Ok(())
+}
+
+/// Checks that the text is a valid plan at this cost.
+pub(crate) fn is_valid<R: Abort + AllocGlobal>(
+    rt: &R,
+    domain: &str,
+    problem: &str,
+    plan: &str,
+    cost: u64,
+) -> Result<(), Fail> {
+    let task = read_task(rt.alloc(), domain.as_bytes(), problem.as_bytes())?;
+    let plan = read_plan(rt.alloc(), plan.as_bytes())?;
+    match validate(rt.alloc(), &task, &plan)? {
+        Verdict::Valid(total) => assert_eq!(rt; total, cost),
+        verdict => panic!(rt; "{verdict:?}"),
+    }
+    Ok(())
+}
+
+/// Checks that a plan is valid at this cost, and that the checker accepts the certificate for it.
+pub(crate) fn is_cheapest<R: Abort + AllocGlobal>(
+    rt: &R,
+    domain: &str,
+    problem: &str,
+    solution: &PlanningSolution,
+    cost: u64,
+) -> Result<(), Fail> {
+    assert_eq!(rt; solution.cost, cost);
+    is_valid(rt, domain, problem, solution.plan_text.as_str(), cost)?;
+    let bound = Dist::fin(cost).ok_or("a cost of at most 2^62")?;
+    certifies(rt, domain, problem, &solution.cert, bound)
+}
+
+/// The cheapest plan that a schedule of this seed gives.
+pub(crate) fn solution<R: Abort + AllocGlobal>(
+    rt: &R,
+    domain: &str,
+    problem: &str,
+    options: &Options,
+    seed: u64,
+) -> Result<PlanningSolution, Fail> {
+    match simulate(rt, domain.as_bytes(), problem.as_bytes(), options, seed)? {
+        PlanningAnswer::Solved(solution) => Ok(solution),
+        PlanningAnswer::Unsolvable(_) => panic!(rt; "unsolvable by seed {seed}"),
+        PlanningAnswer::Limit => panic!(rt; "unsettled by seed {seed}"),
+    }
+}
+
+/// Checks the plans and certificates of all seeds.
+fn costs_by<R: Abort + AllocGlobal>(
+    rt: &R,
+    domain: &str,
+    problem: &str,
+    options: &Options,
+    cost: u64,
+) -> Result<(), Fail> {
+    for seed in 0..SEEDS {
+        let solution = solution(rt, domain, problem, options, seed)?;
+        is_cheapest(rt, domain, problem, &solution, cost)?;
+    }
+    Ok(())
+}
+
+/// So many workers, with tables of that size.
+fn options(workers: usize, table: usize) -> Options
+    requires some { 1 ≤ workers }
+    requires few { workers ≤ 64 }
+    requires some_table { 1 ≤ table }
+    requires small_table { table ≤ 2 ^ 24 }
+{
+    Options::new().with_workers(workers).with_table(table)
+}
+
+/// Checks that one, two and five workers with tables of that size solve the task of two texts at this cost, by each seed.
+pub(crate) fn costs_with_tables<R: Abort + AllocGlobal>(
+    rt: &R,
+    domain: &str,
+    problem: &str,
+    cost: u64,
+    table: usize,
+) -> Result<(), Fail>
+    requires some { 1 ≤ table }
+    requires small { table ≤ 2 ^ 24 }
+{
+    costs_by(rt, domain, problem, &options(1, table), cost)?;
+    costs_by(rt, domain, problem, &options(2, table), cost)?;
+    costs_by(rt, domain, problem, &options(5, table), cost)
+}
+
+/// Checks that one, two and five workers solve the task of two texts at this cost, by each seed.
+pub(crate) fn costs<R: Abort + AllocGlobal>(
+    rt: &R,
+    domain: &str,
+    problem: &str,
+    cost: u64,
+) -> Result<(), Fail> {
+    costs_with_tables(rt, domain, problem, cost, TABLE)
+}
+
+/// Checks that by no seed there is a plan, and the certificates of that.
+fn unsolvable_by<R: Abort + AllocGlobal>(
+    rt: &R,
+    domain: &str,
+    problem: &str,
+    options: &Options,
+) -> Result<(), Fail> {
+    for seed in 0..SEEDS {
+        match simulate(rt, domain.as_bytes(), problem.as_bytes(), options, seed)? {
+            PlanningAnswer::Unsolvable(cert) => {
+                certifies(rt, domain, problem, &cert, Dist::inf())?;
+            }
+            PlanningAnswer::Solved(_) => panic!(rt; "solved by seed {seed}"),
+            PlanningAnswer::Limit => panic!(rt; "unsettled by seed {seed}"),
+        }
+    }
+    Ok(())
+}
+
+/// Checks that one, two and five workers find by each seed that the task of two texts has no plan.
+pub(crate) fn unsolvable<R: Abort + AllocGlobal>(
+    rt: &R,
+    domain: &str,
+    problem: &str,
+) -> Result<(), Fail> {
+    unsolvable_by(rt, domain, problem, &options(1, TABLE))?;
+    unsolvable_by(rt, domain, problem, &options(2, TABLE))?;
+    unsolvable_by(rt, domain, problem, &options(5, TABLE))
+}
