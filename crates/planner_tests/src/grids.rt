@@ -1,6 +1,7 @@
 //! Cells to be visited, and a maze.
 
-use crate::rows::{costs, costs_with_tables};
+use crate::rows::{costs, costs_by};
+use planner::Options;
 use std::test::Fail;
 
 const VISIT_ALL: &str = "(define (domain visit-all)
@@ -19,6 +20,7 @@ const FOUR_CELLS: &str = "(define (problem four) (:domain visit-all)
  (:goal (and (visited a1) (visited a2) (visited b1) (visited b2))))
 ";
 
+/// From the corner row by row, each other cell once: 8.
 const NINE_CELLS: &str = "(define (problem nine) (:domain visit-all)
  (:objects a1 a2 a3 b1 b2 b3 c1 c2 c3 - cell)
  (:init (here a1) (visited a1)
@@ -32,9 +34,6 @@ const NINE_CELLS: &str = "(define (problem nine) (:domain visit-all)
   (visited c1) (visited c2) (visited c3))))
 ";
 
-/// As many abstract states as a table has for nine cells, so that the test takes seconds.
-const SMALL_TABLE: usize = 20;
-
 #[test]
 fn four_cells(rt: HostRuntime) -> Result<(), Fail> {
     // Round the square, each other cell once.
@@ -42,9 +41,36 @@ fn four_cells(rt: HostRuntime) -> Result<(), Fail> {
 }
 
 #[test]
-fn nine_cells(rt: HostRuntime) -> Result<(), Fail> {
-    // From the corner row by row, each other cell once.
-    costs_with_tables(&rt, VISIT_ALL, NINE_CELLS, 8, SMALL_TABLE)
+fn nine_cells_with_one_worker(rt: HostRuntime) -> Result<(), Fail> {
+    costs_by(
+        &rt,
+        VISIT_ALL,
+        NINE_CELLS,
+        &Options::new().with_workers(1),
+        8,
+    )
+}
+
+#[test]
+fn nine_cells_with_two_workers(rt: HostRuntime) -> Result<(), Fail> {
+    costs_by(
+        &rt,
+        VISIT_ALL,
+        NINE_CELLS,
+        &Options::new().with_workers(2),
+        8,
+    )
+}
+
+#[test]
+fn nine_cells_with_five_workers(rt: HostRuntime) -> Result<(), Fail> {
+    costs_by(
+        &rt,
+        VISIT_ALL,
+        NINE_CELLS,
+        &Options::new().with_workers(5),
+        8,
+    )
 }
 
 /// Passages lead one way.

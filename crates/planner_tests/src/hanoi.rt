@@ -44,12 +44,16 @@ const FOUR_DISCS: &str = "(define (problem four) (:domain hanoi)
 ";
 
 /// As many abstract states as a table has for the higher towers, so that a test takes seconds.
-const SMALL_TABLE: usize = 10;
+const SMALL_TABLE: usize = 7;
 
 #[test]
-fn up_to_three_discs(rt: HostRuntime) -> Result<(), Fail> {
+fn up_to_two_discs(rt: HostRuntime) -> Result<(), Fail> {
     costs(&rt, DOMAIN, ONE_DISC, 1)?;
-    costs(&rt, DOMAIN, TWO_DISCS, 3)?;
+    costs(&rt, DOMAIN, TWO_DISCS, 3)
+}
+
+#[test]
+fn three_discs(rt: HostRuntime) -> Result<(), Fail> {
     costs_with_tables(&rt, DOMAIN, THREE_DISCS, 7, SMALL_TABLE)
 }
 

@@ -32,6 +32,7 @@ pub(crate) fn certifies<R: Abort + AllocGlobal>(
 }
 
 /// Checks that the text is a valid plan at this cost.
+#[tactic(auto, unfolding(validate::specs::Verdicts::CostsAtMost))]
 pub(crate) fn is_valid<R: Abort + AllocGlobal>(
     rt: &R,
     domain: &str,
@@ -77,8 +78,8 @@ pub(crate) fn solution<R: Abort + AllocGlobal>(
     }
 }
 
-/// Checks the plans and certificates of all seeds.
-fn costs_by<R: Abort + AllocGlobal>(
+/// Checks that the task of two texts is solved at this cost by each seed.
+pub(crate) fn costs_by<R: Abort + AllocGlobal>(
     rt: &R,
     domain: &str,
     problem: &str,
