@@ -1,3 +1,4 @@
 pub mod Reached
 pub mod Entries
 pub mod TakingBack
+pub mod Reaching

@@ -11,3 +11,4 @@ pub mod Ending
 pub mod Counting
 pub mod Choosing
 pub mod Changing
+pub mod Remaining

@@ -1,6 +1,6 @@
 //! The world of the owners.
 
-ghost use Rattle.std.specs.Prelude.{◌≡◌, ℕ, ◌<◌, ◌-◌, ◌^◌, min, List, [], Option, false, map, length, slice_get, replicate, IfOk, IfErr, MatchResult};
+ghost use Rattle.std.specs.Prelude.{◌≡◌, ◌≢◌, ℕ, ◌<◌, ◌-◌, ◌^◌, min, List, [], Option, false, map, length, slice_get, replicate, IfOk, IfErr, MatchResult};
 ghost use Rattle.fdr.specs.Tasks.{ranges, IsState};
 ghost use Rattle.families.specs.Worlds as machine;
 ghost use Rattle.cost.specs.Distances.{Distance};
@@ -8,7 +8,7 @@ ghost use Rattle.families.specs.Worlds.{world_start, family_of, IsQuiet};
 ghost use Rattle.owner.specs.Spaces.{searched};
 ghost use Rattle.netcore.specs.declared.step.WorldStep.{WorldStep};
 ghost use Rattle.netcore.specs.Worlds.{space_in, left_in, world_after_run, Shows, Steps, IsAfter, IsStepRefusal, IsRunRefusal};
-ghost use Rattle.netcore.specs.Possible.{would_change};
+ghost use Rattle.netcore.specs.Possible.{would_change, possible_steps};
 ghost use Rattle.netcore.specs.Kept.{IsStepDone, IsStepRefused};
 ghost use Rattle.netcore.specs.Starts.{IsFirstOwner};
 ghost use Rattle.netcore.specs.declared.step.WorldStep.TheVariants.{Expand, Send, Deliver, Offer, Look, Rest};
@@ -278,11 +278,13 @@ impl<'a, S: Spread + Drop> World<'a, S> {
         Ok(world)
     }
 
-    /// The number of messages that were made and not taken, and of owners that are not at rest, at most 2^128 - 1.
+    /// The number of messages that were made and not taken, and of owners that are not at rest, at most 2^128 - 1. While it is not 0, some
+    /// step would change something.
     pub fn count(&self) -> u128
         ensures count { (world : machine.World) → Shows S.owner self.now world → result ≡ min (machine.count (space_in S.owner self.now) world) (2 ^ 128 - 1) }
         ensures quiet { result ≡ 0 → (asked : List WorldStep) (after : IsAfter S.owner (space_in S.owner self.now) asked self.now) →
             IsQuiet (space_in S.owner self.now) (world_after_run (space_in S.owner self.now) after.steps) }
+        ensures possible { result ≢ 0 → 0 < length (possible_steps S.owner self.now) }
     {
         let first = &self.owners[0];
         first.recall();

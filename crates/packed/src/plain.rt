@@ -4,12 +4,16 @@ ghost use Rattle.std.specs.Prelude.{◌≡◌, ◌↔◌, ℕ, List, length, IsT
 
 use crate::form::StateForm;
 use crate::layout::Layout;
+use smallvec::SmallVec;
 use std::alloc::{AllocError, Global};
 
-/// A state as the list of its values, 4 bytes each.
+/// How many values lie in the form itself. A form takes 64 bytes then, a line of most processors' caches.
+const INLINE_VALUES: usize = 12;
+
+/// A state as the list of its values, 4 bytes each: 12 values at most lie in the form itself, and more in an allocation of their own.
 #[derive(Drop, Debug, PartialEq, Eq, Hash)]
 pub struct Plain {
-    values: Vec<u32>,
+    values: SmallVec<u32, INLINE_VALUES>,
 }
 
 impl StateForm for Plain {
@@ -29,27 +33,27 @@ impl StateForm for Plain {
     fn pack(alloc: Global, layout: &Layout, state: &[u32]) -> Result<Plain, AllocError> {
         let _ = layout;
         Ok(Plain {
-            values: Vec::from_slice(alloc, state)?,
+            values: SmallVec::from_slice(alloc, state)?,
         })
     }
 
     fn is_form(&self, layout: &Layout) -> bool {
-        layout.is_state(&self.values)
+        layout.is_state(self.values.as_slice())
     }
 
     fn repack(&mut self, layout: &Layout, state: &[u32]) {
         let _ = layout;
-        self.values.copy_from_slice(state);
+        self.values.as_mut_slice().copy_from_slice(state);
     }
 
     fn unpack(&self, layout: &Layout, state: &mut [u32]) {
         let _ = layout;
-        state.copy_from_slice(&self.values);
+        state.copy_from_slice(self.values.as_slice());
     }
 
     fn copy(&self, alloc: Global) -> Result<Plain, AllocError> {
         Ok(Plain {
-            values: Vec::from_slice(alloc, &self.values)?,
+            values: SmallVec::from_slice(alloc, self.values.as_slice())?,
         })
     }
 }

@@ -54,6 +54,20 @@ fn plain_states(rt: HostRuntime) -> Result<(), Fail> {
     keeps_states::<Plain>(&rt, rt.alloc(), &layout, &[1, 2], &[1, 0])
 }
 
+/// States of the most values that lie in a form, and of one more.
+#[test]
+fn wide_states(rt: HostRuntime) -> Result<(), Fail> {
+    for width in [12, 13] {
+        let first = vec![in rt.alloc(); 0u32; width]?;
+        let second = vec![in rt.alloc(); 2u32; width]?;
+        let task = task(&rt, rt.alloc(), &vec![in rt.alloc(); 3; width]?, &first)?;
+        let layout = Layout::new(rt.alloc(), &task)?;
+        assert!(rt; layout.is_state(&first) && layout.is_state(&second));
+        keeps_states::<Plain>(&rt, rt.alloc(), &layout, &first, &second)?;
+    }
+    Ok(())
+}
+
 #[test]
 fn states_of_no_values(rt: HostRuntime) -> Result<(), Fail> {
     let task = task(&rt, rt.alloc(), &[], &[])?;

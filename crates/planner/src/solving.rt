@@ -7,7 +7,7 @@ ghost use Rattle.pddl.specs.Texts.{SpellTask};
 ghost use Rattle.translate.specs.Translated.{IsTranslation, HasSamePlans};
 ghost use Rattle.planning_kind.specs.Kinds.{translation_kind};
 ghost use Rattle.solver.specs.Findings.{IsSolution, IsTrueOf};
-ghost use Rattle.solver.specs.Searches.{IsSettledAfter, IsShortAfter, IsRefusedAfter, IsSettledBySome, IsShortBySome, IsRefusedBySome};
+ghost use Rattle.solver.specs.Searches.{IsSettledAfter, IsShortAfter, IsRefusedAfter, IsSettledBySeed, IsShortBySeed, IsRefusedBySeed};
 ghost use Rattle.planner.specs.Answers.{IsPlanningAnswer, IsPlanningRefusal, IsPlanningSolution, HasTextsOf};
 
 use crate::fault::PlanningFault;
@@ -110,8 +110,8 @@ pub fn solve_steps<R: AllocGlobal>(
     Ok(answer_texts(alloc, &translated, found)?)
 }
 
-/// The answer for the task of two texts, after steps that are drawn from a seed, as many as the options allow. What is promised is what
-/// `solve_steps` promises of the steps drawn.
+/// The answer for the task of two texts, after the steps that the seed draws, as many as the options allow: each is the next word of
+/// Xoshiro256++ modulo the number of steps that would change something. What is promised is what `solve_steps` promises of these steps.
 pub fn simulate<R: AllocGlobal>(
     rt: &R,
     domain: &[u8],
@@ -119,8 +119,8 @@ pub fn simulate<R: AllocGlobal>(
     options: &Options,
     seed: u64,
 ) -> Result<PlanningAnswer, PlanningFault>
-    ensures answer { IfOk result (IsPlanningAnswer domain.now problem.now (IsSettledBySome options.now) (IsShortBySome options.now)) }
-    ensures refused { IfErr result (IsPlanningRefusal domain.now problem.now (IsRefusedBySome options.now)) }
+    ensures answer { IfOk result (IsPlanningAnswer domain.now problem.now (IsSettledBySeed options.now seed) (IsShortBySeed options.now seed)) }
+    ensures refused { IfErr result (IsPlanningRefusal domain.now problem.now (IsRefusedBySeed options.now seed)) }
 {
     let alloc = rt.alloc();
     let Prepared { translated, kind } = prepare(alloc, domain, problem)?;

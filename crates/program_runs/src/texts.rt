@@ -26,6 +26,13 @@ pub const ROAD_PROBLEM_AT_ITS_GOAL: &str = "(define (problem r1) (:domain road)
  (:goal (at a)))
 ";
 
+/// A road from each of two places to the third, and the goal at one that no road leads to.
+pub const ROAD_PROBLEM_WITHOUT_WAY: &str = "(define (problem r1) (:domain road)
+ (:objects a b c - loc)
+ (:init (at a) (road a b) (road c b))
+ (:goal (at c)))
+";
+
 /// Goes along roads; a step costs the road's length.
 pub const DRIVE_DOMAIN: &str = "(define (domain drive)
  (:requirements :typing)
@@ -99,6 +106,15 @@ begin_variable\nvar0\n-1\n3\nAtom at(a)\nAtom at(b)\nAtom at(c)\nend_variable\n\
 1\nbegin_mutex_group\n3\n0 0\n0 1\n0 2\nend_mutex_group\nbegin_state\n0\nend_state\n\
 begin_goal\n1\n0 2\nend_goal\n2\nbegin_operator\ngo a b\n0\n1\n0 0 0 1\n1\nend_operator\n\
 begin_operator\ngo b c\n0\n1\n0 0 1 2\n1\nend_operator\n0\n";
+
+/// Four places: from a to b and to c, and from each of these to d, the goal; each step costs 1.
+pub const SQUARE_SAS: &str = "begin_version\n3\nend_version\nbegin_metric\n0\nend_metric\n1\n\
+begin_variable\nvar0\n-1\n4\nAtom at(a)\nAtom at(b)\nAtom at(c)\nAtom at(d)\nend_variable\n\
+0\nbegin_state\n0\nend_state\nbegin_goal\n1\n0 3\nend_goal\n4\n\
+begin_operator\ngo a b\n0\n1\n0 0 0 1\n1\nend_operator\n\
+begin_operator\ngo a c\n0\n1\n0 0 0 2\n1\nend_operator\n\
+begin_operator\ngo b d\n0\n1\n0 0 1 3\n1\nend_operator\n\
+begin_operator\ngo c d\n0\n1\n0 0 2 3\n1\nend_operator\n0\n";
 
 /// Every plan of `ROAD_SAS` costs at least 2: a search that closed a and b, without a heuristic.
 pub const ROAD_CERTIFICATE: &str =

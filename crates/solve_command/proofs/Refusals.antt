@@ -2,7 +2,7 @@
 use Rattle.std.proofs.Common.{◌≡◌, ◌≢◌, ℕ, List, ◌∙◌, ◌⊎◌, arith, inl, inr}
 use Rattle.device.specs.Events.{Event}
 use Rattle.solver.specs.Choices.{Choices}
-use Rattle.solver.specs.Searches.{IsSettledBySome, IsShortBySome}
+use Rattle.solver.specs.Searches.{IsSettledBySeed, IsShortBySeed}
 use Rattle.solver.specs.SasAnswers.{IsSasAnswer}
 use Rattle.solver.specs.declared.sas.SasAnswer.{SasAnswer}
 use Rattle.planner.specs.Answers.{IsPlanningAnswer}
@@ -18,53 +18,53 @@ use Rattle.solve_command.specs.Texts.{IsAnsweredBy, IsSasAnsweredBy}
 use Rattle.solve_command.proofs.Replying.{Replies}
 
 -- a refusal is no failure of the device
-pub solve_refusal_status : (domain problem : List ℕ) (choices : Choices) (e : Fault) → IsSolveRefusal domain problem choices e → fault_status e ≢ 7
-solve_refusal_status domain problem choices OutOfMemory refused = λ seven. absurd (omega arith)
-solve_refusal_status domain problem choices (CannotRead file) refused = elim refused [ ]
-solve_refusal_status domain problem choices (CannotWrite file) refused = elim refused [ ]
-solve_refusal_status domain problem choices (Task e word) refused = λ seven. absurd (omega arith)
-solve_refusal_status domain problem choices (Plan e) refused = elim refused [ ]
-solve_refusal_status domain problem choices (Sas e) refused = elim refused [ ]
-solve_refusal_status domain problem choices (Cert e) refused = elim refused [ ]
-solve_refusal_status domain problem choices GroundLimit refused = λ seven. absurd (omega arith)
-solve_refusal_status domain problem choices (TaskTooLarge table) refused = λ seven. absurd (omega arith)
-solve_refusal_status domain problem choices TotalTooLarge refused = λ seven. absurd (omega arith)
+pub solve_refusal_status : (domain problem : List ℕ) (choices : Choices) (seed : ℕ) (e : Fault) → IsSolveRefusal domain problem choices seed e → fault_status e ≢ 7
+solve_refusal_status domain problem choices seed OutOfMemory refused = λ seven. absurd (omega arith)
+solve_refusal_status domain problem choices seed (CannotRead file) refused = elim refused [ ]
+solve_refusal_status domain problem choices seed (CannotWrite file) refused = elim refused [ ]
+solve_refusal_status domain problem choices seed (Task e word) refused = λ seven. absurd (omega arith)
+solve_refusal_status domain problem choices seed (Plan e) refused = elim refused [ ]
+solve_refusal_status domain problem choices seed (Sas e) refused = elim refused [ ]
+solve_refusal_status domain problem choices seed (Cert e) refused = elim refused [ ]
+solve_refusal_status domain problem choices seed GroundLimit refused = λ seven. absurd (omega arith)
+solve_refusal_status domain problem choices seed (TaskTooLarge table) refused = λ seven. absurd (omega arith)
+solve_refusal_status domain problem choices seed TotalTooLarge refused = λ seven. absurd (omega arith)
 
 -- a refusal is no failure of the device
-pub sas_refusal_status : (sas : List ℕ) (choices : Choices) (e : Fault) → IsSasSolveRefusal sas choices e → fault_status e ≢ 7
-sas_refusal_status sas choices OutOfMemory refused = λ seven. absurd (omega arith)
-sas_refusal_status sas choices (CannotRead file) refused = elim refused [ ]
-sas_refusal_status sas choices (CannotWrite file) refused = elim refused [ ]
-sas_refusal_status sas choices (Task e word) refused = elim refused [ ]
-sas_refusal_status sas choices (Plan e) refused = elim refused [ ]
-sas_refusal_status sas choices (Sas e) refused = λ seven. absurd (omega arith)
-sas_refusal_status sas choices (Cert e) refused = elim refused [ ]
-sas_refusal_status sas choices GroundLimit refused = elim refused [ ]
-sas_refusal_status sas choices (TaskTooLarge table) refused = elim refused [ ]
-sas_refusal_status sas choices TotalTooLarge refused = λ seven. absurd (omega arith)
+pub sas_refusal_status : (sas : List ℕ) (choices : Choices) (seed : ℕ) (e : Fault) → IsSasSolveRefusal sas choices seed e → fault_status e ≢ 7
+sas_refusal_status sas choices seed OutOfMemory refused = λ seven. absurd (omega arith)
+sas_refusal_status sas choices seed (CannotRead file) refused = elim refused [ ]
+sas_refusal_status sas choices seed (CannotWrite file) refused = elim refused [ ]
+sas_refusal_status sas choices seed (Task e word) refused = elim refused [ ]
+sas_refusal_status sas choices seed (Plan e) refused = elim refused [ ]
+sas_refusal_status sas choices seed (Sas e) refused = λ seven. absurd (omega arith)
+sas_refusal_status sas choices seed (Cert e) refused = elim refused [ ]
+sas_refusal_status sas choices seed GroundLimit refused = elim refused [ ]
+sas_refusal_status sas choices seed (TaskTooLarge table) refused = elim refused [ ]
+sas_refusal_status sas choices seed TotalTooLarge refused = λ seven. absurd (omega arith)
 
 -- what follows the reading of a planning task
-abbrev pub FollowsTask : List ℕ → List ℕ → Choices → OutputFiles → List Event → ℕ → Type 0
-FollowsTask domain problem choices files later status =
-    ((answer : PlanningAnswer) × IsPlanningAnswer domain problem (IsSettledBySome choices) (IsShortBySome choices) answer
+abbrev pub FollowsTask : List ℕ → List ℕ → Choices → ℕ → OutputFiles → List Event → ℕ → Type 0
+FollowsTask domain problem choices seed files later status =
+    ((answer : PlanningAnswer) × IsPlanningAnswer domain problem (IsSettledBySeed choices seed) (IsShortBySeed choices seed) answer
     × (later ≡ outputs files answer) × (status ≡ answer_status answer))
-    ⊎ ((e : Fault) × IsSolveRefusal domain problem choices e × (status ≡ fault_status e) × IsQuiet later)
+    ⊎ ((e : Fault) × IsSolveRefusal domain problem choices seed e × (status ≡ fault_status e) × IsQuiet later)
 
-pub replied_answers : (domain problem : List ℕ) (choices : Choices) (files : OutputFiles) (later : List Event) (status : ℕ)
-    → Replies (IsAnsweredBy domain problem choices) (IsSolveRefusal domain problem choices) files later status → FollowsTask domain problem choices files later status
-replied_answers domain problem choices files later status (inl r) =
+pub replied_answers : (domain problem : List ℕ) (choices : Choices) (seed : ℕ) (files : OutputFiles) (later : List Event) (status : ℕ)
+    → Replies (IsAnsweredBy domain problem choices seed) (IsSolveRefusal domain problem choices seed) files later status → FollowsTask domain problem choices seed files later status
+replied_answers domain problem choices seed files later status (inl r) =
     inl (r.1.answer, r.1.holds, r.2 ∙ r.1.outputs_are files, r.3 ∙ r.1.status_is)
-replied_answers domain problem choices files later status (inr r) = inr r
+replied_answers domain problem choices seed files later status (inr r) = inr r
 
 -- what follows the reading of a finite-domain task
-abbrev pub FollowsSas : List ℕ → Choices → OutputFiles → List Event → ℕ → Type 0
-FollowsSas sas choices files later status =
-    ((answer : SasAnswer) × IsSasAnswer sas (IsSettledBySome choices) (IsShortBySome choices) answer
+abbrev pub FollowsSas : List ℕ → Choices → ℕ → OutputFiles → List Event → ℕ → Type 0
+FollowsSas sas choices seed files later status =
+    ((answer : SasAnswer) × IsSasAnswer sas (IsSettledBySeed choices seed) (IsShortBySeed choices seed) answer
     × (later ≡ sas_outputs files answer) × (status ≡ sas_answer_status answer))
-    ⊎ ((e : Fault) × IsSasSolveRefusal sas choices e × (status ≡ fault_status e) × IsQuiet later)
+    ⊎ ((e : Fault) × IsSasSolveRefusal sas choices seed e × (status ≡ fault_status e) × IsQuiet later)
 
-pub replied_sas : (sas : List ℕ) (choices : Choices) (files : OutputFiles) (later : List Event) (status : ℕ)
-    → Replies (IsSasAnsweredBy sas choices) (IsSasSolveRefusal sas choices) files later status → FollowsSas sas choices files later status
-replied_sas sas choices files later status (inl r) =
+pub replied_sas : (sas : List ℕ) (choices : Choices) (seed : ℕ) (files : OutputFiles) (later : List Event) (status : ℕ)
+    → Replies (IsSasAnsweredBy sas choices seed) (IsSasSolveRefusal sas choices seed) files later status → FollowsSas sas choices seed files later status
+replied_sas sas choices seed files later status (inl r) =
     inl (r.1.answer, r.1.holds, r.2 ∙ r.1.outputs_are files, r.3 ∙ r.1.status_is)
-replied_sas sas choices files later status (inr r) = inr r
+replied_sas sas choices seed files later status (inr r) = inr r

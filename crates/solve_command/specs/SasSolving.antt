@@ -3,7 +3,7 @@ use Rattle.std.specs.Prelude.{◌≡◌, ℕ, ◌⊎◌, List, [], ◌∷◌, �
 use Rattle.std.specs.String.{string_bytes}
 use Rattle.device.specs.Events.{Event, HasRead, HasPut}
 use Rattle.solver.specs.Choices.{Choices}
-use Rattle.solver.specs.Searches.{IsSettledBySome, IsShortBySome, IsRefusedBySome}
+use Rattle.solver.specs.Searches.{IsSettledBySeed, IsShortBySeed, IsRefusedBySeed}
 use Rattle.solver.specs.SasAnswers.{IsSasAnswer, IsSasRefusal}
 use Rattle.solver.specs.declared.fault.SasSolveFault.TheVariants as solve
 use Rattle.solver.specs.declared.sas.SasAnswer.{SasAnswer}
@@ -27,23 +27,23 @@ sas_answer_status (Unsolvable cert) = 4
 sas_answer_status Limit = 5
 
 -- a fault of the solver is reported as this
-abbrev pub IsSasSolveRefusal : List ℕ → Choices → Fault → Type 0
-IsSasSolveRefusal sas choices OutOfMemory = Unit {0}
-IsSasSolveRefusal sas choices (CannotRead file) = ⊥
-IsSasSolveRefusal sas choices (CannotWrite file) = ⊥
-IsSasSolveRefusal sas choices (Task e word) = ⊥
-IsSasSolveRefusal sas choices (Plan e) = ⊥
-IsSasSolveRefusal sas choices (Sas e) = IsSasRefusal sas (IsRefusedBySome choices) (solve.Sas e)
-IsSasSolveRefusal sas choices (Cert e) = ⊥
-IsSasSolveRefusal sas choices GroundLimit = ⊥
-IsSasSolveRefusal sas choices (TaskTooLarge table) = ⊥
-IsSasSolveRefusal sas choices TotalTooLarge = IsSasRefusal sas (IsRefusedBySome choices) solve.TotalTooLarge
+abbrev pub IsSasSolveRefusal : List ℕ → Choices → ℕ → Fault → Type 0
+IsSasSolveRefusal sas choices seed OutOfMemory = Unit {0}
+IsSasSolveRefusal sas choices seed (CannotRead file) = ⊥
+IsSasSolveRefusal sas choices seed (CannotWrite file) = ⊥
+IsSasSolveRefusal sas choices seed (Task e word) = ⊥
+IsSasSolveRefusal sas choices seed (Plan e) = ⊥
+IsSasSolveRefusal sas choices seed (Sas e) = IsSasRefusal sas (IsRefusedBySeed choices seed) (solve.Sas e)
+IsSasSolveRefusal sas choices seed (Cert e) = ⊥
+IsSasSolveRefusal sas choices seed GroundLimit = ⊥
+IsSasSolveRefusal sas choices seed (TaskTooLarge table) = ⊥
+IsSasSolveRefusal sas choices seed TotalTooLarge = IsSasRefusal sas (IsRefusedBySeed choices seed) solve.TotalTooLarge
 
 -- The file is read, and then an answer is written and put out, or the text is refused.
-pub record SolvesSas (old new : List Event) (sas : List ℕ) (choices : Choices) (files : OutputFiles) (status : ℕ) : Type 0 where
+pub record SolvesSas (old new : List Event) (sas : List ℕ) (choices : Choices) (seed : ℕ) (files : OutputFiles) (status : ℕ) : Type 0 where
   pub sas_text : List ℕ
   pub later : List Event
   pub events : new ≡ old ++ (HasRead sas sas_text ∷ later)
-  pub follows : ((answer : SasAnswer) × IsSasAnswer sas_text (IsSettledBySome choices) (IsShortBySome choices) answer
+  pub follows : ((answer : SasAnswer) × IsSasAnswer sas_text (IsSettledBySeed choices seed) (IsShortBySeed choices seed) answer
       × (later ≡ sas_outputs files answer) × (status ≡ sas_answer_status answer))
-      ⊎ ((e : Fault) × IsSasSolveRefusal sas_text choices e × (status ≡ fault_status e) × IsQuiet later)
+      ⊎ ((e : Fault) × IsSasSolveRefusal sas_text choices seed e × (status ≡ fault_status e) × IsQuiet later)

@@ -3,7 +3,7 @@ use Rattle.std.specs.Prelude.{◌≡◌, ℕ, ◌⊎◌, List, [], ◌∷◌, �
 use Rattle.std.specs.String.{string_bytes}
 use Rattle.device.specs.Events.{Event, HasPut}
 use Rattle.solver.specs.Choices.{Choices}
-use Rattle.solver.specs.Searches.{IsSettledBySome, IsShortBySome, IsRefusedBySome}
+use Rattle.solver.specs.Searches.{IsSettledBySeed, IsShortBySeed, IsRefusedBySeed}
 use Rattle.planner.specs.Answers.{IsPlanningAnswer, IsPlanningRefusal}
 use Rattle.planner.specs.declared.fault.PlanningFault.TheVariants as planning
 use Rattle.planner.specs.declared.solving.PlanningAnswer.{PlanningAnswer}
@@ -28,24 +28,24 @@ answer_status (Unsolvable cert) = 4
 answer_status Limit = 5
 
 -- a fault of the planner is reported as this
-abbrev pub IsSolveRefusal : List ℕ → List ℕ → Choices → Fault → Type 0
-IsSolveRefusal domain problem choices OutOfMemory = Unit {0}
-IsSolveRefusal domain problem choices (CannotRead file) = ⊥
-IsSolveRefusal domain problem choices (CannotWrite file) = ⊥
-IsSolveRefusal domain problem choices (Task e word) = IsTaskReport domain problem (Task e word)
-IsSolveRefusal domain problem choices (Plan e) = ⊥
-IsSolveRefusal domain problem choices (Sas e) = ⊥
-IsSolveRefusal domain problem choices (Cert e) = ⊥
-IsSolveRefusal domain problem choices GroundLimit = IsPlanningRefusal domain problem (IsRefusedBySome choices) planning.GroundLimit
-IsSolveRefusal domain problem choices (TaskTooLarge table) = IsPlanningRefusal domain problem (IsRefusedBySome choices) (planning.TaskTooLarge table)
-IsSolveRefusal domain problem choices TotalTooLarge = IsPlanningRefusal domain problem (IsRefusedBySome choices) planning.TotalTooLarge
+abbrev pub IsSolveRefusal : List ℕ → List ℕ → Choices → ℕ → Fault → Type 0
+IsSolveRefusal domain problem choices seed OutOfMemory = Unit {0}
+IsSolveRefusal domain problem choices seed (CannotRead file) = ⊥
+IsSolveRefusal domain problem choices seed (CannotWrite file) = ⊥
+IsSolveRefusal domain problem choices seed (Task e word) = IsTaskReport domain problem (Task e word)
+IsSolveRefusal domain problem choices seed (Plan e) = ⊥
+IsSolveRefusal domain problem choices seed (Sas e) = ⊥
+IsSolveRefusal domain problem choices seed (Cert e) = ⊥
+IsSolveRefusal domain problem choices seed GroundLimit = IsPlanningRefusal domain problem (IsRefusedBySeed choices seed) planning.GroundLimit
+IsSolveRefusal domain problem choices seed (TaskTooLarge table) = IsPlanningRefusal domain problem (IsRefusedBySeed choices seed) (planning.TaskTooLarge table)
+IsSolveRefusal domain problem choices seed TotalTooLarge = IsPlanningRefusal domain problem (IsRefusedBySeed choices seed) planning.TotalTooLarge
 
 -- The two files are read, in this order, and then an answer is written and put out, or one of the texts is refused.
-pub record Solves (old new : List Event) (domain problem : List ℕ) (choices : Choices) (files : OutputFiles) (status : ℕ) : Type 0 where
+pub record Solves (old new : List Event) (domain problem : List ℕ) (choices : Choices) (seed : ℕ) (files : OutputFiles) (status : ℕ) : Type 0 where
   pub domain_text : List ℕ
   pub problem_text : List ℕ
   pub later : List Event
   pub events : new ≡ old ++ (task_reads domain domain_text problem problem_text ++ later)
-  pub follows : ((answer : PlanningAnswer) × IsPlanningAnswer domain_text problem_text (IsSettledBySome choices) (IsShortBySome choices) answer
+  pub follows : ((answer : PlanningAnswer) × IsPlanningAnswer domain_text problem_text (IsSettledBySeed choices seed) (IsShortBySeed choices seed) answer
       × (later ≡ outputs files answer) × (status ≡ answer_status answer))
-      ⊎ ((e : Fault) × IsSolveRefusal domain_text problem_text choices e × (status ≡ fault_status e) × IsQuiet later)
+      ⊎ ((e : Fault) × IsSolveRefusal domain_text problem_text choices seed e × (status ≡ fault_status e) × IsQuiet later)

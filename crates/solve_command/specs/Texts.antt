@@ -4,7 +4,7 @@ use Rattle.std.specs.Option.{option_map}
 use Rattle.std.specs.String.{string_bytes}
 use Rattle.device.specs.Events.{Event, HasPut}
 use Rattle.solver.specs.Choices.{Choices}
-use Rattle.solver.specs.Searches.{IsSettledBySome, IsShortBySome}
+use Rattle.solver.specs.Searches.{IsSettledBySeed, IsShortBySeed}
 use Rattle.solver.specs.SasAnswers.{IsSasAnswer}
 use Rattle.solver.specs.declared.sas.SasAnswer.{SasAnswer}
 use Rattle.planner.specs.Answers.{IsPlanningAnswer}
@@ -43,15 +43,15 @@ text_status (Unsolvable cert) = 4
 text_status Limit = 5
 
 -- these are the texts of an answer for a planning task
-pub record IsAnsweredBy (domain problem : List ℕ) (choices : Choices) (texts : AnswerTexts) : Type 0 where
+pub record IsAnsweredBy (domain problem : List ℕ) (choices : Choices) (seed : ℕ) (texts : AnswerTexts) : Type 0 where
   pub answer : PlanningAnswer
-  pub holds : IsPlanningAnswer domain problem (IsSettledBySome choices) (IsShortBySome choices) answer
+  pub holds : IsPlanningAnswer domain problem (IsSettledBySeed choices seed) (IsShortBySeed choices seed) answer
   pub outputs_are : (files : OutputFiles) → text_outputs files texts ≡ outputs files answer
   pub status_is : text_status texts ≡ answer_status answer
 
 -- these are the texts of an answer for a finite-domain task
-pub record IsSasAnsweredBy (sas : List ℕ) (choices : Choices) (texts : AnswerTexts) : Type 0 where
+pub record IsSasAnsweredBy (sas : List ℕ) (choices : Choices) (seed : ℕ) (texts : AnswerTexts) : Type 0 where
   pub answer : SasAnswer
-  pub holds : IsSasAnswer sas (IsSettledBySome choices) (IsShortBySome choices) answer
+  pub holds : IsSasAnswer sas (IsSettledBySeed choices seed) (IsShortBySeed choices seed) answer
   pub outputs_are : (files : OutputFiles) → text_outputs files texts ≡ sas_outputs files answer
   pub status_is : text_status texts ≡ sas_answer_status answer

@@ -3,7 +3,7 @@
 ghost use Rattle.std.specs.Prelude.{◌≡◌, ◌≢◌, ◌≤◌, ◌+◌, ◌++◌, ℕ, List, Some, IfOk, IfErr};
 ghost use Rattle.device.specs.Events.{Event};
 ghost use Rattle.solver.specs.Choices.{Choices};
-ghost use Rattle.solver.specs.Searches.{IsRefusedBySome};
+ghost use Rattle.solver.specs.Searches.{IsRefusedBySeed};
 ghost use Rattle.solver.specs.SasAnswers.{IsSasRefusal};
 ghost use Rattle.solve_command.specs.Outputs.{OutputFiles};
 ghost use Rattle.solve_command.specs.SasSolving.{sas_outputs, sas_answer_status, IsSasSolveRefusal, SolvesSas};
@@ -29,7 +29,7 @@ fn texts_of(answer: SasAnswer) -> AnswerTexts
 
 /// The solver's fault as it is reported.
 fn solve_fault(fault: SasSolveFault) -> Fault
-    ensures { (sas : List ℕ) (choices : Choices) → IsSasRefusal sas (IsRefusedBySome choices) fault → IsSasSolveRefusal sas choices result }
+    ensures { (sas : List ℕ) (choices : Choices) (seed : ℕ) → IsSasRefusal sas (IsRefusedBySeed choices seed) fault → IsSasSolveRefusal sas choices seed result }
 {
     match fault {
         SasSolveFault::OutOfMemory => Fault::OutOfMemory,
@@ -46,8 +46,8 @@ fn answer_of<R: AllocGlobal>(
     sas: &[u8],
     settings: &Settings<'_>,
 ) -> Result<AnswerTexts, Fault>
-    ensures answer { IfOk result (IsSasAnsweredBy sas.now settings.now.options) }
-    ensures refused { IfErr result (IsSasSolveRefusal sas.now settings.now.options) }
+    ensures answer { IfOk result (IsSasAnsweredBy sas.now settings.now.options settings.now.seed) }
+    ensures refused { IfErr result (IsSasSolveRefusal sas.now settings.now.options settings.now.seed) }
 {
     match simulate_sas(rt, sas, &settings.options, settings.seed) {
         Ok(answer) => Ok(texts_of(answer)),
@@ -67,7 +67,7 @@ pub fn run_solve_sas<D: Device, R: AllocGlobal>(
     settings: &Settings<'_>,
 ) -> u8
     ensures done { (h : List Event) → D.history device.old ≡ Some h → D.failure_count device.new ≡ D.failure_count device.old → result ≢ 6 →
-        (new : List Event) × (D.history device.new ≡ Some new) × SolvesSas h new sas.now settings.now.options (files_of settings.now) result }
+        (new : List Event) × (D.history device.new ≡ Some new) × SolvesSas h new sas.now settings.now.options settings.now.seed (files_of settings.now) result }
     ensures device_failed { result ≡ 7 → D.failure_count device.old + 1 ≤ D.failure_count device.new }
 {
     match read_file(rt.alloc(), device, sas, FileWord::Sas) {

@@ -1,9 +1,9 @@
 //! The command that solves a planning task, over any device.
 
-ghost use Rattle.std.specs.Prelude.{◌≡◌, ◌≢◌, ◌≤◌, ◌+◌, ◌++◌, List, Some, IfOk, IfErr};
+ghost use Rattle.std.specs.Prelude.{◌≡◌, ◌≢◌, ◌≤◌, ◌+◌, ◌++◌, ℕ, List, Some, IfOk, IfErr};
 ghost use Rattle.device.specs.Events.{Event};
 ghost use Rattle.solver.specs.Choices.{Choices};
-ghost use Rattle.solver.specs.Searches.{IsRefusedBySome};
+ghost use Rattle.solver.specs.Searches.{IsRefusedBySeed};
 ghost use Rattle.planner.specs.Answers.{IsPlanningRefusal};
 ghost use Rattle.solve_command.specs.Outputs.{OutputFiles};
 ghost use Rattle.solve_command.specs.Solving.{outputs, answer_status, IsSolveRefusal, Solves};
@@ -32,8 +32,8 @@ fn texts_of(answer: PlanningAnswer) -> AnswerTexts
 
 /// The planner's fault as it is reported.
 fn solve_fault(alloc: Global, fault: PlanningFault, domain: &[u8], problem: &[u8]) -> Fault
-    ensures { (choices : Choices) → IsPlanningRefusal domain.now problem.now (IsRefusedBySome choices) fault →
-        IsSolveRefusal domain.now problem.now choices result }
+    ensures { (choices : Choices) (seed : ℕ) → IsPlanningRefusal domain.now problem.now (IsRefusedBySeed choices seed) fault →
+        IsSolveRefusal domain.now problem.now choices seed result }
 {
     match fault {
         PlanningFault::OutOfMemory => Fault::OutOfMemory,
@@ -53,8 +53,8 @@ fn answer_of<R: AllocGlobal>(
     problem: &[u8],
     settings: &Settings<'_>,
 ) -> Result<AnswerTexts, Fault>
-    ensures answer { IfOk result (IsAnsweredBy domain.now problem.now settings.now.options) }
-    ensures refused { IfErr result (IsSolveRefusal domain.now problem.now settings.now.options) }
+    ensures answer { IfOk result (IsAnsweredBy domain.now problem.now settings.now.options settings.now.seed) }
+    ensures refused { IfErr result (IsSolveRefusal domain.now problem.now settings.now.options settings.now.seed) }
 {
     match simulate(rt, domain, problem, &settings.options, settings.seed) {
         Ok(answer) => Ok(texts_of(answer)),
@@ -76,7 +76,7 @@ pub fn run_solve<D: Device, R: AllocGlobal>(
 ) -> u8
     ensures done { (h : List Event) → D.history device.old ≡ Some h → D.failure_count device.new ≡ D.failure_count device.old → result ≢ 6 →
         (new : List Event) × (D.history device.new ≡ Some new)
-        × Solves h new domain.now problem.now settings.now.options (files_of settings.now) result }
+        × Solves h new domain.now problem.now settings.now.options settings.now.seed (files_of settings.now) result }
     ensures device_failed { result ≡ 7 → D.failure_count device.old + 1 ≤ D.failure_count device.new }
 {
     match read_task_files(rt.alloc(), device, domain, problem) {

@@ -1,15 +1,10 @@
 //! Answers, and what is written beside them.
 
 use crate::runs::{puts, solved};
-use program_runs::texts::{ROAD_DOMAIN, ROAD_PROBLEM, ROAD_PROBLEM_AT_ITS_GOAL, ROAD_SAS};
+use program_runs::texts::{
+    ROAD_DOMAIN, ROAD_PROBLEM, ROAD_PROBLEM_AT_ITS_GOAL, ROAD_PROBLEM_WITHOUT_WAY, ROAD_SAS,
+};
 use std::test::Fail;
-
-/// `ROAD_PROBLEM` with a goal that no road leads to.
-const NO_WAY: &str = "(define (problem r1) (:domain road)
- (:objects a b c - loc)
- (:init (at a) (road a b) (road c b))
- (:goal (at c)))
-";
 
 const PLAN: &str = "(go a b)\n(go b c)\n; cost = 2 (unit cost)\n";
 
@@ -76,7 +71,10 @@ fn answers(rt: HostRuntime) -> Result<(), Fail> {
 
 #[test]
 fn no_way(rt: HostRuntime) -> Result<(), Fail> {
-    let files = [("d", ROAD_DOMAIN.as_bytes()), ("p", NO_WAY.as_bytes())];
+    let files = [
+        ("d", ROAD_DOMAIN.as_bytes()),
+        ("p", ROAD_PROBLEM_WITHOUT_WAY.as_bytes()),
+    ];
     let words = [
         "solve",
         "d",

@@ -8,4 +8,8 @@ mod options;
 #[cfg(test)]
 mod runs;
 #[cfg(test)]
+mod seeds;
+#[cfg(test)]
+mod surroundings;
+#[cfg(test)]
 mod tasks;

@@ -3,8 +3,21 @@
 use command::run;
 use device::{MemoryDevice, Recorded};
 use program_runs::{CALLS_OF_A_RUN, Outcome, program_words, recorded};
+use std::alloc::{AllocError, Global};
 use std::process::Abort;
 use std::test::Fail;
+
+/// The names of the files that were written, in their order, with a space behind each.
+pub(crate) fn written_names(alloc: Global, events: &[Recorded]) -> Result<String, AllocError> {
+    let mut names = String::new(alloc);
+    for event in events {
+        if let Recorded::Written(name, _) = event {
+            names.push_str(name.as_str())?;
+            names.push(' ')?;
+        }
+    }
+    Ok(names)
+}
 
 /// What the program does over these files: what it puts out and reports, its status, and the names of the files that it writes, in their
 /// order, with a space behind each.
@@ -16,13 +29,7 @@ pub(crate) fn solved<R: AllocGlobal>(
     let words = program_words(rt.alloc(), words)?;
     let mut device = MemoryDevice::new(rt.alloc(), files, CALLS_OF_A_RUN);
     let status = run(&words, &mut device, rt);
-    let mut written = String::new(rt.alloc());
-    for event in device.events() {
-        if let Recorded::Written(name, _) = event {
-            written.push_str(name.as_str())?;
-            written.push(' ')?;
-        }
-    }
+    let written = written_names(rt.alloc(), device.events())?;
     Ok((recorded(rt.alloc(), device.events(), status)?, written))
 }
 

@@ -1,5 +1,5 @@
 -- What is found at the end of a world is found of its task.
-use Rattle.std.proofs.Common.{◌≡◌, ℕ, ◌≤◌, List, length, sym, ap, subst, ◌∙◌, inr, Some}
+use Rattle.std.proofs.Common.{◌≡◌, ℕ, ◌≤◌, List, length, sym, ap, subst, ◌∙◌, inl, inr, Some, None}
 use Rattle.cost.specs.Distances.{Distance, Finite, Infinite}
 use Rattle.fdr.specs.Tasks.{FiniteDomainTask, HasNoPlan}
 use Rattle.certificates.specs.Certificates.{Kind}
@@ -13,12 +13,14 @@ use Rattle.owner.specs.Owned.{OwnerOf}
 use Rattle.joined.specs.Ends.{EndOf, IsEndOf, IsSettledAt, space_at}
 use Rattle.joined.proofs.Families.{from_family}
 use Rattle.netcore.specs.declared.step.WorldStep.{WorldStep}
-use Rattle.netcore.specs.Worlds.{WorldOf, IsAfter, space_in, left_in, world_after_run}
+use Rattle.netcore.specs.Worlds.{WorldOf, IsAfter, IsRunRefusal, space_in, left_in, world_after_run}
 use Rattle.solver.specs.Choices.{Choices}
 use Rattle.solver.specs.Findings.{IsFinding, IsFound, IsSettledEnd, IsSolution, IsCertificateOf}
-use Rattle.solver.specs.Schedules.{IsSimulated}
+use Rattle.owner.specs.declared.fault.OwnerFault.TheVariants as owner_fault
+use Rattle.solver.specs.Schedules.{AreDrawn, IsSimulated, IsSimulationRefusal}
 use Rattle.solver.proofs.Schedules.{same_space}
-use Rattle.solver.specs.Searches.{IsSpaceFor, IsWorldAfter, IsSettledAfter, IsShortAfter, IsSettledBySome}
+use Rattle.solver.specs.Searches.{IsSpaceFor, IsWorldAfter, IsSettledAfter, IsShortAfter, IsSettledBySeed, IsShortBySeed, IsRefusedBySeed}
+use Rattle.solver.specs.declared.fault.SearchFault.TheVariants.{TotalTooLarge}
 use Rattle.solver.specs.declared.found.Found.{Found}
 use Rattle.solver.specs.declared.found.Found.TheVariants.{Solved, Unsolvable, Unsettled}
 
@@ -83,16 +85,61 @@ module _ (choices : Choices) (task : FiniteDomainTask) (kind : Kind) (space : Sp
       found
 
   -- after steps that were drawn, where nothing is left to do
-  pub found_after_drawn : (n most : ℕ) (short : Type 0) (w : WorldOf spread.Zobrist) (e : EndOf spread.Zobrist) (f : Found) → n ≡ choices.workers → most ≡ choices.steps
-      → IsSimulated zobrist_owner space n most (Some w) → IsEndOfWorld w e
+  pub found_after_drawn : (n seed most : ℕ) (short : Type 0) (w : WorldOf spread.Zobrist) (e : EndOf spread.Zobrist) (f : Found) → n ≡ choices.workers → most ≡ choices.steps
+      → IsSimulated zobrist_owner space n seed most (Some w) → IsEndOfWorld w e
       → ((before : List WorldStep) (run : IsAfter zobrist_owner (space_in zobrist_owner w) before w) → IsEndOf zobrist_owner e (family_of (world_after_run (space_in zobrist_owner w) run.steps)))
-      → IsFound zobrist_owner e kind f → IsFinding task kind (IsSettledBySome choices task) short f
-  found_after_drawn n most short w e f n_is most_is (steps, after, few, over, owners, whole, quiet) is ends found =
-      let (least, settled) = quiet_settles zobrist_owner w e is (searched zobrist_owner space n) steps (same_space zobrist_owner space n w over owners) after quiet ends in
+      → IsFound zobrist_owner e kind f → IsFinding task kind (IsSettledBySeed choices seed task) short f
+  found_after_drawn n seed most short w e f n_is most_is (steps, drawn, after, few, over, owners, whole, quiet) is ends found =
+      let (least, settled) = quiet_settles zobrist_owner w e is (searched zobrist_owner space n) steps (same_space zobrist_owner space n seed w over owners) after quiet ends in
       let few_steps = subst (λ (k : ℕ). length steps ≤ k) most_is few in
+      let drawn_by = subst (λ (k : ℕ). AreDrawn zobrist_owner space k seed steps) n_is drawn in
       let after_them = subst (λ (k : ℕ). IsAfter zobrist_owner (searched zobrist_owner space k) steps w) n_is after in
-      found_for zobrist_owner e task kind (IsSettledBySome choices task) short f
+      found_for zobrist_owner e task kind (IsSettledBySeed choices seed task) short f
       (ap (λ (sp : SpaceOf spread.Zobrist). sp.task) (is.space ∙ over) ∙ is_space.task_is)
-      (λ bound at. (steps, few_steps, (space, is_space, (w, after_them, world_settled zobrist_owner w e is bound at))))
+      (λ bound at. (steps, space, is_space, drawn_by, few_steps, (w, record { after = after_them; space_is = over; owners = owners ∙ n_is }, world_settled zobrist_owner w e is bound at)))
       (λ never. absurd (never least settled))
       found
+
+  -- after as many steps as may be, where something is left to do
+  pub cut_short : (n seed most : ℕ) → n ≡ choices.workers → most ≡ choices.steps → IsSimulated zobrist_owner space n seed most None
+      → IsShortBySeed choices seed task
+  cut_short n seed most n_is most_is (steps, drawn, w, after, long, over, owners, left) = (
+    steps,
+    space,
+    is_space,
+    subst (λ (k : ℕ). AreDrawn zobrist_owner space k seed steps) n_is drawn,
+    inr (
+      long ∙ most_is,
+      (
+        w,
+        record {
+          after = subst (λ (k : ℕ). IsAfter zobrist_owner (searched zobrist_owner space k) steps w) n_is after;
+          space_is = over;
+          owners = owners ∙ n_is;
+        },
+        left,
+      ),
+    ),
+  )
+
+  -- where an owner is asked to expand more nodes than it may
+  pub stopped_short : (n seed : ℕ) → n ≡ choices.workers → IsSimulationRefusal zobrist_owner space n seed owner_fault.LimitReached
+      → IsShortBySeed choices seed task
+  stopped_short n seed n_is (steps, drawn, refused) = (
+    steps,
+    space,
+    is_space,
+    subst (λ (k : ℕ). AreDrawn zobrist_owner space k seed steps) n_is drawn,
+    inl (subst (λ (k : ℕ). IsRunRefusal zobrist_owner (searched zobrist_owner space k) steps owner_fault.LimitReached) n_is refused),
+  )
+
+  -- where a step leads past the greatest total
+  pub refused_large : (n seed : ℕ) → n ≡ choices.workers → IsSimulationRefusal zobrist_owner space n seed owner_fault.TotalTooLarge
+      → IsRefusedBySeed choices seed task TotalTooLarge
+  refused_large n seed n_is (steps, drawn, refused) = (
+    steps,
+    space,
+    is_space,
+    subst (λ (k : ℕ). AreDrawn zobrist_owner space k seed steps) n_is drawn,
+    subst (λ (k : ℕ). IsRunRefusal zobrist_owner (searched zobrist_owner space k) steps owner_fault.TotalTooLarge) n_is refused,
+  )

@@ -1,5 +1,5 @@
 -- How a search for a task ends: settled at a bound, or stopped short.
-use Rattle.std.specs.Prelude.{◌≡◌, ◌<◌, ◌≤◌, ◌⊎◌, List, length}
+use Rattle.std.specs.Prelude.{◌≡◌, ℕ, ◌<◌, ◌≤◌, ◌⊎◌, List, length}
 use Rattle.cost.specs.Distances.{Distance}
 use Rattle.fdr.specs.Tasks.{FiniteDomainTask}
 use Rattle.families.specs.Worlds as machine
@@ -11,6 +11,7 @@ use Rattle.joined.specs.Ends.{IsSettledAt}
 use Rattle.netcore.specs.declared.step.WorldStep.{WorldStep}
 use Rattle.netcore.specs.Worlds.{WorldOf, Shows, IsAfter, IsRunRefusal, space_in, left_in}
 use Rattle.solver.specs.Choices.{Choices}
+use Rattle.solver.specs.Schedules.{AreDrawn}
 use Rattle.solver.specs.declared.fault.SearchFault.{SearchFault}
 use Rattle.solver.specs.declared.fault.SearchFault.TheVariants.{OutOfMemory, TotalTooLarge}
 
@@ -19,9 +20,11 @@ pub record IsSpaceFor (task : FiniteDomainTask) (choices : Choices) (space : Spa
   pub task_is : space.task ≡ task
   pub limit_is : space.limit ≡ choices.limit
 
--- the world of so many owners after the steps
-abbrev pub IsWorldAfter : SpaceOf spread.Zobrist → Choices → List WorldStep → WorldOf spread.Zobrist → Type 0
-IsWorldAfter space choices steps w = IsAfter zobrist_owner (searched zobrist_owner space choices.workers) steps w
+-- the world of so many owners of the space after the steps
+pub record IsWorldAfter (space : SpaceOf spread.Zobrist) (choices : Choices) (steps : List WorldStep) (w : WorldOf spread.Zobrist) : Type 0 where
+  pub after : IsAfter zobrist_owner (searched zobrist_owner space choices.workers) steps w
+  pub space_is : w.space ≡ space
+  pub owners : length w.owners ≡ choices.workers
 
 -- the owners of a world are settled at the bound
 abbrev pub IsSettledWorld : WorldOf spread.Zobrist → Distance → Type 0
@@ -54,18 +57,26 @@ IsRefusedAfter choices steps task TotalTooLarge =
 
 -- ---- by steps that are drawn
 
--- after some steps, not more than may be, the owners are settled at the bound
-abbrev pub IsSettledBySome : Choices → FiniteDomainTask → Distance → Type 0
-IsSettledBySome choices task bound = (steps : List WorldStep) × (length steps ≤ choices.steps) × IsSettledAfter choices steps task bound
-
--- after as many steps as may be something is left to do, or a step asks an owner to expand more nodes than it may
-abbrev pub IsShortBySome : Choices → FiniteDomainTask → Type 0
-IsShortBySome choices task =
+-- after steps that are drawn from the seed, not more than may be, the owners are settled at the bound
+abbrev pub IsSettledBySeed : Choices → ℕ → FiniteDomainTask → Distance → Type 0
+IsSettledBySeed choices seed task bound =
     (steps : List WorldStep) × (space : SpaceOf spread.Zobrist) × IsSpaceFor task choices space
+    × AreDrawn zobrist_owner space choices.workers seed steps × (length steps ≤ choices.steps)
+    × ((w : WorldOf spread.Zobrist) × IsWorldAfter space choices steps w × IsSettledWorld w bound)
+
+-- after as many steps drawn from the seed as may be something is left to do, or one of the steps asks an owner to expand more nodes than
+-- it may
+abbrev pub IsShortBySeed : Choices → ℕ → FiniteDomainTask → Type 0
+IsShortBySeed choices seed task =
+    (steps : List WorldStep) × (space : SpaceOf spread.Zobrist) × IsSpaceFor task choices space
+    × AreDrawn zobrist_owner space choices.workers seed steps
     × (IsRefusedRun space choices steps owner_fault.LimitReached
     ⊎ ((length steps ≡ choices.steps) × ((w : WorldOf spread.Zobrist) × IsWorldAfter space choices steps w
     × ((world : machine.World) → Shows zobrist_owner w world → 0 < machine.count (space_in zobrist_owner w) world))))
 
--- a step leads past the greatest total, unless memory ran out
-abbrev pub IsRefusedBySome : Choices → FiniteDomainTask → SearchFault → Type 0
-IsRefusedBySome choices task e = (steps : List WorldStep) × IsRefusedAfter choices steps task e
+-- a step that is drawn from the seed leads past the greatest total, unless memory ran out
+abbrev pub IsRefusedBySeed : Choices → ℕ → FiniteDomainTask → SearchFault → Type 0
+IsRefusedBySeed choices seed task OutOfMemory = Unit {0}
+IsRefusedBySeed choices seed task TotalTooLarge =
+    (steps : List WorldStep) × (space : SpaceOf spread.Zobrist) × IsSpaceFor task choices space
+    × AreDrawn zobrist_owner space choices.workers seed steps × IsRefusedRun space choices steps owner_fault.TotalTooLarge

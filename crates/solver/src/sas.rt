@@ -4,7 +4,7 @@ ghost use Rattle.std.specs.Prelude.{◌≡◌, ℕ, List, IfOk, IfErr};
 ghost use Rattle.certificates.specs.Certificates.{FiniteDomain};
 ghost use Rattle.sasfile.specs.SasTexts.{SpellsTask};
 ghost use Rattle.solver.specs.Findings.{IsSolution, IsTrueOf};
-ghost use Rattle.solver.specs.Searches.{IsSettledAfter, IsShortAfter, IsRefusedAfter, IsSettledBySome, IsShortBySome, IsRefusedBySome};
+ghost use Rattle.solver.specs.Searches.{IsSettledAfter, IsShortAfter, IsRefusedAfter, IsSettledBySeed, IsShortBySeed, IsRefusedBySeed};
 ghost use Rattle.solver.specs.SasAnswers.{IsSasAnswer, IsSasRefusal, IsSasSolution, HasTextsOf};
 
 use crate::fault::SasSolveFault;
@@ -109,16 +109,16 @@ pub fn solve_sas_steps<R: AllocGlobal>(
     Ok(answer_texts(alloc, &task, found)?)
 }
 
-/// The answer for the task that the text spells, after steps that are drawn from a seed, as many as the options allow. What is promised is
-/// what `solve_sas_steps` promises of the steps drawn.
+/// The answer for the task that the text spells, after the steps that the seed draws, as many as the options allow: each is the next word of
+/// Xoshiro256++ modulo the number of steps that would change something. What is promised is what `solve_sas_steps` promises of these steps.
 pub fn simulate_sas<R: AllocGlobal>(
     rt: &R,
     sas: &[u8],
     options: &Options,
     seed: u64,
 ) -> Result<SasAnswer, SasSolveFault>
-    ensures answer { IfOk result (IsSasAnswer sas.now (IsSettledBySome options.now) (IsShortBySome options.now)) }
-    ensures refused { IfErr result (IsSasRefusal sas.now (IsRefusedBySome options.now)) }
+    ensures answer { IfOk result (IsSasAnswer sas.now (IsSettledBySeed options.now seed) (IsShortBySeed options.now seed)) }
+    ensures refused { IfErr result (IsSasRefusal sas.now (IsRefusedBySeed options.now seed)) }
 {
     let alloc = rt.alloc();
     let task = read_task(alloc, sas)?;

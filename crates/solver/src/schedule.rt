@@ -1,8 +1,8 @@
 //! Schedules that are drawn.
 
-ghost use Rattle.std.specs.Prelude.{◌≡◌, ◌<◌, IfOk, IfErr};
-ghost use Rattle.owner.specs.Spaces.{searched};
-ghost use Rattle.solver.specs.Schedules.{IsSimulated, IsSimulationRefusal};
+ghost use Rattle.std.specs.Prelude.{◌≡◌, ℕ, ◌<◌, ◌+◌, length, IfOk, IfErr};
+ghost use Rattle.netcore.specs.Possible.{possible_steps};
+ghost use Rattle.solver.specs.Schedules.{word_of, IsAfterWords, Draws, IsSimulated, IsSimulationRefusal};
 
 use netcore::{World, WorldStep};
 use owner::{OwnerFault, Space};
@@ -11,16 +11,17 @@ use rand_xoshiro::Xoshiro256PlusPlus;
 use spread::Spread;
 use std::alloc::Global;
 
-/// The next step that would change something, drawn by the next word modulo their number; `None` where there is none.
+/// The step that the next word draws: the one of its number, modulo how many there are, among those that would change something.
 fn drawn<'a, S: Spread + Drop>(
     world: &World<'a, S>,
     generator: &mut Xoshiro256PlusPlus,
-) -> Option<WorldStep> {
+) -> WorldStep
+    requires { 0 < length (possible_steps S.owner world.now) }
+    ensures step { (seed count : ℕ) → IsAfterWords seed count generator.old → Draws S.owner world.now (word_of seed count) result }
+    ensures next { (seed count : ℕ) → IsAfterWords seed count generator.old → IsAfterWords seed (count + 1) generator.new }
+{
     let word = generator.next_u64() as u128;
-    match world.possible_count() {
-        0 => None,
-        count => world.possible_step(word % count),
-    }
+    world.possible_step(word % world.possible_count()).unwrap()
 }
 
 /// A world whose steps are drawn one after another: each is the next word of Xoshiro256++ (Blackman and Vigna 2021) from this seed modulo
@@ -34,8 +35,8 @@ pub fn simulated<'a, S: Spread + Drop>(
     steps: u64,
 ) -> Result<Option<World<'a, S>>, OwnerFault>
     requires { 0 < owners }
-    ensures run { IfOk result (IsSimulated S.owner space.now owners steps) }
-    ensures refused { IfErr result (IsSimulationRefusal S.owner (searched S.owner space.now owners)) }
+    ensures run { IfOk result (IsSimulated S.owner space.now owners seed steps) }
+    ensures refused { IfErr result (IsSimulationRefusal S.owner space.now owners seed) }
 {
     let mut world = World::start(alloc, space, owners)?;
     let mut generator = Xoshiro256PlusPlus::seed_from_u64(seed);
@@ -43,9 +44,7 @@ pub fn simulated<'a, S: Spread + Drop>(
         if world.count() == 0 {
             return Ok(Some(world));
         }
-        // while something is left to do some step would change something; else a look would do no harm
-        let step = drawn(&world, &mut generator).unwrap_or(WorldStep::Look(0));
-        world.step(step)?;
+        world.step(drawn(&world, &mut generator))?;
     }
     if world.count() == 0 {
         Ok(Some(world))

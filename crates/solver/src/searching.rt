@@ -3,7 +3,7 @@
 ghost use Rattle.std.specs.Prelude.{◌≡◌, IfOk, IfErr};
 ghost use Rattle.certificates.specs.Views.{kind_of};
 ghost use Rattle.solver.specs.Findings.{IsFinding};
-ghost use Rattle.solver.specs.Searches.{IsSettledAfter, IsShortAfter, IsRefusedAfter, IsSettledBySome, IsShortBySome, IsRefusedBySome};
+ghost use Rattle.solver.specs.Searches.{IsSettledAfter, IsShortAfter, IsRefusedAfter, IsSettledBySeed, IsShortBySeed, IsRefusedBySeed};
 
 use crate::fault::SearchFault;
 use crate::found::{Found, found_by};
@@ -54,8 +54,8 @@ pub fn found_after<'a>(
     }
 }
 
-/// What is found of the task after steps that are drawn from the seed, as many as the options allow: a cheapest plan, or that there is none,
-/// with a certificate of that kind; `Unsettled` where something is left to do by then, or an owner is to expand more nodes than it may.
+/// What is found of the task after the steps that the seed draws, as many as the options allow: a cheapest plan, or that there is none, with a
+/// certificate of that kind; `Unsettled` where something is left to do by then, or an owner is to expand more nodes than it may.
 ///
 /// A fault is that of a step, or of too little memory.
 pub fn found_by_seed<'a>(
@@ -65,8 +65,8 @@ pub fn found_by_seed<'a>(
     seed: u64,
     kind: CertificateKind,
 ) -> Result<Found, SearchFault>
-    ensures found { IfOk result (IsFinding task.now (kind_of kind) (IsSettledBySome options.now task.now) (IsShortBySome options.now task.now)) }
-    ensures refused { IfErr result (IsRefusedBySome options.now task.now) }
+    ensures found { IfOk result (IsFinding task.now (kind_of kind) (IsSettledBySeed options.now seed task.now) (IsShortBySeed options.now seed task.now)) }
+    ensures refused { IfErr result (IsRefusedBySeed options.now seed task.now) }
 {
     let space: Space<'a, Zobrist<'a>> = space_for(alloc, task, options)?;
     match simulated(alloc, &space, options.workers(), seed, options.steps()) {

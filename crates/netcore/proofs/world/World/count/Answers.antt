@@ -9,6 +9,7 @@ use Rattle.netcore.proofs.Places.{at_here}
 use Rattle.netcore.proofs.Expanding.{owner_space}
 use Rattle.netcore.proofs.Ending.{joined_same}
 use Rattle.netcore.proofs.Counting.{count_of, sum_of, no_more}
+use Rattle.netcore.proofs.Remaining.{some_step}
 use Rattle.netcore.proofs.world.World.count.Goals as goal
 
 pub returns-clause-count : goal.returns-clause-count
@@ -40,3 +41,16 @@ returns-clause-quiet g c =
     rw (← c.self.view_is)
     (λ zero asked after. count_zero _ _ sp (run_ok _ after.steps sp)
     (count_of g.S.Spread.owner _ _ c.self.invariant sp.owner after.shown ∙ no_more _ (2 ^ 128 - 1) (lit< tt) (sym total ∙ zero)))
+
+pub returns-clause-possible : goal.returns-clause-possible
+returns-clause-possible g c =
+    let total : c.saturating_add.result ≡ min
+    (length (flat_map (λ ps. ps) (map packets_in c.self.inside.underway.items))
+    + sum_by (λ (o : OwnerOf g.row.S.Denot). waiting o.outboxes) c.self.inside.owners.items + count_by not c.self.inside.resting.items) (2 ^ 128 - 1) =
+    sum_of _ _ _ (2 ^ 128 - 1) c.underway_count.result c.waiting_count.result c.awake_count.result c.saturating_add-messages.result c.saturating_add.result
+    (rw (joined_same c.self.inside.underway.items) (rw c.deref.ensures.value at c.underway_count.ensures))
+    (rw c.deref-2.ensures.value at c.waiting_count.ensures)
+    (rw c.deref-3.ensures.value at c.awake_count.ensures)
+    c.saturating_add-messages.ensures c.saturating_add.ensures in
+    rw (← c.self.view_is)
+    (some_step g.S.Spread.owner _ c.self.invariant (2 ^ 128 - 1) c.saturating_add.result total)
