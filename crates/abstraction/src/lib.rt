@@ -12,8 +12,3 @@ pub use digit::Digit;
 pub use fault::ProjectionFault;
 pub use laws::{heuristic_is_lower_bound, projection_is_abstraction};
 pub use projection::Projection;
-
-#[cfg(test)]
-mod sample;
-#[cfg(test)]
-mod tests;

@@ -13,6 +13,3 @@ pub use laws::{
 };
 pub use making::cert_of;
 pub use sorting::sorted_list;
-
-#[cfg(test)]
-mod tests;

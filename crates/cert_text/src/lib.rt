@@ -19,6 +19,3 @@ pub use fault::CertFault;
 pub use laws::{one_certificate, spelled_or_not};
 pub use reading::{MAX_LENGTH, read_cert};
 pub use writing::write_cert;
-
-#[cfg(test)]
-mod tests;

@@ -10,6 +10,3 @@ mod table;
 pub use certificate::{AtomParts, AtomVariable, Certificate, CertificateKind};
 pub use closed::ClosedList;
 pub use table::{PatternTable, Share, Values};
-
-#[cfg(test)]
-mod tests;

@@ -10,8 +10,3 @@ mod table;
 pub use laws::{outcomes_place, outcomes_tell, reaching_is_improving};
 pub use message::{Message, Parent};
 pub use table::{ClosedTable, Entry, Outcome};
-
-#[cfg(test)]
-mod sample;
-#[cfg(test)]
-mod tests;

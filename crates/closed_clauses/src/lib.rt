@@ -8,8 +8,3 @@ mod states;
 pub use coverage::Coverage;
 pub use goals::first_goal_violation;
 pub use states::first_closed_violation;
-
-#[cfg(test)]
-mod sample;
-#[cfg(test)]
-mod tests;

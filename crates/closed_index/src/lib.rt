@@ -7,6 +7,3 @@ mod index;
 mod links;
 
 pub use index::ClosedIndex;
-
-#[cfg(test)]
-mod tests;

@@ -1,6 +1,7 @@
 //! The least closed set and the actions over it.
 
 use crate::texts::{actions_at_first, grounding_of};
+use std::process::Abort;
 use std::test::*;
 
 /// Towns a, b and c, and the place d.
@@ -29,65 +30,67 @@ const END: &str = "(:action end :parameters (?x - town) :precondition (at c) :ef
 
 const BOTH: &str = "(:action both :parameters (?x - town) :effect (and (at c) (at ?x)))";
 
-#[test]
-fn atoms_and_actions_are_listed_in_order(rt: HostRuntime) -> Result<(), Fail> {
-    // The action schema, the goal, and the atoms and the actions.
-    let table: [(&str, &str, &str); 11] = [
-        (
-            GO,
-            "()",
-            "at a|at b|at c|road a b|road b c\n\ngo a b|go b c",
-        ),
-        (
-            GO,
-            "(at c)",
-            "at a|at b|at c|road a b|road b c\n\ngo a b|go b c",
-        ),
-        (
-            CLOSE,
-            "()",
-            "at a|road a b|road b c|done\n\nclose a|close b|close c",
-        ),
-        (LEAP, "()", "at a|at c|road a b|road b c\n\nleap"),
-        (
-            PAIR,
-            "()",
-            "at a|road a b|road b c\n\npair a b|pair a c|pair b a|pair b c|pair c a|pair c b",
-        ),
-        (
-            PAIR,
-            "(at c)",
-            "at a|at c|road a b|road b c\n\npair a b|pair a c|pair b a|pair b c|pair c a|pair c b",
-        ),
-        (
-            SAME,
-            "()",
-            "at a|road a b|road b c\n\nsame a a|same b b|same c c",
-        ),
-        (
-            VISIT,
-            "()",
-            "at a|at b|at c|at d|road a b|road b c\n\nvisit a|visit b|visit c|visit d",
-        ),
-        (END, "()", "at a|road a b|road b c\n\n"),
-        (
-            END,
-            "(at c)",
-            "at a|at c|road a b|road b c|done\n\nend a|end b|end c",
-        ),
-        (
-            BOTH,
-            "()",
-            "at a|at b|at c|road a b|road b c\n\nboth a|both b|both c",
-        ),
-    ];
-    for (action, goal, want) in table {
-        let domain = format!(in rt.alloc(); "{PLACES}{action})")?;
-        let problem = format!(in rt.alloc(); "{AT_A}{goal}))")?;
-        let found = grounding_of(rt.alloc(), domain.as_str(), problem.as_str())?;
-        assert_eq!(rt; found.as_str(), want, "{action} {goal}");
-    }
+/// Checks the grounding of the action over the towns for this goal.
+fn grounds<R: Abort + AllocGlobal>(
+    rt: &R,
+    action: &str,
+    goal: &str,
+    want: &str,
+) -> Result<(), Fail> {
+    let domain = format!(in rt.alloc(); "{PLACES}{action})")?;
+    let problem = format!(in rt.alloc(); "{AT_A}{goal}))")?;
+    let found = grounding_of(rt.alloc(), domain.as_str(), problem.as_str())?;
+    assert_eq!(rt; found.as_str(), want, "{action} {goal}");
     Ok(())
+}
+
+#[test]
+fn roads_are_followed(rt: HostRuntime) -> Result<(), Fail> {
+    let want = "at a|at b|at c|road a b|road b c\n\ngo a b|go b c";
+    grounds(&rt, GO, "()", want)?;
+    grounds(&rt, GO, "(at c)", want)
+}
+
+#[test]
+fn negative_preconditions_are_left_out(rt: HostRuntime) -> Result<(), Fail> {
+    let want = "at a|road a b|road b c|done\n\nclose a|close b|close c";
+    grounds(&rt, CLOSE, "()", want)
+}
+
+#[test]
+fn schemas_without_parameters(rt: HostRuntime) -> Result<(), Fail> {
+    let want = "at a|at c|road a b|road b c\n\nleap";
+    grounds(&rt, LEAP, "()", want)
+}
+
+#[test]
+fn objects_that_differ_or_are_equal(rt: HostRuntime) -> Result<(), Fail> {
+    let pairs = "at a|road a b|road b c\n\npair a b|pair a c|pair b a|pair b c|pair c a|pair c b";
+    grounds(&rt, PAIR, "()", pairs)?;
+    let same = "at a|road a b|road b c\n\nsame a a|same b b|same c c";
+    grounds(&rt, SAME, "()", same)
+}
+
+#[test]
+fn objects_of_a_supertype(rt: HostRuntime) -> Result<(), Fail> {
+    let want = "at a|at b|at c|at d|road a b|road b c\n\nvisit a|visit b|visit c|visit d";
+    grounds(&rt, VISIT, "()", want)
+}
+
+#[test]
+fn atoms_of_the_goal_are_listed(rt: HostRuntime) -> Result<(), Fail> {
+    let pairs =
+        "at a|at c|road a b|road b c\n\npair a b|pair a c|pair b a|pair b c|pair c a|pair c b";
+    grounds(&rt, PAIR, "(at c)", pairs)?;
+    grounds(&rt, END, "()", "at a|road a b|road b c\n\n")?;
+    let ends = "at a|at c|road a b|road b c|done\n\nend a|end b|end c";
+    grounds(&rt, END, "(at c)", ends)
+}
+
+#[test]
+fn effects_on_a_constant_and_a_parameter(rt: HostRuntime) -> Result<(), Fail> {
+    let want = "at a|at b|at c|road a b|road b c\n\nboth a|both b|both c";
+    grounds(&rt, BOTH, "()", want)
 }
 
 /// Balls x and y, and rooms p and q.
@@ -117,34 +120,42 @@ const DRIVE: &str =
     (:action go :parameters (?x ?y - loc) :precondition (and (at ?x) (road ?x ?y))
      :effect (and (not (at ?x)) (at ?y) (increase (total-cost) (len ?x ?y)))))";
 
-#[test]
-fn objects_costs_and_empty_sets(rt: HostRuntime) -> Result<(), Fail> {
-    // The domain, the problem, and the atoms and the actions.
-    let table: [(&str, &str, &str); 3] = [
-        (
-            GRIP,
-            TWO_BALLS,
-            "room p|room q|ball x|ball y|here p|here q|in x p|in x q|in y p|in y q|free|held x|held y\n\n\
-             move p q|move q p|pick x p|pick x q|pick y p|pick y q|drop x p|drop x q|drop y p|drop y q",
-        ),
-        (
-            DOOR,
-            "(define (problem p) (:objects d) (:init) (:goal (in)))",
-            "in\n\nenter d",
-        ),
-        // The road from a to c has no length.
-        (
-            DRIVE,
-            "(define (problem p) (:objects a b c - loc) (:init (at a) (road a b) (road b c) (road a c)
-             (= (len a b) 3) (= (len b c) 4)) (:goal (at c)) (:metric minimize (total-cost)))",
-            "at a|at b|at c|road a b|road a c|road b c\n\ngo a b|go b c",
-        ),
-    ];
-    for (domain, problem, want) in table {
-        let found = grounding_of(rt.alloc(), domain, problem)?;
-        assert_eq!(rt; found.as_str(), want, "{problem}");
-    }
+const ONE_DOOR: &str = "(define (problem p) (:objects d) (:init) (:goal (in)))";
+
+/// The road from a to c has no length.
+const TWO_LENGTHS: &str =
+    "(define (problem p) (:objects a b c - loc) (:init (at a) (road a b) (road b c) (road a c)
+     (= (len a b) 3) (= (len b c) 4)) (:goal (at c)) (:metric minimize (total-cost)))";
+
+/// Checks the grounding of the task.
+fn grounds_to<R: Abort + AllocGlobal>(
+    rt: &R,
+    domain: &str,
+    problem: &str,
+    want: &str,
+) -> Result<(), Fail> {
+    let found = grounding_of(rt.alloc(), domain, problem)?;
+    assert_eq!(rt; found.as_str(), want, "{problem}");
     Ok(())
+}
+
+#[test]
+fn objects_are_told_apart_by_static_atoms(rt: HostRuntime) -> Result<(), Fail> {
+    let want =
+        "room p|room q|ball x|ball y|here p|here q|in x p|in x q|in y p|in y q|free|held x|held y\n\n\
+         move p q|move q p|pick x p|pick x q|pick y p|pick y q|drop x p|drop x q|drop y p|drop y q";
+    grounds_to(&rt, GRIP, TWO_BALLS, want)
+}
+
+#[test]
+fn an_initial_state_without_atoms(rt: HostRuntime) -> Result<(), Fail> {
+    grounds_to(&rt, DOOR, ONE_DOOR, "in\n\nenter d")
+}
+
+#[test]
+fn actions_without_a_cost_are_left_out(rt: HostRuntime) -> Result<(), Fail> {
+    let want = "at a|at b|at c|road a b|road a c|road b c\n\ngo a b|go b c";
+    grounds_to(&rt, DRIVE, TWO_LENGTHS, want)
 }
 
 #[test]

@@ -3,6 +3,7 @@
 use crate::texts::count_of;
 use ground::GroundFault;
 use std::alloc::{AllocError, Global};
+use std::process::Abort;
 use std::test::*;
 
 /// Each two objects are related.
@@ -19,13 +20,21 @@ fn problem_of(alloc: Global, count: usize) -> Result<String, AllocError> {
     Ok(text)
 }
 
+/// Checks how many atoms there are with so many objects.
+fn counts<R: Abort + AllocGlobal>(
+    rt: &R,
+    objects: usize,
+    want: Result<usize, GroundFault>,
+) -> Result<(), Fail> {
+    let problem = problem_of(rt.alloc(), objects)?;
+    let found = count_of(rt.alloc(), PAIRS, problem.as_str());
+    assert_eq!(rt; found, Some(want), "{objects}");
+    Ok(())
+}
+
 #[test]
 fn as_many_atoms_as_the_limit_are_listed(rt: HostRuntime) -> Result<(), Fail> {
     // 512 objects have 262,144 pairs.
-    for (count, want) in [(512, Ok(262_144)), (513, Err(GroundFault::GroundLimit))] {
-        let problem = problem_of(rt.alloc(), count)?;
-        let found = count_of(rt.alloc(), PAIRS, problem.as_str());
-        assert_eq!(rt; found, Some(want), "{count}");
-    }
-    Ok(())
+    counts(&rt, 512, Ok(262_144))?;
+    counts(&rt, 513, Err(GroundFault::GroundLimit))
 }

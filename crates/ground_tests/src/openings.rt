@@ -1,6 +1,7 @@
 //! The first action over a set of atoms that adds another one, and the least such atom.
 
 use crate::texts::opening_of;
+use std::process::Abort;
 use std::test::*;
 
 /// Towns a, b and c, and the place d.
@@ -13,23 +14,35 @@ const GO: &str =
 
 const BOTH: &str = "(:action both :parameters (?x - town) :effect (and (at c) (at ?x)))";
 
+/// Checks what is open over these atoms beside a road from a to b.
+fn opens<R: Abort + AllocGlobal>(
+    rt: &R,
+    action: &str,
+    atoms: &str,
+    want: &str,
+) -> Result<(), Fail> {
+    let domain = format!(in rt.alloc(); "{PLACES}{action})")?;
+    let problem = format!(in rt.alloc();
+        "(define (problem p) (:init (road a b) {atoms}) (:goal ()))"
+    )?;
+    let found = opening_of(rt.alloc(), domain.as_str(), problem.as_str())?;
+    assert_eq!(rt; found.as_str(), want, "{action} {atoms}");
+    Ok(())
+}
+
 #[test]
 fn the_first_open_action_is_named(rt: HostRuntime) -> Result<(), Fail> {
-    // The action schema, the atoms but for a road from a to b, and what is open.
-    let table: [(&str, &str, &str); 5] = [
-        (GO, "(at a)", "go a b|at b"),
-        (GO, "(at b) (at a)", "closed"),
-        (BOTH, "", "both a|at a"),
-        (BOTH, "(at c) (at a)", "both b|at b"),
-        (BOTH, "(at c) (at b) (at a)", "closed"),
-    ];
-    for (action, atoms, want) in table {
-        let domain = format!(in rt.alloc(); "{PLACES}{action})")?;
-        let problem = format!(in rt.alloc();
-            "(define (problem p) (:init (road a b) {atoms}) (:goal ()))"
-        )?;
-        let found = opening_of(rt.alloc(), domain.as_str(), problem.as_str())?;
-        assert_eq!(rt; found.as_str(), want, "{action} {atoms}");
-    }
-    Ok(())
+    opens(&rt, GO, "(at a)", "go a b|at b")?;
+    opens(&rt, BOTH, "", "both a|at a")
+}
+
+#[test]
+fn the_least_atom_that_is_missing_is_named(rt: HostRuntime) -> Result<(), Fail> {
+    opens(&rt, BOTH, "(at c) (at a)", "both b|at b")
+}
+
+#[test]
+fn closed_sets_have_nothing_open(rt: HostRuntime) -> Result<(), Fail> {
+    opens(&rt, GO, "(at b) (at a)", "closed")?;
+    opens(&rt, BOTH, "(at c) (at b) (at a)", "closed")
 }

@@ -1,5 +1,8 @@
 //! Groundings as texts: an atom or an action is its name and those of its objects, and `|` stands between two.
 
+ghost use Rattle.std.specs.Prelude.{IsTrue};
+ghost use Rattle.planning.specs.Planning.{has_small_costs};
+
 use atoms::Atoms;
 use ground::{GroundFault, OpenFault, actions_over, ground, is_closed};
 use names::Names;
@@ -7,17 +10,18 @@ use pddl::read_task;
 use planning::{GroundAction, GroundAtom, Task};
 use std::alloc::{AllocError, Global};
 
-// Puts a name and those of the objects at the end, behind a `|` unless the text is empty.
+// Puts the name of that number and those of the objects at the end, behind a `|` unless the text is empty.
 fn push_named(
     text: &mut String,
-    name: Option<&str>,
+    named: &Names,
+    number: usize,
     names: &Names,
     objects: &[usize],
 ) -> Result<(), AllocError> {
     if !text.is_empty() {
         text.push_str("|")?;
     }
-    text.push_str(name.unwrap_or("?"))?;
+    text.push_str(named.name(number).unwrap_or("?"))?;
     for object in objects {
         text.push_str(" ")?;
         text.push_str(names.name(*object).unwrap_or("?"))?;
@@ -25,22 +29,17 @@ fn push_named(
     Ok(())
 }
 
-fn push_atom(text: &mut String, task: &Task, atom: &GroundAtom) -> Result<(), AllocError> {
-    let vocabulary = &task.vocabulary;
-    let name = vocabulary.predicates.name(atom.predicate);
-    push_named(text, name, &vocabulary.objects, atom.objects.as_slice())
-}
-
-fn push_action(text: &mut String, task: &Task, action: &GroundAction) -> Result<(), AllocError> {
-    let vocabulary = &task.vocabulary;
-    let name = vocabulary.schemas.name(action.schema);
-    push_named(text, name, &vocabulary.objects, action.objects.as_slice())
-}
-
 fn atoms_text(alloc: Global, task: &Task, atoms: &[GroundAtom]) -> Result<String, AllocError> {
     let mut text = String::new(alloc);
     for atom in atoms {
-        push_atom(&mut text, task, atom)?;
+        let objects = atom.objects.as_slice();
+        push_named(
+            &mut text,
+            &task.vocabulary.predicates,
+            atom.predicate,
+            &task.vocabulary.objects,
+            objects,
+        )?;
     }
     Ok(text)
 }
@@ -52,29 +51,51 @@ fn actions_text(
 ) -> Result<String, AllocError> {
     let mut text = String::new(alloc);
     for action in actions {
-        push_action(&mut text, task, action)?;
+        let objects = action.objects.as_slice();
+        push_named(
+            &mut text,
+            &task.vocabulary.schemas,
+            action.schema,
+            &task.vocabulary.objects,
+            objects,
+        )?;
     }
     Ok(text)
 }
 
-/// The atoms and the actions of a task's grounding, with a blank line between them.
+// The atoms and the actions, with a blank line between them.
+fn lists_text(
+    alloc: Global,
+    task: &Task,
+    atoms: &[GroundAtom],
+    actions: &[GroundAction],
+) -> Result<String, AllocError> {
+    let mut text = atoms_text(alloc, task, atoms)?;
+    text.push_str("\n\n")?;
+    text.push_str(actions_text(alloc, task, actions)?.as_str())?;
+    Ok(text)
+}
+
+fn grounding_text(alloc: Global, task: &Task) -> Result<String, AllocError>
+    requires { IsTrue (has_small_costs task.now) }
+{
+    match ground(alloc, task) {
+        Ok(grounded) => lists_text(alloc, task, grounded.atoms.as_slice(), &grounded.actions),
+        Err(_) => String::from_str(alloc, "no grounding"),
+    }
+}
+
+/// The atoms and the actions of a task's grounding, with a blank line between them. Each step down borrows what the one above it
+/// holds, since a function that holds a task and may end at many places is long to prove.
 pub(crate) fn grounding_of(
     alloc: Global,
     domain: &str,
     problem: &str,
 ) -> Result<String, AllocError> {
-    let Ok(task) = read_task(alloc, domain.as_bytes(), problem.as_bytes()) else {
-        return String::from_str(alloc, "no task");
-    };
-    let Ok(grounded) = ground(alloc, &task) else {
-        return String::from_str(alloc, "no grounding");
-    };
-    let atoms = atoms_text(alloc, &task, grounded.atoms.as_slice())?;
-    let actions = actions_text(alloc, &task, &grounded.actions)?;
-    let mut text = atoms;
-    text.push_str("\n\n")?;
-    text.push_str(actions.as_str())?;
-    Ok(text)
+    match read_task(alloc, domain.as_bytes(), problem.as_bytes()) {
+        Ok(task) => grounding_text(alloc, &task),
+        Err(_) => String::from_str(alloc, "no task"),
+    }
 }
 
 // The atoms as a list without repeats.
@@ -86,38 +107,58 @@ fn listed(alloc: Global, atoms: &[GroundAtom]) -> Result<Atoms, AllocError> {
     Ok(list)
 }
 
+fn initial_actions(alloc: Global, task: &Task) -> Result<String, AllocError>
+    requires { IsTrue (has_small_costs task.now) }
+{
+    let atoms = listed(alloc, &task.initial)?;
+    match actions_over(alloc, task, &atoms) {
+        Ok(actions) => actions_text(alloc, task, &actions),
+        Err(_) => String::from_str(alloc, "no actions"),
+    }
+}
+
 /// The actions over a task's initial atoms.
 pub(crate) fn actions_at_first(
     alloc: Global,
     domain: &str,
     problem: &str,
 ) -> Result<String, AllocError> {
-    let Ok(task) = read_task(alloc, domain.as_bytes(), problem.as_bytes()) else {
-        return String::from_str(alloc, "no task");
-    };
+    match read_task(alloc, domain.as_bytes(), problem.as_bytes()) {
+        Ok(task) => initial_actions(alloc, &task),
+        Err(_) => String::from_str(alloc, "no task"),
+    }
+}
+
+// An action and an atom, with a `|` between them.
+fn open_text(
+    alloc: Global,
+    task: &Task,
+    actions: &[GroundAction],
+    atoms: &[GroundAtom],
+) -> Result<String, AllocError> {
+    let mut text = actions_text(alloc, task, actions)?;
+    text.push_str("|")?;
+    text.push_str(atoms_text(alloc, task, atoms)?.as_str())?;
+    Ok(text)
+}
+
+fn opening_text(alloc: Global, task: &Task) -> Result<String, AllocError>
+    requires { IsTrue (has_small_costs task.now) }
+{
     let atoms = listed(alloc, &task.initial)?;
-    match actions_over(alloc, &task, &atoms) {
-        Ok(actions) => actions_text(alloc, &task, &actions),
-        Err(_) => String::from_str(alloc, "no actions"),
+    match is_closed(alloc, task, &atoms) {
+        Ok(()) => String::from_str(alloc, "closed"),
+        Err(OpenFault::Ground(_)) => String::from_str(alloc, "no answer"),
+        Err(OpenFault::FirstOpen(action, atom)) => open_text(alloc, task, &[action], &[atom]),
     }
 }
 
 /// The first action over a task's initial atoms that adds another one, and the least such atom, or that there is none.
 pub(crate) fn opening_of(alloc: Global, domain: &str, problem: &str) -> Result<String, AllocError> {
-    let Ok(task) = read_task(alloc, domain.as_bytes(), problem.as_bytes()) else {
-        return String::from_str(alloc, "no task");
-    };
-    let atoms = listed(alloc, &task.initial)?;
-    let mut text = String::new(alloc);
-    match is_closed(alloc, &task, &atoms) {
-        Ok(()) => text.push_str("closed")?,
-        Err(OpenFault::Ground(_)) => text.push_str("no answer")?,
-        Err(OpenFault::FirstOpen(action, atom)) => {
-            push_action(&mut text, &task, &action)?;
-            push_atom(&mut text, &task, &atom)?;
-        }
+    match read_task(alloc, domain.as_bytes(), problem.as_bytes()) {
+        Ok(task) => opening_text(alloc, &task),
+        Err(_) => String::from_str(alloc, "no task"),
     }
-    Ok(text)
 }
 
 /// How many atoms a task's grounding has, or that there are too many.

@@ -5,8 +5,6 @@ mod candidates;
 mod group_list;
 mod parts;
 mod proposals;
-#[cfg(test)]
-mod tests;
 
 pub use group_list::{Group, Groups};
 pub use proposals::{MOST_CANDIDATES, groups};

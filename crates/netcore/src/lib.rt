@@ -10,8 +10,3 @@ mod world;
 pub use joined::{Joined, Packet, SearchAnswer};
 pub use step::WorldStep;
 pub use world::World;
-
-#[cfg(test)]
-mod sample;
-#[cfg(test)]
-mod tests;

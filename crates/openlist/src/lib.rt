@@ -5,8 +5,6 @@ mod entry;
 mod heap;
 mod laws;
 mod open_list;
-#[cfg(test)]
-mod tests;
 
 pub use entry::{OpenEntry, Rank};
 pub use heap::Heap;

@@ -13,8 +13,3 @@ pub use fault::OwnerFault;
 pub use openlist::Rank;
 pub use owner::Owner;
 pub use space::Space;
-
-#[cfg(test)]
-mod sample;
-#[cfg(test)]
-mod tests;

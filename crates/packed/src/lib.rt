@@ -8,8 +8,3 @@ mod plain;
 pub use form::StateForm;
 pub use layout::Layout;
 pub use plain::Plain;
-
-#[cfg(test)]
-mod sample;
-#[cfg(test)]
-mod tests;

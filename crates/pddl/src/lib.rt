@@ -12,6 +12,3 @@ mod sums;
 pub use fault::PddlFault;
 pub use laws::{one_refusal, one_task, spelled_not_refused, spelled_or_refused};
 pub use reading::read_task;
-
-#[cfg(test)]
-mod tests;

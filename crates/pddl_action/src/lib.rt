@@ -9,6 +9,3 @@ mod scope;
 
 pub use action::{Actions, read_actions};
 pub use scope::Declarations;
-
-#[cfg(test)]
-mod tests;

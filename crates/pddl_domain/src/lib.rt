@@ -11,6 +11,3 @@ pub use cycles::{cycles_are_found, types_on_cycles};
 pub use heads_sections::{functions_section, predicates_section};
 pub use objects::{Objects, each_object_has_a_type, objects_section};
 pub use types::types_section;
-
-#[cfg(test)]
-mod tests;

@@ -11,6 +11,3 @@ mod negation;
 pub use condition::read_condition;
 pub use effect::{Effects, read_effect};
 pub use literal::{Places, add_places};
-
-#[cfg(test)]
-mod tests;

@@ -10,6 +10,3 @@ mod value;
 pub use goals::goal_section;
 pub use initial::{Initial, initial_section};
 pub use metric::metric_section;
-
-#[cfg(test)]
-mod tests;

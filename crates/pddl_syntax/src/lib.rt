@@ -24,6 +24,3 @@ pub use sections::{
 };
 pub use typed::{Named, Run, Types, typed_list};
 pub use word::{WordKind, word_kind};
-
-#[cfg(test)]
-mod tests;

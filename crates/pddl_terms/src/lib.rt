@@ -9,6 +9,3 @@ mod scope;
 pub use beginning::{Beginning, Setting, beginning_of, is_total_cost};
 pub use reading::{lifted, term, terms};
 pub use scope::Scope;
-
-#[cfg(test)]
-mod tests;

@@ -2,7 +2,7 @@
 
 ghost use Rattle.std.specs.Prelude.{◌≡◌};
 ghost use Rattle.planner.specs.declared.fault.PlanningFault.TheVariants.{OutOfMemory};
-ghost use Rattle.planner.specs.Faults.{fault_of_search};
+ghost use Rattle.planner.specs.Faults.{fault_of_reading, fault_of_search};
 
 use fdr::TaskLimit;
 use pddl::PddlFault;
@@ -29,6 +29,18 @@ impl From<AllocError> for PlanningFault {
 
     fn from(_e: AllocError) -> PlanningFault {
         PlanningFault::OutOfMemory
+    }
+}
+
+impl From<PddlFault> for PlanningFault {
+    ghost from_gives = { λ fault e. e ≡ fault_of_reading fault };
+
+    fn from(fault: PddlFault) -> PlanningFault {
+        match fault {
+            PddlFault::OutOfMemory => PlanningFault::OutOfMemory,
+            PddlFault::Tree(file, fault) => PlanningFault::Task(PddlFault::Tree(file, fault)),
+            PddlFault::Section(file, fault) => PlanningFault::Task(PddlFault::Section(file, fault)),
+        }
     }
 }
 

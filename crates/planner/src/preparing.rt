@@ -10,7 +10,7 @@ ghost use Rattle.planner.specs.Answers.{IsPlanningRefusal};
 
 use crate::fault::PlanningFault;
 use certificates::CertificateKind;
-use pddl::{PddlFault, read_task};
+use pddl::read_task;
 use planning::Task;
 use planning_kind::translation_kind;
 use std::alloc::Global;
@@ -22,20 +22,6 @@ use translate_vars::TranslateFault;
 pub(crate) struct Prepared {
     pub(crate) translated: Translated,
     pub(crate) kind: CertificateKind,
-}
-
-/// The task that the texts spell, or the fault that goes first.
-fn task_of(alloc: Global, domain: &[u8], problem: &[u8]) -> Result<Task, PlanningFault>
-    ensures found { IfOk result (λ task. SpellTask domain.now problem.now task) }
-    ensures small { IfOk result (λ task. IsTrue (has_small_costs task)) }
-    ensures costs { IfOk result (λ task. (a : Action) → IsActionOf task a → a.cost ≤ 2147483647) }
-    ensures fault { IfErr result (IsPlanningRefusal domain.now problem.now (λ task e. ⊥)) }
-{
-    match read_task(alloc, domain, problem) {
-        Ok(task) => Ok(task),
-        Err(PddlFault::OutOfMemory) => Err(PlanningFault::OutOfMemory),
-        Err(fault) => Err(PlanningFault::Task(fault)),
-    }
 }
 
 /// The task's translation.
@@ -67,7 +53,7 @@ pub(crate) fn prepare(
     ensures prepared { IfOk result (IsPrepared domain.now problem.now) }
     ensures refused { IfErr result (IsPlanningRefusal domain.now problem.now (λ task e. ⊥)) }
 {
-    let task = task_of(alloc, domain, problem)?;
+    let task = read_task(alloc, domain, problem)?;
     let translated = translation_of(alloc, &task)?;
     let kind = translation_kind(alloc, &task, &translated)?;
     Ok(Prepared { translated, kind })

@@ -7,8 +7,6 @@ mod atom;
 pub mod laws;
 mod schema;
 mod task;
-#[cfg(test)]
-mod tests;
 mod vocabulary;
 
 pub use action::GroundAction;

@@ -9,6 +9,3 @@ pub use laws::{
     valid_plan_has_verdict,
 };
 pub use steps::named_steps;
-
-#[cfg(test)]
-mod tests;

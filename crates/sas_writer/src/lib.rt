@@ -13,6 +13,3 @@ mod writing;
 pub use laws::{text_order_has_same_plans, worked_texts, written_text_is_read};
 pub use plans::sas_plan_text;
 pub use writing::write_sas;
-
-#[cfg(test)]
-mod tests;

@@ -18,6 +18,3 @@ mod variables;
 pub use fault::SasFault;
 pub use laws::{no_fault, one_reading, spelled_or_not};
 pub use reading::read_sas;
-
-#[cfg(test)]
-mod tests;

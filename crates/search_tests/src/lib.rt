@@ -2,6 +2,24 @@
 #![tactic(auto)]
 
 #[cfg(test)]
+mod applicable_operators;
+#[cfg(test)]
+mod closed_tables;
+#[cfg(test)]
+mod forms;
+#[cfg(test)]
+mod listed_states;
+#[cfg(test)]
+mod open_lists;
+#[cfg(test)]
+mod owners;
+#[cfg(test)]
 mod schedules;
 #[cfg(test)]
+mod sorted_lists;
+#[cfg(test)]
+mod states_owners;
+#[cfg(test)]
 mod totals;
+#[cfg(test)]
+mod worlds;

@@ -12,8 +12,3 @@ pub use by_value::ByValue;
 pub use laws::worked_examples;
 pub use spread::Spread;
 pub use zobrist::Zobrist;
-
-#[cfg(test)]
-mod sample;
-#[cfg(test)]
-mod tests;

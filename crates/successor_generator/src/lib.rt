@@ -10,8 +10,3 @@ mod tables;
 
 pub use generator::SuccessorGenerator;
 pub use laws::{applicable_operators_are_those_that_apply, worked_example};
-
-#[cfg(test)]
-mod sample;
-#[cfg(test)]
-mod tests;

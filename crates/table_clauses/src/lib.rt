@@ -12,8 +12,3 @@ mod transitions;
 pub use heuristic::Heuristic;
 pub use shares::first_share_violation;
 pub use tables::first_table_violation;
-
-#[cfg(test)]
-mod sample;
-#[cfg(test)]
-mod tests;

@@ -2,6 +2,12 @@
 #![tactic(auto)]
 
 #[cfg(test)]
+mod closed_violations;
+#[cfg(test)]
+mod projections;
+#[cfg(test)]
+mod table_violations;
+#[cfg(test)]
 mod tables;
 #[cfg(test)]
 mod tasks;

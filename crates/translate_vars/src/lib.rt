@@ -10,8 +10,6 @@ mod limits;
 mod listing;
 mod order;
 mod parts;
-#[cfg(test)]
-mod tests;
 
 pub use fault::TranslateFault;
 pub use laws::{fit_has_no_fault, one_fault};

@@ -13,6 +13,3 @@ pub use plan::{Plan, PlanFault, Step};
 pub use reading::read_plan;
 pub use verdict::{Verdict, validate};
 pub use writing::{plan_text, verdict_line};
-
-#[cfg(test)]
-mod tests;

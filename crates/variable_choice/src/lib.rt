@@ -5,7 +5,5 @@ mod choice;
 mod flags;
 mod offers;
 mod queue;
-#[cfg(test)]
-mod tests;
 
 pub use choice::choose_variables;

@@ -1,0 +1,191 @@
+//! Small finite-domain tasks for tests: what is written there is found to be a task before it is one.
+#![tactic(auto)]
+
+ghost use Rattle.std.specs.Prelude.{◌≡◌, ◌<◌, All, map, length, slice_index, IsTrue, IfOk};
+ghost use Rattle.std.specs.List.Sorted.{IsStrictlyIncreasing};
+ghost use Rattle.fdr.specs.Tasks as spec;
+ghost use Rattle.fdr.specs.Tasks.{IsAssignment, IsOperator, IsState, names_in};
+
+use cost::Cost;
+use fdr::{Fact, FdrTask, Operator};
+use std::alloc::{AllocError, Global};
+
+/// The fact that a variable has a value.
+pub fn fact(variable: usize, value: u32) -> Fact {
+    Fact { variable, value }
+}
+
+/// An operator with no name at that cost. An `Err` is of too little memory.
+fn priced(
+    alloc: Global,
+    precondition: &[Fact],
+    effect: &[Fact],
+    cost: Cost,
+) -> Result<Operator, AllocError> {
+    Ok(Operator {
+        name: String::new(alloc),
+        precondition: Vec::from_slice(alloc, precondition)?,
+        effect: Vec::from_slice(alloc, effect)?,
+        cost,
+    })
+}
+
+/// An operator with no name that costs 1. An `Err` is of too little memory.
+pub fn operator(
+    alloc: Global,
+    precondition: &[Fact],
+    effect: &[Fact],
+) -> Result<Operator, AllocError> {
+    priced(alloc, precondition, effect, Cost::ONE)
+}
+
+/// Whether one of the facts is on the variable.
+fn names_variable(facts: &[Fact], variable: usize) -> bool
+    ensures { result ≡ spec.names_variable facts.now variable }
+{
+    facts.iter().any(|fact| fact.variable == variable)
+}
+
+/// Whether the facts are in range, at most one a variable.
+fn is_assignment(ranges: &[usize], facts: &[Fact]) -> bool
+    ensures { IsTrue result → IsAssignment ranges.now facts.now }
+{
+    for place in 0..facts.len() {
+        let fact = facts[place];
+        if fact.variable >= ranges.len() || fact.value as usize >= ranges[fact.variable] {
+            return false;
+        }
+        if names_variable(&facts[place + 1..], fact.variable) {
+            return false;
+        }
+    }
+    true
+}
+
+/// Whether the operators' conditions and effects are assignments.
+fn are_operators(ranges: &[usize], operators: &[Operator]) -> bool
+    ensures { IsTrue result → All (IsOperator ranges.now) operators.now }
+{
+    for operator in operators {
+        if !is_assignment(ranges, &operator.precondition)
+            || !is_assignment(ranges, &operator.effect)
+        {
+            return false;
+        }
+    }
+    true
+}
+
+/// Whether it is a state.
+fn is_state(ranges: &[usize], state: &[u32]) -> bool
+    ensures { IsTrue result → IsState ranges.now state.now }
+{
+    if state.len() != ranges.len() {
+        return false;
+    }
+    for variable in 0..ranges.len() {
+        if state[variable] as usize >= ranges[variable] {
+            return false;
+        }
+    }
+    true
+}
+
+/// As many empty names as each range says.
+fn names_of(alloc: Global, ranges: &[usize]) -> Result<Vec<Vec<String>>, AllocError> {
+    let mut names = Vec::new(alloc);
+    for &range in ranges {
+        let mut values = Vec::new(alloc);
+        for _ in 0..range {
+            values.push(String::new(alloc))?;
+        }
+        names.push(values)?;
+    }
+    Ok(names)
+}
+
+/// How many values each variable has.
+fn ranges_of(alloc: Global, names: &[Vec<String>]) -> Result<Vec<usize>, AllocError>
+    ensures { IfOk result (λ ranges. ranges.items ≡ map length (names_in names.now)) }
+{
+    let mut ranges = Vec::new(alloc);
+    for values in names {
+        ranges.push(values.len())?;
+    }
+    Ok(ranges)
+}
+
+/// The task of these ranges and parts, with the metric; `None` where that is no task, or past a limit. An `Err` is of too little memory.
+pub fn task(
+    alloc: Global,
+    ranges: &[usize],
+    initial: &[u32],
+    goal: &[Fact],
+    operators: Vec<Operator>,
+) -> Result<Option<FdrTask>, AllocError> {
+    let names = names_of(alloc, ranges)?;
+    let ranges = ranges_of(alloc, &names)?;
+    let initial = Vec::from_slice(alloc, initial)?;
+    let goal = Vec::from_slice(alloc, goal)?;
+    if !is_state(&ranges, &initial)
+        || !is_assignment(&ranges, &goal)
+        || !are_operators(&ranges, &operators)
+    {
+        return Ok(None);
+    }
+    Ok(FdrTask::new(true, names, initial, goal, operators).ok())
+}
+
+/// The task of these ranges and this initial state, without goals and operators. As for `task`.
+pub fn states(
+    alloc: Global,
+    ranges: &[usize],
+    initial: &[u32],
+) -> Result<Option<FdrTask>, AllocError> {
+    task(alloc, ranges, initial, &[], Vec::new(alloc))
+}
+
+/// The task of one variable that is 0 and is to have this value, and of operators from a value to another at a cost. As for `task`;
+/// `None` also where a cost is too great.
+pub fn walk(
+    alloc: Global,
+    values: usize,
+    goal: u32,
+    steps: &[(u32, u32, u64)],
+) -> Result<Option<FdrTask>, AllocError> {
+    let mut operators = Vec::new(alloc);
+    for &(from, to, cost) in steps {
+        let Some(cost) = Cost::new(cost) else {
+            return Ok(None);
+        };
+        operators.push(priced(alloc, &[fact(0, from)], &[fact(0, to)], cost)?)?;
+    }
+    task(alloc, &[values], &[0], &[fact(0, goal)], operators)
+}
+
+/// Whether it is a state of the task.
+pub fn is_state_of(task: &FdrTask, state: &[u32]) -> bool
+    ensures { IsTrue result → IsState (spec.ranges task.now) state.now }
+{
+    if state.len() != task.variable_count() {
+        return false;
+    }
+    for variable in 0..state.len() {
+        if state[variable] as usize >= task.range(variable) {
+            return false;
+        }
+    }
+    true
+}
+
+/// Whether each number is below the next.
+pub fn is_increasing(numbers: &[usize]) -> bool
+    ensures { IsTrue result → IsStrictlyIncreasing numbers.now }
+{
+    for place in 1..numbers.len() {
+        if numbers[place - 1] >= numbers[place] {
+            return false;
+        }
+    }
+    true
+}

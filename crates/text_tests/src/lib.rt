@@ -1,0 +1,19 @@
+//! Texts that are read and written, and what stands in them, by hand.
+#![tactic(auto)]
+
+#[cfg(test)]
+mod certificate_parts;
+#[cfg(test)]
+mod certificate_texts;
+#[cfg(test)]
+mod plan_steps;
+#[cfg(test)]
+mod plans;
+#[cfg(test)]
+mod sas_texts;
+#[cfg(test)]
+mod tasks;
+#[cfg(test)]
+mod trees;
+#[cfg(test)]
+mod written_sas;
