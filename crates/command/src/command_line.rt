@@ -155,21 +155,31 @@ fn check_sas_command<'a>(alloc: Global) -> Result<Command<'a>, AllocError> {
         )
 }
 
-fn program_command<'a>(alloc: Global) -> Result<Command<'a>, AllocError> {
-    Command::new(alloc, "optplan")
-        .about(ABOUT)
-        .subcommand_required(true)
-        .arg_required_else_help(true)
-        .disable_help_subcommand(true)
+// The commands that judge a plan or a certificate.
+fn with_judging<'a>(alloc: Global, command: Command<'a>) -> Result<Command<'a>, AllocError> {
+    command
         .subcommand(validate_command(alloc)?)?
         .subcommand(check_sas_command(alloc)?)?
-        .subcommand(check_command(alloc)?)?
+        .subcommand(check_command(alloc)?)
+}
+
+// The commands that translate or solve a task.
+fn with_solving<'a>(alloc: Global, command: Command<'a>) -> Result<Command<'a>, AllocError> {
+    command
         .subcommand(translate_command(alloc)?)?
         .subcommand(solve_command(alloc, "solve")?)?
         .subcommand(solve_sas_command(alloc, "solve-sas")?)
 }
 
-/// What the words ask for, told by the command-line library.
+fn program_command<'a>(alloc: Global) -> Result<Command<'a>, AllocError> {
+    let command = Command::new(alloc, "optplan")
+        .about(ABOUT)
+        .subcommand_required(true)
+        .arg_required_else_help(true)
+        .disable_help_subcommand(true);
+    with_solving(alloc, with_judging(alloc, command)?)
+}
+
 fn run_words<D: Device, R: AllocGlobal>(
     rt: &R,
     words: &[String],

@@ -2,6 +2,7 @@
 
 use pddl::{PddlFault, read_task};
 use pddl_syntax::{Fault, FaultKind, PlanningFile};
+use planning::Task;
 use sexp::SexpFault;
 use std::process::Abort;
 use std::test::*;
@@ -18,19 +19,21 @@ const TRIP: &str = "(define (problem trip) (:domain drive) (:objects a b - loc)
  (:init (at home) (road home a) (= (len home a) 5) (= (total-cost) 0) (not (at b)))
  (:goal (and (at a) (not (at home)))) (:metric minimize (total-cost)))";
 
-#[test]
-fn a_task_is_read(rt: HostRuntime) {
-    let task = read_task(rt.alloc(), DRIVE.as_bytes(), TRIP.as_bytes()).expect(&rt, "a task");
-    let task = &task;
+// The trip, with its place of departure known to the domain.
+fn is_trip(rt: &impl Abort, task: &Task) {
     assert_eq!(rt; task.object_types.as_slice(), [1, 1, 1].as_slice());
     assert_eq!(rt; task.arities.as_slice(), [1, 2].as_slice());
-    assert_eq!(rt; task.schemas.len(), 1);
-    assert_eq!(rt; task.initial.len(), 2);
-    assert_eq!(rt; task.goal.len(), 2);
-    assert_eq!(rt; task.values.len(), 1);
+    assert_eq!(rt; (task.schemas.len(), task.initial.len()), (1, 2));
+    assert_eq!(rt; (task.goal.len(), task.values.len()), (2, 1));
     assert!(rt; task.metric, "the metric");
     assert_eq!(rt; task.vocabulary.objects.name(0), Some("home"));
     assert_eq!(rt; task.vocabulary.schemas.name(0), Some("go"));
+}
+
+#[test]
+fn a_task_is_read(rt: HostRuntime) {
+    let task = read_task(rt.alloc(), DRIVE.as_bytes(), TRIP.as_bytes()).expect(&rt, "a task");
+    is_trip(&rt, &task);
 }
 
 const NO_TYPE: &str = "(define (domain d) (:action a :effect (q)) (:predicates (p ?x - t)))";

@@ -44,6 +44,22 @@ fn translation_of(alloc: Global, task: &Task) -> Result<Translated, PlanningFaul
     }
 }
 
+/// The task's translation, with what certificates for it count on.
+fn prepare_task(alloc: Global, task: &Task) -> Result<Prepared, PlanningFault>
+    requires small { IsTrue (has_small_costs task.now) }
+    requires costs { (a : Action) → IsActionOf task.now a → a.cost ≤ 2147483647 }
+    requires initial { All (IsAtomOf task.now) task.now.initial }
+    requires goals { All (λ (l : Literal). IsAtomOf task.now l.atom) task.now.goal }
+    requires added { (a : Action) → IsActionOf task.now a → All (IsAtomOf task.now) a.adds }
+    requires well { IsPlanningTask task.now }
+    ensures prepared { (domain problem : List ℕ) → SpellTask domain problem task.now → IfOk result (IsPrepared domain problem) }
+    ensures refused { (domain problem : List ℕ) → SpellTask domain problem task.now → IfErr result (IsPlanningRefusal domain problem (λ task e. ⊥)) }
+{
+    let translated = translation_of(alloc, task)?;
+    let kind = translation_kind(alloc, task, &translated)?;
+    Ok(Prepared { translated, kind })
+}
+
 /// The translation of the task that the texts spell, with what certificates for it count on.
 pub(crate) fn prepare(
     alloc: Global,
@@ -54,7 +70,5 @@ pub(crate) fn prepare(
     ensures refused { IfErr result (IsPlanningRefusal domain.now problem.now (λ task e. ⊥)) }
 {
     let task = read_task(alloc, domain, problem)?;
-    let translated = translation_of(alloc, &task)?;
-    let kind = translation_kind(alloc, &task, &translated)?;
-    Ok(Prepared { translated, kind })
+    prepare_task(alloc, &task)
 }

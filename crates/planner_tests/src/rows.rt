@@ -1,14 +1,17 @@
 //! What is checked of each task.
 
-ghost use Rattle.std.specs.Prelude.{◌≤◌, ◌^◌};
+ghost use Rattle.std.specs.Prelude.{◌≤◌, ◌^◌, IsTrue};
+ghost use Rattle.planning.specs.Planning.{has_small_costs};
+ghost use Rattle.validate.specs.Verdicts.{CostsAtMost};
 
 use cost::Dist;
 use pddl::read_task;
 use pddl_checker::{PlanningVerdict, check_pddl};
 use planner::{Options, PlanningAnswer, PlanningSolution, simulate};
+use planning::Task;
 use std::process::Abort;
 use std::test::Fail;
-use validate::{Verdict, read_plan, validate};
+use validate::{Plan, Verdict, read_plan, validate};
 
 /// Seeds of schedules, from 0 on.
 const SEEDS: u64 = 20;
@@ -31,6 +34,23 @@ pub(crate) fn certifies<R: Abort + AllocGlobal>(
     Ok(())
 }
 
+/// Checks that the plan is valid at this cost.
+fn is_valid_for<R: Abort + AllocGlobal>(
+    rt: &R,
+    task: &Task,
+    plan: &Plan,
+    cost: u64,
+) -> Result<(), Fail>
+    requires small { IsTrue (has_small_costs task.now) }
+    requires costs { CostsAtMost task.now 2147483647 }
+{
+    match validate(rt.alloc(), task, plan)? {
+        Verdict::Valid(total) => assert_eq!(rt; total, cost),
+        verdict => panic!(rt; "{verdict:?}"),
+    }
+    Ok(())
+}
+
 /// Checks that the text is a valid plan at this cost.
 #[tactic(auto, unfolding(validate::specs::Verdicts::CostsAtMost))]
 pub(crate) fn is_valid<R: Abort + AllocGlobal>(
@@ -40,13 +60,9 @@ pub(crate) fn is_valid<R: Abort + AllocGlobal>(
     plan: &str,
     cost: u64,
 ) -> Result<(), Fail> {
-    let task = read_task(rt.alloc(), domain.as_bytes(), problem.as_bytes())?;
     let plan = read_plan(rt.alloc(), plan.as_bytes())?;
-    match validate(rt.alloc(), &task, &plan)? {
-        Verdict::Valid(total) => assert_eq!(rt; total, cost),
-        verdict => panic!(rt; "{verdict:?}"),
-    }
-    Ok(())
+    let task = read_task(rt.alloc(), domain.as_bytes(), problem.as_bytes())?;
+    is_valid_for(rt, &task, &plan, cost)
 }
 
 /// Checks that a plan is valid at this cost, and that the checker accepts the certificate for it.

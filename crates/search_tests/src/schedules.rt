@@ -6,12 +6,12 @@ use certificates::CertificateKind;
 use extract::plan_of;
 use fdr::FdrTask;
 use netcore::WorldStep::{Deliver, Expand, Look, Offer, Rest, Send};
-use netcore::{SearchAnswer, World, WorldStep};
+use netcore::{Joined, SearchAnswer, World, WorldStep};
 use owner::Space;
 use sasfile::read_sas;
 use scp::make_columns;
-use spread::ByValue;
-use std::alloc::Global;
+use spread::{ByValue, Spread};
+use std::alloc::{AllocError, Global};
 use std::process::Abort;
 use std::test::Fail;
 
@@ -212,6 +212,63 @@ const DETOUR_DROPPED: &[WorldStep] = &[
     Rest(1),
 ];
 
+/// Nothing is left to do, and the owners are settled at the cost.
+fn is_settled<S: Spread + Drop>(
+    rt: &impl Abort,
+    alloc: Global,
+    world: &World<'_, S>,
+    cost: u64,
+) -> Result<(), Fail> {
+    assert_eq!(rt; world.count(), 0);
+    assert_eq!(rt; world.answer(alloc)?, Some(SearchAnswer::Solved(cost)));
+    Ok(())
+}
+
+/// The best goal node is reached by this plan.
+fn has_plan<S: Spread + Drop>(
+    rt: &impl Abort,
+    alloc: Global,
+    joined: &Joined<'_, S>,
+    plan: &[usize],
+) -> Result<(), Fail> {
+    let goal = joined.best(alloc)?.ok_or("a goal node")?;
+    let found = plan_of(alloc, joined, goal)?;
+    assert_eq!(rt; found.as_slice(), plan);
+    Ok(())
+}
+
+/// The certificate has this text.
+fn has_certificate<S: Spread + Drop>(
+    rt: &impl Abort,
+    alloc: Global,
+    joined: &Joined<'_, S>,
+    text: &str,
+) -> Result<(), Fail> {
+    let certificate = cert_of(alloc, joined, CertificateKind::Sas)?;
+    let written = write_cert(alloc, &certificate)?;
+    assert_eq!(rt; written.as_slice(), text.as_bytes());
+    Ok(())
+}
+
+/// The space of the task without a column.
+fn space_for<'t>(alloc: Global, task: &'t FdrTask) -> Result<Space<'t, ByValue<'t>>, AllocError> {
+    let columns = make_columns(alloc, task, &[])?;
+    Space::new(alloc, task, columns, ByValue::new(task), None)
+}
+
+/// Two owners do the steps, and then nothing is left to do: they are settled at the cost.
+fn run_to_the_end<'a, S: Spread + Drop>(
+    rt: &impl Abort,
+    alloc: Global,
+    space: &'a Space<'a, S>,
+    steps: &[WorldStep],
+    cost: u64,
+) -> Result<Joined<'a, S>, Fail> {
+    let world = World::run(alloc, space, 2, steps).map_err(|_| "a refused step")?;
+    is_settled(rt, alloc, &world, cost)?;
+    Ok(world.joined())
+}
+
 /// Two owners of the task's states do the steps, and then nothing is left to do: they are settled at the cost, with this plan and this
 /// text of a certificate.
 fn settle<'t>(
@@ -223,19 +280,11 @@ fn settle<'t>(
     plan: &[usize],
     text: &str,
 ) -> Result<(), Fail> {
-    let columns = make_columns(alloc, task, &[])?;
-    let space: Space<'t, ByValue<'t>> = Space::new(alloc, task, columns, ByValue::new(task), None)?;
-    let world = World::run(alloc, &space, 2, steps).map_err(|_| "a refused step")?;
-    assert_eq!(rt; world.count(), 0);
-    assert_eq!(rt; world.answer(alloc)?, Some(SearchAnswer::Solved(cost)));
-    let joined = world.joined();
-    let goal = joined.best(alloc)?.ok_or("a goal node")?;
-    let found = plan_of(alloc, &joined, goal)?;
-    assert_eq!(rt; found.as_slice(), plan);
-    let certificate = cert_of(alloc, &joined, CertificateKind::Sas)?;
-    let written = write_cert(alloc, &certificate)?;
-    assert_eq!(rt; written.as_slice(), text.as_bytes());
-    Ok(())
+    // the type is told so that the borrow checker need not find how long the space is lent
+    let space: Space<'t, ByValue<'t>> = space_for(alloc, task)?;
+    let joined = run_to_the_end(rt, alloc, &space, steps, cost)?;
+    has_plan(rt, alloc, &joined, plan)?;
+    has_certificate(rt, alloc, &joined, text)
 }
 
 /// The same for the task of a text.

@@ -1,10 +1,12 @@
+ghost use Rattle.checker_clauses.specs.Violations.{IsMet};
+
 use certificates::{Certificate, CertificateKind, ClosedList};
 use checker_clauses::Violation;
 use closed_clauses::{Coverage, first_closed_violation, first_goal_violation};
 use cost::Dist;
 use fdr::FdrTask;
 use small_tasks::{fact, operator, task};
-use std::alloc::Global;
+use std::alloc::{AllocError, Global};
 use std::process::Abort;
 use std::test::*;
 use table_clauses::first_table_violation;
@@ -28,7 +30,41 @@ fn listed(alloc: Global, states: &[(u64, u32)]) -> Result<ClosedList, Fail> {
     Ok(closed)
 }
 
-// The first violation of the clauses 5 to 8 of a certificate with no tables.
+// The first violation of the clauses from the initial state on.
+fn uncovered(
+    alloc: Global,
+    task: &FdrTask,
+    certificate: &Certificate,
+) -> Result<Option<Violation>, AllocError>
+    requires tables { IsMet task.now certificate.now 4 }
+    requires closed { IsMet task.now certificate.now 5 }
+{
+    let coverage = Coverage::new(alloc, task, certificate)?;
+    if let Some(violation) = coverage.start_violation() {
+        return Ok(Some(violation));
+    }
+    if let Some(violation) = first_goal_violation(alloc, task, certificate)? {
+        return Ok(Some(violation));
+    }
+    coverage.first_successor_violation(alloc)
+}
+
+// The first violation of the clauses 4 to 8.
+fn first_violation(
+    alloc: Global,
+    task: &FdrTask,
+    certificate: &Certificate,
+) -> Result<Option<Violation>, AllocError> {
+    if let Some(violation) = first_table_violation(alloc, task, certificate)? {
+        return Ok(Some(violation));
+    }
+    if let Some(violation) = first_closed_violation(alloc, task, certificate)? {
+        return Ok(Some(violation));
+    }
+    uncovered(alloc, task, certificate)
+}
+
+// The first violation of the clauses 4 to 8 of a certificate with no tables.
 fn found(
     alloc: Global,
     task: &FdrTask,
@@ -36,20 +72,7 @@ fn found(
     closed: ClosedList,
 ) -> Result<Option<Violation>, Fail> {
     let certificate = Certificate::new(CertificateKind::Sas, bound, Vec::new(alloc), closed);
-    if let Some(violation) = first_table_violation(alloc, task, &certificate)? {
-        return Ok(Some(violation));
-    }
-    if let Some(violation) = first_closed_violation(alloc, task, &certificate)? {
-        return Ok(Some(violation));
-    }
-    let coverage = Coverage::new(alloc, task, &certificate)?;
-    if let Some(violation) = coverage.start_violation() {
-        return Ok(Some(violation));
-    }
-    if let Some(violation) = first_goal_violation(alloc, task, &certificate)? {
-        return Ok(Some(violation));
-    }
-    Ok(coverage.first_successor_violation(alloc)?)
+    Ok(first_violation(alloc, task, &certificate)?)
 }
 
 #[test]

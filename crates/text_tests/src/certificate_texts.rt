@@ -226,27 +226,41 @@ fn ends(rt: HostRuntime) -> Result<(), Fail> {
     Ok(())
 }
 
-#[test]
-fn writes_a_value(rt: HostRuntime) -> Result<(), Fail> {
-    let mut closed = ClosedList::new(rt.alloc());
-    closed.push(0, &[0])?;
-    let mut values = Values::new(rt.alloc());
+// A table whose values are infinite and 2^55.
+fn large_table(alloc: Global) -> Result<PatternTable, AllocError> {
+    let mut values = Values::new(alloc);
     values.push(Dist::inf())?;
     values.push(dist(36_028_797_018_963_968))?;
-    let table = PatternTable {
-        pattern: [0, 4_294_967_295].to_vec(rt.alloc())?,
+    Ok(PatternTable {
+        pattern: [0, 4_294_967_295].to_vec(alloc)?,
         shares: [Share {
             operator: 7,
             amount: 2_147_483_647,
         }]
-        .to_vec(rt.alloc())?,
+        .to_vec(alloc)?,
         values,
-    };
-    let mut column = Vec::new(rt.alloc());
-    column.push(table)?;
-    let mut columns = Vec::new(rt.alloc());
+    })
+}
+
+// A column of that table alone.
+fn large_columns(alloc: Global) -> Result<Vec<Vec<PatternTable>>, AllocError> {
+    let mut column = Vec::new(alloc);
+    column.push(large_table(alloc)?)?;
+    let mut columns = Vec::new(alloc);
     columns.push(column)?;
-    let certificate = Certificate::new(CertificateKind::Sas, Dist::inf(), columns, closed);
+    Ok(columns)
+}
+
+fn large_certificate(alloc: Global) -> Result<Certificate, AllocError> {
+    let columns = large_columns(alloc)?;
+    let mut closed = ClosedList::new(alloc);
+    closed.push(0, &[0])?;
+    Ok(Certificate::new(CertificateKind::Sas, Dist::inf(), columns, closed))
+}
+
+#[test]
+fn writes_a_value(rt: HostRuntime) -> Result<(), Fail> {
+    let certificate = large_certificate(rt.alloc())?;
     let bytes = write_cert(rt.alloc(), &certificate)?;
     assert_eq!(rt;
         bytes.as_slice(),

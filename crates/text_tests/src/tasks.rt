@@ -1,5 +1,8 @@
 //! Tasks, their atoms and their schemas.
 
+ghost use Rattle.std.specs.Prelude.{IsTrue};
+ghost use Rattle.planning.specs.Planning.{has_small_costs};
+
 use indexmap::IndexMap;
 use names::Names;
 use planning::{
@@ -132,6 +135,25 @@ fn types_lead_to_their_supertypes(rt: HostRuntime) {
 
 // The cost of the action from a town to a place, if there is one, that it leads from the one to the other, and how many
 // literals its precondition has.
+fn trip_in(
+    rt: &impl Abort,
+    alloc: Global,
+    task: &Task,
+    start: usize,
+    end: usize,
+) -> Option<(u64, bool, usize)>
+    requires { IsTrue (has_small_costs task.now) }
+{
+    let there = atom(rt, alloc, 0, &[end]);
+    let here = atom(rt, alloc, 0, &[start]);
+    let action = task
+        .action_of(alloc, 0, &[start, end])
+        .expect(rt, "memory")?;
+    let leads = action.adds[..] == [there] && action.deletes[..] == [here];
+    Some((action.cost, leads, action.precondition.len()))
+}
+
+// The same in the journey with the metric, or without it.
 fn trip(
     rt: &impl Abort,
     alloc: Global,
@@ -140,16 +162,8 @@ fn trip(
     end: usize,
 ) -> Option<(u64, bool, usize)> {
     let task = journey(rt, alloc, metric);
-    if !task.has_small_costs() {
-        return None;
-    }
-    let Some(action) = task.action_of(alloc, 0, &[start, end]).expect(rt, "memory") else {
-        return None;
-    };
-    let there = atom(rt, alloc, 0, &[end]);
-    let here = atom(rt, alloc, 0, &[start]);
-    let leads = action.adds[..] == [there] && action.deletes[..] == [here];
-    Some((action.cost, leads, action.precondition.len()))
+    assert!(rt; task.has_small_costs());
+    trip_in(rt, alloc, &task, start, end)
 }
 
 #[test]

@@ -1,5 +1,8 @@
 //! Groups that become variables.
 
+ghost use Rattle.std.specs.Prelude.{IsTrue};
+ghost use Rattle.planning.specs.Planning.{has_small_costs};
+
 use ground::ground;
 use group_proposals::groups;
 use indexmap::IndexMap;
@@ -151,19 +154,11 @@ fn task(rt: &impl Abort, alloc: Global, sketch: &Sketch<'_>) -> Task {
     }
 }
 
-// The variables of the task, each how many values it has and then its places.
-fn flat_variables(rt: &impl Abort, alloc: Global, sketch: &Sketch<'_>) -> Vec<usize> {
-    let task = task(rt, alloc, sketch);
+// The variables over the atoms and actions, each how many values it has and then its places.
+fn numbers_of(rt: &impl Abort, alloc: Global, index: &ActionIndex<'_>) -> Vec<usize> {
+    let groups = groups(alloc, index).expect(rt, "memory");
     let mut numbers = Vec::new(alloc);
-    if !task.has_small_costs() {
-        return numbers;
-    }
-    let grounded = ground(alloc, &task).expect(rt, "room");
-    let index = ActionIndex::new(alloc, &task, &grounded.atoms, &grounded.actions).expect(
-        rt, "memory",
-    );
-    let groups = groups(alloc, &index).expect(rt, "memory");
-    for variable in choose_variables(alloc, &index, &groups).expect(rt, "memory") {
+    for variable in choose_variables(alloc, index, &groups).expect(rt, "memory") {
         let range = variable
             .places
             .len()
@@ -174,6 +169,23 @@ fn flat_variables(rt: &impl Abort, alloc: Global, sketch: &Sketch<'_>) -> Vec<us
             .expect(rt, "memory");
     }
     numbers
+}
+
+fn variables_of(rt: &impl Abort, alloc: Global, task: &Task) -> Vec<usize>
+    requires { IsTrue (has_small_costs task.now) }
+{
+    let grounded = ground(alloc, task).expect(rt, "room");
+    let index = ActionIndex::new(alloc, task, &grounded.atoms, &grounded.actions).expect(
+        rt, "memory",
+    );
+    numbers_of(rt, alloc, &index)
+}
+
+// The variables of the task, as above.
+fn flat_variables(rt: &impl Abort, alloc: Global, sketch: &Sketch<'_>) -> Vec<usize> {
+    let task = task(rt, alloc, sketch);
+    assert!(rt; task.has_small_costs());
+    variables_of(rt, alloc, &task)
 }
 
 fn step_of<'a>(wants: &'a [Row], adds: &'a [Row], deletes: &'a [Row]) -> Step<'a> {

@@ -202,51 +202,136 @@ fn answer(
     }
 }
 
+// The task, the atoms, the variables, and what comes of them.
+fn answers(
+    rt: &impl Abort,
+    alloc: Global,
+    task: &Task,
+    listed: &[Row],
+    rows: &[(usize, usize, bool)],
+    want: (&str, usize),
+) {
+    assert_eq!(rt; answer(rt, alloc, task, listed, rows), want);
+}
+
 // From a with the goal c, over all atoms: variables of at a and at b, and of at c.
 #[test]
 fn the_first_fault_of_variables_is_told(rt: HostRuntime) {
-    let table: [(&[(usize, usize, bool)], (&str, usize)); 7] = [
-        (&[(0, 2, true), (2, 3, true)], ("fit", 2)),
-        (&[(0, 3, false)], ("fit", 2)),
-        (&[(0, 2, false), (2, 3, true)], ("not full", 0)),
-        (&[(0, 2, true)], ("uncovered", 2)),
-        (&[(0, 3, true), (3, 4, true)], ("misplaced", 1)),
-        (&[(0, 2, true), (1, 3, true)], ("misplaced", 1)),
-        (&[(0, 1, false), (1, 3, true)], ("misplaced", 0)),
-    ];
     let task = road(&rt, rt.alloc(), &[AT_A], &[AT_C]);
-    for (rows, want) in table {
-        let found = answer(&rt, rt.alloc(), &task, &LISTED, rows);
-        assert_eq!(rt; found, want);
-    }
+    let alloc = rt.alloc();
+    answers(
+        &rt,
+        alloc,
+        &task,
+        &LISTED,
+        &[(0, 2, true), (2, 3, true)],
+        ("fit", 2),
+    );
+    answers(&rt, alloc, &task, &LISTED, &[(0, 3, false)], ("fit", 2));
+    answers(
+        &rt,
+        alloc,
+        &task,
+        &LISTED,
+        &[(0, 2, false), (2, 3, true)],
+        ("not full", 0),
+    );
+    answers(
+        &rt,
+        alloc,
+        &task,
+        &LISTED,
+        &[(0, 2, true)],
+        ("uncovered", 2),
+    );
+    answers(
+        &rt,
+        alloc,
+        &task,
+        &LISTED,
+        &[(0, 3, true), (3, 4, true)],
+        ("misplaced", 1),
+    );
+    answers(
+        &rt,
+        alloc,
+        &task,
+        &LISTED,
+        &[(0, 2, true), (1, 3, true)],
+        ("misplaced", 1),
+    );
+    answers(
+        &rt,
+        alloc,
+        &task,
+        &LISTED,
+        &[(0, 1, false), (1, 3, true)],
+        ("misplaced", 0),
+    );
 }
 
 // One variable of all three where two are true initially, or two are goals.
+fn answers_of_one(
+    rt: &impl Abort,
+    alloc: Global,
+    initial: &[Row],
+    goals: &[Row],
+    want: (&str, usize),
+) {
+    let task = road(rt, alloc, initial, goals);
+    answers(rt, alloc, &task, &LISTED, &[(0, 3, true)], want);
+}
+
 #[test]
 fn two_true_atoms_or_goals_are_in_no_variable(rt: HostRuntime) {
-    let two = road(&rt, rt.alloc(), &[AT_A, AT_B], &[AT_C]);
-    let found = answer(&rt, rt.alloc(), &two, &LISTED, &[(0, 3, true)]);
-    assert_eq!(rt; found, ("no group", 0));
-    let goals = road(&rt, rt.alloc(), &[AT_A], &[AT_B, AT_C]);
-    let found = answer(&rt, rt.alloc(), &goals, &LISTED, &[(0, 3, true)]);
-    assert_eq!(rt; found, ("misplaced", 0));
+    answers_of_one(&rt, rt.alloc(), &[AT_A, AT_B], &[AT_C], ("no group", 0));
+    answers_of_one(&rt, rt.alloc(), &[AT_A], &[AT_B, AT_C], ("misplaced", 0));
 }
 
 // The goals, the atoms, and what is wrong with them, with no variables.
+fn answers_of_none(
+    rt: &impl Abort,
+    alloc: Global,
+    goals: &[Row],
+    listed: &[Row],
+    want: (&str, usize),
+) {
+    let task = road(rt, alloc, &[AT_A], goals);
+    answers(rt, alloc, &task, listed, &[], want);
+}
+
 #[test]
 fn the_first_fault_of_atoms_is_told(rt: HostRuntime) {
-    let table: [(&[Row], &[Row], (&str, usize)); 7] = [
-        (&[], &[AT_A, AT_B, AT_C, ROAD_A_B], ("missing", 1)),
-        (&[], &[AT_C, AT_B, ROAD_A_B, ROAD_B_C], ("missing", 0)),
-        (&[AT_C], &[AT_A, AT_B, ROAD_A_B, ROAD_B_C], ("missing", 2)),
-        (&[], &[AT_A, AT_B, ROAD_A_B, ROAD_B_C], ("not closed", 2)),
-        (&[], &[AT_A, AT_B, AT_A], ("bad atom", 2)),
-        (&[], &[AT_A, (1, [0, 7])], ("bad atom", 1)),
-        (&[], &[(2, [0, 0])], ("bad atom", 0)),
-    ];
-    for (goals, listed, want) in table {
-        let task = road(&rt, rt.alloc(), &[AT_A], goals);
-        let found = answer(&rt, rt.alloc(), &task, listed, &[]);
-        assert_eq!(rt; found, want);
-    }
+    let alloc = rt.alloc();
+    answers_of_none(
+        &rt,
+        alloc,
+        &[],
+        &[AT_A, AT_B, AT_C, ROAD_A_B],
+        ("missing", 1),
+    );
+    answers_of_none(
+        &rt,
+        alloc,
+        &[],
+        &[AT_C, AT_B, ROAD_A_B, ROAD_B_C],
+        ("missing", 0),
+    );
+    answers_of_none(
+        &rt,
+        alloc,
+        &[AT_C],
+        &[AT_A, AT_B, ROAD_A_B, ROAD_B_C],
+        ("missing", 2),
+    );
+    answers_of_none(
+        &rt,
+        alloc,
+        &[],
+        &[AT_A, AT_B, ROAD_A_B, ROAD_B_C],
+        ("not closed", 2),
+    );
+    answers_of_none(&rt, alloc, &[], &[AT_A, AT_B, AT_A], ("bad atom", 2));
+    answers_of_none(&rt, alloc, &[], &[AT_A, (1, [0, 7])], ("bad atom", 1));
+    answers_of_none(&rt, alloc, &[], &[(2, [0, 0])], ("bad atom", 0));
 }

@@ -171,24 +171,26 @@ fn gripper(rt: &impl Abort, alloc: Global) -> Task {
     }
 }
 
-// The groups of the task, each its length and then its places.
-fn flat_groups(rt: &impl Abort, alloc: Global, task: &Task) -> Vec<usize> {
+// The groups over the atoms and actions, each its length and then its places.
+fn numbers_of(rt: &impl Abort, alloc: Global, index: &ActionIndex<'_>) -> Vec<usize> {
     let mut numbers = Vec::new(alloc);
-    if !task.has_small_costs() {
-        return numbers;
-    }
-    let grounded = ground(alloc, task).expect(rt, "room");
-    let index = ActionIndex::new(alloc, task, &grounded.atoms, &grounded.actions).expect(
-        rt, "memory",
-    );
-    let groups = groups(alloc, &index).expect(rt, "memory");
-    for group in groups.as_slice() {
+    for group in groups(alloc, index).expect(rt, "memory").as_slice() {
         numbers.push(group.places().len()).expect(rt, "memory");
         numbers
             .extend_from_slice(group.places())
             .expect(rt, "memory");
     }
     numbers
+}
+
+// The groups of the task, as above.
+fn flat_groups(rt: &impl Abort, alloc: Global, task: &Task) -> Vec<usize> {
+    assert!(rt; task.has_small_costs());
+    let grounded = ground(alloc, task).expect(rt, "room");
+    let index = ActionIndex::new(alloc, task, &grounded.atoms, &grounded.actions).expect(
+        rt, "memory",
+    );
+    numbers_of(rt, alloc, &index)
 }
 
 // The atoms are, from 4 on: here p, here q, in x p, in x q, in y p, in y q, free, held x, held y.

@@ -4,29 +4,25 @@ use Rattle.spelled_tasks.proofs.KnownAtoms.{spelled_known}
 use Rattle.planner.proofs.Reading.{read_refusal}
 use Rattle.planner.proofs.preparing.prepare.Goals as goal
 
-pub translation_of-requires-clause-initial : goal.translation_of-requires-clause-initial
-translation_of-requires-clause-initial c = (spelled_known c.args.domain.now c.args.problem.now _ c.in_ok-task.ensures.found).initial
+pub prepare_task-requires-clause-initial : goal.prepare_task-requires-clause-initial
+prepare_task-requires-clause-initial c = (spelled_known c.args.domain.now c.args.problem.now _ c.in_ok-task.ensures.found).initial
 
-pub translation_of-requires-clause-goals : goal.translation_of-requires-clause-goals
-translation_of-requires-clause-goals c = (spelled_known c.args.domain.now c.args.problem.now _ c.in_ok-task.ensures.found).goals
+pub prepare_task-requires-clause-goals : goal.prepare_task-requires-clause-goals
+prepare_task-requires-clause-goals c = (spelled_known c.args.domain.now c.args.problem.now _ c.in_ok-task.ensures.found).goals
 
-pub translation_of-requires-clause-added : goal.translation_of-requires-clause-added
-translation_of-requires-clause-added c = (spelled_known c.args.domain.now c.args.problem.now _ c.in_ok-task.ensures.found).added
+pub prepare_task-requires-clause-added : goal.prepare_task-requires-clause-added
+prepare_task-requires-clause-added c = (spelled_known c.args.domain.now c.args.problem.now _ c.in_ok-task.ensures.found).added
 
-pub translation_of-requires-clause-well : goal.translation_of-requires-clause-well
-translation_of-requires-clause-well c = spelled_well c.args.domain.now c.args.problem.now _ c.in_ok-task.ensures.found
+pub prepare_task-requires-clause-well : goal.prepare_task-requires-clause-well
+prepare_task-requires-clause-well c = spelled_well c.args.domain.now c.args.problem.now _ c.in_ok-task.ensures.found
 
 pub returns-in_err-task-clause-refused : goal.returns-in_err-task-clause-refused
 returns-in_err-task-clause-refused c =
     let p = err_from_is_err_and c.from_residual.result c.from_residual.ensures.1 in
     rw (p.1, p.2) (read_refusal c.args.domain.now c.args.problem.now (λ task e. ⊥) _ c.in_err-task.ensures.fault)
 
-pub returns-in_err-translated-clause-refused : goal.returns-in_err-translated-clause-refused
-returns-in_err-translated-clause-refused c =
-    let p = err_from_is_err_and c.from_residual-in_err-translated.result c.from_residual-in_err-translated.ensures.1 in
-    rw (p.1, p.2) (c.in_err-translated.ensures.refused c.args.domain.now c.args.problem.now c.in_ok-task.ensures.found)
+pub returns-clause-prepared : goal.returns-clause-prepared
+returns-clause-prepared c = c.prepare_task.ensures.prepared c.args.domain.now c.args.problem.now c.in_ok-task.ensures.found
 
-pub returns-in_err-kind-clause-refused : goal.returns-in_err-kind-clause-refused
-returns-in_err-kind-clause-refused c =
-    let p = err_from_is_err_and c.from_residual-in_err-kind.result c.from_residual-in_err-kind.ensures.1 in
-    rw (p.1, p.2) tt
+pub returns-clause-refused : goal.returns-clause-refused
+returns-clause-refused c = c.prepare_task.ensures.refused c.args.domain.now c.args.problem.now c.in_ok-task.ensures.found
