@@ -435,9 +435,7 @@ const DOOR: Texts<'static> = Texts {
     schemas: &["enter"],
 };
 
-#[test]
-fn a_door_that_may_be_locked(rt: HostRuntime) {
-    let alloc = rt.alloc();
+fn door(rt: &impl Abort, alloc: Global) -> Parts {
     let enter = [Row {
         objects: &[0],
         wanted: &[],
@@ -445,11 +443,16 @@ fn a_door_that_may_be_locked(rt: HostRuntime) {
         adds: &[(0, &[])],
         deletes: &[],
     }];
-    let task = task(&rt, alloc, DOOR, &[(1, &[0])], &[(0, &[])]);
-    let atoms = listed(&rt, alloc, &[(0, &[]), (1, &[0])]);
-    let actions = actions(&rt, alloc, &enter);
-    let variables = variables(&rt, alloc, &[(&[0], true), (&[1], true)]);
-    let parts = parts(&rt, alloc, &task, &atoms, &actions, &variables);
+    let task = task(rt, alloc, DOOR, &[(1, &[0])], &[(0, &[])]);
+    let atoms = listed(rt, alloc, &[(0, &[]), (1, &[0])]);
+    let actions = actions(rt, alloc, &enter);
+    let variables = variables(rt, alloc, &[(&[0], true), (&[1], true)]);
+    parts(rt, alloc, &task, &atoms, &actions, &variables)
+}
+
+#[test]
+fn a_door_that_may_be_locked(rt: HostRuntime) {
+    let parts = door(&rt, rt.alloc());
     assert_eq!(rt; parts.initial.as_slice(), [1, 0].as_slice());
     assert!(rt; are(&parts.goal, &[(0, 0)]));
     assert!(rt; is(&parts.operators, 0, "enter d", &[(1, 1)], &[(0, 0)]));
