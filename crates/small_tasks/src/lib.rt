@@ -1,17 +1,20 @@
 //! Small finite-domain tasks for tests: what is written there is found to be a task before it is one.
 #![tactic(auto)]
 
-ghost use Rattle.std.specs.Prelude.{◌≡◌, ◌<◌, All, map, length, slice_index, IsTrue, IfOk};
+ghost use Rattle.std.specs.Prelude.{◌≡◌, ◌<◌, ◌↔◌, All, [], map, replicate, length, string_bytes, slice_index, IsTrue, IfOk, IfSome, IfNone};
 ghost use Rattle.std.specs.List.Sorted.{IsStrictlyIncreasing};
 ghost use Rattle.fdr.specs.Tasks as spec;
-ghost use Rattle.fdr.specs.Tasks.{IsAssignment, IsOperator, IsState, names_in};
+ghost use Rattle.fdr.specs.Tasks.{IsAssignment, IsOperator, IsState, IsTask, IsWithinLimits, names_in};
+ghost use Rattle.small_tasks.specs.SmallTasks.{unnamed, blank_names, task_with, walk_task, IsPriced};
 
 use cost::Cost;
 use fdr::{Fact, FdrTask, Operator};
 use std::alloc::{AllocError, Global};
 
 /// The fact that a variable has a value.
-pub fn fact(variable: usize, value: u32) -> Fact {
+pub fn fact(variable: usize, value: u32) -> Fact
+    ensures { result ≡ record { variable = variable; value = value } }
+{
     Fact { variable, value }
 }
 
@@ -21,7 +24,9 @@ fn priced(
     precondition: &[Fact],
     effect: &[Fact],
     cost: Cost,
-) -> Result<Operator, AllocError> {
+) -> Result<Operator, AllocError>
+    ensures { IfOk result (λ o. o ≡ unnamed precondition.now effect.now cost) }
+{
     Ok(Operator {
         name: String::new(alloc),
         precondition: Vec::from_slice(alloc, precondition)?,
@@ -35,7 +40,9 @@ pub fn operator(
     alloc: Global,
     precondition: &[Fact],
     effect: &[Fact],
-) -> Result<Operator, AllocError> {
+) -> Result<Operator, AllocError>
+    ensures { IfOk result (λ o. o ≡ unnamed precondition.now effect.now 1) }
+{
     priced(alloc, precondition, effect, Cost::ONE)
 }
 
@@ -48,7 +55,7 @@ fn names_variable(facts: &[Fact], variable: usize) -> bool
 
 /// Whether the facts are in range, at most one a variable.
 fn is_assignment(ranges: &[usize], facts: &[Fact]) -> bool
-    ensures { IsTrue result → IsAssignment ranges.now facts.now }
+    ensures { IsTrue result ↔ IsAssignment ranges.now facts.now }
 {
     for place in 0..facts.len() {
         let fact = facts[place];
@@ -64,7 +71,7 @@ fn is_assignment(ranges: &[usize], facts: &[Fact]) -> bool
 
 /// Whether the operators' conditions and effects are assignments.
 fn are_operators(ranges: &[usize], operators: &[Operator]) -> bool
-    ensures { IsTrue result → All (IsOperator ranges.now) operators.now }
+    ensures { IsTrue result ↔ All (IsOperator ranges.now) operators.now }
 {
     for operator in operators {
         if !is_assignment(ranges, &operator.precondition)
@@ -78,7 +85,7 @@ fn are_operators(ranges: &[usize], operators: &[Operator]) -> bool
 
 /// Whether it is a state.
 fn is_state(ranges: &[usize], state: &[u32]) -> bool
-    ensures { IsTrue result → IsState ranges.now state.now }
+    ensures { IsTrue result ↔ IsState ranges.now state.now }
 {
     if state.len() != ranges.len() {
         return false;
@@ -91,15 +98,24 @@ fn is_state(ranges: &[usize], state: &[u32]) -> bool
     true
 }
 
+/// So many empty names.
+fn blank(alloc: Global, count: usize) -> Result<Vec<String>, AllocError>
+    ensures { IfOk result (λ names. map string_bytes names.items ≡ replicate count []) }
+{
+    let mut names = Vec::new(alloc);
+    for _ in 0..count {
+        names.push(String::new(alloc))?;
+    }
+    Ok(names)
+}
+
 /// As many empty names as each range says.
-fn names_of(alloc: Global, ranges: &[usize]) -> Result<Vec<Vec<String>>, AllocError> {
+fn names_of(alloc: Global, ranges: &[usize]) -> Result<Vec<Vec<String>>, AllocError>
+    ensures { IfOk result (λ names. names_in names.items ≡ blank_names ranges.now) }
+{
     let mut names = Vec::new(alloc);
     for &range in ranges {
-        let mut values = Vec::new(alloc);
-        for _ in 0..range {
-            values.push(String::new(alloc))?;
-        }
-        names.push(values)?;
+        names.push(blank(alloc, range)?)?;
     }
     Ok(names)
 }
@@ -122,7 +138,11 @@ pub fn task(
     initial: &[u32],
     goal: &[Fact],
     operators: Vec<Operator>,
-) -> Result<Option<FdrTask>, AllocError> {
+) -> Result<Option<FdrTask>, AllocError>
+    ensures task { IfOk result (λ t. IfSome t (λ t. t ≡ task_with ranges.now initial.now goal.now operators.items)) }
+    ensures none { IfOk result (λ t. IfNone t (IsTask (task_with ranges.now initial.now goal.now operators.items) →
+        IsWithinLimits (task_with ranges.now initial.now goal.now operators.items) → ⊥)) }
+{
     let names = names_of(alloc, ranges)?;
     let ranges = ranges_of(alloc, &names)?;
     let initial = Vec::from_slice(alloc, initial)?;
@@ -141,7 +161,11 @@ pub fn states(
     alloc: Global,
     ranges: &[usize],
     initial: &[u32],
-) -> Result<Option<FdrTask>, AllocError> {
+) -> Result<Option<FdrTask>, AllocError>
+    ensures task { IfOk result (λ t. IfSome t (λ t. t ≡ task_with ranges.now initial.now [] [])) }
+    ensures none { IfOk result (λ t. IfNone t (IsTask (task_with ranges.now initial.now [] []) →
+        IsWithinLimits (task_with ranges.now initial.now [] []) → ⊥)) }
+{
     task(alloc, ranges, initial, &[], Vec::new(alloc))
 }
 
@@ -152,7 +176,11 @@ pub fn walk(
     values: usize,
     goal: u32,
     steps: &[(u32, u32, u64)],
-) -> Result<Option<FdrTask>, AllocError> {
+) -> Result<Option<FdrTask>, AllocError>
+    ensures task { IfOk result (λ t. IfSome t (λ t. t ≡ walk_task values goal steps.now)) }
+    ensures none { IfOk result (λ t. IfNone t (All IsPriced steps.now → IsTask (walk_task values goal steps.now) →
+        IsWithinLimits (walk_task values goal steps.now) → ⊥)) }
+{
     let mut operators = Vec::new(alloc);
     for &(from, to, cost) in steps {
         let Some(cost) = Cost::new(cost) else {
@@ -165,7 +193,7 @@ pub fn walk(
 
 /// Whether it is a state of the task.
 pub fn is_state_of(task: &FdrTask, state: &[u32]) -> bool
-    ensures { IsTrue result → IsState (spec.ranges task.now) state.now }
+    ensures { IsTrue result ↔ IsState (spec.ranges task.now) state.now }
 {
     if state.len() != task.variable_count() {
         return false;
@@ -180,7 +208,7 @@ pub fn is_state_of(task: &FdrTask, state: &[u32]) -> bool
 
 /// Whether each number is below the next.
 pub fn is_increasing(numbers: &[usize]) -> bool
-    ensures { IsTrue result → IsStrictlyIncreasing numbers.now }
+    ensures { IsTrue result ↔ IsStrictlyIncreasing numbers.now }
 {
     for place in 1..numbers.len() {
         if numbers[place - 1] >= numbers[place] {
