@@ -158,7 +158,8 @@ fn hand_over<'a, S: Spread + Drop>(
 ) -> Result<(), Fail> {
     let mut first = Owner::start(alloc, space, 0, 2)?;
     let mut second = Owner::start(alloc, space, 1, 2)?;
-    assert!(rt; second.len() == 0 && second.is_idle(Dist::inf()));
+    assert_eq!(rt; (first.len(), second.len()), (1, 0));
+    assert!(rt; second.is_idle(Dist::inf()));
     posts(rt, &mut first);
     let Some(message) = first.next_out(1) else {
         panic!(rt; "a message")
