@@ -39,10 +39,12 @@ SEARCHES = [
     ("drawn", 1, 0, 1_000_000),
     ("drawn", 1, 1000, 200_000),
     ("drawn", 4, 0, 4_000_000),
+    ("drawn", 64, 0, 1_000_000),
     ("logistics", 1, 0, 500_000),
     ("logistics", 1, 0, 1_000_000),
     ("logistics", 1, 100_000, 200_000),
     ("logistics", 4, 0, 4_000_000),
+    ("logistics", 64, 0, 1_000_000),
 ]
 BUILT = os.path.join(measuring.FOLDER, "..", "crates", "measure_search", "out", "measure_search")
 

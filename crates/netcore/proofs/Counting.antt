@@ -1,5 +1,5 @@
 -- Counts of messages and of owners that are active.
-use Rattle.std.proofs.Common.{◌≡◌, ℕ, zero, suc, ◌+◌, ◌<◌, Bool, true, false, not, List, [], ◌∷◌, length, min, take, refl, sym, ap, ◌∙◌, subst, arith, cond}
+use Rattle.std.proofs.Common.{◌≡◌, ℕ, zero, suc, ◌+◌, ◌<◌, Bool, true, false, not, List, [], ◌∷◌, length, min, refl, sym, ap, ◌∙◌, subst, arith, cond}
 use Rattle.std.specs.Prelude.{sum_by, count_by}
 use Rattle.std.specs.List.Sorted.{IsPermutation}
 use Rattle.std.proofs.lemmas.List.Sorted.{sum_by-IsPermutation}
@@ -25,11 +25,6 @@ pub no_more : (a most : ℕ) → 0 < most → min a most ≡ 0 → a ≡ 0
 no_more a most lt e = omega arith
 
 -- ---- lists as far as a loop has come
-pub waiting_more : (qs : List (List Message)) (i : ℕ) → i < length qs → waiting (take (suc i) qs) ≡ waiting (take i qs) + length (list_at qs i)
-waiting_more [] i lt = absurd (omega arith)
-waiting_more (q ∷ qs) zero lt = omega arith
-waiting_more (q ∷ qs) (suc i) lt = let rest = waiting_more qs i (omega arith) in omega arith
-
 as_ones : {X : Type 0} (xs : List X) → sum_by (λ _. 1) xs ≡ length xs
 as_ones [] = refl
 as_ones {X = X} (x ∷ xs) = let rest = as_ones xs in let more = sum_by-cons (λ (_ : X). 1) x xs in omega arith

@@ -1,6 +1,6 @@
 //! The steps that would change something.
 
-ghost use Rattle.std.specs.Prelude.{◌≡◌, ◌-◌, ◌^◌, ◌++◌, min, length, map, slice_get, flat_map};
+ghost use Rattle.std.specs.Prelude.{◌≡◌, ◌<◌, ◌-◌, ◌^◌, ◌++◌, min, length, map, slice_get, flat_map};
 ghost use Rattle.joined.specs.Views.{packets_in};
 ghost use Rattle.netcore.specs.Possible.{would_change, own_step, by_owner, sends_of, deliveries, possible_steps, below};
 ghost use Rattle.netcore.specs.declared.step.WorldStep.TheVariants.{Expand, Send, Deliver, Offer, Look, Rest};
@@ -168,11 +168,10 @@ impl<'a, S: Spread + Drop> World<'a, S> {
 
     /// To how many owners this one has a message.
     fn send_count_of(&self, worker: usize) -> usize
+        requires { worker < length self.now.owners }
         ensures { result ≡ length (sends_of S.owner self.now worker) }
     {
-        (0..self.owner_count())
-            .filter(|to| self.could_send(worker, *to))
-            .count()
+        self.owners[worker].outboxes_in_use()
     }
 
     /// The step of that number among those that send a message of this owner.
@@ -210,7 +209,7 @@ impl<'a, S: Spread + Drop> World<'a, S> {
         underway_count(&self.underway)
     }
 
-    /// How many steps would change something, at most 2^128 - 1. For n owners it takes some n² look-ups, however many states and messages
+    /// How many steps would change something, at most 2^128 - 1. For n owners it looks at some n numbers, however many states and messages
     /// there are.
     pub fn possible_count(&self) -> u128
         ensures { result ≡ min (length (possible_steps S.owner self.now)) (2 ^ 128 - 1) }
@@ -254,7 +253,7 @@ impl<'a, S: Spread + Drop> World<'a, S> {
     }
 
     /// The step of that number, counted from 0, among those that would change something: Expand, Send, Deliver, Offer, Look, Rest, each by
-    /// increasing numbers. `None` where there are not so many. For n owners it takes some n² look-ups.
+    /// increasing numbers. `None` where there are not so many. For n owners it looks at some n numbers.
     pub fn possible_step(&self, number: u128) -> Option<WorldStep>
         ensures { result ≡ slice_get (possible_steps S.owner self.now) number }
     {

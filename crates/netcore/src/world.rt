@@ -1,10 +1,10 @@
 //! The world of the owners.
 
-ghost use Rattle.std.specs.Prelude.{◌≡◌, ◌≢◌, ℕ, ◌<◌, ◌-◌, ◌^◌, min, List, [], Option, false, map, length, slice_get, replicate, IfOk, IfErr, MatchResult};
+ghost use Rattle.std.specs.Prelude.{◌≡◌, ◌≢◌, ℕ, ◌<◌, ◌+◌, ◌-◌, ◌^◌, min, not, sum_by, count_by, List, [], Option, false, map, length, slice_get, replicate, IfOk, IfErr, MatchResult};
 ghost use Rattle.fdr.specs.Tasks.{ranges, IsState};
 ghost use Rattle.families.specs.Worlds as machine;
 ghost use Rattle.cost.specs.Distances.{Distance};
-ghost use Rattle.families.specs.Worlds.{world_start, family_of, IsQuiet};
+ghost use Rattle.families.specs.Worlds.{world_start, family_of, waiting, IsQuiet};
 ghost use Rattle.owner.specs.Spaces.{searched};
 ghost use Rattle.netcore.specs.declared.step.WorldStep.{WorldStep};
 ghost use Rattle.netcore.specs.Worlds.{space_in, left_in, world_after_run, Shows, Steps, IsAfter, IsStepRefusal, IsRunRefusal};
@@ -278,6 +278,14 @@ impl<'a, S: Spread + Drop> World<'a, S> {
         Ok(world)
     }
 
+    /// How many messages are underway or in outboxes, and how many owners are not at rest, at most 2^128 - 1.
+    fn pending(&self) -> u128
+        ensures { result ≡ min (length (left_in self.now) + sum_by (λ o. waiting o.outboxes) self.now.owners + count_by not self.now.resting) (2 ^ 128 - 1) }
+    {
+        let messages = underway_count(&self.underway).saturating_add(waiting_count(&self.owners));
+        messages.saturating_add(awake_count(&self.resting) as u128)
+    }
+
     /// The number of messages that were made and not taken, and of owners that are not at rest, at most 2^128 - 1. While it is not 0, some
     /// step would change something.
     pub fn count(&self) -> u128
@@ -288,8 +296,7 @@ impl<'a, S: Spread + Drop> World<'a, S> {
     {
         let first = &self.owners[0];
         first.recall();
-        let messages = underway_count(&self.underway).saturating_add(waiting_count(&self.owners));
-        messages.saturating_add(awake_count(&self.resting) as u128)
+        self.pending()
     }
 
     /// The bound at which the owners are settled: the least cost at which a goal state was taken, infinite where none was, if nothing

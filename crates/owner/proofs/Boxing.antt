@@ -1,12 +1,14 @@
 -- A queue of the list is an outbox.
-use Rattle.std.proofs.Common.{◌≡◌, ℕ, zero, suc, ◌+◌, ◌<◌, List, [], ◌∷◌, ◌++◌, map, length, length-append, deque_len, Option, Some, None, refl, sym, ap, ◌∙◌, subst, arith, get_or}
+use Rattle.std.proofs.Common.{◌≡◌, ℕ, zero, suc, ◌+◌, ◌*◌, ◌^◌, ◌<◌, ◌≤◌, List, [], ◌∷◌, ◌++◌, map, length, length-append, deque_len, Option, Some, None, refl, sym, ap, ◌∙◌, subst, arith, get_or, false, ◌==◌}
 use Rattle.std.specs.Prelude.{slice_set, replicate, MatchOption, IfNone}
 use Rattle.std.specs.Global.{Global}
 use Rattle.std.specs.declared.collections.VecDeque.{VecDeque}
-use Rattle.std.proofs.lemmas.List.{map_push, map-append, map-set}
+use Rattle.std.proofs.lemmas.Bool.{eq-eqb}
+use Rattle.std.proofs.lemmas.Bool.Decides.{nat_tests}
+use Rattle.std.proofs.lemmas.List.{map_push, map-append, map-set, length-map}
 use Rattle.families.specs.Owners as machine
 use Rattle.families.specs.Owners.{list_at}
-use Rattle.families.specs.Worlds.{waiting}
+use Rattle.families.specs.Worlds.{waiting, is_empty}
 use Rattle.closed.specs.declared.message.Message.{Message}
 use Rattle.closed.specs.Tables.{message_of}
 use Rattle.owner.specs.Outboxes.{boxes_of}
@@ -69,15 +71,40 @@ popped qs v old new gone lt at is =
 
 -- ---- how many messages wait
 
-waiting_set : (bs : List (List machine.Message)) (v : ℕ) (m : machine.Message) → v < length bs
-    → waiting (slice_set bs v (list_at bs v ++ m ∷ [])) ≡ waiting bs + 1
-waiting_set [] v m lt = absurd (omega arith)
-waiting_set (b ∷ bs) zero m lt = omega (arith, length-append b (m ∷ []))
-waiting_set (b ∷ bs) (suc v) m lt = omega (arith, waiting_set bs v m (omega arith))
+-- where one outbox changes, the number changes as that of its messages does
+waiting_set : (bs : List (List machine.Message)) (v : ℕ) (b : List machine.Message) → v < length bs
+    → waiting (slice_set bs v b) + length (list_at bs v) ≡ waiting bs + length b
+waiting_set [] v b lt = absurd (omega arith)
+waiting_set (x ∷ bs) zero b lt = omega arith
+waiting_set (x ∷ bs) (suc v) b lt = omega (arith, waiting_set bs v b (omega arith))
 
 pub waiting_posted : (bs bs' : List (List machine.Message)) (v : ℕ) (m : machine.Message) → v < length bs
     → bs' ≡ slice_set bs v (list_at bs v ++ m ∷ []) → waiting bs' ≡ waiting bs + 1
-waiting_posted bs bs' v m lt is = ap waiting is ∙ waiting_set bs v m lt
+waiting_posted bs bs' v m lt is =
+    let change = waiting_set bs v (list_at bs v ++ m ∷ []) lt in
+    omega (arith, ap waiting is, change, length-append (list_at bs v) (m ∷ []))
+
+pub waiting_taken : (bs bs' : List (List machine.Message)) (v : ℕ) (m : machine.Message) → v < length bs
+    → list_at bs v ≡ m ∷ list_at bs' v → bs' ≡ slice_set bs v (list_at bs' v) → waiting bs ≡ waiting bs' + 1
+waiting_taken bs bs' v m lt was is =
+    let change = waiting_set bs v (list_at bs' v) lt in omega (arith, ap waiting is, change, ap length was)
+
+pub waiting_same : (bs bs' : List (List machine.Message)) (v : ℕ) → v < length bs
+    → list_at bs v ≡ list_at bs' v → bs' ≡ slice_set bs v (list_at bs' v) → waiting bs ≡ waiting bs'
+waiting_same bs bs' v lt was is =
+    let change = waiting_set bs v (list_at bs' v) lt in omega (arith, ap waiting is, change, ap length was)
+
+pub none_waiting : (n : ℕ) → waiting (replicate n []) ≡ 0
+none_waiting zero = refl
+none_waiting (suc n) = omega (arith, none_waiting n)
+
+-- queues are short and few enough for the number of their messages to be counted
+pub waiting_small : (qs : List (VecDeque Message Global)) → length qs < 2 ^ 63 → waiting (boxes_of qs) < 2 ^ 128
+waiting_small qs few = let most = go qs in omega (arith, most, few)
+  where
+    go : (qs : List (VecDeque Message Global)) → waiting (boxes_of qs) ≤ length qs * 2 ^ 63
+    go [] = omega arith
+    go (q ∷ qs) = omega (arith, go qs, q.ok.0, q.small.0, q.small.1, length-map q.items message_of)
 
 -- one more empty queue
 more : (n : ℕ) → replicate n [] ++ [] ∷ [] ≡ replicate {A = List machine.Message} (n + 1) []
@@ -100,3 +127,18 @@ pub none_popped : (r : Option Message) (qs : List (VecDeque Message Global)) (v 
 none_popped None qs v old Emptied Rest lt at is =
     box_at qs v old lt ∙ (ap box_of (sym at) ∙ ap (map message_of) (no_items old.items old.len old.ok.0 is.0))
 none_popped (Some m) qs v old Emptied Rest lt at is = tt
+
+-- a queue of no message is an empty outbox
+pub box_empty : (q : VecDeque Message Global) → (deque_len q == 0) ≡ is_empty (box_of q)
+box_empty q = go q.items q.len (sym q.ok.0)
+  where
+    go : (xs : List Message) (n : ℕ) → length xs ≡ n → (n == 0) ≡ is_empty (map message_of xs)
+    go [] n e = eq-eqb n 0 (sym e)
+    go (x ∷ xs) n e = not_zero n (length xs) (sym e)
+      where
+        not_zero : (n k : ℕ) → n ≡ suc k → (n == 0) ≡ false
+        not_zero n k e = grind (arith, nat_tests)
+
+pub emptied : (qs : List (VecDeque Message Global)) (v : ℕ) (q : VecDeque Message Global) → v < length qs → q ≡ get_or qs v q
+    → is_empty (list_at (boxes_of qs) v) ≡ (deque_len q == 0)
+emptied qs v q lt at = ap is_empty (box_at qs v q lt ∙ ap box_of (sym at)) ∙ sym (box_empty q)

@@ -3,6 +3,7 @@ pub mod Outcomes
 pub mod Queues
 pub mod Currents
 pub mod Boxing
+pub mod Using
 pub mod Results
 pub mod Choosing
 pub mod Owning

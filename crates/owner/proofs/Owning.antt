@@ -1,11 +1,8 @@
 -- What every owner keeps stays where it takes a state, or an outbox changes.
-use Rattle.std.proofs.Common.{◌≡◌, ℕ, zero, suc, ◌+◌, ◌<◌, ◌≤◌, ◌^◌, Bool, true, false, ◌==◌, List, [], ◌∷◌, ◌++◌, ◌&&◌, map, length, deque_len, Option, Some, None, All, refl, sym, ap, ◌∙◌, subst, ⊎_elim, arith, true≢false, cond, length-set}
+use Rattle.std.proofs.Common.{◌≡◌, ℕ, zero, suc, ◌+◌, ◌<◌, ◌≤◌, ◌^◌, Bool, true, false, ◌==◌, List, [], ◌∷◌, ◌++◌, ◌&&◌, map, length, Option, Some, None, All, refl, sym, ap, ◌∙◌, subst, ⊎_elim, arith, true≢false, cond, length-set}
 use Rattle.std.specs.Prelude.{slice_set, replicate, IfSome, is_some}
 use Rattle.std.proofs.lemmas.List.{length-replicate}
-use Rattle.std.specs.Global.{Global}
-use Rattle.std.specs.declared.collections.VecDeque.{VecDeque}
 use Rattle.std.specs.List.{list_all}
-use Rattle.std.proofs.lemmas.Bool.Decides.{nat_tests}
 use Rattle.std.specs.Option.{option_to_list}
 use Rattle.std.proofs.lemmas.Bool.{eq-eqb, cases_lt}
 use Rattle.std.proofs.lemmas.List.Elements.{All-nil, All-cons, All-append, All-head, All-tail}
@@ -24,10 +21,8 @@ use Rattle.closed.specs.Tables.{reached, fresh, message_of}
 use Rattle.owner.specs.Spaces.{SpaceOf, searched}
 use Rattle.owner.specs.Owned.{OwnerOf, space_of, under, IsMessageTo, IsKept}
 use Rattle.owner.specs.Queues.{ReachedOf, message_at, h_of, IsLeast}
-use Rattle.owner.specs.Outboxes.{boxes_of}
 use Rattle.owner.specs.Held.{IsOwner}
 use Rattle.owner.proofs.Outcomes.{reached_improves}
-use Rattle.owner.proofs.Boxing.{box_of}
 use Rattle.owner.proofs.Choosing.{no_open_some, both_false}
 
 -- ---- a state of its own is taken
@@ -228,20 +223,6 @@ idle_not (Some e) space o some h = sym (both_false (no_open space o) (list_all i
 pub none_from : {X : Type 0} (r : Option X) → is_some r ≡ false → r ≡ None
 none_from None h = refl
 none_from (Some x) h = absurd (true≢false h)
-
-box_empty : (q : VecDeque Message Global) → (deque_len q == 0) ≡ is_empty (box_of q)
-box_empty q = go q.items q.len (sym q.ok.0)
-  where
-    go : (xs : List Message) (n : ℕ) → length xs ≡ n → (n == 0) ≡ is_empty (map message_of xs)
-    go [] n e = eq-eqb n 0 (sym e)
-    go (x ∷ xs) n e = not_zero n (length xs) (sym e)
-      where
-        not_zero : (n k : ℕ) → n ≡ suc k → (n == 0) ≡ false
-        not_zero n k e = grind (arith, nat_tests)
-
-pub boxes_empty : (qs : List (VecDeque Message Global)) → list_all (λ q. deque_len q == 0) qs ≡ list_all is_empty (boxes_of qs)
-boxes_empty [] = refl
-boxes_empty (q ∷ qs) = λ j. box_empty q j && boxes_empty qs j
 
 pub idle_from : (space : SearchSpace) (o : Owner) (b : Bool) → no_open space o ≡ true → b ≡ list_all is_empty o.outboxes → b ≡ idle space o
 idle_from space o b none is = is ∙ sym (ap (λ t. t && list_all is_empty o.outboxes) none)

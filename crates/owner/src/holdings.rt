@@ -1,8 +1,6 @@
 //! What an owner has, beside room to work in.
 
 ghost use Rattle.std.specs.Prelude.{◌≡◌, ◌≢◌, ℕ, suc, ◌+◌, ◌<◌, ◌≤◌, ◌^◌, ◌++◌, ◌∷◌, [], ◌==◌, length, map, slice_get, slice_set, replicate, Some, None, true, false, is_some, if◌then◌else◌, IsTrue, ◌↔◌, IfOk, IfSome, IfNone, OnOk, OnErr};
-ghost use Rattle.std.specs.List.{list_all};
-ghost use Rattle.std.specs.VecDeque.{deque_len};
 ghost use Rattle.std.specs.Option.{option_to_list};
 ghost use Rattle.cost.specs.Distances.{Distance, Infinite, is_at_most, Finite};
 ghost use Rattle.fdr.specs.Tasks.{ranges, IsState};
@@ -13,9 +11,10 @@ ghost use Rattle.closed.specs.Tables.{message_of, node_with};
 ghost use Rattle.owner.specs.Spaces.{searched};
 ghost use Rattle.owner.specs.Owned.{space_of, under, most_total, IsMessageTo, IsNext, least_open};
 ghost use Rattle.owner.specs.Queues.{h_of, message_at, IsLeast};
-ghost use Rattle.owner.specs.Outboxes.{boxes_of};
+ghost use Rattle.owner.specs.Outboxes.{count_in_use};
 ghost use Rattle.owner.specs.Held.{IsOwner};
 
+use crate::outboxes::Outboxes;
 use crate::reached::Reached;
 use crate::space::Space;
 use closed::{Entry, Message, Parent};
@@ -33,13 +32,12 @@ use std::marker::Model;
 pub(crate) struct Holdings<'a, S: Spread + Drop> {
     worker: usize,
     reached: Reached<'a, S>,
-    outboxes: Vec<VecDeque<Message>>,
+    outboxes: Outboxes,
     best: Dist,
     expansions: u64,
 }
 
 impl<'a, S: Spread + Drop> Model for Holdings<'a, S> {
-    ghost use Rattle.owner.specs.Outboxes.{boxes_of};
     ghost use Rattle.owner.specs.Owned.{OwnerOf};
     ghost use Rattle.owner.specs.Held.{IsOwner};
 
@@ -49,7 +47,7 @@ impl<'a, S: Spread + Drop> Model for Holdings<'a, S> {
       space = o.reached.space;
       worker = o.worker;
       nodes = o.reached.nodes;
-      outboxes = boxes_of o.outboxes.items;
+      outboxes = o.outboxes;
       best = o.best;
       expansions = o.expansions;
     } };
@@ -58,52 +56,10 @@ impl<'a, S: Spread + Drop> Model for Holdings<'a, S> {
       space = o.reached.space;
       worker = o.worker;
       nodes = o.reached.nodes;
-      outboxes = boxes_of o.outboxes.items;
+      outboxes = o.outboxes;
       best = o.best;
       expansions = o.expansions;
     }) };
-}
-
-/// So many empty outboxes. An `Err` is of too little memory.
-fn empty_outboxes(alloc: Global, owners: usize) -> Result<Vec<VecDeque<Message>>, AllocError>
-    ensures { IfOk result (λ queues. boxes_of queues.items ≡ replicate owners []) }
-{
-    let mut outboxes = Vec::with_capacity(alloc, owners)?;
-    for _ in 0..owners {
-        outboxes.push(VecDeque::new(alloc))?;
-    }
-    Ok(outboxes)
-}
-
-/// Puts a message last into the outbox for that owner. An `Err` is of too little memory, and leaves the outboxes as they were.
-fn post(
-    outboxes: &mut Vec<VecDeque<Message>>,
-    to: usize,
-    message: Message,
-) -> Result<(), AllocError>
-    requires { to < length outboxes.old.items }
-    ensures posted { OnOk result (boxes_of outboxes.new.items ≡ slice_set (boxes_of outboxes.old.items) to (list_at (boxes_of outboxes.old.items) to ++ message_of message ∷ [])) }
-    ensures unchanged { OnErr result (boxes_of outboxes.new.items ≡ boxes_of outboxes.old.items) }
-{
-    outboxes[to].push_back(message)?;
-    Ok(())
-}
-
-/// Takes the oldest message out of the outbox for that owner.
-fn take_out(outboxes: &mut Vec<VecDeque<Message>>, to: usize) -> Option<Message>
-    requires { to < length outboxes.old.items }
-    ensures first { list_at (boxes_of outboxes.old.items) to ≡ map message_of (option_to_list result) ++ list_at (boxes_of outboxes.new.items) to }
-    ensures others { boxes_of outboxes.new.items ≡ slice_set (boxes_of outboxes.old.items) to (list_at (boxes_of outboxes.new.items) to) }
-    ensures none { IfNone result (list_at (boxes_of outboxes.old.items) to ≡ []) }
-{
-    outboxes[to].pop_front()
-}
-
-/// Whether all outboxes are empty.
-fn are_empty(outboxes: &[VecDeque<Message>]) -> bool
-    ensures { result ≡ list_all (λ q. deque_len q == 0) outboxes.now }
-{
-    outboxes.iter().all(|queue| queue.is_empty())
 }
 
 /// Whether the distance is at most the other.
@@ -148,7 +104,7 @@ impl<'a, S: Spread + Drop> Holdings<'a, S> {
         Ok(Holdings {
             worker,
             reached,
-            outboxes: empty_outboxes(alloc, owners)?,
+            outboxes: Outboxes::empty(alloc, owners)?,
             best,
             expansions: 0,
         })
@@ -210,7 +166,7 @@ impl<'a, S: Spread + Drop> Holdings<'a, S> {
             rank,
             parent,
         };
-        post(&mut self.outboxes, to, message)?;
+        self.outboxes.post(to, message)?;
         Ok(true)
     }
 
@@ -260,14 +216,14 @@ impl<'a, S: Spread + Drop> Holdings<'a, S> {
         ensures fits { IfSome result (λ m. IsMessageTo (space_of S.owner self.old) to (message_of m)) }
         ensures none { IfNone result (list_at self.old.outboxes to ≡ []) }
     {
-        take_out(&mut self.outboxes, to)
+        self.outboxes.take_out(to)
     }
 
     /// Whether there is nothing to expand below the bound and nothing to hand out.
     pub(crate) fn is_idle(&self, bound: Dist) -> bool
         ensures { result ≡ idle (space_of S.owner self.now) (under self.now bound) }
     {
-        self.next(bound).is_none() && are_empty(&self.outboxes)
+        self.next(bound).is_none() && self.outboxes.are_empty()
     }
 
     /// The least f-value of the nodes that are not expanded.
@@ -308,7 +264,19 @@ impl<'a, S: Spread + Drop> Holdings<'a, S> {
         requires { to < length self.now.outboxes }
         ensures { map message_of result.now.items ≡ list_at self.now.outboxes to }
     {
-        &self.outboxes[to]
+        self.outboxes.outbox(to)
+    }
+
+    pub(crate) fn outboxes_in_use(&self) -> usize
+        ensures { result ≡ count_in_use self.now.outboxes }
+    {
+        self.outboxes.in_use()
+    }
+
+    pub(crate) fn messages(&self) -> u128
+        ensures { result ≡ waiting self.now.outboxes }
+    {
+        self.outboxes.messages()
     }
 
     pub(crate) fn len(&self) -> usize

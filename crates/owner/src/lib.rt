@@ -3,6 +3,7 @@
 
 mod fault;
 mod holdings;
+mod outboxes;
 mod owner;
 mod reached;
 mod space;

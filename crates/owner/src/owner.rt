@@ -5,10 +5,11 @@ ghost use Rattle.std.specs.Option.{option_to_list};
 ghost use Rattle.cost.specs.Distances.{Distance, Infinite};
 ghost use Rattle.fdr.specs.Tasks.{IsState};
 ghost use Rattle.families.specs.Owners.{Node, list_at, took, start_owner};
-ghost use Rattle.families.specs.Worlds.{idle};
+ghost use Rattle.families.specs.Worlds.{idle, waiting};
 ghost use Rattle.families.specs.Families.{IsSearchSpace, IsLowerBound};
 ghost use Rattle.closed.specs.Tables.{message_of, node_with};
 ghost use Rattle.owner.specs.Spaces.{searched};
+ghost use Rattle.owner.specs.Outboxes.{count_in_use};
 ghost use Rattle.owner.specs.Owned.{space_of, under, IsMessageTo, IsExpansion, IsRefusal, IsKept, least_open};
 
 use crate::fault::OwnerFault;
@@ -198,6 +199,20 @@ impl<'a, S: Spread + Drop> Owner<'a, S> {
         ensures { map message_of result.now.items ≡ list_at self.now.outboxes to }
     {
         self.holdings.outbox(to)
+    }
+
+    /// How many outboxes have a message.
+    pub fn outboxes_in_use(&self) -> usize
+        ensures { result ≡ count_in_use self.now.outboxes }
+    {
+        self.holdings.outboxes_in_use()
+    }
+
+    /// How many messages are in all outboxes.
+    pub fn messages(&self) -> u128
+        ensures { result ≡ waiting self.now.outboxes }
+    {
+        self.holdings.messages()
     }
 
     /// How often it expanded a node, counted where there is a limit on that, and 0 otherwise.

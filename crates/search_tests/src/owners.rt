@@ -140,6 +140,7 @@ fn posts<S: Spread + Drop>(rt: &impl Abort, owner: &mut Owner<'_, S>)
         (owner.len(), owner.outbox_len(0), owner.outbox_len(1)),
         (2, 0, 1)
     );
+    assert_eq!(rt; (owner.outboxes_in_use(), owner.messages()), (1, 1));
     assert!(rt; !owner.is_idle(Dist::ZERO), "a message waits");
 }
 
@@ -147,6 +148,7 @@ fn posts<S: Spread + Drop>(rt: &impl Abort, owner: &mut Owner<'_, S>)
 fn has_handed_out<S: Spread + Drop>(rt: &impl Abort, owner: &mut Owner<'_, S>)
     requires { length owner.old.outboxes ≡ 2 }
 {
+    assert_eq!(rt; (owner.outboxes_in_use(), owner.messages()), (0, 0));
     assert!(rt; owner.next_out(1).is_none() && owner.is_idle(Dist::ZERO));
 }
 

@@ -1,17 +1,12 @@
-use Rattle.std.proofs.Common.{◌≡◌, ◌∙◌, length, arith, rules, tests}
-use Rattle.std.specs.Prelude.{filter}
-use Rattle.std.proofs.lemmas.Iterator.{YieldsList-from_range}
-use Rattle.std.proofs.lemmas.Iterator.Consumers.{YieldsList-from_filter, count_from_yields_List}
-use Rattle.netcore.specs.declared.step.WorldStep.TheVariants.{Send}
-use Rattle.netcore.specs.Possible.{would_change, below}
-use Rattle.netcore.proofs.Choosing.{count_passing}
+use Rattle.std.proofs.Common.{◌<◌, ◌∙◌, length, arith}
+use Rattle.netcore.proofs.Places.{at_here, at_some}
+use Rattle.netcore.proofs.Changing.{sends_counted}
 use Rattle.netcore.proofs.world.World.send_count_of.Goals as goal
 
 pub returns : goal.returns
 returns g c =
-    let n = length c.args.self.now.owners in
-    let counted : c.count.result ≡ length (filter (λ v. would_change g.S.Spread.owner c.args.self.now (Send c.args.worker v)) (below n)) =
-    count_from_yields_List c.filter.result _ c.count.ensures.ran
-    (YieldsList-from_filter _ (λ v. would_change g.S.Spread.owner c.args.self.now (Send c.args.worker v)) (YieldsList-from_range 0 c.owner_count.result n (cc) (omega (arith, c.owner_count.ensures)))
-    c.filter.ensures.closure (λ x b q k. search (rules, tests))) in
-    counted ∙ count_passing (would_change g.S.Spread.owner c.args.self.now) (Send c.args.worker) (below n)
+    let lt : c.args.worker < length c.self.inside.owners.items = rw (← c.self.view_is) at c.requires in
+    let at = at_here c.self.inside.owners.items c.args.worker c.index.result.now lt c.index.ensures in
+    let (b, seen) = at_some c.self.inside.seen.items c.args.worker (omega (arith, lt, c.self.invariant.bounds)) in
+    rw (← c.self.view_is)
+    (c.outboxes_in_use.ensures ∙ sends_counted g.S.Spread.owner _ c.args.worker c.index.result.now b c.self.invariant at seen)

@@ -1,7 +1,6 @@
 use Rattle.std.proofs.Common.{◌≡◌, ◌+◌, suc, true, false, Some, add-one, sym, ap, ◌∙◌, subst, cond}
 use Rattle.std.specs.Prelude.{is_some}
 use Rattle.owner.specs.Spaces.{SpaceOf}
-use Rattle.owner.specs.Outboxes.{boxes_of}
 use Rattle.owner.specs.Queues.{IsLeast, h_of}
 use Rattle.owner.specs.Owned.{OwnerOf}
 use Rattle.openlist.specs.declared.entry.OpenEntry.{OpenEntry}
@@ -14,7 +13,7 @@ invariant_of-self g c =
       space = c.self.inside.reached.space;
       worker = c.self.inside.worker;
       nodes = c.self.inside.reached.nodes;
-      outboxes = boxes_of c.self.inside.outboxes.items;
+      outboxes = c.self.inside.outboxes;
       best = c.self.inside.best;
       expansions = c.self.inside.expansions;
     } in
@@ -31,7 +30,7 @@ invariant_of-self-else-is_some g c =
       space = c.self.inside.reached.space;
       worker = c.self.inside.worker;
       nodes = c.self.inside.reached.nodes;
-      outboxes = boxes_of c.self.inside.outboxes.items;
+      outboxes = c.self.inside.outboxes;
       best = c.self.inside.best;
       expansions = c.self.inside.expansions;
     } in
@@ -45,7 +44,7 @@ returns-then-is_some-clause-nodes g c =
       space = c.self.inside.reached.space;
       worker = c.self.inside.worker;
       nodes = c.self.inside.reached.nodes;
-      outboxes = boxes_of c.self.inside.outboxes.items;
+      outboxes = c.self.inside.outboxes;
       best = c.self.inside.best;
       expansions = c.self.inside.expansions;
     } in
@@ -63,7 +62,7 @@ returns-else-is_some-clause-nodes g c =
       space = c.self.inside.reached.space;
       worker = c.self.inside.worker;
       nodes = c.self.inside.reached.nodes;
-      outboxes = boxes_of c.self.inside.outboxes.items;
+      outboxes = c.self.inside.outboxes;
       best = c.self.inside.best;
       expansions = c.self.inside.expansions;
     } in

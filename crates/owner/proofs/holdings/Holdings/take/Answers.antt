@@ -5,7 +5,6 @@ use Rattle.fdr.specs.Tasks.{FiniteDomainTask, is_goal_state}
 use Rattle.families.specs.Owners.{took}
 use Rattle.owner.specs.Spaces.{SpaceOf}
 use Rattle.owner.specs.Owned.{OwnerOf, space_of, under, IsMessageTo}
-use Rattle.owner.specs.Outboxes.{boxes_of}
 use Rattle.owner.specs.Queues.{message_at}
 use Rattle.owner.proofs.Owning.{taken_kept, taken_is}
 use Rattle.owner.proofs.holdings.Holdings.take.Goals as goal
@@ -32,7 +31,7 @@ returns-then-is_goal-clause-taken g c = λ bound.
       space = c.self.inside.reached.space;
       worker = c.self.inside.worker;
       nodes = c.self.inside.reached.nodes;
-      outboxes = boxes_of c.self.inside.outboxes.items;
+      outboxes = c.self.inside.outboxes;
       best = c.self.inside.best;
       expansions = c.self.inside.expansions;
     } in
@@ -51,7 +50,7 @@ returns-else-is_goal-clause-taken g c = λ bound.
       space = c.self.inside.reached.space;
       worker = c.self.inside.worker;
       nodes = c.self.inside.reached.nodes;
-      outboxes = boxes_of c.self.inside.outboxes.items;
+      outboxes = c.self.inside.outboxes;
       best = c.self.inside.best;
       expansions = c.self.inside.expansions;
     } in

@@ -6,9 +6,8 @@ use Rattle.families.specs.Owners.{Owner, f_value}
 use Rattle.families.specs.Worlds.{waiting}
 use Rattle.owner.specs.Spaces.{SpaceOf}
 use Rattle.owner.specs.Owned.{OwnerOf, space_of, under}
-use Rattle.owner.specs.Outboxes.{boxes_of}
 use Rattle.owner.specs.Queues.{message_at}
-use Rattle.owner.proofs.Boxing.{boxes_length, waiting_posted}
+use Rattle.owner.proofs.Boxing.{waiting_posted}
 use Rattle.owner.proofs.Owning.{took_treats, posted_kept, packed_fits}
 use Rattle.owner.proofs.holdings.Holdings.treat.Goals as goal
 
@@ -18,9 +17,9 @@ returns-then-to-self-clause-treated g c =
     let f : c.f.result ≡ Finite c.args.rank.cost +ᵈ heuristic_of c.self.inside.reached.space.task c.self.inside.reached.space.columns c.args.state.now =
     c.f.ensures ∙ ap (λ (s : SpaceOf g.row.S.Denot). Finite c.args.rank.cost +ᵈ heuristic_of s.task s.columns c.args.state.now) c.space-space.ensures in
     let below = sym (ap (is_at_most c.args.bound) f) ∙ sym c.if-is_within.ensures in
-    let width : length c.self.inside.outboxes.items ≡ c.len.result = omega (arith, c.len.ensures, c.self.inside.outboxes.ok.0) in
-    let mine : g.S.Spread.owner c.self.inside.reached.space.spread c.args.state.now (length (boxes_of c.self.inside.outboxes.items)) ≡ c.self.inside.worker =
-    ((λ j. g.S.Spread.owner ((sym c.space-space.ensures j).spread) c.args.state.now ((boxes_length c.self.inside.outboxes.items ∙ width) j))
+    let width : length c.self.inside.outboxes ≡ c.len.result = sym c.len.ensures in
+    let mine : g.S.Spread.owner c.self.inside.reached.space.spread c.args.state.now (length c.self.inside.outboxes) ≡ c.self.inside.worker =
+    ((λ j. g.S.Spread.owner ((sym c.space-space.ensures j).spread) c.args.state.now (width j))
     ∙ sym c.owner_of-to.ensures.value) ∙ c.if-to-self.true in
     c.in_ok-take.ensures.taken c.args.bound
     ∙ took_treats (space_of g.S.Spread.owner c.args.self.now) c.args.self.now.worker (under c.args.self.now c.args.bound) m
@@ -37,19 +36,19 @@ returns-then-to-self-clause-owners g c = ap (λ (o : Owner). length o.outboxes) 
 
 pub invariant_of-self-2 : goal.invariant_of-self-2
 invariant_of-self-2 g c =
-    let width : length c.self.inside.outboxes.items ≡ c.len.result = omega (arith, c.len.ensures, c.self.inside.outboxes.ok.0) in
-    let mine : g.S.Spread.owner c.self.inside.reached.space.spread c.args.state.now (length (boxes_of c.self.inside.outboxes.items)) ≡ c.owner_of-to.result =
-    (λ j. g.S.Spread.owner ((sym c.space-space.ensures j).spread) c.args.state.now ((boxes_length c.self.inside.outboxes.items ∙ width) j))
+    let width : length c.self.inside.outboxes ≡ c.len.result = sym c.len.ensures in
+    let mine : g.S.Spread.owner c.self.inside.reached.space.spread c.args.state.now (length c.self.inside.outboxes) ≡ c.owner_of-to.result =
+    (λ j. g.S.Spread.owner ((sym c.space-space.ensures j).spread) c.args.state.now (width j))
     ∙ sym c.owner_of-to.ensures.value in
     let o : OwnerOf g.row.S.Denot = record {
       space = c.self.inside.reached.space;
       worker = c.self.inside.worker;
       nodes = c.self.inside.reached.nodes;
-      outboxes = boxes_of c.self.inside.outboxes.items;
+      outboxes = c.self.inside.outboxes;
       best = c.self.inside.best;
       expansions = c.self.inside.expansions;
     } in
-    posted_kept g.S.Spread.owner o (boxes_of c.post.new.outboxes.items) c.owner_of-to.result
+    posted_kept g.S.Spread.owner o c.post.new.self c.owner_of-to.result
     (message_at c.in_ok-state.state.values.items c.args.rank c.args.parent) c.self.invariant
     (packed_fits g.S.Spread.owner o c.owner_of-to.result c.args.state.now c.in_ok-state.state.values.items c.args.rank c.args.parent
     c.in_ok-state.ensures.values
@@ -59,8 +58,8 @@ invariant_of-self-2 g c =
 
 pub returns-clause-posted : goal.returns-clause-posted
 returns-clause-posted g c =
-    waiting_posted (boxes_of c.self.inside.outboxes.items) (boxes_of c.post.new.outboxes.items) c.owner_of-to.result
+    waiting_posted c.self.inside.outboxes c.post.new.self c.owner_of-to.result
     (message_at c.in_ok-state.state.values.items c.args.rank c.args.parent)
-    (omega (arith, c.len.ensures, c.self.inside.outboxes.ok.0, boxes_length c.self.inside.outboxes.items, c.owner_of-to.ensures.below))
+    (omega (arith, c.len.ensures, c.owner_of-to.ensures.below))
     c.in_ok-post.ensures.posted
     ∙ ap (λ (o : OwnerOf g.row.S.Denot). waiting o.outboxes + 1) c.self.view_is

@@ -1,10 +1,10 @@
 use Rattle.std.proofs.Common.{◌≡◌, ◌∙◌, ap, arith, replicate, []}
 use Rattle.owner.proofs.Boxing.{boxes_more}
-use Rattle.owner.proofs.holdings.empty_outboxes.Goals as goal
+use Rattle.owner.proofs.outboxes.empty_queues.Goals as goal
 
 pub loop-preserved : goal.loop-preserved
 loop-preserved c =
-    boxes_more c.loop.outboxes.items c.push.new.self.items c.new.result c.loop.counter c.in_ok-push.ensures.items c.new.ensures.items c.loop.invariant
+    boxes_more c.loop.queues.items c.push.new.self.items c.new.result c.loop.counter c.in_ok-push.ensures.items c.new.ensures.items c.loop.invariant
 
 pub returns : goal.returns
 returns c = let e : c.loop.counter ≡ c.args.owners = omega arith in c.loop.invariant ∙ ap (λ n. replicate n []) e

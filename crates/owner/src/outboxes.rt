@@ -1,0 +1,153 @@
+//! The outboxes of an owner.
+
+ghost use Rattle.std.specs.Prelude.{◌≡◌, ℕ, ◌<◌, ◌++◌, ◌∷◌, [], length, map, slice_set, replicate, IfOk, IfNone, OnOk, OnErr};
+ghost use Rattle.std.specs.List.{list_all};
+ghost use Rattle.std.specs.Option.{option_to_list};
+ghost use Rattle.families.specs.Owners.{list_at};
+ghost use Rattle.families.specs.Worlds.{is_empty, waiting};
+ghost use Rattle.closed.specs.Tables.{message_of};
+ghost use Rattle.owner.specs.Outboxes.{boxes_of, count_in_use};
+
+use closed::Message;
+use std::alloc::{AllocError, Global};
+use std::collections::VecDeque;
+use std::marker::Model;
+
+/// An outbox for each owner. A contract sees the messages of each, the oldest first.
+#[derive(Drop)]
+pub(crate) struct Outboxes {
+    queues: Vec<VecDeque<Message>>,
+    // how many of them have a message, and how many messages there are, so that nobody has to look through all
+    in_use: usize,
+    messages: u128,
+}
+
+impl Model for Outboxes {
+    ghost use Rattle.std.specs.Prelude.{◌≡◌, List};
+    ghost use Rattle.families.specs.Owners as machine;
+    ghost use Rattle.families.specs.Worlds.{waiting};
+    ghost use Rattle.owner.specs.Outboxes.{boxes_of, count_in_use};
+
+    ghost Value = { List (List machine.Message) };
+
+    ghost view = { λ o. boxes_of o.queues.items };
+
+    ghost invariant = { λ o.
+        (o.in_use ≡ count_in_use (boxes_of o.queues.items))
+        × (o.messages ≡ waiting (boxes_of o.queues.items)) };
+}
+
+/// So many empty queues. An `Err` is of too little memory.
+fn empty_queues(alloc: Global, owners: usize) -> Result<Vec<VecDeque<Message>>, AllocError>
+    ensures { IfOk result (λ queues. boxes_of queues.items ≡ replicate owners []) }
+{
+    let mut queues = Vec::with_capacity(alloc, owners)?;
+    for _ in 0..owners {
+        queues.push(VecDeque::new(alloc))?;
+    }
+    Ok(queues)
+}
+
+/// Puts a message last into the queue of that number. An `Err` is of too little memory, and leaves the queues as they were.
+fn push_last(
+    queues: &mut Vec<VecDeque<Message>>,
+    to: usize,
+    message: Message,
+) -> Result<(), AllocError>
+    requires { to < length queues.old.items }
+    ensures posted { OnOk result (boxes_of queues.new.items ≡ slice_set (boxes_of queues.old.items) to (list_at (boxes_of queues.old.items) to ++ message_of message ∷ [])) }
+    ensures unchanged { OnErr result (boxes_of queues.new.items ≡ boxes_of queues.old.items) }
+{
+    queues[to].push_back(message)?;
+    Ok(())
+}
+
+/// Takes the oldest message out of the queue of that number.
+fn pop_oldest(queues: &mut Vec<VecDeque<Message>>, to: usize) -> Option<Message>
+    requires { to < length queues.old.items }
+    ensures first { list_at (boxes_of queues.old.items) to ≡ map message_of (option_to_list result) ++ list_at (boxes_of queues.new.items) to }
+    ensures others { boxes_of queues.new.items ≡ slice_set (boxes_of queues.old.items) to (list_at (boxes_of queues.new.items) to) }
+    ensures none { IfNone result (list_at (boxes_of queues.old.items) to ≡ []) }
+    ensures len { length queues.new.items ≡ length queues.old.items }
+{
+    queues[to].pop_front()
+}
+
+impl Outboxes {
+    /// So many empty outboxes. An `Err` is of too little memory.
+    pub(crate) fn empty(alloc: Global, owners: usize) -> Result<Outboxes, AllocError>
+        ensures { IfOk result (λ outboxes. outboxes ≡ replicate owners []) }
+    {
+        Ok(Outboxes {
+            queues: empty_queues(alloc, owners)?,
+            in_use: 0,
+            messages: 0,
+        })
+    }
+
+    /// Puts a message last into the outbox for that owner. An `Err` is of too little memory, and leaves the outboxes as they were.
+    pub(crate) fn post(&mut self, to: usize, message: Message) -> Result<(), AllocError>
+        requires { to < length self.old }
+        ensures posted { OnOk result (self.new ≡ slice_set self.old to (list_at self.old to ++ message_of message ∷ [])) }
+        ensures unchanged { OnErr result (self.new ≡ self.old) }
+    {
+        let is_first = self.outbox(to).is_empty();
+        push_last(&mut self.queues, to, message)?;
+        self.messages += 1;
+        if is_first {
+            self.in_use += 1;
+        }
+        Ok(())
+    }
+
+    /// Takes the oldest message out of the outbox for that owner; `None` where there is none.
+    pub(crate) fn take_out(&mut self, to: usize) -> Option<Message>
+        requires { to < length self.old }
+        ensures first { list_at self.old to ≡ map message_of (option_to_list result) ++ list_at self.new to }
+        ensures others { self.new ≡ slice_set self.old to (list_at self.new to) }
+        ensures none { IfNone result (list_at self.old to ≡ []) }
+    {
+        let message = pop_oldest(&mut self.queues, to)?;
+        self.messages -= 1;
+        if self.queues[to].is_empty() {
+            self.in_use -= 1;
+        }
+        Some(message)
+    }
+
+    /// The outbox for that owner.
+    pub(crate) fn outbox(&self, to: usize) -> &VecDeque<Message>
+        requires { to < length self.now }
+        ensures { map message_of result.now.items ≡ list_at self.now to }
+    {
+        &self.queues[to]
+    }
+
+    /// How many owners there are.
+    pub(crate) fn len(&self) -> usize
+        ensures { result ≡ length self.now }
+    {
+        self.queues.len()
+    }
+
+    /// How many outboxes have a message.
+    pub(crate) fn in_use(&self) -> usize
+        ensures { result ≡ count_in_use self.now }
+    {
+        self.in_use
+    }
+
+    /// How many messages are in all outboxes.
+    pub(crate) fn messages(&self) -> u128
+        ensures { result ≡ waiting self.now }
+    {
+        self.messages
+    }
+
+    /// Whether all outboxes are empty.
+    pub(crate) fn are_empty(&self) -> bool
+        ensures { result ≡ list_all is_empty self.now }
+    {
+        self.in_use == 0
+    }
+}
