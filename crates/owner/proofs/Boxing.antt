@@ -128,6 +128,9 @@ none_popped None qs v old Emptied Rest lt at is =
     box_at qs v old lt ∙ (ap box_of (sym at) ∙ ap (map message_of) (no_items old.items old.len old.ok.0 is.0))
 none_popped (Some m) qs v old Emptied Rest lt at is = tt
 
+pub not_zero : (n k : ℕ) → n ≡ suc k → (n == 0) ≡ false
+not_zero n k e = grind (arith, nat_tests)
+
 -- a queue of no message is an empty outbox
 pub box_empty : (q : VecDeque Message Global) → (deque_len q == 0) ≡ is_empty (box_of q)
 box_empty q = go q.items q.len (sym q.ok.0)
@@ -135,9 +138,6 @@ box_empty q = go q.items q.len (sym q.ok.0)
     go : (xs : List Message) (n : ℕ) → length xs ≡ n → (n == 0) ≡ is_empty (map message_of xs)
     go [] n e = eq-eqb n 0 (sym e)
     go (x ∷ xs) n e = not_zero n (length xs) (sym e)
-      where
-        not_zero : (n k : ℕ) → n ≡ suc k → (n == 0) ≡ false
-        not_zero n k e = grind (arith, nat_tests)
 
 pub emptied : (qs : List (VecDeque Message Global)) (v : ℕ) (q : VecDeque Message Global) → v < length qs → q ≡ get_or qs v q
     → is_empty (list_at (boxes_of qs) v) ≡ (deque_len q == 0)

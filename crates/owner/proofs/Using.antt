@@ -3,11 +3,11 @@ use Rattle.std.proofs.Common.{◌≡◌, ℕ, zero, suc, ◌+◌, ◌<◌, ◌==
 use Rattle.std.specs.Prelude.{slice_set, replicate}
 use Rattle.std.specs.List.{list_all}
 use Rattle.std.proofs.lemmas.Bool.{eq-eqb}
-use Rattle.std.proofs.lemmas.Bool.Decides.{nat_tests}
 use Rattle.std.proofs.lemmas.List.Sums.{sum_by-cons}
 use Rattle.families.specs.Owners.{Message, list_at}
 use Rattle.families.specs.Worlds.{is_empty}
 use Rattle.owner.specs.Outboxes.{count_in_use}
+use Rattle.owner.proofs.Boxing.{box_set, not_zero}
 
 -- 1 for an outbox that has a message
 abbrev pub use_of : List Message → ℕ
@@ -32,11 +32,6 @@ use_none b e = ap (λ t. cond (not t) 1 0) e
 
 use_some : (b : List Message) → is_empty b ≡ false → use_of b ≡ 1
 use_some b e = ap (λ t. cond (not t) 1 0) e
-
-box_set : (bs : List (List Message)) (v : ℕ) (b : List Message) → v < length bs → list_at (slice_set bs v b) v ≡ b
-box_set [] v b lt = absurd (omega arith)
-box_set (x ∷ bs) zero b lt = refl
-box_set (x ∷ bs) (suc v) b lt = box_set bs v b (omega arith)
 
 not_empty : (b : List Message) (m : Message) → is_empty (b ++ m ∷ []) ≡ false
 not_empty [] m = refl
@@ -87,6 +82,3 @@ pub all_empty : (bs : List (List Message)) (n : ℕ) → n ≡ count_in_use bs �
 all_empty [] n is = eq-eqb n 0 is
 all_empty ([] ∷ bs) n is = all_empty bs n (omega (arith, is, one_more [] bs))
 all_empty ((m ∷ b) ∷ bs) n is = let some = one_more (m ∷ b) bs in not_zero n (count_in_use bs) (omega (arith, is, some))
-  where
-    not_zero : (n k : ℕ) → n ≡ suc k → (n == 0) ≡ false
-    not_zero n k e = grind (arith, nat_tests)
