@@ -1,0 +1,28 @@
+-- The ends of the links of all pairs of workers, by rows.
+use Rattle.std.specs.Prelude.{◌≡◌, ℕ, List, [], ◌∷◌, ◌++◌, map, length, slice_get, Some, Vec}
+use Rattle.links.specs.declared.ends.Out.{Out}
+use Rattle.links.specs.declared.ends.In.{In}
+use Rattle.links.specs.Ends.{IsFresh}
+
+-- what each row has
+abbrev pub rows : {A G : Type 0} → List (Vec A G) → List (List A)
+rows {A} {G} vs = map (λ (v : Vec A G). v.items) vs
+
+-- n rows of m elements
+abbrev pub HasSize : {A : Type 0} → ℕ → ℕ → List (List A) → Type 0
+HasSize {A} n m rs = (length rs ≡ n) × ((k : ℕ) (r : List A) → slice_get rs k ≡ Some r → length r ≡ m)
+
+-- the ends at each place are those of one fresh link of this capacity
+abbrev pub AreFresh : ℕ → List Out → List In → Type 0
+AreFresh capacity os is = (k : ℕ) (o : Out) (i : In) → slice_get os k ≡ Some o → slice_get is k ≡ Some i → IsFresh capacity o i
+
+-- the ends from w to v are those of one fresh link of this capacity
+abbrev pub AreMatched : ℕ → List (List Out) → List (List In) → Type 0
+AreMatched capacity outs ins = (w v : ℕ) (os : List Out) (is : List In) (o : Out) (i : In)
+    → slice_get outs w ≡ Some os → slice_get os v ≡ Some o → slice_get ins v ≡ Some is → slice_get is w ≡ Some i → IsFresh capacity o i
+
+-- each row with one more element at its end
+abbrev pub grown : {A : Type 0} → List (List A) → List A → List (List A)
+grown [] xs = []
+grown (c ∷ cs) [] = []
+grown (c ∷ cs) (x ∷ xs) = (c ++ x ∷ []) ∷ grown cs xs

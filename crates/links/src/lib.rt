@@ -1,0 +1,9 @@
+//! Links between workers: a ring for each ordered pair of them, by which messages pass in the order in which they were sent.
+#![tactic(auto)]
+
+mod ends;
+mod table;
+
+pub use closed::{Message, Parent};
+pub use ends::{In, Out, link, match_up};
+pub use table::LinkTable;
