@@ -2,29 +2,39 @@
 
 ghost use Rattle.std.specs.Prelude.{◌≡◌, ◌+◌, ◌<◌, ◌≤◌, [], ◌∷◌, ◌++◌, length, IfOk, IfErr, OnOk, IsOk, IfSome, IfNone, IsSome, IsTrue};
 ghost use mathlib.Core.List.{IsPrefix};
+ghost use Rattle.links.specs.Ranks.{HasSmallRank};
 ghost use Rattle.links.specs.Ends.{sent, room, received, known, AreEnds, SameOut, SameIn, IsFresh};
 
 use closed::Message;
-use rtrb::{Consumer, Producer, PushError, RingBuffer};
+use rtrb::{Consumer, Producer, Protocol, PushError, RingBuffer};
 use std::alloc::{AllocError, Global};
+
+/// What may go through a ring: messages at a cost and over a number of operators of at most 2^62.
+pub struct SmallRanks;
+
+impl Protocol<Message> for SmallRanks {
+    ghost use Rattle.links.specs.Ranks.{HasSmallRank};
+
+    ghost allows = { λ before m. HasSmallRank m };
+}
 
 /// The end that sends. A contract knows what was sent so far.
 #[derive(Drop)]
 pub struct Out {
-    producer: Producer<Message>,
+    producer: Producer<Message, Global, SmallRanks>,
 }
 
 /// The end that takes. A contract knows what was taken so far, and which messages are certainly in the ring.
 #[derive(Drop)]
 pub struct In {
-    consumer: Consumer<Message>,
+    consumer: Consumer<Message, Global, SmallRanks>,
 }
 
 /// Both ends of a new link, which has room for so many messages. An `Err` is of too little memory.
 pub fn link(alloc: Global, capacity: usize) -> Result<(Out, In), AllocError>
     ensures { IfOk result (λ r. IsFresh capacity r.0 r.1) }
 {
-    let (producer, consumer) = RingBuffer::new(alloc, capacity)?;
+    let (producer, consumer) = RingBuffer::with_protocol::<Global, SmallRanks>(alloc, capacity)?;
     Ok((Out { producer }, In { consumer }))
 }
 
@@ -41,6 +51,7 @@ impl Out {
 
     /// Sends a message, or gives it back where the ring is full. No memory is taken.
     pub fn push(&mut self, message: Message) -> Result<(), Message>
+        requires { HasSmallRank message }
         ensures ring { SameOut self.old self.new }
         ensures ok { OnOk result (sent self.new ≡ sent self.old ++ message ∷ []) }
         ensures full { IfErr result (λ back. (back ≡ message) × (sent self.new ≡ sent self.old)) }
@@ -59,6 +70,7 @@ impl In {
     pub fn pop(&mut self) -> Option<Message>
         ensures ring { SameIn self.old self.new }
         ensures some { IfSome result (λ m. received self.new ≡ received self.old ++ m ∷ []) }
+        ensures small { IfSome result HasSmallRank }
         ensures none { IfNone result (received self.new ≡ received self.old) }
         ensures known { 0 < length (known self.old) → IsSome result }
         ensures next { IfSome result (λ m. IsPrefix (known self.old) (m ∷ known self.new)) }

@@ -5,5 +5,5 @@ mod ends;
 mod table;
 
 pub use closed::{Message, Parent};
-pub use ends::{In, Out, link, match_up};
+pub use ends::{In, Out, SmallRanks, link, match_up};
 pub use table::LinkTable;

@@ -1,6 +1,8 @@
 //! Rings, with both ends in one thread.
 
+ghost use Rattle.std.specs.Prelude.{◌≤◌, ◌^◌, IfOk};
 ghost use Rattle.links.specs.Ends.{SameOut, SameIn};
+ghost use Rattle.links.specs.Ranks.{HasSmallRank};
 
 use links::{In, LinkTable, Message, Out, link, match_up};
 use openlist::Rank;
@@ -11,7 +13,10 @@ use std::process::Abort;
 use std::test::Fail;
 
 /// The message of the one state of a variable with one value, at this cost.
-fn message(rt: &impl Abort, alloc: Global, cost: u64) -> Result<Message, Fail> {
+fn message(rt: &impl Abort, alloc: Global, cost: u64) -> Result<Message, Fail>
+    requires { cost ≤ 2 ^ 62 }
+    ensures { IfOk result HasSmallRank }
+{
     let task = states(alloc, &[1], &[0])?.ok_or("a task")?;
     let layout = Layout::new(alloc, &task)?;
     assert!(rt; layout.is_state(&[0]), "a state");
@@ -35,6 +40,7 @@ fn taken(receiver: &mut In) -> Option<u64>
 
 /// Whether the message went into the ring.
 fn is_sent(sender: &mut Out, message: Message) -> bool
+    requires { HasSmallRank message }
     ensures { SameOut sender.old sender.new }
 {
     sender.push(message).is_ok()
@@ -42,7 +48,8 @@ fn is_sent(sender: &mut Out, message: Message) -> bool
 
 /// A ring with room for one message takes one, and gives a second one back.
 fn takes_one(rt: &impl Abort, alloc: Global, sender: &mut Out) -> Result<Message, Fail>
-    ensures { SameOut sender.old sender.new }
+    ensures ring { SameOut sender.old sender.new }
+    ensures back { IfOk result HasSmallRank }
 {
     assert!(rt; sender.has_room());
     assert!(rt; is_sent(sender, message(rt, alloc, 1)?));
@@ -67,7 +74,9 @@ fn a_ring_of_one(rt: HostRuntime) -> Result<(), Fail> {
 }
 
 /// Sends a message of this cost to the last of the workers.
-fn send_last(rt: &impl Abort, alloc: Global, outs: &mut Vec<Out>, cost: u64) -> Result<(), Fail> {
+fn send_last(rt: &impl Abort, alloc: Global, outs: &mut Vec<Out>, cost: u64) -> Result<(), Fail>
+    requires { cost ≤ 2 ^ 62 }
+{
     let sender = outs.last_mut().ok_or("a worker")?;
     assert!(rt; is_sent(sender, message(rt, alloc, cost)?));
     Ok(())

@@ -1,0 +1,23 @@
+-- Whether a message is for an owner.
+use Rattle.std.proofs.Common.{◌≡◌, ℕ, ◌==◌, true, false, ⊎_elim}
+use Rattle.std.proofs.lemmas.Bool.{and_from, and_left, and_right, cases_Bool, eq-eqb}
+use Rattle.fdr.specs.Tasks.{ranges, IsState}
+use Rattle.checker_clauses.specs.Clauses.{is_state}
+use Rattle.checker_clauses.proofs.ClauseLaws.{is_state_tells}
+use Rattle.families.specs.Owners.{SearchSpace, Message, fits}
+use Rattle.families.proofs.States.{is_state-from}
+
+-- one of no state does not fit
+pub no_state : (space : SearchSpace) (me : ℕ) (m : Message) → (IsState (ranges space.task) m.state → ⊥) → fits space me m ≡ false
+no_state space me m none = ⊎_elim
+    (λ (e : is_state (ranges space.task) m.state ≡ true). absurd (none (is_state_tells (ranges space.task) m.state e)))
+    (λ (e : is_state (ranges space.task) m.state ≡ false). and_left _ _ e)
+    (cases_Bool (is_state (ranges space.task) m.state))
+
+-- nor does one of another owner
+pub another_owner : (space : SearchSpace) (me : ℕ) (m : Message) → (space.owner_of m.state == me) ≡ false → fits space me m ≡ false
+another_owner space me m e = and_right (is_state (ranges space.task) m.state) _ e
+
+pub fits_here : (space : SearchSpace) (me : ℕ) (m : Message) → IsState (ranges space.task) m.state → space.owner_of m.state ≡ me → fits space me m ≡ true
+fits_here space me m state own = and_from (is_state (ranges space.task) m.state) (space.owner_of m.state == me)
+    (is_state-from (ranges space.task) m.state state) (eq-eqb (space.owner_of m.state) me own)

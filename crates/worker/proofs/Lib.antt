@@ -1,0 +1,4 @@
+pub mod Rows
+pub mod Working
+pub mod Fits
+pub mod Steps

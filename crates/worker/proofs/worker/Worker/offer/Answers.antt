@@ -1,0 +1,14 @@
+use Rattle.std.proofs.Common.{◌∙◌, ap}
+use Rattle.cost.specs.Distances.{lesser}
+use Rattle.cost.proofs.DistanceLaws.{ord_min-is_lesser}
+use Rattle.worker.proofs.Working.{offered}
+use Rattle.worker.proofs.worker.Worker.offer.Goals as goal
+
+pub invariant_of-self : goal.invariant_of-self
+invariant_of-self g c = (
+  c.self.invariant.0,
+  c.self.invariant.1,
+  offered g.S.Spread.owner _ c.min-self-inside.result
+      (c.min-self-inside.ensures ∙ (ord_min-is_lesser c.self.inside.offered c.best_goal-best.result ∙ ap (lesser c.self.inside.offered) c.best_goal-best.ensures))
+      c.self.invariant.2,
+)

@@ -1,0 +1,35 @@
+//! Whether a message is for an owner.
+
+ghost use Rattle.std.specs.Prelude.{◌≡◌, ◌<◌, false, length, IsTrue};
+ghost use Rattle.fdr.specs.Tasks.{ranges, IsState};
+ghost use Rattle.families.specs.Owners.{fits};
+ghost use Rattle.closed.specs.Tables.{message_of};
+ghost use Rattle.owner.specs.Spaces.{searched};
+
+use links::Message;
+use owner::Space;
+use packed::StateForm;
+use spread::Spread;
+
+/// Whether the message is of a state of the task that this one of so many owners has; the buffer is for use within.
+pub(crate) fn is_for<S: Spread + Drop>(
+    space: &Space<'_, S>,
+    number: usize,
+    owners: usize,
+    message: &Message,
+    state: &mut Vec<u32>,
+) -> bool
+    requires owners { 0 < owners }
+    requires buffer { length state.old.items ≡ length space.now.task.value_names }
+    ensures state { IsTrue result → IsState (ranges space.now.task) message.now.state.values.items }
+    ensures owner { IsTrue result → S.owner space.now.spread message.now.state.values.items owners ≡ number }
+    ensures not { result ≡ false → fits (searched S.owner space.now owners) number (message_of message.now) ≡ false }
+    ensures buffer { length state.new.items ≡ length state.old.items }
+{
+    let layout = space.layout();
+    if !message.state.is_form(layout) {
+        return false;
+    }
+    message.state.unpack(layout, state);
+    space.owner_of(state, owners) == number
+}

@@ -1,0 +1,10 @@
+//! One worker of a search by threads: an owner of states, its ends of the links to other workers, and its seat at the board (hash
+//! distributed A*: Kishimoto, Fukunaga and Botea 2013).
+#![tactic(auto)]
+
+mod ends;
+mod fitting;
+mod turn;
+mod worker;
+
+pub use worker::Worker;
