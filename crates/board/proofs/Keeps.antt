@@ -13,17 +13,17 @@ use Rattle.board.specs.Steps.{looks, offers, adds, subtracts, stays, finds_flag}
 use Rattle.board.proofs.Wording.{Small, at_word, at_small, order_same, lesser_word, lesser_small, least_word, IsFairWord, HoldsWord, to_words, from_words}
 use Rattle.board.proofs.Sums.{AllFair, alone, least_at, least_small, least_set, least_snoc, share_set, share_snoc, parts_set, parts_snoc}
 
-abbrev St : Type 0
-St = State (Unit {0}) View
+abbrev TableState : Type 0
+TableState = State (Unit {0}) View
 
-abbrev Sat : Type 0
-Sat = Me (Unit {0}) View
+abbrev SeatState : Type 0
+SeatState = Me (Unit {0}) View
 
 -- ---- a step on one word, where the other words stay
 at_three : (P : ℕ → ℕ → ℕ → Type 0) {a b c a' b' c' : ℕ} → a ≡ a' → b ≡ b' → c ≡ c' → P a' b' c' → P a b c
 at_three P p q r t = let Q : ℕ × ℕ × ℕ → Type 0 = λ z. P z.0 z.1 z.2 in subst Q (λ i. (sym p i, sym q i, sym r i)) t
 
-bound_set : (s : St) (n id : ℕ) (me : Sat) (w : View) → length s.words ≡ 3
+bound_set : (s : TableState) (n id : ℕ) (me : SeatState) (w : View) → length s.words ≡ 3
     → HoldsWord n (get_or s.words 1 0) (get_or s.words 2 0) (set s.views id w) → IsRuled (stepped s 0 n id me.1 w keeps)
 bound_set s n id me w wide h = (
   length-set s.words 0 n ∙ wide,
@@ -32,7 +32,7 @@ bound_set s n id me w wide h = (
       (from_words _ _ _ (set s.views id w) h),
 )
 
-units_set : (s : St) (n id : ℕ) (me : Sat) (w : View) → length s.words ≡ 3
+units_set : (s : TableState) (n id : ℕ) (me : SeatState) (w : View) → length s.words ≡ 3
     → HoldsWord (get_or s.words 0 0) n (get_or s.words 2 0) (set s.views id w) → IsRuled (stepped s 1 n id me.1 w keeps)
 units_set s n id me w wide h = (
   length-set s.words 1 n ∙ wide,
@@ -41,7 +41,7 @@ units_set s n id me w wide h = (
       (from_words _ _ _ (set s.views id w) h),
 )
 
-stop_set : (s : St) (n id : ℕ) (me : Sat) (w : View) → length s.words ≡ 3
+stop_set : (s : TableState) (n id : ℕ) (me : SeatState) (w : View) → length s.words ≡ 3
     → HoldsWord (get_or s.words 0 0) (get_or s.words 1 0) n (set s.views id w) → IsRuled (stepped s 2 n id me.1 w keeps)
 stop_set s n id me w wide h = (
   length-set s.words 2 n ∙ wide,
@@ -126,7 +126,7 @@ bound_back b u h vs is =
     ap (λ k. word_of (distance_at k)) is.least ∙ (least_word_back vs (λ i v at. (is.fair i v at).offered_small) ∙ sym is.least)
 
 -- ---- the steps
-pub look_keeps : (slots id : ℕ) (me : Sat) → 0 < me.0.parts → Allows IsRuled slots id me 0 (λ n. n) (looks (step slots 0 0 0 none) me)
+pub look_keeps : (slots id : ℕ) (me : SeatState) → 0 < me.0.parts → Allows IsRuled slots id me 0 (λ n. n) (looks (step slots 0 0 0 none) me)
 look_keeps slots id me live s (wide, rule) _ at _ =
     let is = to_words _ _ _ s.views rule in
     let b : ℕ = get_or s.words 0 0 in let d = distance_at b in let w = with_seen me.0 d in
@@ -146,7 +146,7 @@ look_keeps slots id me live s (wide, rule) _ at _ =
       ),
     )
 
-pub offer_keeps : (slots id : ℕ) (me : Sat) (k : ℕ) → 0 < me.0.parts → word_of (distance_at k) ≡ k
+pub offer_keeps : (slots id : ℕ) (me : SeatState) (k : ℕ) → 0 < me.0.parts → word_of (distance_at k) ≡ k
     → Allows IsRuled slots id me 0 (λ n. min n k) (offers (step slots 0 k 0 none) me)
 offer_keeps slots id me k live word s (wide, rule) _ at _ =
     let is = to_words _ _ _ s.views rule in
@@ -171,7 +171,7 @@ fewer : (u k : ℕ) (t t' : ℤ) → k < 2 ^ 64 → t' ≡ t -ℤ pos k → IsMo
 fewer u k t t' small e (up, down, m) =
     let d = div-add-mod' (u + (2 ^ 64 - k)) (2 ^ 64) in (up + (u + (2 ^ 64 - k)) / 2 ^ 64, down + 1, omega (arith, ints))
 
-pub add_keeps : (slots id : ℕ) (me : Sat) (k : ℕ) → 0 < me.0.parts → Allows IsRuled slots id me 1 (λ n. (n + k) % 2 ^ 64) (adds (step slots 1 k 0 none) me)
+pub add_keeps : (slots id : ℕ) (me : SeatState) (k : ℕ) → 0 < me.0.parts → Allows IsRuled slots id me 1 (λ n. (n + k) % 2 ^ 64) (adds (step slots 1 k 0 none) me)
 add_keeps slots id me k live s (wide, rule) _ at _ =
     let is = to_words _ _ _ s.views rule in
     let b : ℕ = get_or s.words 0 0 in let u : ℕ = get_or s.words 1 0 in let w = with_share me.0 (me.0.share +ℤ pos k) in
@@ -186,7 +186,7 @@ add_keeps slots id me k live s (wide, rule) _ at _ =
       refl,
     )
 
-pub sub_keeps : (slots id : ℕ) (me : Sat) (k : ℕ) → 0 < me.0.parts → k < 2 ^ 64
+pub sub_keeps : (slots id : ℕ) (me : SeatState) (k : ℕ) → 0 < me.0.parts → k < 2 ^ 64
     → Allows IsRuled slots id me 1 (λ n. (n + (2 ^ 64 - k)) % 2 ^ 64) (subtracts (step slots 1 k 0 none) me)
 sub_keeps slots id me k live small s (wide, rule) _ at _ =
     let is = to_words _ _ _ s.views rule in
@@ -209,7 +209,7 @@ again b u h h' vs id v rule at flag =
     subst (HoldsWord b u h') (sym (set_again vs id v at))
     record { least = is.least; counted = is.counted; flag = flag; whole = is.whole; fair = is.fair }
 
-pub count_keeps : (slots id : ℕ) (me : Sat) → Allows IsRuled slots id me 1 (λ n. n) (stays (step slots 1 0 0 none) me)
+pub count_keeps : (slots id : ℕ) (me : SeatState) → Allows IsRuled slots id me 1 (λ n. n) (stays (step slots 1 0 0 none) me)
 count_keeps slots id me s (wide, is) _ at _ =
     (me.0, keeps, tt, units_set s (get_or s.words 1 0) id me me.0 wide (again _ _ _ _ s.views id me.0 is at is.flag), refl)
 
@@ -218,12 +218,12 @@ flagged zero h = omega arith
 flagged (suc zero) h = omega arith
 flagged (suc (suc n)) h = absurd (omega arith)
 
-pub halt_keeps : (slots id : ℕ) (me : Sat) → Allows IsRuled slots id me 2 (λ n. bit_or n 1) (stays (step slots 2 1 0 none) me)
+pub halt_keeps : (slots id : ℕ) (me : SeatState) → Allows IsRuled slots id me 2 (λ n. bit_or n 1) (stays (step slots 2 1 0 none) me)
 halt_keeps slots id me s (wide, is) _ at _ =
     let h : ℕ = get_or s.words 2 0 in
     (me.0, keeps, tt, stop_set s (bit_or h 1) id me me.0 wide (again _ _ _ _ s.views id me.0 is at (flagged h is.flag)), refl)
 
-pub halted_keeps : (slots id : ℕ) (me : Sat) → Allows IsRuled slots id me 2 (λ n. n) (finds_flag (step slots 2 0 0 none) me)
+pub halted_keeps : (slots id : ℕ) (me : SeatState) → Allows IsRuled slots id me 2 (λ n. n) (finds_flag (step slots 2 0 0 none) me)
 halted_keeps slots id me s (wide, is) _ at _ =
     (me.0, keeps, tt, stop_set s (get_or s.words 2 0) id me me.0 wide (again _ _ _ _ s.views id me.0 is at is.flag), (refl, is.flag))
 
