@@ -1,4 +1,4 @@
--- A projection keeps steps and goals.
+-- A projection preserves steps and goals.
 use Rattle.std.proofs.Common.{◌≡◌, ℕ, zero, suc, ◌+◌, ◌*◌, ◌/◌, ◌%◌, ◌<◌, true, false, List, [], ◌∷◌, length, Option, Some, None, refl, ap, sym, arith, cond, eqb}
 use Rattle.std.specs.Prelude.{option_and_then, IfSome, slice_get, slice_index, slice_set, All}
 use Rattle.std.specs.List.{list_all, list_any}
@@ -15,7 +15,7 @@ use Rattle.abstraction.specs.Abstractions.{IsAbstractionOf}
 use Rattle.abstraction.specs.Projections.{size_of, index_of, weighted_sum, agrees, value_after, index_after, transition_of, projection, touches_pattern, AllExist}
 use Rattle.abstraction.specs.Steps.{found}
 
--- the last place of a mixed-radix number, and the rest
+-- the lowest digit of a mixed-radix number, and the other digits
 pub quotient : (x r q : ℕ) → x < r → (x + r * q) / r ≡ q
 quotient x r q h = let e : x + r * q ≡ q * r + x = omega arith in rw e (div-mul-add q r x h)
 
@@ -26,7 +26,7 @@ pub positive : (i r q : ℕ) → i < r * q → 0 < r
 positive i zero q h = absurd (omega arith)
 positive i (suc r) q h = omega arith
 
--- what a write leaves at a place
+-- the value at a place after a write
 read_set : (s : List ℕ) (p x v : ℕ) → v < length s → slice_index (slice_set s p x) v ≡ cond (eqb p v) x (slice_index s v)
 read_set s p x v l =
     cond_both (eqb p v) x (slice_index s v) (λ y. slice_index (slice_set s p x) v ≡ y)
@@ -39,13 +39,13 @@ read_effect (f ∷ fs) s v l =
     let longer : v < length (slice_set s f.variable f.value) = rw length-set l in
     rw (read_effect fs (slice_set s f.variable f.value) v longer, read_set s f.variable f.value v l)
 
--- an effect that does not name the variable leaves its value
+-- an effect that does not name the variable does not change its value
 not_named : (effect : List Fact) (v x : ℕ) → names_variable effect v ≡ false → value_after effect v x ≡ x
 not_named [] v x e = refl
 not_named (f ∷ fs) v x e =
     let parts = or_parts (eqb f.variable v) (names_variable fs v) e in rw (parts.0, not_named fs v x parts.1) refl
 
--- an effect on no variable of the pattern moves no abstract state
+-- an effect on no variable of the pattern does not change the abstract state
 effect_elsewhere : (ranges ps : List ℕ) (i : ℕ) (effect : List Fact) → list_any (names_variable effect) ps ≡ false → i < size_of ranges ps → index_after ranges ps i effect ≡ i
 effect_elsewhere ranges [] i effect e l = omega arith
 effect_elsewhere ranges (p ∷ ps) i effect e l =
@@ -107,7 +107,7 @@ module _ (ranges : List ℕ) where
           read_effect effect s p (omega (arith, state.as_long)),
         )
 
--- a projection to variables that exist is an abstraction of the task
+-- a projection to existing variables is an abstraction of the task
 pub projection_abstracts : (task : FiniteDomainTask) → IsTask task → (ps : List ℕ) → AllExist (ranges task) ps → IsAbstractionOf task (projection task ps)
 projection_abstracts task well ps exist =
     record {

@@ -7,21 +7,21 @@ use Rattle.std.proofs.lemmas.Bool.{cases_eq}
 use Rattle.fdr.specs.declared.fact.Fact.{Fact}
 use Rattle.fdr.specs.Tasks.{FiniteDomainTask, Operator, ranges, IsTask, IsState, IsOperator, IsInRange, applies, successor, with_values, step, state_after, LeadsToGoal, is_goal_state}
 
--- what holds of each element holds of the one that a look-up gives
+-- what holds of each element holds of the element at a place
 pub found : {X : Type 0} (P : X → Type 0) (xs : List X) (i : ℕ) → All P xs → IfSome (slice_get xs i) P
 found P [] i all = tt
 found P (x ∷ xs) zero all = All-head P x xs all
 found P (x ∷ xs) (suc i) all = found P xs i (All-tail P x xs all)
 
--- what holds of the value, if there is one, holds of this value
+-- what holds of the value of an option, if there is one, holds of this value
 pub at_some : {X : Type 0} (P : X → Type 0) (r : Option X) (x : X) → r ≡ Some x → IfSome r P → P x
 at_some P r x e h = rw e at h
 
--- an element with one fact has also what each element has
+-- if each element has the first property and some element has the second, then some element has both
 pub both : {X : Type 0} (P Q : X → Type 0) (xs : List X) → All P xs → Any Q xs → (x : X) × P x × Q x
 both P Q xs all any = (any.1, rw any.3 at (all any.0 any.1 any.2), any.4)
 
--- a plan of one operator more is a step and a plan from there
+-- a plan that begins with an operator is a step and a plan from the successor
 pub first_step : (task : FiniteDomainTask) (s : List ℕ) (o : ℕ) (plan : List ℕ) → LeadsToGoal task s (o ∷ plan) → (t : List ℕ) × (step task s o ≡ Some t) × LeadsToGoal task t plan
 first_step task s o plan leads = go (step task s o) leads
   where
@@ -49,7 +49,7 @@ effect_keeps_state ranges (f ∷ fs) s ok all =
     (set_is_state ranges s f ok (All-head (IsInRange ranges) f fs all))
     (All-tail (IsInRange ranges) f fs all)
 
--- a step leads from states to states
+-- the successor of a state is a state
 pub step_keeps_state : (task : FiniteDomainTask) → IsTask task → (s : List ℕ) (o : ℕ) → IsState (ranges task) s → IfSome (step task s o) (IsState (ranges task))
 step_keeps_state task well s o ok = go (slice_get task.operators o) (found (IsOperator (ranges task)) task.operators o well.operators)
   where

@@ -1,8 +1,8 @@
-//! What an abstraction is.
+//! The interface of abstractions.
 
-/// An abstraction of a finite-domain task: a smaller graph into which the task's states are mapped, so that each of
-/// its steps is a transition there, and its goal states are abstract goals (Helmert, Haslum and Hoffmann 2007). The
-/// abstract states are the numbers below the size.
+/// An abstraction of a finite-domain task: a smaller graph to which the states of the task are mapped, such that each
+/// step of the task is a transition of the graph, and goal states are abstract goals (Helmert, Haslum and Hoffmann
+/// 2007). The abstract states are the numbers below `size`.
 pub trait Abstraction {
     ghost use Rattle.std.specs.Prelude.{◌≡◌, ℕ, ◌<◌, ◌≤◌, ◌^◌, IfSome};
     ghost use Rattle.fdr.specs.Tasks.{FiniteDomainTask, ranges, IsState};
@@ -11,29 +11,29 @@ pub trait Abstraction {
     /// The task.
     ghost task: { Self → FiniteDomainTask };
 
-    /// Its states, their transitions and the goals among them.
+    /// Its abstract states, transitions and abstract goals.
     ghost abstraction: { Self → spec.Abstraction };
 
-    /// How many abstract states there are: at most 2^24.
+    /// Returns the number of abstract states, at most 2^24.
     fn size(&self) -> usize
         ensures value { result ≡ (abstraction self.now).size }
         ensures small { result ≤ 2 ^ 24 };
 
-    /// The abstract state of a state of the task.
+    /// Returns the abstract state of a state of the task.
     fn index(&self, state: &[u32]) -> usize
         requires { IsState (ranges (task self.now)) state.now }
         ensures value { result ≡ (abstraction self.now).index state.now }
         ensures below { result < (abstraction self.now).size };
 
-    /// Where an operator, given by its number, leads from an abstract state: `None` where it does not lead on, or
-    /// does not exist.
+    /// Returns the abstract state to which the operator with this number leads from an abstract state, or `None` if the
+    /// operator does not exist or has no transition there.
     fn transition(&self, abstract_state: usize, operator: usize) -> Option<usize>
         requires { abstract_state < (abstraction self.now).size }
         ensures value { result ≡ (abstraction self.now).transition abstract_state operator }
         ensures below { IfSome result (λ next. next < (abstraction self.now).size) };
 
-    /// Whether an operator, given by its number, may lead from an abstract state to another. Where it does not touch the
-    /// abstract states it leads from each to itself, if at all.
+    /// Whether the operator with this number may lead from an abstract state to a different one. If it does not touch
+    /// the abstraction, each of its transitions leads from an abstract state to itself.
     fn touches(&self, operator: usize) -> bool
         ensures { result ≡ (abstraction self.now).touches operator };
 
@@ -42,9 +42,9 @@ pub trait Abstraction {
         requires { abstract_state < (abstraction self.now).size }
         ensures { result ≡ (abstraction self.now).is_goal abstract_state };
 
-    /// It is an abstraction of the task.
+    /// The abstraction is one of the task.
     ghost abstracts: { (a : Self) → spec.IsAbstractionOf (task a) (abstraction a) };
 
-    /// It has at most 2^24 abstract states.
+    /// There are at most 2^24 abstract states.
     ghost is_small: { (a : Self) → (abstraction a).size ≤ 2 ^ 24 };
 }

@@ -1,19 +1,21 @@
-//! The places of values in abstract states.
+//! The encoding of values in abstract states.
 
 ghost use Rattle.std.specs.Prelude.{◌≡◌, ◌^◌, ◌<◌, ◌≤◌};
 ghost use Rattle.abstraction.specs.Digits as spec;
 ghost use Rattle.abstraction.specs.Digits.{IsDigitBelow};
 
-/// Where the value of one variable stands in an abstract state: the value is the number divided by the weight,
-/// modulo the range.
+/// The position of a variable's value in the number of an abstract state: the value is the number divided by the
+/// weight, modulo the range.
 #[derive(Clone, Copy)]
 pub struct Digit {
+    /// The product of the ranges of the variables before this one. It must be positive.
     pub weight: usize,
+    /// The number of values of the variable. It must be positive.
     pub range: usize,
 }
 
 impl Digit {
-    /// The value that stands here.
+    /// Returns the value of the variable in an abstract state.
     pub fn value(self, abstract_state: usize) -> usize
         requires { IsDigitBelow (2 ^ 24) self }
         ensures { result ≡ spec.value_of self abstract_state }
@@ -21,7 +23,7 @@ impl Digit {
         abstract_state / self.weight % self.range
     }
 
-    /// The abstract state with another value here.
+    /// Returns the abstract state in which the variable has another value, and all others keep theirs.
     pub(crate) fn with_value(self, abstract_state: usize, value: usize) -> usize
         requires digit { IsDigitBelow (2 ^ 24) self }
         requires state { abstract_state < 2 ^ 24 }

@@ -1,13 +1,14 @@
-//! Why there is no projection to a pattern.
+//! Faults of patterns.
 
 use std::alloc::AllocError;
 
-/// Why there is no projection to a pattern.
+/// Why a pattern has no projection.
 #[derive(Clone, Copy, Debug, PartialEq, Eq)]
 pub enum ProjectionFault {
     /// Memory ran out.
     OutOfMemory,
-    /// The pattern names a variable that the task does not have; this is the first such place in the pattern, from 0.
+    /// The pattern names a variable that the task does not have. The number is the first such place in the pattern,
+    /// counted from 0.
     UnknownVariable(usize),
     /// The projection has more than 2^24 abstract states.
     TableTooLarge,

@@ -1,4 +1,4 @@
-//! Laws of abstractions. Each function states one as its contract, for every task, and its body is empty.
+//! Laws of abstractions, for every task. Each function states one in its contract; its body is empty.
 
 ghost use Rattle.std.specs.Prelude.{◌≡◌, ℕ, List, All};
 ghost use Rattle.cost.specs.Distances.{Finite, ◌≤ᵈ◌};
@@ -7,8 +7,8 @@ ghost use Rattle.abstraction.specs.Abstractions.{Table, IsAbstractionOf};
 ghost use Rattle.abstraction.specs.Projections.{projection, weighted_sum, AllExist};
 ghost use Rattle.abstraction.specs.Columns.{IsColumn, heuristic};
 
-/// A projection to variables that exist is an abstraction of the task. Its index is the sum of the values, each
-/// times the product of the ranges before it.
+/// Proves that a projection to existing variables is an abstraction of the task, and that the index of a state is the
+/// sum of the values of the pattern's variables, each times the product of the ranges before it.
 pub fn projection_is_abstraction()
     ensures abstraction { (task : FiniteDomainTask) (pattern : List ℕ) → IsTask task → AllExist (ranges task) pattern →
         IsAbstractionOf task (projection task pattern) }
@@ -16,7 +16,8 @@ pub fn projection_is_abstraction()
         (projection task pattern).index state ≡ weighted_sum (ranges task) pattern state 1 }
 {}
 
-/// The heuristic of columns is at most the cost of any list of operators that leads from the state to a goal state.
+/// Proves that the heuristic of cost-partitioned columns is admissible: its value is at most the cost of every sequence
+/// of operators that leads from the state to a goal state (Seipp, Keller and Helmert 2020).
 pub fn heuristic_is_lower_bound()
     ensures { (task : FiniteDomainTask) (columns : List (List Table)) (state plan : List ℕ) →
         IsTask task → All (IsColumn task) columns → IsState (ranges task) state → LeadsToGoal task state plan →

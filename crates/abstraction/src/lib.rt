@@ -1,4 +1,4 @@
-//! Abstractions of finite-domain tasks, and lower bounds on the costs of plans that tables on them give.
+//! Abstractions of finite-domain tasks, and the lower bounds on plan costs that their tables give.
 #![tactic(auto)]
 
 mod abstraction;

@@ -1,4 +1,4 @@
-//! Projections.
+//! Projections to patterns.
 
 ghost use Rattle.std.specs.Prelude.{◌≡◌, ◌^◌, ◌<◌, ◌≤◌, All, length, take, slice_index, IfOk, IfErr, OnOk, IfSome, IfNone};
 ghost use Rattle.std.specs.List.{list_all, list_any};
@@ -15,11 +15,11 @@ use fdr::{Fact, FdrTask};
 use std::alloc::Global;
 use std::marker::Model;
 
-/// How many abstract states a projection may have.
+/// The greatest number of abstract states of a projection.
 const MAX_SIZE: usize = 16_777_216;
 
-/// The projection of a task to a pattern, some of its variables (Culberson and Schaeffer 1998): an abstract state is
-/// what a state says of the pattern's variables. Its number is the sum of their values, each times the product of
+/// The projection of a task to a pattern, a list of its variables (Culberson and Schaeffer 1998). An abstract state is
+/// an assignment of values to the pattern's variables. Its number is the sum of these values, each times the product of
 /// the ranges of the pattern's variables before it.
 #[derive(Drop)]
 pub struct Projection<'a> {
@@ -55,7 +55,7 @@ impl<'a> Model for Projection<'a> {
         (p.size ≡ spec.size_of (ranges p.task.now) p.pattern.items) };
 }
 
-/// The first place in the pattern with a variable that the task does not have.
+/// The first place in the pattern that names a variable that the task does not have, counted from 0.
 fn first_unknown(task: &FdrTask, pattern: &[usize]) -> Option<usize>
     ensures unknown { IfSome result (λ k. IsFaultOf task.now pattern.now (ProjectionFault.UnknownVariable k)) }
     ensures exist { IfNone result (AllExist (ranges task.now) pattern.now) }
@@ -68,7 +68,7 @@ fn first_unknown(task: &FdrTask, pattern: &[usize]) -> Option<usize>
     None
 }
 
-/// The place of a variable in a pattern, if it is there.
+/// The place of a variable in a pattern, if the pattern has it.
 fn place_of(pattern: &[usize], variable: usize) -> Option<usize>
     requires { IsStrictlyIncreasing pattern.now }
     ensures found { IfSome result (λ k. (k < length pattern.now) × (slice_index pattern.now k ≡ variable)) }
@@ -87,7 +87,7 @@ fn names_variable(facts: &[Fact], variable: usize) -> bool
     facts.iter().any(|fact| fact.variable == variable)
 }
 
-/// The digits of the pattern's variables, and how many abstract states there are.
+/// The digits of the pattern's variables, and the number of abstract states.
 fn digits_of(
     alloc: Global,
     task: &FdrTask,
@@ -120,10 +120,10 @@ fn digits_of(
 }
 
 impl<'a> Projection<'a> {
-    /// The projection of the task to the pattern, whose variables each come before the next.
+    /// Makes the projection of the task to the pattern, whose variables must be strictly increasing.
     ///
-    /// An `Err` says that a variable does not exist, by the first such place; else that there are more than 2^24 abstract
-    /// states; or that memory ran out, in place of any other answer.
+    /// Fails with the first place in the pattern whose variable does not exist; else if there are more than 2^24
+    /// abstract states; or if allocation fails.
     pub fn new(
         alloc: Global,
         task: &'a FdrTask,
@@ -149,28 +149,29 @@ impl<'a> Projection<'a> {
         })
     }
 
-    /// The task.
+    /// Returns the task.
     pub fn task(&self) -> &FdrTask
         ensures { result.now ≡ self.now.task }
     {
         self.task
     }
 
-    /// The pattern: the task's variables, by their numbers, of which the abstract states say the values.
+    /// Returns the pattern: the variables of the task, by their numbers, whose values make up the abstract states.
     pub fn pattern(&self) -> &[usize]
         ensures { result.now ≡ self.now.pattern }
     {
         &self.pattern
     }
 
-    /// Where the values of the pattern's variables stand in an abstract state, in the pattern's order.
+    /// Returns the positions of the values of the pattern's variables in an abstract state, in the order of the
+    /// pattern.
     pub fn digits(&self) -> &[Digit]
         ensures { result.now ≡ digits_from (ranges self.now.task) 1 self.now.pattern }
     {
         &self.digits
     }
 
-    /// The digit of a variable, if it is in the pattern.
+    /// The digit of a variable, if the pattern has it.
     fn digit(&self, variable: usize) -> Option<Digit>
         ensures digit { result ≡ digit_of (ranges self.now.task) self.now.pattern variable }
         ensures below { IfSome result (IsDigitBelow (2 ^ 24)) }
@@ -182,7 +183,7 @@ impl<'a> Projection<'a> {
         }
     }
 
-    /// Whether the fact holds in the abstract state, or is on no variable of the pattern.
+    /// Whether the fact holds in the abstract state, or its variable is not in the pattern.
     fn agrees(&self, abstract_state: usize, fact: Fact) -> bool
         ensures { result ≡ spec.agrees (ranges self.now.task) self.now.pattern abstract_state fact }
     {
@@ -201,14 +202,14 @@ impl<'a> Projection<'a> {
             .any(|variable| names_variable(effect, *variable))
     }
 
-    /// Whether each fact agrees.
+    /// Whether each fact agrees with the abstract state.
     fn all_agree(&self, abstract_state: usize, facts: &[Fact]) -> bool
         ensures { result ≡ list_all (spec.agrees (ranges self.now.task) self.now.pattern abstract_state) facts.now }
     {
         facts.iter().all(|fact| self.agrees(abstract_state, *fact))
     }
 
-    /// The abstract state with the fact's value, if its variable is in the pattern.
+    /// The abstract state with the value of the fact, if the pattern has its variable, and else the same.
     fn with_fact(&self, abstract_state: usize, fact: Fact) -> usize
         requires state { abstract_state < size_of (ranges self.now.task) self.now.pattern }
         requires fact { IsInRange (ranges self.now.task) fact }
@@ -221,7 +222,7 @@ impl<'a> Projection<'a> {
         }
     }
 
-    /// The abstract state that the effect leads to.
+    /// The abstract state to which the effect leads.
     fn index_after(&self, abstract_state: usize, effect: &[Fact]) -> usize
         requires state { abstract_state < size_of (ranges self.now.task) self.now.pattern }
         requires effect { All (IsInRange (ranges self.now.task)) effect.now }

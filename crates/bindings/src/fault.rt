@@ -8,9 +8,9 @@ use std::alloc::{AllocError, AllocFailed};
 /// Why a task is not grounded.
 #[derive(Clone, Copy, Debug, PartialEq, Eq)]
 pub enum GroundFault {
-    /// Memory ran out.
+    /// Allocation failed.
     OutOfMemory,
-    /// F20: there are more atoms, or more actions, than may be listed.
+    /// F20: there are more atoms or more ground actions than may be listed.
     GroundLimit,
 }
 

@@ -27,7 +27,7 @@ all_parts = 2 ^ 64
 abbrev pub first_view : View
 first_view = record { seen = Infinite; offered = Infinite; share = pos 0; parts = all_parts }
 
--- what is left of a seat that was joined into another
+-- the view of a seat that was joined into another
 abbrev pub spent_view : View
 spent_view = record { seen = Infinite; offered = Infinite; share = pos 0; parts = 0 }
 
@@ -40,11 +40,11 @@ with_offered v d = record { seen = v.seen; offered = d; share = v.share; parts =
 abbrev pub with_share : View → ℤ → View
 with_share v z = record { seen = v.seen; offered = v.offered; share = z; parts = v.parts }
 
--- a seat that is cut keeps what it knows, and half of its parts
+-- the view of a seat that is split: it keeps what it knows, and half of its parts
 abbrev pub kept_part : View → View
 kept_part v = record { seen = v.seen; offered = v.offered; share = v.share; parts = v.parts / 2 }
 
--- the other one has seen as much, and has offered and added nothing
+-- the view of the new seat: it has seen the same bound, and has offered and added nothing
 abbrev pub new_part : View → View
 new_part v = record { seen = v.seen; offered = Infinite; share = pos 0; parts = v.parts - v.parts / 2 }
 
@@ -63,18 +63,20 @@ abbrev pub total_parts : List View → ℕ
 total_parts [] = 0
 total_parts (v ∷ vs) = v.parts + total_parts vs
 
--- the number is this whole number modulo 2^64
+-- the number is congruent to this integer modulo 2^64
 abbrev pub IsModulo : ℕ → ℤ → Type 0
 IsModulo n z = (up : ℕ) × (down : ℕ) × (pos (n + up * 2 ^ 64) ≡ z +ℤ pos (down * 2 ^ 64))
 
--- a seat has seen nothing below the bound, distances are at most 2^63 or infinite, and a seat without a part has offered and added nothing
+-- a seat has seen nothing below the bound; distances are at most 2^63 or infinite; and a seat without parts has offered
+-- and added nothing
 pub record IsFair (bound : Distance) (v : View) : Type 0 where
   pub seen : bound ≤ᵈ v.seen
   pub seen_within : IsWithin (2 ^ 63) v.seen
   pub offered_within : IsWithin (2 ^ 63) v.offered
   pub spent : v.parts ≡ 0 → (v.offered ≡ Infinite) × (v.share ≡ pos 0)
 
--- the bound is the least that was offered, the units are the sum of the shares, the flag is 0 or 1, and no part is lost
+-- the bound is the least cost that was offered, the units are the sum of the shares, the flag is 0 or 1, and no part is
+-- lost
 pub record Holds (bound units stop : ℕ) (views : List View) : Type 0 where
   pub bound_is : bound ≡ word_of (least (map (λ v. v.offered) views))
   pub counted : IsModulo units (total_share views)

@@ -1,4 +1,4 @@
-//! The board, and seats at it.
+//! The operations on a board, and its seats.
 
 ghost use Rattle.std.specs.Prelude.{◌≡◌, ◌≤◌, ◌+ℤ◌, ◌-ℤ◌, pos, true, ◌↔◌, IsTrue, IfOk};
 ghost use Rattle.cost.specs.Distances.{◌≤ᵈ◌, lesser};
@@ -13,12 +13,12 @@ use atomic_table::Table;
 use cost::Dist;
 use std::alloc::{AllocError, Global};
 
-/// A place at a board, by which one thread at a time reads and changes it. It takes no bytes.
+/// A seat at a board, through which one thread at a time reads and changes it. It takes no bytes.
 pub type Seat = atomic_table::Seat<(), View>;
 
 impl Board {
-    /// A board at the beginning of a round, and the one seat at it: no cost was offered, the units are 0, and the round is not ended. An
-    /// `Err` is of too little memory.
+    /// A board at the start of a round, and its one seat: no cost is offered, the units are 0, and the round is not
+    /// ended. Fails only if allocation fails.
     pub fn new(alloc: Global) -> Result<(Board, Seat), AllocError>
         ensures { IfOk result (λ r. IsSeatOf r.0 r.1 × (view r.1 ≡ first_view)) }
     {
@@ -26,7 +26,8 @@ impl Board {
         Ok((Board { table }, seat))
     }
 
-    /// Reads the bound, in one step. It is at most what the seat had seen, and at most what it had offered.
+    /// Reads the bound, in one atomic step. It is at most the bound that the seat had seen, and at most the least cost
+    /// that the seat had offered.
     pub fn look(&self, seat: &mut Seat) -> Dist
         requires { IsSeatOf self.now seat.old }
         ensures seat { IsSeatOf self.now seat.new }
@@ -36,7 +37,7 @@ impl Board {
         distance_at(self.table.shared.load::<Looks>(seat, BOUND))
     }
 
-    /// Lowers the bound to this cost, where it is above, in one step.
+    /// Lowers the bound to this cost, if it is above it, in one atomic step.
     pub fn offer(&self, seat: &mut Seat, cost: Dist)
         requires { IsSeatOf self.now seat.old }
         ensures seat { IsSeatOf self.now seat.new }
@@ -47,7 +48,7 @@ impl Board {
             .fetch_min::<Offers>(seat, BOUND, word_of(cost));
     }
 
-    /// Adds so many units, in one step, modulo 2^64.
+    /// Adds `count` units, modulo 2^64, in one atomic step.
     pub fn add(&self, seat: &mut Seat, count: u64)
         requires { IsSeatOf self.now seat.old }
         ensures seat { IsSeatOf self.now seat.new }
@@ -56,7 +57,7 @@ impl Board {
         self.table.shared.fetch_add::<Adds>(seat, UNITS, count);
     }
 
-    /// Takes so many units away, in one step, modulo 2^64.
+    /// Subtracts `count` units, modulo 2^64, in one atomic step.
     pub fn sub(&self, seat: &mut Seat, count: u64)
         requires { IsSeatOf self.now seat.old }
         ensures seat { IsSeatOf self.now seat.new }
@@ -65,7 +66,7 @@ impl Board {
         self.table.shared.fetch_sub::<Subtracts>(seat, UNITS, count);
     }
 
-    /// Reads the units, in one step. What another seat has added may be in it or not.
+    /// Reads the units, in one atomic step. What other seats have added may or may not be included.
     pub fn count(&self, seat: &mut Seat) -> u64
         requires { IsSeatOf self.now seat.old }
         ensures seat { IsSeatOf self.now seat.new }
@@ -74,7 +75,7 @@ impl Board {
         self.table.shared.load::<Stays>(seat, UNITS)
     }
 
-    /// Ends the round for all, in one step.
+    /// Ends the round for all workers, in one atomic step.
     pub fn halt(&self, seat: &mut Seat)
         requires { IsSeatOf self.now seat.old }
         ensures seat { IsSeatOf self.now seat.new }
@@ -83,7 +84,7 @@ impl Board {
         self.table.shared.fetch_or::<Stays>(seat, STOP, 1);
     }
 
-    /// Whether the round was ended, in one step.
+    /// Whether the round was ended, read in one atomic step.
     pub fn halted(&self, seat: &mut Seat) -> bool
         requires { IsSeatOf self.now seat.old }
         ensures seat { IsSeatOf self.now seat.new }
@@ -96,8 +97,8 @@ impl Board {
         }
     }
 
-    /// A seat for another thread, which has seen as much, and has offered and added nothing. Each of the two has half of the parts, of which
-    /// there must be two.
+    /// Splits off a seat for another thread, which has seen the same bound, and has offered and added nothing. Each of
+    /// the two seats has half of the parts, of which there must be at least two.
     pub fn split_seat(&self, seat: &mut Seat) -> Seat
         requires { IsSeatOf self.now seat.old × (2 ≤ (view seat.old).parts) }
         ensures seat { IsSeatOf self.now seat.new × (view seat.new ≡ kept_part (view seat.old)) }
@@ -106,7 +107,8 @@ impl Board {
         self.table.shared.split_seat::<Halves>(seat)
     }
 
-    /// Takes another seat in: the seat has then seen the lesser, offered the lesser, and added what both have.
+    /// Joins another seat into this one, which has then seen the lesser bound and offered the lesser cost of the two, and
+    /// has the shares and the parts of both.
     pub fn join_seat(&self, seat: &mut Seat, other: Seat)
         requires { IsSeatOf self.now seat.old × IsSeatOf self.now other }
         ensures seat { IsSeatOf self.now seat.new }
@@ -115,8 +117,8 @@ impl Board {
         self.table.shared.join_seat::<Halves>(seat, other);
     }
 
-    /// The bound and the units at the end, when all seats were joined: the bound is the least that was offered, and no seat has ever seen
-    /// less.
+    /// The bound and the units (modulo 2^64) at the end, when all seats are joined: the bound is the least cost that was
+    /// offered, and no seat has ever seen less.
     pub fn close(self, seat: Seat) -> (Dist, u64)
         requires { IsSeatOf self seat × ((view seat).parts ≡ all_parts) }
         ensures bound { result.0 ≡ (view seat).offered }

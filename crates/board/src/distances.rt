@@ -5,7 +5,7 @@ ghost use Rattle.board.specs.Rule.{word_of, distance_at};
 
 use cost::Dist;
 
-/// The word of a distance: its number, or 2^64 - 1 where it is infinite.
+/// The word of a distance: its number, or 2^64 - 1 if it is infinite.
 pub(crate) fn word_of(distance: Dist) -> u64
     ensures word { result ≡ word_of distance }
     ensures back { distance_at result ≡ distance }
@@ -16,7 +16,7 @@ pub(crate) fn word_of(distance: Dist) -> u64
     }
 }
 
-/// The distance of a word, which is infinite where the word is past 2^63.
+/// The distance of a word: its number, or infinite if the word is above 2^63.
 pub(crate) fn distance_at(word: u64) -> Dist
     ensures { result ≡ distance_at word }
 {

@@ -1,5 +1,6 @@
-//! What the workers of a round share: the least cost that was offered, how much is left to do, and whether the round is ended. These are
-//! three words that change in single atomic steps, under one rule (hash distributed A*: Kishimoto, Fukunaga and Botea 2013).
+//! What the workers of a round share: the least cost that was offered, the units of work that are left, and whether the
+//! round is ended. These are three words that change in single atomic steps under one rule (hash distributed A*:
+//! Kishimoto, Fukunaga and Botea 2013).
 #![tactic(auto)]
 
 mod board;

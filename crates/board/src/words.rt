@@ -1,4 +1,4 @@
-//! The three words.
+//! The three words of a board.
 
 ghost use Rattle.std.specs.Prelude.{◌≡◌};
 
@@ -9,13 +9,13 @@ use std::alloc::Global;
 /// The number of the word for the least cost offered.
 pub(crate) const BOUND: usize = 0;
 
-/// The number of the word that counts what is left to do.
+/// The number of the word for the units of work that are left.
 pub(crate) const UNITS: usize = 1;
 
 /// The number of the word that is 1 once the round is ended.
 pub(crate) const STOP: usize = 2;
 
-/// A bound, a number of units and a flag, which threads read and change through their seats.
+/// A board: a bound, a number of units and a flag, which threads read and change through their seats.
 #[derive(Drop)]
 pub struct Board {
     pub(crate) table: Table<(), View, (), BoardRule, Global>,

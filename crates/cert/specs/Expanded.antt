@@ -6,14 +6,14 @@ use Rattle.families.specs.Families.{expanded_of}
 use Rattle.owner.specs.Owned.{OwnerOf}
 use Rattle.cert.specs.declared.states.ExpandedStates.{ExpandedStates}
 
--- the nodes that are expanded, of one owner after the other
+-- the expanded nodes, of one owner after the other
 abbrev pub closed_in : {S : Type 0} → List (OwnerOf S) → List Entry
 closed_in owners = flat_map (λ o. expanded_of o.nodes) owners
 
--- the states with their costs, each of so many values
+-- the states with their costs, of a number of values each
 abbrev pub listed : ℕ → ExpandedStates → List Entry
 listed width states = entries width states.costs.items states.values.items
 
--- there are so many values for each cost
+-- there is this number of values for each cost
 abbrev pub IsLong : ℕ → ExpandedStates → Type 0
 IsLong width states = length states.values.items ≡ length states.costs.items * width

@@ -1,5 +1,5 @@
-//! Laws of certificates that are made from closed lists. Each function states one as its contract, for every task, and its
-//! body is empty.
+//! Laws of certificates that are made from closed lists. Each function states a law as its contract, for every task, and
+//! its body is empty.
 
 ghost use Rattle.std.specs.Prelude.{◌≡◌, ℕ, ◌<◌, ◌≤◌, ◌^◌, List, length, All};
 ghost use Rattle.std.specs.List.Sorted.{IsPermutation};
@@ -14,9 +14,9 @@ ghost use Rattle.families.specs.Families.{NoTwice};
 ghost use Rattle.scp.specs.Partitions.{AreCostPartitioned};
 ghost use Rattle.cert.specs.Orders.{IsInOrder, IsRising};
 
-/// A closed list that is finished for a bound, by the heuristic of columns that divide the operators' costs, and whose states
-/// rise, makes with them a certificate that fails nowhere. That one fails nowhere is a proposition, so that it follows from any
-/// fact that is known to hold without its proof.
+/// A closed list that is finished for a bound, under the heuristic of cost-partitioned columns, and is strictly
+/// increasing by state, makes with these columns a certificate that fails no clause. That it fails none is a proposition,
+/// so it follows from a fact that is known to hold without its proof.
 pub fn finished_list_is_held()
     ensures held { (task : FiniteDomainTask) (kind : Kind) (bound : Distance) (columns : List (List Table)) (closed : List Entry) →
         ∥ AreCostPartitioned task columns ∥₁ → IsFinished task (heuristic_of task columns) bound closed → IsRising closed →
@@ -24,8 +24,8 @@ pub fn finished_list_is_held()
     ensures proposition { (task : FiniteDomainTask) (c : CertificateValue) → IsProp (IsHeld task c) }
 {}
 
-/// Such a certificate has a text, where its parts are within the limits of the format: of a task within its own limits, and a
-/// closed list of fewer than 2^32 states at costs of at most 2^62.
+/// Such a certificate has a text if its parts are within the limits of the format: the task is within its own limits, and
+/// the closed list has fewer than 2^32 states, at costs of at most 2^62.
 pub fn finished_list_has_text()
     ensures { (task : FiniteDomainTask) (kind : Kind) (bound : Distance) (columns : List (List Table)) (closed : List Entry) →
         IsWithinLimits task → ∥ AreCostPartitioned task columns ∥₁ → IsLawfulKind kind → IsWithin (2 ^ 62) bound →
@@ -33,14 +33,14 @@ pub fn finished_list_has_text()
         IsLawful (record { kind = kind; bound = bound; columns = columns; closed = closed }) }
 {}
 
-/// A closed list stays finished, and without a state that is in it twice, in any order.
+/// In any order, a finished closed list stays finished, and a closed list that has no state twice has none twice.
 pub fn order_does_not_matter()
     ensures finished { (task : FiniteDomainTask) (h : List ℕ → Distance) (bound : Distance) (closed again : List Entry) →
         IsPermutation closed again → IsFinished task h bound closed → IsFinished task h bound again }
     ensures once { (closed again : List Entry) → IsPermutation closed again → NoTwice closed → NoTwice again }
 {}
 
-/// The states of a list in order rise, where no state is in it twice.
+/// A list that is sorted by state and has no state twice is strictly increasing by state.
 pub fn sorted_once_rises()
     ensures { (closed : List Entry) → IsInOrder closed → NoTwice closed → IsRising closed }
 {}

@@ -1,5 +1,5 @@
-//! Certificates that are made from what a search closed: closed lists in order, and the law that a finished closed list, with
-//! columns that divide the operators' costs, is a certificate that holds.
+//! Certificates that are made from what a search closed: sorted closed lists, and the law that a finished closed list
+//! with cost-partitioned columns is a certificate that holds.
 #![tactic(auto)]
 
 mod laws;

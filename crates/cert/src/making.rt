@@ -20,7 +20,7 @@ use owner::Owner;
 use spread::Spread;
 use std::alloc::{AllocError, Global};
 
-/// The least cost at which any of the owners took a goal state, infinite where none did.
+/// The least cost at which any of the owners took a goal state, infinite if none did.
 fn best_of_owners<S: Spread + Drop>(owners: &[Owner<'_, S>]) -> Dist
     ensures { result ≡ least (map (λ o. o.best) owners.now) }
 {
@@ -31,12 +31,13 @@ fn best_of_owners<S: Spread + Drop>(owners: &[Owner<'_, S>]) -> Dist
     best
 }
 
-/// The certificate of a search: the bound is the least cost at which a goal state was taken, infinite where none was; the columns are
-/// those of the heuristic; and the closed states are those expanded at their present ranks, of all owners, in the lexicographic order
-/// of their values.
+/// The certificate of a search. Its bound is the least cost at which a goal state was taken, infinite if none was; its
+/// columns are those of the heuristic; its closed states are those that the owners expanded at their present ranks, in
+/// the lexicographic order of their values.
 ///
-/// Where the search is settled at a bound, that is the certificate's, and the certificate fails nowhere: every plan costs at least as
-/// much. It has a text then, if its kind has one and there are fewer than 2^32 closed states. An `Err` is of too little memory.
+/// If the search is settled at a bound, the certificate has that bound and fails no clause, so every plan costs at least
+/// the bound. It then has a text, if its kind has one and there are fewer than 2^32 closed states. Fails only if
+/// allocation fails.
 pub fn cert_of<'a, S: Spread + Drop>(
     alloc: Global,
     joined: &Joined<'a, S>,

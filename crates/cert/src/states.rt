@@ -9,16 +9,17 @@ use owner::Owner;
 use spread::Spread;
 use std::alloc::{AllocError, Global};
 
-/// States that were expanded.
+/// The states that were expanded, with their costs.
 #[derive(Drop)]
 pub(crate) struct ExpandedStates {
     pub(crate) costs: Vec<u64>,
-    // those of one state behind those of another
+    /// The values of the states, one state after the other.
     pub(crate) values: Vec<u32>,
 }
 
 impl ExpandedStates {
-    /// Adds the states that an owner has expanded at their present ranks; the buffer is for use within.
+    /// Appends the states that an owner has expanded at their present ranks; `state` is a buffer. Fails only if
+    /// allocation fails.
     fn push_owner<S: Spread + Drop>(
         &mut self,
         owner: &Owner<'_, S>,
@@ -41,7 +42,8 @@ impl ExpandedStates {
     }
 }
 
-/// The states of so many values that these owners have expanded at their present ranks. An `Err` is of too little memory.
+/// The states, of `width` values each, that these owners have expanded at their present ranks. Fails only if allocation
+/// fails.
 pub(crate) fn expanded_states<S: Spread + Drop>(
     alloc: Global,
     width: usize,

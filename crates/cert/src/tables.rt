@@ -9,7 +9,7 @@ use certificates::{PatternTable, Values};
 use scp::ColumnTable;
 use std::alloc::{AllocError, Global};
 
-/// A copy of the values.
+/// A copy of the values. Fails only if allocation fails.
 fn copied_values(alloc: Global, values: &Values) -> Result<Values, AllocError>
     ensures { IfOk result (λ copy. copy ≡ values.now) }
 {
@@ -20,7 +20,7 @@ fn copied_values(alloc: Global, values: &Values) -> Result<Values, AllocError>
     Ok(copy)
 }
 
-/// A copy of the table.
+/// A copy of the table. Fails only if allocation fails.
 fn copied_table(alloc: Global, table: &PatternTable) -> Result<PatternTable, AllocError>
     ensures { IfOk result (λ copy. kept.table_of copy ≡ kept.table_of table.now) }
 {
@@ -31,7 +31,7 @@ fn copied_table(alloc: Global, table: &PatternTable) -> Result<PatternTable, All
     })
 }
 
-/// Copies of a column's tables.
+/// Copies of a column's tables. Fails only if allocation fails.
 fn copied_column(alloc: Global, column: &[ColumnTable<'_>]) -> Result<Vec<PatternTable>, AllocError>
     ensures { IfOk result (λ copy. kept.column_of copy ≡ map (λ t. t.table) column.now) }
 {
@@ -42,7 +42,7 @@ fn copied_column(alloc: Global, column: &[ColumnTable<'_>]) -> Result<Vec<Patter
     Ok(copy)
 }
 
-/// Copies of the columns' tables. An `Err` is of too little memory.
+/// Copies of the columns' tables. Fails only if allocation fails.
 pub(crate) fn copied_columns(
     alloc: Global,
     columns: &[Vec<ColumnTable<'_>>],

@@ -1,4 +1,4 @@
--- What is left to be read of a line, and of a text.
+-- The parts of a line and of a text that remain to be read.
 use Rattle.std.specs.Prelude.{ℕ, if◌then◌else◌, List, []}
 use Rattle.cert_text.specs.Pieces.{pieces}
 use Rattle.cert_text.specs.Reading.{Remaining, Counted}
@@ -6,11 +6,11 @@ use Rattle.cert_text.specs.declared.words.Words.{Words}
 use Rattle.cert_text.specs.declared.lines.Lines.{Lines}
 use Rattle.cert_text.specs.declared.forms.CountedLine.{CountedLine}
 
--- the words that are left of a line
+-- the words that remain of a line
 abbrev pub left : Words → List (List ℕ)
 left w = if w.done then [] else pieces 32 w.rest.now
 
--- the lines that are left of a text
+-- the lines that remain of a text
 abbrev pub remaining : Lines → Remaining
 remaining l = record { number = l.number; lines = pieces 10 l.rest.now }
 

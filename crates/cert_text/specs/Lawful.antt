@@ -1,4 +1,4 @@
--- Which certificates have a text: each number is within its limit, and what must increase does.
+-- Which certificates have a text: each number is within its limit, and lists that must be strictly increasing are.
 use Rattle.std.specs.Prelude.{◌≡◌, ◌≢◌, ℕ, ◌<◌, ◌≤◌, ◌^◌, List, [], ◌∷◌, length, map}
 use Rattle.std.specs.List.{AllByRecursion}
 use Rattle.cost.specs.Distances.{Distance, IsWithin}
@@ -14,7 +14,7 @@ IsIncreasing [] = Unit {0}
 IsIncreasing (n ∷ []) = Unit {0}
 IsIncreasing (m ∷ n ∷ ns) = (m < n) × IsIncreasing (n ∷ ns)
 
--- no blank, and no other byte that is not printed
+-- a printable byte other than a blank
 abbrev pub IsPrinted : ℕ → Type 0
 IsPrinted b = (33 ≤ b) × (b ≤ 126)
 
@@ -26,7 +26,7 @@ pub record IsAtom (atom : List (List ℕ)) : Type 0 where
   pub some : atom ≢ []
   pub each_word : AllByRecursion IsAtomWord atom
 
--- of so many atoms
+-- a variable over `count` atoms
 pub record IsVariable (count : ℕ) (v : Variable) : Type 0 where
   pub some : v.atoms ≢ []
   pub few : IsShort (length v.atoms)
@@ -77,13 +77,13 @@ pub record AreColumns (columns : List (List Table)) : Type 0 where
   pub few : length columns ≤ 64
   pub each : AllByRecursion IsColumn columns
 
--- of so many values
+-- an entry whose state has `width` values
 pub record IsEntry (width : ℕ) (e : Entry) : Type 0 where
   pub cost : e.cost ≤ 2 ^ 62
   pub as_wide : length e.state ≡ width
   pub values : AllByRecursion IsShort e.state
 
--- all of one width
+-- all entries have the same number of values
 pub record AreEntries (entries : List Entry) : Type 0 where
   pub few : IsShort (length entries)
   pub width : ℕ

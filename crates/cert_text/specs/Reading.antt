@@ -1,5 +1,5 @@
--- Reading line by line, as a function on lists, with the first fault that is met. On one line a missing line feed goes
--- before all else, a wrong form before a wrong number, and a wrong number before a wrong order.
+-- Reading line by line, as a function on lists, with the first fault that is found. On one line a missing line feed
+-- comes before all other faults, a wrong form before a wrong number, and a wrong number before a wrong order.
 use Rattle.std.specs.Prelude.{◌≡◌, ℕ, zero, suc, ◌+◌, ◌*◌, ◌-◌, ◌^◌, Bool, true, false, not, ◌==◌, ◌&&◌, nat_le, nat_lt, if◌then◌else◌, List, [], ◌∷◌, ◌++◌, length, map, Option, Some, None, option_map, Result, Ok, Err, codes}
 use Rattle.std.specs.Str.{bytes_eq}
 use Rattle.std.specs.List.{list_all}
@@ -10,26 +10,26 @@ use Rattle.certificates.specs.declared.table.Share.{Share}
 use Rattle.certificates.specs.Certificates.{Kind, FiniteDomain, Planning, Variable, Table, Entry, CertificateValue, width_of}
 use Rattle.cert_text.specs.Pieces.{pieces}
 
--- reading fails with this error, unless memory ran out
+-- reading fails with this error, unless allocation fails
 abbrev pub Fails : {Y : Type 0} → CertFault → Result Y CertFault → Type 0
 Fails fault.OutOfMemory read = Unit {0}
 Fails e read = read ≡ Err e
 
--- what a function returned, seen by a view, is what reading gives, unless memory ran out
+-- the result of a function, under a view, is that of reading, unless allocation fails
 abbrev pub Gives : {X Y : Type 0} → (X → Y) → Result X CertFault → Result Y CertFault → Type 0
 Gives view (Ok x) read = read ≡ Ok (view x)
 Gives view (Err e) read = Fails e read
 
 infixl 10 ◌>>=◌
--- a result, and what is made of it
+-- the result of the second step applied to that of the first, or the first error
 abbrev pub ◌>>=◌ : {A B : Type 0} → Result A CertFault → (A → Result B CertFault) → Result B CertFault
 (Ok x) >>= f = f x
 (Err e) >>= f = Err e
 
 -- ---- lines
 
--- The pieces between line feeds that are still to be read, and the number of the first of them, counted from 1. The last
--- piece has no line feed behind it, so it is no line.
+-- The pieces between line feeds that remain to be read, and the number of the first of them, counted from 1. The last
+-- piece has no line feed after it, so it is not a line.
 pub record Remaining : Type 0 where
   pub number : ℕ
   pub lines : List (List ℕ)
@@ -39,11 +39,11 @@ first_of number [] = Err fault.Truncated
 first_of number (l ∷ []) = Err fault.Truncated
 first_of number (l ∷ m ∷ ms) = Ok (l, record { number = number + 1; lines = m ∷ ms })
 
--- a line and what follows it
+-- the next line, and the lines after it
 unfoldable pub line_at : Remaining → Result (List ℕ × Remaining) CertFault
 line_at r = first_of r.number r.lines
 
--- a step of reading, so many times
+-- a step of reading, repeated the given number of times
 unfoldable pub repeated : {S : Type 0} → (S → Remaining → Result (S × Remaining) CertFault) → ℕ → S → Remaining → Result (S × Remaining) CertFault
 repeated step zero s r = Ok (s, r)
 repeated step (suc n) s r = step s r >>= λ x. repeated step n x.0 x.1
@@ -53,18 +53,18 @@ repeated step (suc n) s r = step s r >>= λ x. repeated step n x.0 x.1
 abbrev pub is_digit : ℕ → Bool
 is_digit b = nat_le 48 b && nat_le b 57
 
--- the number of digits that follow those of a number
+-- the number with the digits of `n` followed by these digits
 unfoldable pub digits_after : ℕ → List ℕ → Option ℕ
 digits_after n [] = Some n
 digits_after n (d ∷ ds) = if is_digit d then digits_after (n * 10 + (d - 48)) ds else None
 
--- the number that a word spells, by digits of which the first is 0 only where it is alone
+-- the number that a word spells, in decimal without leading zeros
 abbrev pub number : List ℕ → Option ℕ
 number [] = None
 number (d ∷ []) = digits_after 0 (d ∷ [])
 number (d ∷ e ∷ ds) = if d == 48 then None else digits_after 0 (d ∷ e ∷ ds)
 
--- a number from the least on and below the end
+-- the number, if it is at least `least` and below `end`
 abbrev pub between : ℕ → ℕ → Option ℕ → Option ℕ
 between least end None = None
 between least end (Some n) = if nat_le least n && nat_lt n end then Some n else None
@@ -73,12 +73,12 @@ abbrev pub number_in : ℕ → ℕ → List ℕ → Option ℕ
 number_in least end word = between least end (number word)
 
 infixl 10 ◌>>?◌
--- an option, and what is made of it
+-- the result of the second step applied to that of the first, if there is one
 abbrev pub ◌>>?◌ : {A B : Type 0} → Option A → (A → Option B) → Option B
 None >>? f = None
 (Some x) >>? f = f x
 
--- these numbers and those of the words, each below the end
+-- these numbers followed by those of the words, each below `end`
 unfoldable pub numbers_behind : ℕ → List ℕ → List (List ℕ) → Option (List ℕ)
 numbers_behind end ns [] = Some ns
 numbers_behind end ns (w ∷ ws) = number_in 0 end w >>? λ n. numbers_behind end (ns ++ n ∷ []) ws
@@ -86,7 +86,7 @@ numbers_behind end ns (w ∷ ws) = number_in 0 end w >>? λ n. numbers_behind en
 abbrev pub numbers_in : ℕ → List (List ℕ) → Option (List ℕ)
 numbers_in end words = numbers_behind end [] words
 
--- a number or `inf`
+-- `inf`, or a number below `end`
 unfoldable pub distance_in : ℕ → List ℕ → Option Distance
 distance_in end word = if bytes_eq word (codes "inf") then Some Infinite else option_map Finite (number_in 0 end word)
 
@@ -97,7 +97,7 @@ distances_behind end ds (w ∷ ws) = distance_in end w >>? λ d. distances_behin
 abbrev pub distances_in : ℕ → List (List ℕ) → Option (List Distance)
 distances_in end words = distances_behind end [] words
 
--- an operator and its share
+-- the number of an operator, and its share
 unfoldable pub share_in : List ℕ → List ℕ → Option Share
 share_in operator amount = number_in 0 (2 ^ 32) operator >>? λ o. number_in 1 (2 ^ 31) amount >>? λ a. Some (record { operator = o; amount = a })
 
@@ -109,7 +109,7 @@ shares_behind ss (o ∷ a ∷ ws) = share_in o a >>? λ s. shares_behind (ss ++ 
 abbrev pub shares_in : List (List ℕ) → Option (List Share)
 shares_in words = shares_behind [] words
 
--- each is greater than the one before it, and the first is the least or more
+-- the numbers are strictly increasing, and the first is at least `least`
 unfoldable pub increases_from : ℕ → List ℕ → Bool
 increases_from least [] = true
 increases_from least (n ∷ ns) = nat_le least n && increases_from (n + 1) ns
@@ -119,13 +119,14 @@ is_increasing ns = increases_from 0 ns
 
 -- ---- the form of a line
 
--- how many words there are behind so many, if none of them is empty
+-- the given number plus the number of words, if none of them is empty
 unfoldable pub filled_behind : ℕ → List (List ℕ) → Option ℕ
 filled_behind n [] = Some n
 filled_behind n ([] ∷ ws) = None
 filled_behind n ((b ∷ bs) ∷ ws) = filled_behind (n + 1) ws
 
--- how many words a line has, if none of them is empty: two separators together, or one at an end, leave an empty word
+-- the number of words of a line, if none of them is empty: adjacent separators, or one at the start or the end, make an
+-- empty word
 abbrev pub filled : List (List ℕ) → Option ℕ
 filled words = filled_behind 0 words
 
@@ -141,13 +142,13 @@ abbrev pub ordered : {X : Type 0} → ℕ → Bool → X → Result X CertFault
 ordered line true x = Ok x
 ordered line false x = Err (fault.Order line)
 
--- a line that is this text
+-- a line that is exactly this text
 unfoldable pub fixed_at : List ℕ → Remaining → Result Remaining CertFault
 fixed_at text r = do
   l ← line_at r
   formed r.number (bytes_eq l.0 text) l.1
 
--- the second word of a line of two words
+-- the second word of a line of exactly two words, the first of which is the keyword
 abbrev pub second_of : ℕ → List ℕ → List (List ℕ) → Result (List ℕ) CertFault
 second_of line keyword [] = Err (fault.Expected line)
 second_of line keyword (k ∷ []) = Err (fault.Expected line)
@@ -162,13 +163,14 @@ count_at keyword least end r = do
   count ← numbered r.number (number_in least end word)
   Ok (count, l.1)
 
--- there are two words, and behind them so many for each that the count says; a word that spells no number says nothing
+-- there are two words, and after them as many as the count states, or twice as many for pairs; a count that is not a
+-- number is accepted
 abbrev pub agrees : Bool → Option ℕ → Option ℕ → Bool
 agrees pairs None count = false
 agrees pairs (Some words) None = true
 agrees pairs (Some words) (Some count) = words == 2 + (if pairs then count + count else count)
 
--- the first word of a line, the count behind it, and the words behind the count
+-- the first word of a line, the count after it, and the words after the count
 pub record Counted : Type 0 where
   pub first : List ℕ
   pub count : List ℕ
@@ -179,7 +181,7 @@ counted_of line pairs [] = Err (fault.Expected line)
 counted_of line pairs (k ∷ []) = Err (fault.Expected line)
 counted_of line pairs (k ∷ c ∷ ws) = formed line (agrees pairs (filled (k ∷ c ∷ ws)) (number c)) (record { first = k; count = c; words = ws })
 
--- the same, where the first word is a keyword
+-- the same, if the first word is the keyword
 unfoldable pub headed_of : ℕ → List ℕ → Bool → List (List ℕ) → Result Counted CertFault
 headed_of line keyword pairs words = do
   form ← counted_of line pairs words
@@ -192,7 +194,7 @@ header_at r = do
   l ← line_at r
   if bytes_eq l.0 (codes "optplan-cert 1") then Ok l.1 else Err fault.Header
 
--- whether it is for a planning task
+-- whether the certificate is for a planning task
 unfoldable pub kind_at : Remaining → Result (Bool × Remaining) CertFault
 kind_at r = do
   l ← line_at r
@@ -224,7 +226,7 @@ atom_at r = do
   atom ← atom_of r.number (pieces 32 l.0)
   Ok (atom, l.1)
 
--- what a step reads, behind what earlier ones read
+-- the items read before, followed by the one that the step reads
 abbrev pub behind : {X : Type 0} → (Remaining → Result (X × Remaining) CertFault) → List X → Remaining → Result (List X × Remaining) CertFault
 behind step xs r = step r >>= λ x. Ok (xs ++ x.0 ∷ [], x.1)
 
@@ -233,7 +235,7 @@ atoms_at r = do
   count ← count_at (codes "atoms") 0 (2 ^ 32) r
   repeated (behind atom_at) count.0 [] count.1
 
--- of so many atoms
+-- a variable over atoms whose places are below `atoms`
 unfoldable pub variable_of : ℕ → ℕ → List (List ℕ) → Result Variable CertFault
 variable_of atoms line words = do
   form ← counted_of line false words
@@ -300,7 +302,7 @@ columns_at r = do
   count ← count_at (codes "columns") 0 65 r
   repeated (behind column_at) count.0 [] count.1
 
--- a cost and as many values as the states before have
+-- the words are a cost and as many values as the states before have
 abbrev pub has_width : Option ℕ → Option ℕ → Bool
 has_width width None = false
 has_width None (Some words) = true
@@ -313,7 +315,7 @@ entry_numbers line (g ∷ ws) = do
   state ← numbered line (numbers_in (2 ^ 32) ws)
   Ok (record { cost = cost; state = state })
 
--- a state of so many values, or of any number of them
+-- an entry whose state has the given number of values, or any number
 unfoldable pub entry_of : Option ℕ → ℕ → List (List ℕ) → Result Entry CertFault
 entry_of width line words = do
   form ← formed line (has_width width (filled words)) words
@@ -333,7 +335,7 @@ closed_at r = do
   count ← count_at (codes "closed") 0 (2 ^ 32) r
   repeated entry_step count.0 [] count.1
 
--- no byte is left behind the last line feed
+-- no byte remains after the last line feed
 abbrev pub is_nothing : List (List ℕ) → Bool
 is_nothing [] = false
 is_nothing ([] ∷ []) = true
@@ -357,7 +359,7 @@ certificate_at r = do
   end ← end_at closed.1
   Ok (record { kind = kind.0; bound = bound.0; columns = columns.0; closed = closed.0 })
 
--- the certificate of a text
+-- the certificate of a text, or its first fault
 unfoldable pub certificate_of : List ℕ → Result CertificateValue CertFault
 certificate_of bytes = if nat_lt (2 ^ 30) (length bytes) then Err fault.TooLong
     else certificate_at (record { number = 1; lines = pieces 10 bytes })

@@ -1,4 +1,4 @@
--- The one text of a certificate: lines of words.
+-- The text of a certificate: lines of words. Each certificate has exactly one.
 use Rattle.std.specs.Prelude.{ℕ, Bool, true, false, List, [], ◌∷◌, ◌++◌, length, map, codes, decimal}
 use Rattle.std.specs.List.{flat_map}
 use Rattle.cost.specs.Distances.{distance_text}
@@ -22,7 +22,7 @@ abbrev pub kind_line : Kind → List (List ℕ)
 kind_line FiniteDomain = codes "sas" ∷ []
 kind_line (Planning atoms variables) = codes "pddl" ∷ []
 
--- the lines of atoms and variables
+-- the lines of the atoms and the variables
 abbrev pub kind_lines : Kind → List (List (List ℕ))
 kind_lines FiniteDomain = []
 kind_lines (Planning atoms variables) =
@@ -66,7 +66,7 @@ lines c =
     ++ closed_lines c.closed
     ++ (codes "end" ∷ []) ∷ []
 
--- a line with single blanks between its words, and a line feed behind them
+-- a line: its words with single blanks between them, and a line feed
 abbrev pub line_text : List (List ℕ) → List ℕ
 line_text words = joined 32 words ++ 10 ∷ []
 
@@ -74,6 +74,6 @@ line_text words = joined 32 words ++ 10 ∷ []
 abbrev pub text_of : List (List (List ℕ)) → List ℕ
 text_of lines = flat_map line_text lines
 
--- the text
+-- the text of a certificate
 abbrev pub spelling : CertificateValue → List ℕ
 spelling c = text_of (lines c)

@@ -1,4 +1,4 @@
-//! Why a certificate's text is not read.
+//! Faults of certificates' texts.
 
 ghost use Rattle.std.specs.Prelude.{◌≡◌};
 ghost use Rattle.cert_text.specs.declared.fault.CertFault.TheVariants.{OutOfMemory};
@@ -6,32 +6,33 @@ ghost use Rattle.cert_text.specs.declared.fault.CertFault.TheVariants.{OutOfMemo
 use std::alloc::{AllocError, AllocFailed};
 use thiserror::Error;
 
-/// Why a text is not read. Lines are counted from 1.
+/// The first fault of a text, or a failed allocation. Lines are counted from 1.
 ///
-/// The first fault is named: that on the earliest line, and on one line `Truncated` first, `Expected` before
-/// `Number`, and `Number` before `Order`. `TooLong` goes before all lines.
+/// The first fault is the one on the earliest line. On the same line `Truncated` comes first, `Expected` before
+/// `Number`, and `Number` before `Order`. `TooLong` comes before the faults of all lines. The codes are those of
+/// `docs/FAULTS.md`.
 #[derive(Clone, Copy, Debug, PartialEq, Eq, Error)]
 pub enum CertFault {
-    /// Memory ran out. It says nothing of the text.
+    /// Memory ran out. This does not depend on the text.
     #[error("out of memory")]
     OutOfMemory,
     /// F50: the first line is not `optplan-cert 1`.
     #[error("the first line is not `optplan-cert 1`")]
     Header,
-    /// F51: a line that has another keyword than is wanted there, a separator too many or too few, a byte that no word
-    /// may have, or another number of words than its counts give.
+    /// F51: a line with another keyword than required, with a separator too many or too few, with a byte that no word
+    /// may contain, or with another number of words than its counts state.
     #[error("line {0} is not of the wanted form")]
     Expected(usize),
-    /// F52: a word in a number's place that is no number so spelt, or is not within its limits.
+    /// F52: a word in the place of a number that does not spell one, or spells one outside its limits.
     #[error("line {0} has a word that is not a number within its limits")]
     Number(usize),
-    /// F53: a line without a line feed, or no line where one is wanted.
+    /// F53: a line without a line feed, or a missing line.
     #[error("the text ends too early")]
     Truncated,
-    /// F54: bytes behind the last line. It names the line behind that one.
+    /// F54: bytes after the last line. The number is that of the line after it.
     #[error("line {0} follows the end")]
     Trailing(usize),
-    /// F55: numbers that do not increase where they must.
+    /// F55: numbers that are not strictly increasing where they must be.
     #[error("line {0} has numbers that do not increase")]
     Order(usize),
     /// F56: more than 1,073,741,824 bytes.

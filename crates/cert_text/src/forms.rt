@@ -10,7 +10,7 @@ use crate::lines::Lines;
 use crate::numbers::{number_of, number_within};
 use crate::words::Words;
 
-/// The first word of a line, the count behind it, and the words behind the count.
+/// The first word of a line, the count after it, and the words after the count.
 #[derive(Clone, Copy)]
 pub(crate) struct CountedLine<'a> {
     pub first: &'a [u8],
@@ -18,7 +18,7 @@ pub(crate) struct CountedLine<'a> {
     pub words: Words<'a>,
 }
 
-/// A line that is this text.
+/// Reads a line that is exactly this text.
 #[tactic(auto, unfolding(crate::specs::Reading::fixed_at))]
 pub(crate) fn fixed_line<'a>(lines: Lines<'a>, text: &[u8]) -> Result<Lines<'a>, CertFault>
     ensures { Gives remaining result (fixed_at text.now (remaining lines.entry)) }
@@ -31,7 +31,7 @@ pub(crate) fn fixed_line<'a>(lines: Lines<'a>, text: &[u8]) -> Result<Lines<'a>,
     }
 }
 
-/// The second word of a line of the keyword and another word. `number` is the line's.
+/// The second word of a line that consists of the keyword and one other word. `number` is the number of the line.
 pub(crate) fn second_word<'a>(
     line: &'a [u8],
     keyword: &[u8],
@@ -52,7 +52,7 @@ pub(crate) fn second_word<'a>(
     }
 }
 
-/// A line of the keyword and a number from the least on and below the end.
+/// Reads a line of the keyword and a number that is at least `least` and below `end`.
 #[tactic(auto, unfolding(crate::specs::Reading::count_at))]
 pub(crate) fn count_line<'a>(
     lines: Lines<'a>,
@@ -72,7 +72,9 @@ pub(crate) fn count_line<'a>(
     }
 }
 
-/// Whether the words of a line are two and so many behind them as the count says, or twice as many.
+/// Whether the words after the first two are as many as the count states, or twice as many if `pairs` is set. `words`
+/// is the number of words, or `None` if one of them is empty, which is refused. A count that is not a number is
+/// accepted here.
 fn count_agrees(pairs: bool, words: Option<usize>, count: &[u8]) -> bool
     ensures { result ≡ agrees pairs words (number count.now) }
 {
@@ -93,8 +95,8 @@ fn count_agrees(pairs: bool, words: Option<usize>, count: &[u8]) -> bool
     }
 }
 
-/// The parts of a line with a count, where there are as many words as it says, or twice as many. A count that is no
-/// number says nothing.
+/// The parts of a line with a count, if it has as many words as the count states, or twice as many if `pairs` is set. A
+/// count that is not a number is not compared.
 pub(crate) fn counted_line(
     line: &[u8],
     pairs: bool,
@@ -120,7 +122,7 @@ pub(crate) fn counted_line(
     }
 }
 
-/// The same, where the first word is the keyword.
+/// The same, if the first word is the keyword.
 #[tactic(auto, unfolding(crate::specs::Reading::headed_of))]
 pub(crate) fn headed_line<'a>(
     line: &'a [u8],

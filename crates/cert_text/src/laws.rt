@@ -1,4 +1,4 @@
-//! What holds of every text, whoever reads it.
+//! Laws of the texts of certificates. Each function states one in its contract; its body is empty.
 
 ghost use Rattle.std.specs.Prelude.{◌≡◌, ◌≤◌, ◌^◌, ℕ, List, length};
 ghost use Rattle.certificates.specs.Certificates.{CertificateValue};
@@ -8,13 +8,13 @@ ghost use Rattle.cert_text.specs.declared.fault.CertFault.{CertFault};
 ghost use Rattle.cert_text.specs.Reading.{certificate_of};
 ghost use Rattle.std.specs.Prelude.{Ok, Err, ◌⊎◌};
 
-/// A law: no text spells two certificates.
+/// Proves that no text of at most 2^30 bytes spells two different certificates.
 #[tactic(auto, using(crate::proofs::Promises::one_certificate))]
 pub fn one_certificate()
     ensures { (c d : CertificateValue) → IsLawful c → IsLawful d → spelling c ≡ spelling d → length (spelling c) ≤ 2 ^ 30 → c ≡ d }
 {}
 
-/// A law: a text that is not too long spells a certificate or has a first fault, and not both.
+/// Proves that each text spells a certificate or has a first fault, and that no text of at most 2^30 bytes does both.
 #[tactic(auto, using(crate::proofs::Promises::spelled_or_not, crate::proofs::Promises::not_both))]
 pub fn spelled_or_not()
     ensures either { (bytes : List ℕ) → ((c : CertificateValue) × IsLawful c × (bytes ≡ spelling c)) ⊎ ((e : CertFault) × (certificate_of bytes ≡ Err e)) }

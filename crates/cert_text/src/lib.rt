@@ -1,8 +1,8 @@
 //! The texts of certificates of a lower bound on the cost of every plan.
 //!
-//! A text is lines of words with single blanks between, and each value has one text: numbers are decimal without
-//! leading zeros, and every line ends with a line feed. What is read is what the text spells, and what is not read has
-//! a first fault, whose kind and line are told.
+//! A text consists of lines of words separated by single blanks, and each value has exactly one text: numbers are
+//! decimal without leading zeros, and every line ends with a line feed. A text is read exactly if it spells a
+//! certificate. Otherwise reading fails with its first fault, whose kind and line are given.
 #![tactic(auto)]
 
 mod fault;

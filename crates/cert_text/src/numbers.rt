@@ -10,7 +10,7 @@ use certificates::{Share, Values};
 use cost::Dist;
 use std::alloc::Global;
 
-/// The number of digits, one or more.
+/// The number of one or more digits, at most 2^64 - 1.
 #[tactic(auto, using(crate::proofs::NumberLaws::digits_alike), unfolding(crate::specs::Reading::digits_after))]
 fn digits_of(digits: &[u8]) -> Option<u64>
     ensures { result ≡ option_map (min (2 ^ 64 - 1)) (digits_after 0 digits.now) }
@@ -27,8 +27,8 @@ fn digits_of(digits: &[u8]) -> Option<u64>
     Some(value)
 }
 
-/// The number that a word spells, by digits of which the first is 0 only where it is alone. A number past 2^64 - 1 is
-/// given as that, which is past every limit and past the number of words of every line.
+/// The number that a word spells, in decimal without leading zeros. A number past 2^64 - 1 is replaced by that one,
+/// which is past every limit and past the number of words of every line.
 pub(crate) fn number_of(word: &[u8]) -> Option<u64>
     ensures { result ≡ option_map (min (2 ^ 64 - 1)) (number word.now) }
 {
@@ -39,7 +39,7 @@ pub(crate) fn number_of(word: &[u8]) -> Option<u64>
     }
 }
 
-/// The number that a word spells, from the least on and below the end.
+/// The number that a word spells, if it is at least `least` and below `end`.
 pub(crate) fn number_within(word: &[u8], least: u64, end: u64) -> Option<u64>
     requires { end < 2 ^ 64 }
     ensures value { result ≡ number_in least end word.now }
@@ -57,7 +57,7 @@ pub(crate) fn number_within(word: &[u8], least: u64, end: u64) -> Option<u64>
     }
 }
 
-/// A number, or `inf`.
+/// The distance that a word spells: `inf`, or a number below `end`.
 #[tactic(auto, unfolding(crate::specs::Reading::distance_in))]
 pub(crate) fn distance_within(word: &[u8], end: u64) -> Option<Dist>
     requires { end ≤ 2 ^ 63 }
@@ -72,7 +72,7 @@ pub(crate) fn distance_within(word: &[u8], end: u64) -> Option<Dist>
     }
 }
 
-/// Puts the numbers of the words, each below the end, in place of what was there. `line` is the number of their line.
+/// Replaces the content of `numbers` by the numbers of the words, each below `end`. `line` is the number of their line.
 #[tactic(auto, unfolding(crate::specs::Reading::numbers_behind))]
 pub(crate) fn read_numbers(
     numbers: &mut Vec<u32>,
@@ -95,7 +95,7 @@ pub(crate) fn read_numbers(
     Ok(())
 }
 
-/// The distances of the words, each infinite or below the end.
+/// The distances of the words, each infinite or below `end`. `line` is the number of their line.
 #[tactic(auto, unfolding(crate::specs::Reading::distances_behind))]
 pub(crate) fn distances(
     alloc: Global,
@@ -135,7 +135,7 @@ fn share_of(operator: &[u8], amount: &[u8]) -> Option<Share>
     }
 }
 
-/// The operators and shares of the words.
+/// The shares of the words: the number of an operator and its share in turn.
 #[tactic(auto, unfolding(crate::specs::Reading::shares_behind))]
 pub(crate) fn shares(alloc: Global, words: Words<'_>, line: usize) -> Result<Vec<Share>, CertFault>
     ensures { Gives (λ v. v.items) result (numbered line (shares_in (left words.entry))) }
@@ -155,7 +155,7 @@ pub(crate) fn shares(alloc: Global, words: Words<'_>, line: usize) -> Result<Vec
     Ok(shares)
 }
 
-/// Whether each number is greater than the one before it.
+/// Whether the numbers are strictly increasing.
 #[tactic(auto, unfolding(crate::specs::Reading::increases_from))]
 pub(crate) fn increases(numbers: &[u32]) -> bool
     ensures { result ≡ is_increasing numbers.now }
@@ -170,7 +170,7 @@ pub(crate) fn increases(numbers: &[u32]) -> bool
     true
 }
 
-/// Whether each share's operator is greater than the one before it.
+/// Whether the operators of the shares are strictly increasing.
 #[tactic(auto, unfolding(crate::specs::Reading::increases_from))]
 pub(crate) fn operators_increase(shares: &[Share]) -> bool
     ensures { result ≡ is_increasing (map (λ s. s.operator) shares.now) }

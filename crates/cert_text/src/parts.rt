@@ -18,7 +18,7 @@ use crate::words::Words;
 use certificates::{AtomVariable, Share, Values};
 use std::alloc::Global;
 
-/// The end of the numbers of variables, operators and values, and of most counts.
+/// The end of the numbers of variables, operators and values, and of most counts: 2^32.
 pub(crate) const SHORT: u64 = 1 << 32;
 
 fn is_printed(word: &[u8]) -> bool
@@ -27,14 +27,14 @@ fn is_printed(word: &[u8]) -> bool
     word.iter().all(|byte| 33 <= *byte && *byte <= 126)
 }
 
-/// Whether the word may stand in an atom.
+/// Whether the word may be part of an atom.
 fn is_atom_word(word: &[u8]) -> bool
     ensures { result ≡ is_atom_word word.now }
 {
     0 < word.len() && is_printed(word)
 }
 
-/// The words of an atom.
+/// The words of an atom. `number` is the number of their line.
 #[tactic(auto, unfolding(crate::specs::Reading::atom_of))]
 pub(crate) fn atom_words(
     alloc: Global,
@@ -58,7 +58,7 @@ pub(crate) fn atom_words(
     Ok(atom)
 }
 
-/// A variable over so many atoms.
+/// A variable over atoms whose places are below `atoms`. `number` is the number of the line.
 #[tactic(auto, unfolding(crate::specs::Reading::variable_of))]
 pub(crate) fn variable_line(
     alloc: Global,
@@ -138,7 +138,8 @@ pub(crate) fn values_line(alloc: Global, line: &[u8], number: usize) -> Result<V
     distances(alloc, form.words, (1 << 55) + 1, number)
 }
 
-/// Whether a line has a cost and as many values as the states before it.
+/// Whether a line has a cost and as many values as the states before it. `words` is the number of words, or `None` if
+/// one of them is empty.
 fn fits_width(words: Option<usize>, width: Option<usize>) -> bool
     ensures { result ≡ has_width width words }
 {
@@ -149,7 +150,7 @@ fn fits_width(words: Option<usize>, width: Option<usize>) -> bool
     }
 }
 
-/// The cost of a state; its values take the place of what was in `state`.
+/// The cost of a state. Its values replace the content of `state`.
 #[tactic(auto, unfolding(crate::specs::Reading::entry_of))]
 pub(crate) fn entry_line(
     line: &[u8],

@@ -22,7 +22,7 @@ use certificates::{
 use cost::Dist;
 use std::alloc::Global;
 
-/// The most bytes that a text may have, 2^30.
+/// The greatest number of bytes of a text, 2^30.
 pub const MAX_LENGTH: usize = 1_073_741_824;
 
 #[tactic(auto, unfolding(crate::specs::Reading::header_at))]
@@ -37,7 +37,7 @@ fn header(lines: Lines<'_>) -> Result<Lines<'_>, CertFault>
     }
 }
 
-/// Whether it is for a planning task.
+/// Reads the kind; the flag says whether the certificate is for a planning task.
 #[tactic(auto, unfolding(crate::specs::Reading::kind_at))]
 fn kind(lines: Lines<'_>) -> Result<(bool, Lines<'_>), CertFault>
     ensures { Gives (λ x. (x.0, remaining x.1)) result (kind_at (remaining lines.entry)) }
@@ -212,15 +212,16 @@ fn certificate(alloc: Global, lines: Lines<'_>) -> Result<Certificate, CertFault
     Ok(Certificate::new(kind, bound, columns, closed))
 }
 
-/// The certificate that the text spells, or the text's first fault, which `CertFault` tells.
+/// Reads the certificate that the text spells. Fails with the first fault of the text, as `CertFault` orders them, or
+/// if allocation fails.
 ///
-/// It is read line by line, in time and memory in proportion to the lines that are there, whatever their counts say.
+/// The text is read line by line. Time and memory are linear in the lines that exist, whatever their counts state.
 pub fn read_cert(alloc: Global, bytes: &[u8]) -> Result<Certificate, CertFault>
-    // What is read is spelled so.
+    // The text spells the certificate that is returned.
     ensures found { IfOk result (λ c. IsLawful c × (bytes.now ≡ spelling c)) }
-    // What is spelled so is read, unless memory runs out.
+    // If the text spells a certificate, that certificate is returned, unless allocation fails.
     ensures only { (c : CertificateValue) → IsLawful c → bytes.now ≡ spelling c → length bytes.now ≤ 2 ^ 30 → Gives (λ x. x) result (Ok c) }
-    // Which fault it is.
+    // The error is the first fault of the text.
     ensures fault { Gives (λ x. x) result (certificate_of bytes.now) }
 {
     if bytes.len() > MAX_LENGTH {

@@ -5,7 +5,7 @@ ghost use Rattle.cert_text.specs.Pieces.{pieces};
 ghost use Rattle.cert_text.specs.Reading.{filled_behind};
 ghost use Rattle.cert_text.specs.Cursors.{left};
 
-/// How many bytes stand before the first separator.
+/// The number of bytes before the first separator, or of all bytes if there is none.
 pub(crate) fn piece_length(bytes: &[u8], separator: u8) -> usize
     ensures within { result ≤ length bytes.now }
     ensures before { (k : ℕ) → k < result → slice_index bytes.now k ≢ separator }
@@ -18,18 +18,18 @@ pub(crate) fn piece_length(bytes: &[u8], separator: u8) -> usize
     at
 }
 
-/// The words of a line that are still to be read. There is an empty one where two blanks stand together, and before or
-/// behind a blank at an end.
+/// The words of a line that remain to be read. Words are separated by single blanks: two adjacent blanks, and a blank
+/// at the start or the end of the line, make an empty word.
 #[derive(Clone, Copy)]
 pub(crate) struct Words<'a> {
-    /// The bytes from the next word on.
+    /// The bytes from the next word to the end of the line.
     pub rest: &'a [u8],
-    /// Whether the last word was read.
+    /// Whether the last word has been read.
     pub done: bool,
 }
 
 impl<'a> Words<'a> {
-    /// All words of a line.
+    /// Returns all words of a line.
     pub fn new(line: &'a [u8]) -> Words<'a>
         ensures { left result ≡ pieces 32 line.now }
     {
@@ -39,7 +39,7 @@ impl<'a> Words<'a> {
         }
     }
 
-    /// The next word, and the words behind it.
+    /// Returns the next word and the words after it, or `None` if no word remains.
     pub fn first(self) -> Option<(&'a [u8], Words<'a>)>
         ensures words { MatchOption result (left self.entry ≡ []) (λ x. left self.entry ≡ x.0.now ∷ left x.1) }
         ensures shorter { IfSome result (λ x. length x.0.now + length x.1.rest.now ≤ length self.entry.rest.now) }
@@ -60,7 +60,7 @@ impl<'a> Words<'a> {
         }
     }
 
-    /// How many words there are, or `None` where one of them is empty.
+    /// Returns the number of words, or `None` if one of them is empty.
     #[tactic(auto, unfolding(crate::specs::Reading::filled_behind))]
     pub fn filled(self) -> Option<usize>
         ensures { result ≡ filled_behind 0 (left self.entry) }

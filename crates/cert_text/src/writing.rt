@@ -33,7 +33,7 @@ fn push_distance(out: &mut Vec<u8>, distance: Dist) -> Result<(), AllocError>
     }
 }
 
-/// A keyword and a number.
+/// Appends a keyword and a number.
 fn push_count(out: &mut Vec<u8>, keyword: &[u8], count: usize) -> Result<(), AllocError>
     ensures { OnOk result (out.new.items ≡ out.old.items ++ (keyword.now ++ 32 ∷ decimal count)) }
 {
@@ -42,7 +42,7 @@ fn push_count(out: &mut Vec<u8>, keyword: &[u8], count: usize) -> Result<(), All
     push_number(out, count as u64)
 }
 
-/// A line of a keyword and a number.
+/// Appends a line of a keyword and a number.
 fn push_count_line(out: &mut Vec<u8>, keyword: &[u8], count: usize) -> Result<(), AllocError>
     ensures { OnOk result (out.new.items ≡ out.old.items ++ text.line_text (text.counted keyword.now count [])) }
 {
@@ -51,7 +51,7 @@ fn push_count_line(out: &mut Vec<u8>, keyword: &[u8], count: usize) -> Result<()
     Ok(())
 }
 
-/// Numbers, each behind a blank.
+/// Appends numbers, each after a blank.
 fn push_numbers(out: &mut Vec<u8>, numbers: &[u32]) -> Result<(), AllocError>
     ensures { OnOk result (out.new.items ≡ out.old.items ++ flat_map (λ q. 32 ∷ q) (map decimal numbers.now)) }
 {
@@ -62,7 +62,7 @@ fn push_numbers(out: &mut Vec<u8>, numbers: &[u32]) -> Result<(), AllocError>
     Ok(())
 }
 
-/// Words, each behind a blank.
+/// Appends words, each after a blank.
 fn push_words(out: &mut Vec<u8>, words: &[String]) -> Result<(), AllocError>
     ensures { OnOk result (out.new.items ≡ out.old.items ++ flat_map (λ q. 32 ∷ q) (map string_bytes words.now)) }
 {
@@ -73,7 +73,7 @@ fn push_words(out: &mut Vec<u8>, words: &[String]) -> Result<(), AllocError>
     Ok(())
 }
 
-/// Words with blanks between them.
+/// Appends words with blanks between them.
 fn push_joined(out: &mut Vec<u8>, words: &[String]) -> Result<(), AllocError>
     ensures { OnOk result (out.new.items ≡ out.old.items ++ joined 32 (map string_bytes words.now)) }
 {
@@ -188,7 +188,7 @@ fn push_columns(out: &mut Vec<u8>, columns: &[Vec<PatternTable>]) -> Result<(), 
     Ok(())
 }
 
-/// The lines of all columns.
+/// Appends the lines of all columns.
 fn push_all_columns(out: &mut Vec<u8>, columns: &[Vec<PatternTable>]) -> Result<(), AllocError>
     ensures { OnOk result (out.new.items ≡ out.old.items ++ text.text_of (text.columns_lines (view.columns_of columns.now))) }
 {
@@ -197,7 +197,7 @@ fn push_all_columns(out: &mut Vec<u8>, columns: &[Vec<PatternTable>]) -> Result<
     Ok(())
 }
 
-// The states are unpacked one after another into `state`, which is as long as each.
+/// Appends the lines of the states. `state` is a buffer for the values of one state.
 fn push_states(out: &mut Vec<u8>, closed: &ClosedList, state: &mut [u32]) -> Result<(), AllocError>
     requires { All (λ e. length e.state ≡ length state.old) closed.now }
     ensures { OnOk result (out.new.items ≡ out.old.items ++ text.text_of (map text.entry_line closed.now)) }
@@ -211,7 +211,7 @@ fn push_states(out: &mut Vec<u8>, closed: &ClosedList, state: &mut [u32]) -> Res
     Ok(())
 }
 
-/// The lines of the closed states.
+/// Appends the lines of the closed list.
 fn push_closed(alloc: Global, out: &mut Vec<u8>, closed: &ClosedList) -> Result<(), AllocError>
     ensures { OnOk result (out.new.items ≡ out.old.items ++ text.text_of (text.closed_lines closed.now)) }
 {
@@ -236,7 +236,7 @@ fn push_parts(out: &mut Vec<u8>, kind: &CertificateKind) -> Result<(), AllocErro
     Ok(())
 }
 
-/// The second line.
+/// Appends the second line, which states the kind of task.
 fn push_kind(out: &mut Vec<u8>, kind: &CertificateKind) -> Result<(), AllocError>
     ensures { OnOk result (out.new.items ≡ out.old.items ++ text.line_text (text.kind_line (view.kind_of kind.now))) }
 {
@@ -246,7 +246,7 @@ fn push_kind(out: &mut Vec<u8>, kind: &CertificateKind) -> Result<(), AllocError
     }
 }
 
-/// The third line.
+/// Appends the third line, which states the bound.
 fn push_bound(out: &mut Vec<u8>, bound: Dist) -> Result<(), AllocError>
     ensures { OnOk result (out.new.items ≡ out.old.items ++ text.line_text (codes "bound" ∷ distance_text bound ∷ [])) }
 {
@@ -256,9 +256,9 @@ fn push_bound(out: &mut Vec<u8>, bound: Dist) -> Result<(), AllocError>
     Ok(())
 }
 
-/// The text of a certificate. An `Err` is of too little memory.
+/// Returns the text of a certificate. Fails only if allocation fails.
 ///
-/// `read_cert` reads the text of a lawful certificate again, if it has at most `MAX_LENGTH` bytes.
+/// `read_cert` reads the text of a lawful certificate back, if it has at most `MAX_LENGTH` bytes.
 pub fn write_cert(alloc: Global, certificate: &Certificate) -> Result<Vec<u8>, AllocError>
     ensures { IfOk result (λ bytes. bytes.items ≡ text.spelling certificate.now) }
 {

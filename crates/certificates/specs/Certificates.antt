@@ -3,25 +3,25 @@ use Rattle.std.specs.Prelude.{ℕ, Bool, List, [], ◌∷◌, length, Option, So
 use Rattle.cost.specs.Distances.{Distance}
 use Rattle.certificates.specs.declared.table.Share.{Share}
 
--- Atoms of a planning task that one variable stands for, by their numbers in the list of atoms. With a none value, none of
--- them need be true.
+-- Atoms of a planning task that make up one variable, by their places in the list of atoms. If the variable has the
+-- none value, there may be states in which none of them is true.
 pub record Variable : Type 0 where
   pub has_none_value : Bool
   pub atoms : List ℕ
 
--- A certificate for a planning task says which atoms and which variables it counts on. An atom is a list of words, the name
--- of a predicate and its arguments.
+-- A certificate for a planning task lists the atoms and the variables that it refers to. An atom is a list of words,
+-- the name of a predicate and its arguments.
 pub data Kind : Type 0 where
   FiniteDomain : Kind
   Planning : List (List (List ℕ)) → List Variable → Kind
 
--- a table of a projection to variables: what it counts each operator for, and a value for each abstract state
+-- a table of the projection to a pattern: a share for each operator, and a value for each abstract state
 pub record Table : Type 0 where
   pub pattern : List ℕ
   pub shares : List Share
   pub values : List Distance
 
--- a state that was reached at a cost
+-- a state and the cost at which it was reached
 pub record Entry : Type 0 where
   pub cost : ℕ
   pub state : List ℕ

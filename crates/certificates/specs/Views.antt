@@ -1,4 +1,4 @@
--- How values of the crate's types are seen.
+-- The values that represent the types of the crate in contracts.
 use Rattle.std.specs.Prelude.{ℕ, List, map, Vec, String}
 use Rattle.std.specs.Global.{Global}
 use Rattle.std.specs.String.{string_bytes}
@@ -11,7 +11,7 @@ use Rattle.certificates.specs.declared.certificate.CertificateKind.TheVariants.{
 abbrev pub variable_of : AtomVariable → Variable
 variable_of v = record { has_none_value = v.has_none_value; atoms = v.atoms.items }
 
--- an atom's words
+-- the words of an atom
 abbrev pub atom_of : Vec (String Global) Global → List (List ℕ)
 atom_of words = map string_bytes words.items
 
@@ -22,7 +22,7 @@ kind_of (Pddl parts) = Planning (map atom_of parts.atoms.items) (map variable_of
 abbrev pub table_of : PatternTable → Table
 table_of t = record { pattern = t.pattern.items; shares = t.shares.items; values = t.values }
 
--- a column's tables
+-- the tables of a column
 abbrev pub column_of : Vec PatternTable Global → List Table
 column_of column = map table_of column.items
 

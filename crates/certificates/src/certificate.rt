@@ -1,4 +1,4 @@
-//! The value of a certificate.
+//! The values of certificates.
 
 ghost use Rattle.std.specs.Prelude.{◌≡◌};
 
@@ -7,35 +7,37 @@ use crate::table::PatternTable;
 use cost::Dist;
 use std::marker::Model;
 
-/// Atoms of a planning task that one variable stands for.
+/// Atoms of a planning task that make up one variable.
 #[derive(Drop)]
 pub struct AtomVariable {
-    /// Whether the variable has a value at which none of its atoms is true.
+    /// Whether the variable has the none value, at which none of its atoms is true.
     pub has_none_value: bool,
-    /// The atoms, by their numbers in the list of atoms, which increase.
+    /// The atoms, by their places in the list of atoms, counted from 0. They are strictly increasing in a lawful
+    /// certificate.
     pub atoms: Vec<u32>,
 }
 
-/// What a certificate for a planning task counts on.
+/// The atoms and variables of the translation that a certificate for a planning task refers to.
 #[derive(Drop)]
 pub struct AtomParts {
-    /// The atoms, each as a predicate's name and its arguments.
+    /// The atoms, each as the name of a predicate followed by its arguments.
     pub atoms: Vec<Vec<String>>,
-    /// The variables.
+    /// The variables over these atoms.
     pub variables: Vec<AtomVariable>,
 }
 
-/// What a certificate is for.
+/// The kind of task that a certificate is for.
 #[derive(Drop)]
 pub enum CertificateKind {
-    /// For a finite-domain task.
+    /// A finite-domain task.
     Sas,
-    /// For a planning task.
+    /// A planning task.
     Pddl(AtomParts),
 }
 
-/// A certificate of a lower bound on the cost of every plan (columns of tables whose shares of an operator's cost
-/// together are at most that cost: Seipp, Keller and Helmert 2020). A contract sees a `CertificateValue`.
+/// A certificate of a lower bound on the cost of every plan. Its columns are cost-partitioned tables (Seipp, Keller and
+/// Helmert 2020). The type does not say that the certificate is correct. In contracts its value is a
+/// `CertificateValue`.
 #[derive(Drop)]
 pub struct Certificate {
     kind: CertificateKind,
@@ -57,7 +59,7 @@ impl Model for Certificate {
 impl Certificate {
     ghost use Rattle.certificates.specs.Views.{kind_of, columns_of};
 
-    /// The certificate of these parts.
+    /// Makes a certificate of its parts.
     pub fn new(
         kind: CertificateKind,
         bound: Dist,
@@ -74,28 +76,29 @@ impl Certificate {
         }
     }
 
-    /// What it is for.
+    /// Returns the kind of task that the certificate is for.
     pub fn kind(&self) -> &CertificateKind
         ensures { kind_of result.now ≡ self.now.kind }
     {
         &self.kind
     }
 
-    /// What every plan is to cost at least. Infinite: there is no plan.
+    /// Returns the bound. The certificate claims that every plan costs at least this much, or, if it is infinite, that
+    /// there is no plan.
     pub fn bound(&self) -> Dist
         ensures { result ≡ self.now.bound }
     {
         self.bound
     }
 
-    /// The columns of tables.
+    /// Returns the columns of tables.
     pub fn columns(&self) -> &[Vec<PatternTable>]
         ensures { columns_of result.now ≡ self.now.columns }
     {
         &self.columns
     }
 
-    /// The closed states.
+    /// Returns the closed list.
     pub fn closed(&self) -> &ClosedList
         ensures { result.now ≡ self.now.closed }
     {

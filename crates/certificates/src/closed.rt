@@ -1,4 +1,4 @@
-//! States that were reached, with what they cost.
+//! The closed list of a certificate.
 
 ghost use Rattle.std.specs.Prelude.{◌≡◌, ◌<◌, ◌==◌, ◌++◌, [], ◌∷◌, length, slice_get, option_map, nat_eq, false, Some, All, IsSomeAnd, IfOk, OnOk, OnErr};
 ghost use Rattle.std.specs.Cmp.Lexicographic.{pointwise};
@@ -9,13 +9,13 @@ use crate::numbers::Numbers;
 use std::alloc::{AllocError, Global};
 use std::marker::Model;
 
-/// States with their costs, all of one width: one list of costs and one list of values, so that a state takes 8 bytes
-/// and 2 for each value, or 4 where some value of the list is 2^16 or more. A contract sees a list of entries.
+/// States with the costs at which they were reached, all with the same number of values. A state takes 8 bytes and 2
+/// for each value, or 4 if a value of the list is 2^16 or more. In contracts its value is a list of entries.
 #[derive(Drop)]
 pub struct ClosedList {
     alloc: Global,
     costs: Vec<u64>,
-    // how many values a state has; any number where there is no state
+    /// The number of values of a state. It is not specified while the list is empty.
     width: usize,
     values: Numbers,
 }
@@ -35,7 +35,7 @@ impl Model for ClosedList {
 impl ClosedList {
     ghost use Rattle.certificates.specs.Certificates.{width_of};
 
-    /// No state.
+    /// Returns an empty list.
     pub fn new(alloc: Global) -> ClosedList
         ensures { result ≡ [] }
     {
@@ -47,21 +47,21 @@ impl ClosedList {
         }
     }
 
-    /// How many states there are.
+    /// Returns the number of states.
     pub fn len(&self) -> usize
         ensures { result ≡ length self.now }
     {
         self.costs.len()
     }
 
-    /// Whether there is none.
+    /// Whether the list is empty.
     pub fn is_empty(&self) -> bool
         ensures { result ≡ (length self.now == 0) }
     {
         self.costs.is_empty()
     }
 
-    /// How many values each state has, or `None` where there is no state.
+    /// Returns the number of values of each state, or `None` if the list is empty.
     pub fn width(&self) -> Option<usize>
         ensures { result ≡ width_of self.now }
     {
@@ -72,7 +72,7 @@ impl ClosedList {
         }
     }
 
-    /// The cost of that state.
+    /// Returns the cost of the state at a place, counted from 0.
     pub fn cost(&self, index: usize) -> u64
         requires { index < length self.now }
         ensures { option_map (λ e. e.cost) (slice_get self.now index) ≡ Some result }
@@ -80,7 +80,7 @@ impl ClosedList {
         self.costs[index]
     }
 
-    /// Room for the values of one state, which are 0 at first. An `Err` is of too little memory.
+    /// Returns a buffer for the values of one state, filled with 0. Fails only if allocation fails.
     pub fn buffer(&self, alloc: Global) -> Result<Vec<u32>, AllocError>
         ensures { IfOk result (λ b. All (λ e. length e.state ≡ length b.items) self.now) }
     {
@@ -88,7 +88,7 @@ impl ClosedList {
         Ok(buffer)
     }
 
-    /// Copies the values of that state, for which there is room.
+    /// Copies the values of the state at a place into a buffer of the same length.
     pub fn copy_state(&self, index: usize, into: &mut [u32])
         requires { IsSomeAnd (slice_get self.now index) (λ e. length e.state ≡ length into.old) }
         ensures state { option_map (λ e. e.state) (slice_get self.now index) ≡ Some into.new }
@@ -97,7 +97,7 @@ impl ClosedList {
         self.values.copy(index, into);
     }
 
-    /// Whether these are the values of that state.
+    /// Whether the state at a place has these values.
     pub fn has_state(&self, index: usize, state: &[u32]) -> bool
         requires { index < length self.now }
         ensures { result ≡ option_map_or (λ e. pointwise nat_eq e.state state.now) (slice_get self.now index) false }
@@ -105,8 +105,8 @@ impl ClosedList {
         self.width == state.len() && self.values.is_at(index, state)
     }
 
-    /// One more state, at the end, of as many values as those before it. An `Err` is of too little memory and changes
-    /// nothing.
+    /// Appends a state, which must have as many values as those before it. Fails only if allocation fails, and then
+    /// leaves the list as it was.
     pub fn push(&mut self, cost: u64, state: &[u32]) -> Result<(), AllocError>
         requires { AllByRecursion (λ e. length e.state ≡ length state.now) self.old }
         ensures ok { OnOk result (self.new ≡ self.old ++ record { cost = cost; state = state.now } ∷ []) }

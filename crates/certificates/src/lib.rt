@@ -1,5 +1,5 @@
-//! Certificates of a lower bound on the cost of every plan, as values: what they are for, the bound, the columns of
-//! tables, and the closed states. Their text is read and written by the crate above.
+//! Certificates of a lower bound on the cost of every plan, as values: the kind of task, the bound, the columns of
+//! tables, and the closed list. The crate `cert_text` reads and writes their texts.
 #![tactic(auto)]
 
 mod certificate;

@@ -1,4 +1,4 @@
-//! The values of states.
+//! The values of the states of a closed list.
 
 ghost use Rattle.std.specs.Prelude.{◌≡◌, ◌+◌, ◌*◌, ◌≤◌, ◌++◌, [], ◌∷◌, length, take, drop, nat_eq, OnOk, OnErr, IfOk};
 ghost use Rattle.std.specs.Cmp.Lexicographic.{pointwise};
@@ -6,15 +6,15 @@ ghost use Rattle.std.specs.Cmp.Lexicographic.{pointwise};
 use std::alloc::{AllocError, Global};
 use std::marker::Model;
 
-/// Values in half the memory as long as all are below 2^16.
+/// Numbers, of 2 bytes each as long as all are below 2^16.
 #[derive(Drop)]
 enum Kept {
     Short(Vec<u16>),
     Long(Vec<u32>),
 }
 
-/// The values of states, one state behind another: 2 bytes each as long as all are below 2^16, else 4. A contract sees a
-/// list of numbers.
+/// The values of states, one state after another: 2 bytes each as long as all are below 2^16, and else 4. In contracts
+/// its value is a list of numbers.
 #[derive(Drop)]
 pub(crate) struct Numbers {
     kept: Kept,
@@ -29,7 +29,7 @@ impl Model for Numbers {
     ghost view = { λ n. numbers_in n.kept };
 }
 
-/// The same numbers, and one more behind them.
+/// The numbers followed by `last`, as numbers of 4 bytes. Fails only if allocation fails.
 fn longer(alloc: Global, numbers: &[u16], last: u32) -> Result<Vec<u32>, AllocError>
     ensures { IfOk result (λ all. all.items ≡ numbers.now ++ last ∷ []) }
 {
@@ -42,7 +42,7 @@ fn longer(alloc: Global, numbers: &[u16], last: u32) -> Result<Vec<u32>, AllocEr
 }
 
 impl Numbers {
-    /// No number.
+    /// Returns an empty list.
     pub(crate) fn new(alloc: Global) -> Numbers
         ensures { result ≡ [] }
     {
@@ -51,7 +51,7 @@ impl Numbers {
         }
     }
 
-    /// How many there are.
+    /// Returns how many numbers there are.
     pub(crate) fn len(&self) -> usize
         ensures { result ≡ length self.now }
     {
@@ -61,7 +61,7 @@ impl Numbers {
         }
     }
 
-    /// One more number, at the end. An `Err` is of too little memory and changes nothing.
+    /// Appends a number. Fails only if allocation fails, and then leaves the list as it was.
     pub(crate) fn push(&mut self, alloc: Global, number: u32) -> Result<(), AllocError>
         ensures ok { OnOk result (self.new ≡ self.old ++ number ∷ []) }
         ensures err { OnErr result (self.new ≡ self.old) }
@@ -79,7 +79,7 @@ impl Numbers {
         Ok(())
     }
 
-    /// Leaves so many of the numbers.
+    /// Keeps the first `len` numbers and drops the others.
     pub(crate) fn truncate(&mut self, len: usize)
         ensures { self.new ≡ take len self.old }
     {
@@ -89,7 +89,7 @@ impl Numbers {
         }
     }
 
-    /// More numbers, at the end. An `Err` is of too little memory and changes nothing.
+    /// Appends numbers. Fails only if allocation fails, and then leaves the list as it was.
     pub(crate) fn extend(&mut self, alloc: Global, more: &[u32]) -> Result<(), AllocError>
         ensures ok { OnOk result (self.new ≡ self.old ++ more.now) }
         ensures err { OnErr result (self.new ≡ self.old) }
@@ -104,7 +104,7 @@ impl Numbers {
         Ok(())
     }
 
-    /// Copies a state, given by its number: the numbers lie in states as long as there is room for.
+    /// Copies the values of the state with this number. Each state has as many values as the buffer.
     pub(crate) fn copy(&self, state: usize, into: &mut [u32])
         requires { state * length into.old + length into.old ≤ length self.now }
         ensures copied { into.new ≡ take (length into.old) (drop (state * length into.old) self.now) }
@@ -123,7 +123,7 @@ impl Numbers {
         }
     }
 
-    /// Whether a state, given by its number, is this one, where the numbers lie in states as long.
+    /// Whether the state with this number has these values. Each state has as many values as there are here.
     pub(crate) fn is_at(&self, state: usize, values: &[u32]) -> bool
         requires { state * length values.now + length values.now ≤ length self.now }
         ensures { result ≡ pointwise nat_eq (take (length values.now) (drop (state * length values.now) self.now)) values.now }
@@ -142,7 +142,7 @@ impl Numbers {
     }
 }
 
-/// Copies short numbers, which are as many.
+/// Copies numbers of 2 bytes into a buffer of the same length.
 fn copy_short(numbers: &[u16], into: &mut [u32])
     requires { length numbers.now ≡ length into.old }
     ensures { into.new ≡ numbers.now }
@@ -152,7 +152,7 @@ fn copy_short(numbers: &[u16], into: &mut [u32])
     }
 }
 
-/// Whether the numbers are the same as short ones.
+/// Whether two lists of the same length have the same numbers.
 fn are_same(numbers: &[u16], others: &[u32]) -> bool
     requires { length numbers.now ≡ length others.now }
     ensures { result ≡ pointwise nat_eq numbers.now others.now }

@@ -6,19 +6,19 @@ use cost::Dist;
 use std::alloc::{AllocError, Global};
 use std::marker::Model;
 
-/// What a table counts an operator for.
+/// The share of an operator's cost that a table has.
 #[derive(Clone, Copy, Debug, PartialEq, Eq)]
 pub struct Share {
-    /// The operator's number, counted from 0.
+    /// The number of the operator, counted from 0.
     pub operator: u32,
-    /// What it is counted for, from 1 to 2147483647. An operator without a share counts for nothing.
+    /// The share, from 1 to 2147483647 in a lawful certificate. An operator that is not listed has the share 0.
     pub amount: u32,
 }
 
-/// The values of a table, one for each abstract state in order. A contract sees them as a list of distances.
+/// The values of a table, one for each abstract state in order. In contracts its value is a list of distances.
 #[derive(Drop)]
 pub struct Values {
-    // 2^64 - 1 stands for infinite.
+    /// The number 2^64 - 1 represents the infinite distance.
     kept: Vec<u64>,
 }
 
@@ -33,7 +33,7 @@ impl Model for Values {
 }
 
 impl Values {
-    /// No value.
+    /// Returns an empty list.
     pub fn new(alloc: Global) -> Values
         ensures { result ≡ [] }
     {
@@ -42,7 +42,7 @@ impl Values {
         }
     }
 
-    /// One more value, at the end. An `Err` is of too little memory and changes nothing.
+    /// Appends a value. Fails only if allocation fails, and then leaves the list as it was.
     pub fn push(&mut self, value: Dist) -> Result<(), AllocError>
         ensures ok { OnOk result (self.new ≡ self.old ++ value ∷ []) }
         ensures err { OnErr result (self.new ≡ self.old) }
@@ -55,21 +55,21 @@ impl Values {
         Ok(())
     }
 
-    /// How many there are.
+    /// Returns the number of values.
     pub fn len(&self) -> usize
         ensures { result ≡ length self.now }
     {
         self.kept.len()
     }
 
-    /// Whether there is none.
+    /// Whether there is no value.
     pub fn is_empty(&self) -> bool
         ensures { result ≡ (length self.now == 0) }
     {
         self.kept.is_empty()
     }
 
-    /// The value of that abstract state.
+    /// Returns the value of an abstract state.
     pub fn get(&self, state: usize) -> Dist
         requires { state < length self.now }
         ensures { slice_get self.now state ≡ Some result }
@@ -78,13 +78,13 @@ impl Values {
     }
 }
 
-/// A table of a projection.
+/// A pattern database: a table of a projection.
 #[derive(Drop)]
 pub struct PatternTable {
-    /// The variables, by their numbers, which increase.
+    /// The variables of the pattern, by their numbers, strictly increasing in a lawful certificate.
     pub pattern: Vec<u32>,
-    /// The operators that count for something, by their numbers, which increase.
+    /// The shares, whose operators are strictly increasing in a lawful certificate.
     pub shares: Vec<Share>,
-    /// The values.
+    /// The value of each abstract state, in order.
     pub values: Values,
 }

@@ -1,4 +1,4 @@
--- What is answered for the texts of a finite-domain task and of a certificate.
+-- The answers to the texts of a finite-domain task and of a certificate.
 use Rattle.std.specs.Prelude.{◌≡◌, ◌≢◌, ◌⊎◌, ℕ, Bool, true, false, List, Err}
 use Rattle.fdr.specs.Tasks.{FiniteDomainTask}
 use Rattle.sasfile.specs.SasTexts.{SpellsTask}
@@ -32,7 +32,7 @@ pub record SpellsOther (text : List ℕ) : Type 0 where
   pub spelled : text ≡ spelling certificate
   pub kind : is_for_finite_domain certificate.kind ≡ false
 
--- The texts spell a task and a certificate, and the verdict is that on the certificate.
+-- The texts spell a task and a certificate, and the verdict is the one on the certificate.
 pub record IsAnswer (sas cert : List ℕ) (verdict : Verdict) : Type 0 where
   pub task : FiniteDomainTask
   pub spelled : SpellsTask sas task
@@ -40,22 +40,22 @@ pub record IsAnswer (sas cert : List ℕ) (verdict : Verdict) : Type 0 where
   pub certificate_spelled : SpellsSasCertificate cert certificate
   pub holds : IsVerdict task certificate verdict
 
--- the text's first fault; a certificate of the other kind is at fault in line 2, where the kind stands
+-- the first fault of the text; a certificate of the other kind has its fault on line 2, which states the kind
 abbrev pub IsCertificateFault : List ℕ → CertFault → Type 0
 IsCertificateFault cert e = (certificate_of cert ≡ Err e) ⊎ ((e ≡ cert_fault.Expected 2) × SpellsOther cert)
 
--- The task's text is refused, for its first fault.
+-- The text of the task is refused with its first fault.
 abbrev pub IsSasRefusal : List ℕ → CheckFault → Type 0
 IsSasRefusal sas OutOfMemory = Unit {0}
 IsSasRefusal sas (Sas e) = (e ≢ sas_fault.OutOfMemory) × (task_in sas ≡ Err e)
 IsSasRefusal sas (Cert e) = ⊥
 
--- The certificate's text is refused, for its first fault.
+-- The text of the certificate is refused with its first fault.
 abbrev pub IsCertRefusal : List ℕ → CheckFault → Type 0
 IsCertRefusal cert OutOfMemory = Unit {0}
 IsCertRefusal cert (Sas e) = ⊥
 IsCertRefusal cert (Cert e) = (e ≢ cert_fault.OutOfMemory) × IsCertificateFault cert e
 
--- The task's text is refused, or it spells a task and the certificate's text is refused.
+-- The text of the task is refused, or it spells a task and the text of the certificate is refused.
 abbrev pub IsRefusal : List ℕ → List ℕ → CheckFault → Type 0
 IsRefusal sas cert e = IsSasRefusal sas e ⊎ (((task : FiniteDomainTask) × SpellsTask sas task) × IsCertRefusal cert e)

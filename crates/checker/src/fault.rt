@@ -1,4 +1,4 @@
-//! Why there is no verdict.
+//! Faults of the texts that are checked.
 
 ghost use Rattle.std.specs.Prelude.{◌≡◌};
 ghost use Rattle.checker.specs.declared.fault.CheckFault.TheVariants.{OutOfMemory};
@@ -11,13 +11,13 @@ use thiserror::Error;
 /// Why there is no verdict on the texts of a task and of a certificate.
 #[derive(Clone, Copy, Debug, PartialEq, Eq, Error)]
 pub enum CheckFault {
-    /// Memory ran out. It says nothing of the texts.
+    /// Memory ran out. This does not depend on the texts.
     #[error("out of memory")]
     OutOfMemory,
-    /// The task's text is refused.
+    /// The text of the task is refused.
     #[error("the task is refused: {0}")]
     Sas(SasFault),
-    /// The certificate's text is refused, or is for another kind of task (`Expected` in line 2).
+    /// The text of the certificate is refused, or it is one for a planning task (`Expected` on line 2).
     #[error("the certificate is refused: {0}")]
     Cert(CertFault),
 }

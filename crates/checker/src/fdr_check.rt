@@ -14,7 +14,7 @@ use fdr::FdrTask;
 use std::alloc::{AllocError, Global};
 use table_clauses::{first_share_violation, first_table_violation};
 
-/// The first violation of the clauses on tables, C3 and C4.
+/// The first violation of the clauses on tables, C3 and C4. Fails only if allocation fails.
 fn table_violation(
     alloc: Global,
     task: &FdrTask,
@@ -28,7 +28,7 @@ fn table_violation(
     first_table_violation(alloc, task, certificate)
 }
 
-/// The first violation of C6 to C8, where the clauses before are met.
+/// The first violation of the clauses C6 to C8, where all earlier ones are met. Fails only if allocation fails.
 fn covering_violation(
     alloc: Global,
     task: &FdrTask,
@@ -49,7 +49,8 @@ fn covering_violation(
     coverage.first_successor_violation(alloc)
 }
 
-/// The first violation of the clauses on closed states, C5 to C8, where those on tables are met.
+/// The first violation of the clauses on the closed list, C5 to C8, where those on tables are met. Fails only if
+/// allocation fails.
 fn closed_violation(
     alloc: Global,
     task: &FdrTask,
@@ -65,7 +66,7 @@ fn closed_violation(
     covering_violation(alloc, task, certificate, &coverage)
 }
 
-/// The first violation, if there is one.
+/// The first violation, if there is one. Fails only if allocation fails.
 fn first_violation(
     alloc: Global,
     task: &FdrTask,
@@ -79,9 +80,10 @@ fn first_violation(
     closed_violation(alloc, task, certificate)
 }
 
-/// The verdict on a certificate for a task, whatever kind of task the certificate names: `Accepted` with its bound exactly
-/// where all clauses hold, and else `Rejected` with the first clause and place. Where it is accepted every plan costs at
-/// least the bound, whoever wrote it, and there is no plan where that is infinite. An `Err` is of too little memory.
+/// Returns the verdict on a certificate for a task, whatever kind of task the certificate is for: `Accepted` with its
+/// bound if it meets the clauses C3 to C8, and else `Rejected` with its first violation. After `Accepted` every plan
+/// costs at least the bound, whoever wrote the certificate, and there is no plan if the bound is infinite. Fails only
+/// if allocation fails.
 pub fn check_fdr<R: AllocGlobal>(
     rt: &R,
     task: &FdrTask,

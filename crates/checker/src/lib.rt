@@ -1,5 +1,5 @@
-//! The certificate checker: it says whether a certificate proves that every plan of a task costs at least its bound, and
-//! trusts nobody: neither who wrote the certificate, nor the search that it came from.
+//! The certificate checker for finite-domain tasks. It decides whether a certificate proves that every plan of a task
+//! costs at least its bound. It trusts neither the author of the certificate nor the search that it came from.
 #![tactic(auto)]
 
 mod fault;

@@ -28,11 +28,11 @@ fn is_for_finite_domain(kind: &CertificateKind) -> bool
     }
 }
 
-/// The line on which a certificate's kind stands, counted from 1.
+/// The line that states the kind of a certificate, counted from 1.
 const KIND_LINE: usize = 2;
 
-/// The certificate for a finite-domain task that the text spells, or the text's first fault; one for a planning task is at fault in
-/// line 2.
+/// Reads the certificate for a finite-domain task that the text spells. Fails with the first fault of the text, or if
+/// allocation fails; a certificate for a planning task has the fault `Expected` on line 2.
 fn read_sas_certificate(alloc: Global, cert: &[u8]) -> Result<Certificate, CertFault>
     ensures found { IfOk result (λ c. SpellsSasCertificate cert.now c) }
     ensures fault { IfErr result (λ e. e ≢ CertFault.OutOfMemory → IsCertificateFault cert.now e) }
@@ -45,7 +45,7 @@ fn read_sas_certificate(alloc: Global, cert: &[u8]) -> Result<Certificate, CertF
     }
 }
 
-/// The task that the text spells, or the text's first fault.
+/// Reads the task that the text spells. Fails with the first fault of the text, or if allocation fails.
 fn read_task(alloc: Global, sas: &[u8]) -> Result<FdrTask, CheckFault>
     ensures found { IfOk result (λ task. SpellsTask sas.now task) }
     ensures fault { IfErr result (IsSasRefusal sas.now) }
@@ -57,7 +57,7 @@ fn read_task(alloc: Global, sas: &[u8]) -> Result<FdrTask, CheckFault>
     }
 }
 
-/// The certificate that the text spells, or the text's first fault.
+/// Reads the certificate that the text spells. Fails with the first fault of the text, or if allocation fails.
 fn read_certificate(alloc: Global, cert: &[u8]) -> Result<Certificate, CheckFault>
     ensures found { IfOk result (λ c. SpellsSasCertificate cert.now c) }
     ensures fault { IfErr result (IsCertRefusal cert.now) }
@@ -69,12 +69,13 @@ fn read_certificate(alloc: Global, cert: &[u8]) -> Result<Certificate, CheckFaul
     }
 }
 
-/// The verdict on a certificate's text for a task's text (`output.sas`): `Accepted` with a bound exactly where the text spells
-/// a certificate for it that meets all clauses for the task that the other spells, and else `Rejected` with the first clause and
-/// place. Where it is accepted every plan of the task costs at least the bound, whoever wrote the certificate, and there is no plan
-/// where that is infinite.
+/// Returns the verdict on the text of a certificate for the text of a task (`output.sas`). It is `Accepted` with a
+/// bound if the certificate that the one text spells has that bound and meets the clauses C3 to C8 for the task that
+/// the other spells, and else `Rejected` with the first violation. After `Accepted` every plan of the task costs at
+/// least the bound, whoever wrote the certificate, and there is no plan if the bound is infinite.
 ///
-/// An `Err` is the first fault of the task's text, or else that of the certificate's, or says that memory ran out.
+/// Fails with the first fault of the task's text, or else with the first fault of the certificate's text, or if
+/// allocation fails.
 pub fn check_sas<R: AllocGlobal>(rt: &R, sas: &[u8], cert: &[u8]) -> Result<Verdict, CheckFault>
     ensures answer { IfOk result (IsAnswer sas.now cert.now) }
     ensures refused { IfErr result (IsRefusal sas.now cert.now) }
@@ -89,8 +90,8 @@ pub fn check_sas<R: AllocGlobal>(rt: &R, sas: &[u8], cert: &[u8]) -> Result<Verd
     Ok(verdict)
 }
 
-/// The same as `check_sas`, but each text goes as soon as it is read: a certificate of millions of states is checked without its
-/// text in memory.
+/// The same as `check_sas`, but each text is dropped as soon as it has been read, so that a certificate with millions
+/// of states is checked without its text in memory.
 pub fn check_sas_owned<R: AllocGlobal>(
     rt: &R,
     sas: Vec<u8>,

@@ -4,13 +4,13 @@ use checker_clauses::Violation;
 use cost::Dist;
 use std::fmt;
 
-/// What is said of a certificate for a finite-domain task. It prints as `accepted N`, `accepted unsolvable`, or `rejected` with clause
-/// and place.
+/// The verdict on a certificate for a finite-domain task. It prints as `accepted N`, as `accepted unsolvable`, or as
+/// `rejected` with clause and place.
 #[derive(Clone, Copy, Debug, PartialEq, Eq)]
 pub enum Verdict {
-    /// Every plan costs at least this. Infinite: there is no plan.
+    /// Every plan costs at least this much. If it is infinite, there is no plan.
     Accepted(Dist),
-    /// The certificate fails there, and nowhere before.
+    /// This is the first violation of the certificate.
     Rejected(Violation),
 }
 

@@ -1,6 +1,6 @@
--- The clauses of a certificate for a finite-domain task, each as a test. They make a bound on the cost of every plan
--- checkable by whoever did not search: tables that divide the operators' costs among them (Seipp, Keller and Helmert 2020), and
--- closed states whose successors are closed too, or too far from a goal.
+-- The clauses of a certificate for a finite-domain task, each as a test. They allow anyone to check a lower bound on
+-- the cost of every plan: cost-partitioned tables (Seipp, Keller and Helmert 2020), and a closed list whose successors
+-- are in it or have a heuristic value that reaches the bound.
 use Rattle.std.specs.Prelude.{ℕ, ◌+◌, ◌-◌, ◌^◌, Bool, true, false, ◌==◌, ◌&&◌, ◌||◌, nat_le, nat_lt, nat_eq, if◌then◌else◌, List, [], ◌∷◌, length, map, sum_by, slice_get, slice_index_or}
 use Rattle.std.specs.List.{list_all, list_any}
 use Rattle.std.specs.Option.{option_map_or}
@@ -15,37 +15,38 @@ use Rattle.certificates.specs.Certificates.{Table, Entry, CertificateValue}
 
 -- ---- tables
 
--- what a table counts an operator for: 0 where it names no share of it
+-- the share of an operator in a table: 0 if the table does not list it
 abbrev pub share_of : List Share → ℕ → ℕ
 share_of [] o = 0
 share_of (s ∷ shares) o = if s.operator == o then s.amount else share_of shares o
 
--- the table's value of an abstract state; a value that is missing is infinite
+-- the value of an abstract state in a table; a missing value is infinite
 abbrev pub value_of : Table → ℕ → Distance
 value_of t a = slice_index_or t.values a Infinite
 
--- the table over the task's projection to its pattern
+-- the table on the projection of the task to its pattern
 abbrev pub table_of : FiniteDomainTask → Table → abstraction.Table
 table_of task t = record { abstraction = projection task t.pattern; share = share_of t.shares; value = value_of t }
 
 abbrev pub columns_of : FiniteDomainTask → List (List Table) → List (List abstraction.Table)
 columns_of task columns = map (map (table_of task)) columns
 
--- the lower bound on the cost from a state on: the greatest of the columns' values, and 0 without a column
+-- the heuristic value of a state: the greatest value of a column, and 0 if there is no column
 abbrev pub heuristic_of : FiniteDomainTask → List (List Table) → List ℕ → Distance
 heuristic_of task columns = heuristic (columns_of task columns)
 
--- the shares of an operator sum to at most its cost, which is 0 where there is no such operator
+-- the shares of an operator sum to at most its cost, which is 0 if there is no such operator
 abbrev pub is_within_cost : FiniteDomainTask → List Table → ℕ → Bool
 is_within_cost task column o = nat_le (sum_by (λ t. share_of t.shares o) column) (cost_of task o)
 
--- each number is below the next
+-- the numbers are strictly increasing
 abbrev pub is_increasing : List ℕ → Bool
 is_increasing [] = true
 is_increasing (x ∷ []) = true
 is_increasing (x ∷ y ∷ ys) = nat_lt x y && is_increasing (y ∷ ys)
 
--- its variables increase and exist, and it has a value for each abstract state, of which there are at most 2^24
+-- the variables are strictly increasing and exist, and there is a value for each abstract state, of which there are at
+-- most 2^24
 abbrev pub has_form : FiniteDomainTask → Table → Bool
 has_form task t =
     is_increasing t.pattern && list_all (λ v. nat_lt v (length task.value_names)) t.pattern
@@ -59,7 +60,7 @@ is_zero Infinite = false
 abbrev pub is_goal_at_zero : FiniteDomainTask → Table → ℕ → Bool
 is_goal_at_zero task t a = if (projection task t.pattern).is_goal a then is_zero (value_of t a) else true
 
--- an operator lowers the value by no more than its share
+-- the operator lowers the value by at most its share
 abbrev pub falls_within_share : FiniteDomainTask → Table → ℕ → ℕ → Bool
 falls_within_share task t a o =
     option_map_or (λ b. is_at_most (value_of t a) (Finite (share_of t.shares o) +ᵈ value_of t b))
@@ -67,40 +68,40 @@ falls_within_share task t a o =
 
 -- ---- closed states
 
--- a value below its range for each variable
+-- for each variable a value below its range
 abbrev pub is_state : List ℕ → List ℕ → Bool
 is_state [] [] = true
 is_state [] (x ∷ xs) = false
 is_state (r ∷ rs) [] = false
 is_state (r ∷ rs) (x ∷ xs) = nat_lt x r && is_state rs xs
 
--- the first list comes before the second, by values in order
+-- the first list is lexicographically less than the second
 abbrev pub comes_before : List ℕ → List ℕ → Bool
 comes_before xs [] = false
 comes_before [] (y ∷ ys) = true
 comes_before (x ∷ xs) (y ∷ ys) = if x == y then comes_before xs ys else nat_lt x y
 
--- the state of the entry before the one at a place, if there is one, comes before it
+-- the state of the entry before the one at a place, if there is one, is lexicographically less
 abbrev pub is_behind : List Entry → ℕ → List ℕ → Bool
 is_behind closed i state =
     if i == 0 then true else option_map_or (λ e. comes_before e.state state) (slice_get closed (i - 1)) true
 
--- the state is listed with this cost or less
+-- the state is in the closed list with at most this cost
 abbrev pub is_listed : List Entry → List ℕ → ℕ → Bool
 is_listed closed state g = list_any (λ e. pointwise nat_eq e.state state && nat_le e.cost g) closed
 
--- what is still to come from the state, reached at this cost, reaches the bound
+-- the cost at which the state was reached and its heuristic value sum to at least the bound
 abbrev pub reaches_bound : FiniteDomainTask → CertificateValue → List ℕ → ℕ → Bool
 reaches_bound task c state g = is_at_most c.bound (Finite g +ᵈ heuristic_of task c.columns state)
 
--- the state, reached at this cost, is listed so or reaches the bound
+-- the state, reached at this cost, is in the closed list with at most that cost, or reaches the bound
 abbrev pub is_covered : FiniteDomainTask → CertificateValue → List ℕ → ℕ → Bool
 is_covered task c state g = is_listed c.closed state g || reaches_bound task c state g
 
--- a listed goal state costs at least the bound
+-- a closed goal state costs at least the bound
 abbrev pub is_dear_if_goal : FiniteDomainTask → CertificateValue → Entry → Bool
 is_dear_if_goal task c e = if is_goal_state task e.state then is_at_most c.bound (Finite e.cost) else true
 
--- the successor by an operator, if there is one, is covered
+-- the successor under the operator, if there is one, is covered
 abbrev pub covers_successor : FiniteDomainTask → CertificateValue → Entry → ℕ → Bool
 covers_successor task c e o = option_map_or (λ s. is_covered task c s (e.cost + cost_of task o)) (step task e.state o) true

@@ -1,15 +1,15 @@
--- A worked task: a road of three towns, from the first to the last, with two operators of cost 1; and certificates for it.
+-- An example: a road of three towns, from the first to the last, with two operators of cost 1; and certificates for it.
 use Rattle.std.specs.Prelude.{ℕ, false, List, [], ◌∷◌}
 use Rattle.cost.specs.Distances.{Distance, Finite}
 use Rattle.fdr.specs.declared.fact.Fact.{Fact}
 use Rattle.fdr.specs.Tasks.{FiniteDomainTask, Operator}
 use Rattle.certificates.specs.Certificates.{FiniteDomain, Table, Entry, CertificateValue}
 
--- the town is this one
+-- the location is this town
 abbrev pub town : ℕ → List Fact
 town value = record { variable = 0; value = value } ∷ []
 
--- from one town to another
+-- the operator from one town to another
 abbrev pub drive : ℕ → ℕ → Operator
 drive from to = record { name = []; precondition = town from; effect = town to; cost = 1 }
 
@@ -23,19 +23,19 @@ road =
       operators = drive 0 1 ∷ drive 1 2 ∷ [];
     }
 
--- the town was reached at this cost
+-- an entry: the town was reached at this cost
 abbrev pub reached : ℕ → ℕ → Entry
 reached cost value = record { cost = cost; state = value ∷ [] }
 
--- closed states and no table
+-- a certificate with closed states and no table
 abbrev pub with_closed : Distance → List Entry → CertificateValue
 with_closed bound closed = record { kind = FiniteDomain; bound = bound; columns = []; closed = closed }
 
--- the first two towns are closed
+-- a certificate in which the first two towns are closed
 abbrev pub two_closed : Distance → CertificateValue
 two_closed bound = with_closed bound (reached 0 0 ∷ reached 1 1 ∷ [])
 
--- a table of the variable, by what the second operator counts for and the value of the first town
+-- a table of the variable, by the share of the second operator and the value of the first town
 abbrev pub table : ℕ → ℕ → Table
 table second first =
     record {
@@ -44,6 +44,6 @@ table second first =
       values = Finite first ∷ Finite 1 ∷ Finite 0 ∷ [];
     }
 
--- no closed state and one column
+-- a certificate with one column and no closed state
 abbrev pub with_column : Distance → List Table → CertificateValue
 with_column bound column = record { kind = FiniteDomain; bound = bound; columns = column ∷ []; closed = [] }

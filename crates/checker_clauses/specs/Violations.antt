@@ -1,4 +1,4 @@
--- Where a certificate fails, and which place goes first.
+-- Violations of a certificate, and which of them is the first.
 use Rattle.std.specs.Prelude.{◌≡◌, ℕ, ◌<◌, false, ◌&&◌, List, [], ◌∷◌, ◌++◌, Option, Some, None, option_and_then, slice_get, IsSomeAnd, codes, decimal}
 use Rattle.fdr.specs.Tasks.{FiniteDomainTask, ranges}
 use Rattle.abstraction.specs.Projections.{size_of}
@@ -7,11 +7,11 @@ use Rattle.checker_clauses.specs.declared.violation.Violation.{Violation}
 use Rattle.checker_clauses.specs.declared.violation.Violation.TheVariants.{Shares, TableForm, GoalValue, Fall, ClosedState, Start, ClosedGoal, Successor}
 use Rattle.checker_clauses.specs.Clauses.{is_within_cost, has_form, is_goal_at_zero, falls_within_share, is_state, is_behind, is_covered, is_dear_if_goal, covers_successor, comes_before}
 
--- the table of this number in the column of that one
+-- the table with the number j in the column with the number i
 abbrev pub table_at : List (List Table) → ℕ → ℕ → Option Table
 table_at columns i j = option_and_then (λ column. slice_get column j) (slice_get columns i)
 
--- the certificate fails there
+-- the certificate has this violation
 abbrev pub Violates : FiniteDomainTask → CertificateValue → Violation → Type 0
 Violates task c (Shares i o) = IsSomeAnd (slice_get c.columns i) (λ column. is_within_cost task column o ≡ false)
 Violates task c (TableForm i j) = IsSomeAnd (table_at c.columns i j) (λ t. has_form task t ≡ false)
@@ -36,7 +36,7 @@ clause_of Start = 6
 clause_of (ClosedGoal i) = 7
 clause_of (Successor i o) = 8
 
--- the place within the clause; of one table its form goes first, then its abstract goals, then its transitions
+-- the place within the clause; of one table its form comes first, then its abstract goals, then its transitions
 abbrev pub place_of : Violation → List ℕ
 place_of (Shares i o) = i ∷ o ∷ []
 place_of (TableForm i j) = i ∷ j ∷ 0 ∷ []
@@ -47,26 +47,26 @@ place_of Start = []
 place_of (ClosedGoal i) = i ∷ []
 place_of (Successor i o) = i ∷ o ∷ []
 
--- the certificate fails at no place of this clause
+-- the certificate meets the clause: it has no violation of it
 abbrev pub IsMet : FiniteDomainTask → CertificateValue → ℕ → Type 0
 IsMet task c k = (v : Violation) → clause_of v ≡ k → Violates task c v → ⊥
 
--- the certificate fails there, and nowhere before that in the clause
+-- the certificate has this violation, and none before it of the same clause
 pub record IsFirstOfClause (task : FiniteDomainTask) (c : CertificateValue) (v : Violation) : Type 0 where
   pub there : Violates task c v
   pub first : (w : Violation) → clause_of w ≡ clause_of v → Violates task c w → comes_before (place_of w) (place_of v) ≡ false
 
--- what the test of one clause finds: the first place, or none
+-- the result of the test of one clause: the first violation, or none
 abbrev pub IsFoundIn : FiniteDomainTask → CertificateValue → ℕ → Option Violation → Type 0
 IsFoundIn task c k None = IsMet task c k
 IsFoundIn task c k (Some v) = (clause_of v ≡ k) × IsFirstOfClause task c v
 
--- the certificate fails there, and nowhere before: every clause before is met
+-- the certificate has this violation, and none before it: every earlier clause is met
 pub record IsFirstViolation (task : FiniteDomainTask) (c : CertificateValue) (v : Violation) : Type 0 where
   pub of_clause : IsFirstOfClause task c v
   pub before : (k : ℕ) → k < clause_of v → IsMet task c k
 
--- the certificate fails nowhere
+-- the certificate has no violation
 abbrev pub IsHeld : FiniteDomainTask → CertificateValue → Type 0
 IsHeld task c = (v : Violation) → Violates task c v → ⊥
 
@@ -74,7 +74,7 @@ IsHeld task c = (v : Violation) → Violates task c v → ⊥
 abbrev pub numbered : List ℕ → ℕ → List ℕ
 numbered word n = 32 ∷ word ++ (32 ∷ decimal n)
 
--- clause and place, as they are printed
+-- the text of a violation: clause and place
 abbrev pub violation_text : Violation → List ℕ
 violation_text (Shares i o) = codes "C3" ++ (numbered (codes "column") i ++ numbered (codes "op") o)
 violation_text (TableForm i j) = codes "C4" ++ (numbered (codes "column") i ++ numbered (codes "table") j)

@@ -1,4 +1,5 @@
-//! Laws of the clauses. Each function states one as its contract, for every task and certificate, and its body is empty.
+//! Laws of the clauses, for every task and every certificate. Each function states one in its contract; its body is
+//! empty.
 
 ghost use Rattle.std.specs.Prelude.{◌≡◌, ℕ, ◌<◌, true, false, [], ◌∷◌, ◌⊎◌};
 ghost use Rattle.cost.specs.Distances.{Finite, Infinite};
@@ -9,20 +10,20 @@ ghost use Rattle.checker_clauses.specs.Clauses.{is_within_cost, has_form, is_goa
 ghost use Rattle.checker_clauses.specs.Violations.{clause_of, IsMet, IsFirstViolation, IsHeld};
 ghost use Rattle.checker_clauses.specs.Examples.{road, reached, with_closed, two_closed, table, with_column};
 
-/// A certificate that fails nowhere implies its bound, whoever wrote it: every plan costs at least that, and there is none
-/// where it is infinite.
+/// Proves that a certificate without a violation implies its bound, whoever wrote it: every plan costs at least the
+/// bound, and there is no plan if it is infinite.
 pub fn clauses_imply_bound()
     ensures bound { (task : FiniteDomainTask) (c : CertificateValue) → IsTask task → IsHeld task c → EveryPlanCostsAtLeast task c.bound }
     ensures none { (task : FiniteDomainTask) (c : CertificateValue) → IsTask task → IsHeld task c → c.bound ≡ Infinite → HasNoPlan task }
 {}
 
-/// Where a certificate fails first is one place, and a certificate that fails nowhere has none.
+/// Proves that a certificate has at most one first violation, and none if it has no violation.
 pub fn one_first_violation()
     ensures one { (task : FiniteDomainTask) (c : CertificateValue) (v w : Violation) → IsFirstViolation task c v → IsFirstViolation task c w → v ≡ w }
     ensures none { (task : FiniteDomainTask) (c : CertificateValue) (v : Violation) → IsFirstViolation task c v → IsHeld task c → ⊥ }
 {}
 
-/// The clauses on a road of three towns.
+/// Proves the values of the clauses on an example, a road of three towns.
 pub fn worked_road()
     ensures listed { (is_covered road (two_closed (Finite 2)) (0 ∷ []) 0 ≡ true) × (is_covered road (with_closed (Finite 2) []) (0 ∷ []) 0 ≡ false) ×
         (is_covered road (with_closed (Finite 0) []) (0 ∷ []) 0 ≡ true) }

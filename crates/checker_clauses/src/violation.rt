@@ -1,26 +1,33 @@
-//! Where a certificate fails.
+//! Violations of the clauses.
 
 use std::fmt;
 
-/// Where a certificate fails for a finite-domain task: the clause, and the place. All numbers count from 0. It prints as
-/// `C3 column I op O`, and so on.
+/// A violation of a clause by a certificate for a finite-domain task: the clause, and the place. All numbers count from
+/// 0. It prints as `C3 column I op O`, and so on.
 #[derive(Clone, Copy, Debug, PartialEq, Eq)]
 pub enum Violation {
-    /// C3: in a column the shares of an operator, which may not exist, sum to more than its cost.
+    /// C3: in a column the shares of an operator, which need not exist, sum to more than its cost. The numbers are
+    /// those of the column and the operator.
     Shares(usize, usize),
-    /// C4: a table of a column has a variable that does not exist, too many abstract states or another number of values.
+    /// C4: a table has a pattern that is not strictly increasing or names a variable that does not exist, too many
+    /// abstract states, or another number of values. The numbers are those of the column and of the table in it.
     TableForm(usize, usize),
-    /// C4: in a table of a column an abstract goal has another value than 0.
+    /// C4: an abstract goal has a value other than 0. The numbers are those of the column, the table and the abstract
+    /// state.
     GoalValue(usize, usize, usize),
-    /// C4: in a table of a column the value of an abstract state is more than an operator's share above that of where it leads.
+    /// C4: the value of an abstract state exceeds that of its successor by more than the operator's share. The numbers
+    /// are those of the column, the table, the abstract state and the operator.
     Fall(usize, usize, usize, usize),
-    /// C5: a closed state is no state of the task, or not behind the one before it, by values in order.
+    /// C5: an entry of the closed list is not a state of the task, or not lexicographically greater than the one before
+    /// it. The number is its place.
     ClosedState(usize),
-    /// C6: the initial state is neither listed with the cost 0 nor has a value that reaches the bound.
+    /// C6: the initial state is not in the closed list with the cost 0, and its heuristic value is below the bound.
     Start,
-    /// C7: a closed goal state costs less than the bound.
+    /// C7: a goal state in the closed list costs less than the bound. The number is its place.
     ClosedGoal(usize),
-    /// C8: the successor of a closed state by an operator is neither listed at that cost nor reaches the bound.
+    /// C8: the successor of a closed state is not in the closed list with at most its cost, and that cost and its
+    /// heuristic value sum to less than the bound. The numbers are the place of the closed state and the number of the
+    /// operator.
     Successor(usize, usize),
 }
 

@@ -1,15 +1,15 @@
--- What an outcome tells of the nodes.
+-- What an outcome says about the nodes.
 use Rattle.std.specs.Prelude.{◌≡◌, ℕ, true, false, List, [], ◌∷◌, ◌++◌, length, Some, slice_get, slice_set}
 use Rattle.families.specs.Owners.{At, Node, rank_less}
 use Rattle.closed.specs.Tables.{reached}
 
--- no node has the state, and its own comes last
+-- no node has the state, and the state's node is appended
 pub record ComesLast (nodes : List Node) (m : Node) (i : ℕ) : Type 0 where
   pub place : i ≡ length nodes
   pub absent : (j : ℕ) (n : Node) → At nodes j n → n.state ≡ m.state → ⊥
   pub appended : reached nodes m ≡ nodes ++ m ∷ []
 
--- the node of the state stands at the place at a greater rank, and gives way
+-- the node of the state is at the place, at a greater rank, and is replaced
 pub record GivesWay (nodes : List Node) (m : Node) (i : ℕ) : Type 0 where
   pub node : Node
   pub there : slice_get nodes i ≡ Some node
@@ -17,7 +17,7 @@ pub record GivesWay (nodes : List Node) (m : Node) (i : ℕ) : Type 0 where
   pub rank : rank_less m.cost m.steps node.cost node.steps ≡ true
   pub replaced : reached nodes m ≡ slice_set nodes i m
 
--- a node of the state stands at a place at no greater rank, and stays
+-- a node of the state is at some place, at no greater rank, and the nodes stay the same
 pub record Stays (nodes : List Node) (m : Node) : Type 0 where
   pub place : ℕ
   pub node : Node

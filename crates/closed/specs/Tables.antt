@@ -1,4 +1,5 @@
--- The states that were reached, each with the least rank at which it was (best-first search: Hart, Nilsson and Raphael 1968).
+-- The states that were reached, each with the least rank at which it was reached (best-first search: Hart, Nilsson and
+-- Raphael 1968).
 use Rattle.std.specs.Prelude.{ℕ, suc, false, if◌then◌else◌, List, [], ◌∷◌, Option, Some}
 use Rattle.std.specs.Option.{option_map}
 use Rattle.families.specs.Owners as machine
@@ -10,7 +11,7 @@ use Rattle.closed.specs.declared.table.Entry.{Entry}
 use Rattle.closed.specs.declared.table.Outcome.{Outcome}
 use Rattle.closed.specs.declared.table.Outcome.TheVariants.{New, Better, Kept}
 
--- ---- what lies in memory
+-- ---- as stored
 
 abbrev pub parent_of : Parent → machine.Parent
 parent_of p = record { worker = p.worker; index = p.index; operator = p.operator }
@@ -19,7 +20,7 @@ abbrev pub message_of : Message → machine.Message
 message_of m =
     record { state = m.state.values.items; cost = m.rank.cost; steps = m.rank.steps; parent = parent_of m.parent }
 
--- a state with what is kept of it
+-- a state with its entry
 abbrev pub node_with : List ℕ → Entry → Node
 node_with state e =
     record {
@@ -36,12 +37,12 @@ fresh state rank parent = node_with state (record { rank = rank; parent = parent
 
 -- ---- the table
 
--- how many values each variable has, and the states that were reached
+-- the range of each variable, and the nodes of the states that were reached
 pub record Table : Type 0 where
   pub ranges : List ℕ
   pub nodes : List Node
 
--- the nodes after a state is reached: each state is there once, with the least rank at which it was
+-- the nodes after a state is reached: each state occurs once, with the least rank at which it was reached
 abbrev pub reached : List Node → Node → List Node
 reached [] m = m ∷ []
 reached (n ∷ ns) m =
@@ -49,7 +50,7 @@ reached (n ∷ ns) m =
     then (if rank_less m.cost m.steps n.cost n.steps then m ∷ ns else n ∷ ns)
     else n ∷ reached ns m
 
--- what comes of reaching a state, where the first node stands at a place
+-- the outcome of reaching a state, where the first of these nodes is at place i
 abbrev pub outcome_from : ℕ → List Node → Node → Outcome
 outcome_from i [] m = New i
 outcome_from i (n ∷ ns) m =
@@ -60,7 +61,7 @@ outcome_from i (n ∷ ns) m =
 abbrev pub outcome_of : List Node → Node → Outcome
 outcome_of nodes m = outcome_from 0 nodes m
 
--- what comes of reaching one state after the other
+-- the outcomes of reaching states one after the other
 abbrev pub outcomes_of : List Node → List Node → List Outcome
 outcomes_of nodes [] = []
 outcomes_of nodes (m ∷ ms) = outcome_of nodes m ∷ outcomes_of (reached nodes m) ms

@@ -1,4 +1,4 @@
-//! Laws of the nodes that are reached. Each function states some as its contract, for all nodes, and its body is empty.
+//! Laws of the nodes of reached states. Each function states laws as its contract, for all nodes, and its body is empty.
 
 ghost use Rattle.std.specs.Prelude.{◌≡◌, ℕ, List, map, fold, Some, slice_get};
 ghost use Rattle.families.specs.Owners as machine;
@@ -10,8 +10,8 @@ ghost use Rattle.closed.specs.declared.table.Outcome.TheVariants.{New, Better, K
 ghost use Rattle.closed.specs.Tables.{parent_of, message_of, fresh, reached, outcome_of, arrival};
 ghost use Rattle.closed.specs.Outcomes.{ComesLast, GivesWay, Stays};
 
-/// Reaching the states of messages does to the nodes what an owner of states does that takes the messages, and so does reaching
-/// a state from one of its own.
+/// Reaching the states of messages changes the nodes as an owner of states does when it takes these messages, and so does
+/// reaching a state from one of its own.
 pub fn reaching_is_improving()
     ensures message { (nodes : List Node) (m : machine.Message) → reached nodes (node_of m) ≡ improve nodes m }
     ensures arrival { (m : Message) → arrival m ≡ node_of (message_of m) }
@@ -22,14 +22,14 @@ pub fn reaching_is_improving()
         improve nodes (record { state = state; cost = rank.cost; steps = rank.steps; parent = parent_of p }) }
 {}
 
-/// An outcome tells where the state's node stands, at what rank it stood before, and what the nodes become.
+/// An outcome determines the place of the state's node, its rank before, and the nodes after.
 pub fn outcomes_tell()
     ensures new { (nodes : List Node) (m : Node) (i : ℕ) → outcome_of nodes m ≡ New i → ComesLast nodes m i }
     ensures better { (nodes : List Node) (m : Node) (i : ℕ) → outcome_of nodes m ≡ Better i → GivesWay nodes m i }
     ensures kept { (nodes : List Node) (m : Node) → outcome_of nodes m ≡ Kept → Stays nodes m }
 {}
 
-/// The node that is reached stands at the outcome's place then.
+/// After a state is reached that is new or has a lesser rank now, its node is at the outcome's place.
 pub fn outcomes_place()
     ensures new { (nodes : List Node) (m : Node) (i : ℕ) → outcome_of nodes m ≡ New i → slice_get (reached nodes m) i ≡ Some m }
     ensures better { (nodes : List Node) (m : Node) (i : ℕ) → outcome_of nodes m ≡ Better i →

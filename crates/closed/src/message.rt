@@ -1,4 +1,4 @@
-//! States on their way from one owner to another.
+//! Messages: states that one owner sends to another.
 
 use openlist::Rank;
 use packed::Plain;
@@ -6,15 +6,15 @@ use packed::Plain;
 /// Where a state was reached from.
 #[derive(Clone, Copy, Debug, PartialEq, Eq)]
 pub struct Parent {
-    /// The worker whose state it was, counted from 0.
+    /// The worker that owns the state from which it was reached, counted from 0.
     pub worker: usize,
-    /// The state's place in that worker's table, counted from 0.
+    /// The place of that state in the worker's table, counted from 0.
     pub index: usize,
-    /// The number of the operator that led on from it, counted from 0.
+    /// The number of the operator that was applied, counted from 0.
     pub operator: usize,
 }
 
-/// A state that was reached, at what rank and where from.
+/// A state that was reached, with its rank and its parent.
 #[derive(Drop)]
 pub struct Message {
     /// The state.

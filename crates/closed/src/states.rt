@@ -1,4 +1,4 @@
-//! States with what is kept of each.
+//! States with their entries.
 
 ghost use Rattle.std.specs.Prelude.{◌≡◌, ℕ, ◌<◌, ◌≤◌, Bool, List, [], take, length, map, fold, Option, slice_get, slice_set, Some, IfOk, OnOk, OnErr, All};
 ghost use Rattle.fdr.specs.Tasks.{IsState};
@@ -16,8 +16,8 @@ use packed::{Layout, Plain, StateForm};
 use std::alloc::{AllocError, Global};
 use std::marker::Model;
 
-/// States in the order in which they were first reached, and found by their values. A contract sees the ranges of the task's
-/// variables and a node for each state.
+/// States in the order in which they were first reached, indexed by their values. A contract sees the ranges of the
+/// task's variables and a node for each state.
 #[derive(Drop)]
 pub(crate) struct States {
     layout: Layout,
@@ -37,7 +37,7 @@ impl Model for States {
     ghost invariant = { λ s. All (λ n. IsState s.layout n.state) (nodes_of s.entries.entries) };
 }
 
-/// What is kept of a message's state.
+/// The entry of a message's state, which is not expanded.
 fn entry_of(message: &Message) -> Entry
     ensures { node_with message.now.state.values.items result ≡ arrival message.now }
 {
@@ -49,7 +49,7 @@ fn entry_of(message: &Message) -> Entry
 }
 
 impl States {
-    /// No state yet.
+    /// A table without states.
     pub(crate) fn new(alloc: Global, layout: Layout) -> States
         ensures ranges { result.ranges ≡ layout }
         ensures none { result.nodes ≡ [] }
@@ -60,7 +60,7 @@ impl States {
         }
     }
 
-    /// How many states there are.
+    /// The number of states.
     pub(crate) fn len(&self) -> usize
         ensures { result ≡ length self.now.nodes }
     {
@@ -74,14 +74,14 @@ impl States {
         &self.layout
     }
 
-    /// Every state is one of the layout. The body tells what the type keeps.
+    /// Every state is a state of the layout: the type's invariant, stated as a contract.
     pub(crate) fn recall(&self)
         ensures { All (λ n. IsState self.now.ranges n.state) self.now.nodes }
     {
         let _ = self.entries.len();
     }
 
-    /// What is kept of the state at that place.
+    /// The entry of the state at that place, counted from 0.
     pub(crate) fn entry(&self, index: usize) -> Entry
         requires { index < length self.now.nodes }
         ensures { (n : Node) → slice_get self.now.nodes index ≡ Some n → n ≡ node_with n.state result }
@@ -89,7 +89,7 @@ impl States {
         self.entries[index]
     }
 
-    /// Writes the values of the state at that place.
+    /// Writes the values of the state at that place, counted from 0, into `values`.
     pub(crate) fn copy_state(&self, index: usize, values: &mut [u32])
         requires index { index < length self.now.nodes }
         requires len { length values.old ≡ length self.now.ranges }
@@ -99,7 +99,7 @@ impl States {
         state.unpack(&self.layout, values);
     }
 
-    /// Notes that the state at that place is expanded at its rank.
+    /// Marks the state at that place as expanded at its rank.
     pub(crate) fn mark_expanded(&mut self, index: usize)
         requires { index < length self.old.nodes }
         ensures nodes { (n : Node) → slice_get self.old.nodes index ≡ Some n →
@@ -109,7 +109,7 @@ impl States {
         self.entries[index].expanded = true;
     }
 
-    /// What comes of reaching a state at a rank. Nothing is changed.
+    /// The outcome of reaching a state at a rank. Nothing is changed.
     fn outcome(&self, state: &Plain, rank: Rank) -> Outcome
         ensures { (parent : Option Parent) (expanded : Bool) → result ≡ outcome_of self.now.nodes
             (node_with state.now.values.items (record { rank = rank; parent = parent; expanded = expanded })) }
@@ -121,8 +121,8 @@ impl States {
         }
     }
 
-    /// Writes what came of reaching a state. An `Err` is of too little memory, comes only for a state that is new, and leaves the
-    /// states as they were.
+    /// Writes the outcome of reaching a state. Fails only if allocation fails, which can happen only for a new state, and
+    /// then leaves the states as they were.
     fn write(&mut self, state: &Plain, entry: Entry, outcome: Outcome) -> Result<(), AllocError>
         requires state { IsState self.old.ranges state.now.values.items }
         requires outcome { outcome ≡ outcome_of self.old.nodes (node_with state.now.values.items entry) }
@@ -142,8 +142,8 @@ impl States {
         Ok(())
     }
 
-    /// Notes that a state was reached. An `Err` is of too little memory, comes only for a state that is new, and leaves the
-    /// states as they were.
+    /// Records that a state was reached. Fails only if allocation fails, which can happen only for a new state, and then
+    /// leaves the states as they were.
     pub(crate) fn reach(&mut self, state: &Plain, entry: Entry) -> Result<Outcome, AllocError>
         requires { IsState self.old.ranges state.now.values.items }
         ensures nodes { OnOk result (self.new.nodes ≡ reached self.old.nodes (node_with state.now.values.items entry)) }
@@ -158,8 +158,8 @@ impl States {
         Ok(outcome)
     }
 
-    /// Puts what is kept of a state that gives way behind what was replaced already. An `Err` is of too little memory, and puts
-    /// nothing there.
+    /// Appends the entry that an outcome replaces, if there is one, to `replaced`. Fails only if allocation fails, and
+    /// then leaves `replaced` as it was.
     fn note(&self, outcome: Outcome, replaced: &mut Vec<(usize, Entry)>) -> Result<(), AllocError>
         requires { (i : ℕ) → outcome ≡ Better i → i < length self.now.nodes }
         ensures noted { OnOk result (Notes self.now.nodes outcome replaced.old.items replaced.new.items) }
@@ -171,8 +171,8 @@ impl States {
         Ok(())
     }
 
-    /// Notes that a state was reached, and puts what was kept of it before, if that is replaced, behind what was replaced
-    /// already. An `Err` is of too little memory. Either way what was replaced takes back what was written.
+    /// Records that a state was reached, and appends the entry that this replaces, if there is one, to `replaced`. Fails
+    /// only if allocation fails. In either case `take_back` with `replaced` undoes what was written.
     fn reach_noting(
         &mut self,
         state: &Plain,
@@ -193,8 +193,8 @@ impl States {
         Ok(outcome)
     }
 
-    /// Notes that the states were reached, one after the other, with the outcome of each and what was replaced. An `Err` is of
-    /// too little memory, and leaves the states as far as they came.
+    /// Records that the states of messages were reached, one after the other, with the outcome of each and the entries
+    /// that were replaced. Fails only if allocation fails, and then `take_back` with `replaced` undoes what was written.
     pub(crate) fn reach_all(
         &mut self,
         messages: &[Message],
@@ -216,7 +216,7 @@ impl States {
         Ok(())
     }
 
-    /// Cuts off the states behind so many.
+    /// Removes the states from place `len` on.
     fn truncate(&mut self, len: usize)
         ensures nodes { self.new.nodes ≡ take len self.old.nodes }
         ensures ranges { self.new.ranges ≡ self.old.ranges }
@@ -224,7 +224,7 @@ impl States {
         self.entries.truncate(len);
     }
 
-    /// Puts back what was kept of the state at that place, if there is one.
+    /// Writes an entry back at that place, if there is a state.
     fn put_back(&mut self, index: usize, entry: Entry)
         ensures nodes { self.new.nodes ≡ with_entry self.old.nodes index entry }
         ensures ranges { self.new.ranges ≡ self.old.ranges }
@@ -234,7 +234,7 @@ impl States {
         }
     }
 
-    /// Cuts off the states behind so many, and of the others puts back what was replaced, the last one first.
+    /// Removes the states from place `len` on, and writes the replaced entries of the others back, the last one first.
     pub(crate) fn take_back(&mut self, len: usize, mut replaced: Vec<(usize, Entry)>)
         ensures nodes { self.new.nodes ≡ taken_back replaced.items (take len self.old.nodes) }
         ensures ranges { self.new.ranges ≡ self.old.ranges }

@@ -1,4 +1,4 @@
-//! The table of the states.
+//! The table of reached states.
 
 ghost use Rattle.std.specs.Prelude.{◌≡◌, ◌<◌, ◌==◌, [], length, map, fold, slice_get, slice_set, Some, IfOk, OnOk, OnErr, All};
 ghost use Rattle.fdr.specs.Tasks as tasks;
@@ -15,7 +15,7 @@ use packed::{Layout, Plain, StateForm};
 use std::alloc::{AllocError, Global};
 use std::marker::Model;
 
-/// What is kept of a state beside its values.
+/// What is stored for a state beside its values.
 #[derive(Clone, Copy, Debug, PartialEq, Eq)]
 pub struct Entry {
     /// The least rank at which the state was reached.
@@ -26,23 +26,23 @@ pub struct Entry {
     pub expanded: bool,
 }
 
-/// What came of reaching a state, with the state's place in the table where it is new or its rank became less.
+/// The outcome of reaching a state, with the state's place in the table, counted from 0, if it is new or its rank fell.
 #[derive(Clone, Copy, Debug, PartialEq, Eq)]
 pub enum Outcome {
-    /// It had not been reached before.
+    /// The state had not been reached before.
     New(usize),
-    /// It had been reached at a greater rank. It has the lesser one now, and is not expanded at it.
+    /// It had been reached at a greater rank. It now has the lesser one, and is not expanded at it.
     Better(usize),
-    /// It had been reached at this rank or a lesser one, and stays as it was.
+    /// It had been reached at this rank or a lesser one, and is unchanged.
     Kept,
 }
 
-/// The states that were reached, in the order in which they first were, and found by their values. A contract sees the ranges
-/// of the task's variables and a node for each state.
+/// The states that were reached, in the order in which they were first reached, indexed by their values. A contract sees
+/// the ranges of the task's variables and a node for each state.
 #[derive(Drop)]
 pub struct ClosedTable {
     states: States,
-    // the form of the state that is looked up
+    /// A buffer for the form of the state that is looked up.
     sought: Plain,
 }
 
@@ -58,7 +58,7 @@ impl Model for ClosedTable {
 }
 
 impl ClosedTable {
-    /// The table of a task's states, with none in it. An `Err` is of too little memory.
+    /// An empty table for the task's states. Fails only if allocation fails.
     pub fn new(alloc: Global, task: &FdrTask) -> Result<ClosedTable, AllocError>
         ensures ranges { IfOk result (λ t. t.ranges ≡ tasks.ranges task.now) }
         ensures none { IfOk result (λ t. t.nodes ≡ []) }
@@ -71,29 +71,29 @@ impl ClosedTable {
         })
     }
 
-    /// How many states are in it.
+    /// The number of states in the table.
     pub fn len(&self) -> usize
         ensures { result ≡ length self.now.nodes }
     {
         self.states.len()
     }
 
-    /// Whether no state is in it.
+    /// Whether the table is empty.
     pub fn is_empty(&self) -> bool
         ensures { result ≡ (length self.now.nodes == 0) }
     {
         self.len() == 0
     }
 
-    /// Every state in the table is one of the task. The body tells what the type keeps.
+    /// Every state in the table is a state of the task: the type's invariant, stated as a contract.
     pub fn recall(&self)
         ensures { All (λ n. IsState self.now.ranges n.state) self.now.nodes }
     {
         self.states.recall();
     }
 
-    /// Notes that a state was reached. An `Err` is of too little memory, and leaves the table as it was. Memory is taken only
-    /// for a state that is new, so that an `Err` comes for no other.
+    /// Records that a state was reached, and returns the outcome. Fails only if allocation fails, which can happen only
+    /// for a new state, and then leaves the table as it was.
     pub fn improve(
         &mut self,
         state: &[u32],
@@ -116,8 +116,8 @@ impl ClosedTable {
         self.states.reach(&self.sought, entry)
     }
 
-    /// Notes that the states were reached, one after the other, and gives the outcome of each. An `Err` is of too little memory,
-    /// and leaves the table as it was.
+    /// Records that the states of messages were reached, one after the other, and returns the outcome of each. Fails only
+    /// if allocation fails, and then leaves the table as it was.
     pub fn improve_all(
         &mut self,
         alloc: Global,
@@ -145,7 +145,7 @@ impl ClosedTable {
         }
     }
 
-    /// What is kept of the state at that place.
+    /// The entry of the state at that place, counted from 0.
     pub fn entry(&self, index: usize) -> Entry
         requires { index < length self.now.nodes }
         ensures { (n : Node) → slice_get self.now.nodes index ≡ Some n → n ≡ node_with n.state result }
@@ -153,7 +153,7 @@ impl ClosedTable {
         self.states.entry(index)
     }
 
-    /// Writes the values of the state at that place.
+    /// Writes the values of the state at that place, counted from 0, into `state`.
     pub fn copy_state(&self, index: usize, state: &mut [u32])
         requires index { index < length self.now.nodes }
         requires len { length state.old ≡ length self.now.ranges }
@@ -162,7 +162,7 @@ impl ClosedTable {
         self.states.copy_state(index, state);
     }
 
-    /// Notes that the state at that place is expanded at its rank.
+    /// Marks the state at that place as expanded at its rank.
     pub fn mark_expanded(&mut self, index: usize)
         requires { index < length self.old.nodes }
         ensures nodes { (n : Node) → slice_get self.old.nodes index ≡ Some n →

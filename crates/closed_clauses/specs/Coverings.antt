@@ -1,4 +1,4 @@
--- The closed states of a certificate with what tells whether a state is covered.
+-- The closed list of a certificate, prepared for the test whether a state is covered.
 use Rattle.std.specs.Prelude.{◌≡◌, ◌<◌, ◌^◌, List, All}
 use Rattle.cost.specs.Distances.{IsWithin}
 use Rattle.fdr.specs.Tasks.{FiniteDomainTask, IsTask}
@@ -8,7 +8,7 @@ pub record Covering : Type 0 where
   pub task : FiniteDomainTask
   pub certificate : CertificateValue
 
--- the parts are of the task and the certificate, whose numbers fit 64 bits
+-- the parts belong to the task and the certificate, whose numbers are below 2^64
 pub record IsCovering
     (task : FiniteDomainTask) (c : CertificateValue) (indexed : List Entry)
     (generated bounded : FiniteDomainTask) (columns : List (List Table))

@@ -1,4 +1,4 @@
-//! What is asked of the initial state and of the successors of closed states.
+//! The clauses C6 and C8: the initial state and the successors of closed states are covered.
 
 ghost use Rattle.std.specs.Prelude.{◌≡◌, ℕ, ◌-◌, ◌<◌, ◌^◌, min, not, All, length, slice_get, option_map, Some, IfOk, IfSome};
 ghost use Rattle.std.specs.List.{find};
@@ -18,7 +18,7 @@ use std::marker::Model;
 use successor_generator::SuccessorGenerator;
 use table_clauses::Heuristic;
 
-/// Recalls that every cost is a number of 64 bits.
+/// Proves that each cost is below 2^64, in time linear in the list.
 fn recall_costs(closed: &ClosedList)
     ensures { All (λ e. e.cost < 2 ^ 64) closed.now }
 {
@@ -27,15 +27,16 @@ fn recall_costs(closed: &ClosedList)
     }
 }
 
-/// Recalls what holds of every distance.
+/// Proves the invariant of a distance.
 fn recall_distance(distance: Dist)
     ensures { IsWithin (2 ^ 63) distance }
 {
     distance.get();
 }
 
-/// The closed states of a certificate for a task, with what tells whether a state is covered: listed with its cost or less,
-/// or far enough from each goal by the tables. A contract sees the task and the certificate.
+/// The closed list of a certificate for a task, prepared for the test whether a state is covered: whether it is in the
+/// list with at most its cost, or reaches the bound with the heuristic of the tables. In contracts its value is the
+/// task and the certificate.
 #[derive(Drop)]
 pub struct Coverage<'a> {
     task: &'a FdrTask,
@@ -56,7 +57,7 @@ impl<'a> Model for Coverage<'a> {
 }
 
 impl<'a> Coverage<'a> {
-    /// The closed states of the certificate. An `Err` is of too little memory.
+    /// Prepares the closed list of the certificate, which must meet the clause C4. Fails only if allocation fails.
     pub fn new(
         alloc: Global,
         task: &'a FdrTask,
@@ -77,7 +78,7 @@ impl<'a> Coverage<'a> {
         })
     }
 
-    /// Whether a state is covered at a cost. The greatest number of 64 bits stands also for any greater cost.
+    /// Whether a state that was reached at this cost is covered. The cost 2^64 - 1 also represents every greater cost.
     fn is_covered(&self, state: &[u32], cost: u64) -> bool
         requires { IsState (ranges self.now.task) state.now }
         ensures { (total : ℕ) → cost ≡ min total (2 ^ 64 - 1)
@@ -89,7 +90,7 @@ impl<'a> Coverage<'a> {
                 .reaches(state, cost, self.certificate.bound())
     }
 
-    /// C6: the initial state, where it is not covered at the cost 0.
+    /// Returns the violation of the clause C6: the initial state is not covered at the cost 0. Returns `None` if it is.
     pub fn start_violation(&self) -> Option<Violation>
         ensures { IsFoundIn self.now.task self.now.certificate 6 result }
     {
@@ -100,8 +101,8 @@ impl<'a> Coverage<'a> {
         }
     }
 
-    /// Whether the successor of the state, which is the one at that place, by the operator is covered, if there is one; it is
-    /// made in the buffer.
+    /// Whether the successor under the operator of the state, which is the closed state at the place, is covered, if
+    /// there is one. `successor` is a buffer for it.
     fn covers(&self, place: usize, state: &[u32], operator: usize, successor: &mut [u32]) -> bool
         requires place { place < length self.now.certificate.closed }
         requires here { option_map (λ e. e.state) (slice_get self.now.certificate.closed place) ≡ Some state.now }
@@ -118,7 +119,8 @@ impl<'a> Coverage<'a> {
         self.is_covered(successor, reached.saturating_add(cost))
     }
 
-    /// The first of the operators by which the state, which is the one at that place, has a successor that is not covered.
+    /// The first of the operators under which the state, which is the closed state at the place, has a successor that
+    /// is not covered. `successor` is a buffer.
     fn first_uncovered(
         &self,
         place: usize,
@@ -140,8 +142,8 @@ impl<'a> Coverage<'a> {
         None
     }
 
-    /// The first operator by which the state at that place has a successor that is not covered. The buffers, of operators,
-    /// for the state and for a successor, are for use within.
+    /// The first operator under which the closed state at the place has a successor that is not covered. `operators`,
+    /// `state` and `successor` are buffers. Fails only if allocation fails.
     fn first_failing(
         &self,
         place: usize,
@@ -161,8 +163,8 @@ impl<'a> Coverage<'a> {
         Ok(self.first_uncovered(place, state, operators, successor))
     }
 
-    /// The first successor of a closed state that is not covered. The buffers, of operators, for the state and for a
-    /// successor, are for use within.
+    /// The first successor of a closed state that is not covered. `operators`, `state` and `successor` are buffers.
+    /// Fails only if allocation fails.
     fn first_failing_successor(
         &self,
         operators: &mut Vec<usize>,
@@ -182,9 +184,11 @@ impl<'a> Coverage<'a> {
         Ok(None)
     }
 
-    /// C8: the first successor of a closed state, by the state's place and the operator's number, that is not covered.
+    /// Returns the first violation of the clause C8, by the place of the closed state and then by the number of the
+    /// operator: a successor that is not covered. Returns `None` if there is none. The certificate must meet the clause
+    /// C5.
     ///
-    /// An `Err` is of too little memory.
+    /// Fails only if allocation fails.
     pub fn first_successor_violation(&self, alloc: Global) -> Result<Option<Violation>, AllocError>
         requires { IsMet self.now.task self.now.certificate 5 }
         ensures { IfOk result (λ found. IsFoundIn self.now.task self.now.certificate 8 found) }

@@ -1,4 +1,4 @@
-//! The goal states among the closed states.
+//! The clause C7: closed goal states cost at least the bound.
 
 ghost use Rattle.std.specs.Prelude.{◌≡◌, ◌<◌, All, length, slice_get, IfOk, IfSome};
 ghost use Rattle.cost.specs.Distances.{Finite, is_at_most};
@@ -22,8 +22,8 @@ fn reaches(bound: Dist, cost: u64) -> bool
     }
 }
 
-/// Whether the state at that place costs at least the bound, if it is a goal state. The buffer, which is as long as each
-/// state, is for use within.
+/// Whether the closed state at the place costs at least the bound, if it is a goal state. `state` is a buffer of the
+/// width of the closed states.
 fn passes_at(task: &FdrTask, certificate: &Certificate, place: usize, state: &mut [u32]) -> bool
     requires place { place < length certificate.now.closed }
     requires state { IfSome (slice_get certificate.now.closed place) (λ e. IsState (ranges task.now) e.state) }
@@ -36,7 +36,7 @@ fn passes_at(task: &FdrTask, certificate: &Certificate, place: usize, state: &mu
     !task.is_goal(state) || reaches(certificate.bound(), closed.cost(place))
 }
 
-/// The first closed state that fails. The buffer, which is as long as each state, is for use within.
+/// The first violation of the clause. `state` is a buffer of the width of the closed states.
 fn first_failing(task: &FdrTask, certificate: &Certificate, state: &mut [u32]) -> Option<Violation>
     requires clause { IsMet task.now certificate.now 5 }
     requires buffer { All (λ e. length e.state ≡ length state.old) certificate.now.closed }
@@ -50,9 +50,10 @@ fn first_failing(task: &FdrTask, certificate: &Certificate, state: &mut [u32]) -
     None
 }
 
-/// C7: the first closed goal state that costs less than the bound.
+/// Returns the first violation of the clause C7, by the place of the closed state: a goal state that costs less than
+/// the bound. Returns `None` if there is none. The certificate must meet the clause C5.
 ///
-/// An `Err` is of too little memory.
+/// Fails only if allocation fails.
 pub fn first_goal_violation(
     alloc: Global,
     task: &FdrTask,

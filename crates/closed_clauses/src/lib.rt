@@ -1,4 +1,4 @@
-//! The clauses of a certificate's closed states, each tested up to the first place where it fails.
+//! The clauses on the closed list of a certificate, each tested up to its first violation.
 #![tactic(auto)]
 
 mod coverage;

@@ -1,4 +1,4 @@
-//! The closed states themselves.
+//! The clause C5: closed states are states of the task, in strictly increasing lexicographic order.
 
 ghost use Rattle.std.specs.Prelude.{◌≡◌, ◌<◌, All, length, IfOk};
 ghost use Rattle.fdr.specs.Tasks.{ranges};
@@ -11,7 +11,7 @@ use checker_clauses::Violation;
 use fdr::FdrTask;
 use std::alloc::{AllocError, Global};
 
-/// Whether there is a value below its range for each variable.
+/// Whether the state has for each variable a value below its range.
 fn is_state(task: &FdrTask, state: &[u32]) -> bool
     ensures { result ≡ spec.is_state (ranges task.now) state.now }
 {
@@ -26,15 +26,15 @@ fn is_state(task: &FdrTask, state: &[u32]) -> bool
     true
 }
 
-/// Whether the first state comes before the second, by values in order.
+/// Whether the first state is lexicographically less than the second.
 fn comes_before(first: &[u32], second: &[u32]) -> bool
     ensures { result ≡ spec.comes_before first.now second.now }
 {
     first < second
 }
 
-/// Whether the state at that place is one of the task, and behind the one before it. Both buffers, which are as long as each
-/// state, are for use within.
+/// Whether the closed state at the place is a state of the task and lexicographically greater than the one before it.
+/// `state` and `before` are buffers of the width of the closed states.
 fn passes_at(
     task: &FdrTask,
     closed: &ClosedList,
@@ -57,7 +57,7 @@ fn passes_at(
     is_state(task, state) && comes_before(before, state)
 }
 
-/// The first closed state that fails. Both buffers, which are as long as each state, are for use within.
+/// The first violation of the clause. `state` and `before` are buffers of the width of the closed states.
 fn first_failing(
     task: &FdrTask,
     certificate: &Certificate,
@@ -77,9 +77,10 @@ fn first_failing(
     None
 }
 
-/// C5: the first closed state that is no state of the task, or not behind the one before it.
+/// Returns the first violation of the clause C5: the place of the first closed state that is not a state of the task,
+/// or not lexicographically greater than the one before it. Returns `None` if there is none.
 ///
-/// An `Err` is of too little memory.
+/// Fails only if allocation fails.
 pub fn first_closed_violation(
     alloc: Global,
     task: &FdrTask,

@@ -6,7 +6,7 @@ use Rattle.closed_index.specs.Chains.{AreChained, bucket_at}
 use Rattle.closed_index.specs.Links.{items_of}
 use Rattle.closed_index.specs.Rooms.{HasLinks}
 
--- each of the first n places of the list is chained in its state's bucket
+-- each of the first n places of the list is chained in the bucket of its state
 pub record IndexesTo (n : ℕ) (closed : List Entry) (chains : Chains) : Type 0 where
   pub links : HasLinks (length closed) chains
   pub chained : AreChained (bucket_at closed chains.buckets) (items_of chains.heads) (items_of chains.nexts) n

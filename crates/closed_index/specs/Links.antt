@@ -1,4 +1,4 @@
--- Numbers as they lie in memory.
+-- Numbers, from their representation in memory.
 use Rattle.std.specs.Prelude.{ℕ, ◌^◌, List}
 use Rattle.closed_index.specs.declared.links.Links.{Links}
 use Rattle.closed_index.specs.declared.links.Links.TheVariants.{Narrow, Wide}
@@ -7,7 +7,7 @@ abbrev pub items_of : Links → List ℕ
 items_of (Narrow items) = items.items
 items_of (Wide items) = items.items
 
--- what each is below
+-- the number that each of them must be below
 abbrev pub limit_of : Links → ℕ
 limit_of (Narrow items) = 2 ^ 32
 limit_of (Wide items) = 2 ^ 64

@@ -1,9 +1,9 @@
--- Chains as they lie in memory.
+-- Chains, from their representation in memory.
 use Rattle.std.specs.Prelude.{◌≡◌, ℕ, ◌+◌, ◌<◌, ◌^◌, length, replicate, slice_index, slice_set}
 use Rattle.closed_index.specs.declared.chains.Chains.{Chains}
 use Rattle.closed_index.specs.Links.{items_of, limit_of}
 
--- some buckets, fewer than 2^32, and links that may lead to so many places
+-- there are buckets, fewer than 2^32, and links that can lead to any of the places
 pub record HasLinks (places : ℕ) (chains : Chains) : Type 0 where
   pub some : 0 < chains.buckets
   pub few : chains.buckets < 2 ^ 32
@@ -18,7 +18,7 @@ pub record HasRoom (places : ℕ) (chains : Chains) : Type 0 where
   pub heads : items_of chains.heads ≡ replicate chains.buckets 0
   pub nexts : items_of chains.nexts ≡ replicate places 0
 
--- the place leads to where its bucket led, and the bucket to the place
+-- the place now leads to where its bucket led, and the bucket to the place
 pub record AddsPlace (place bucket : ℕ) (old new : Chains) : Type 0 where
   pub nexts : items_of new.nexts ≡ slice_set (items_of old.nexts) place (slice_index (items_of old.heads) bucket)
   pub heads : items_of new.heads ≡ slice_set (items_of old.heads) bucket (place + 1)

@@ -5,15 +5,15 @@ ghost use Rattle.std.specs.Prelude.{◌≡◌, ◌+◌, ◌<◌, length, slice_i
 use crate::links::Links;
 use std::alloc::{AllocError, Global};
 
-/// The places of a list, chained by the buckets in which they lie. A link is a place plus one, or 0 for none; each leads to
-/// the last place of its bucket that lies before.
+/// The places of a list, chained by their buckets. A link is a place plus one, or 0 for none; it leads to the last
+/// earlier place of the same bucket.
 #[derive(Drop)]
 pub(crate) struct Chains {
-    // for each bucket, the link to its last place
+    /// For each bucket the link to its last place.
     heads: Links,
-    // for each place, the link to the one before it in its bucket
+    /// For each place the link to the one before it in its bucket.
     nexts: Links,
-    // how many buckets there are
+    /// The number of buckets.
     buckets: usize,
 }
 
@@ -21,7 +21,7 @@ impl Chains {
     ghost use Rattle.closed_index.specs.Links.{items_of, limit_of};
     ghost use Rattle.closed_index.specs.Rooms.{HasRoom, AddsPlace};
 
-    /// No chain yet, with room for so many places.
+    /// Makes chains without a place, for this number of places. Fails only if allocation fails.
     pub(crate) fn new(alloc: Global, places: usize) -> Result<Chains, AllocError>
         ensures { IfOk result (HasRoom places) }
     {
@@ -33,14 +33,14 @@ impl Chains {
         })
     }
 
-    /// How many buckets there are.
+    /// Returns the number of buckets.
     pub(crate) fn buckets(&self) -> usize
         ensures { result ≡ self.now.buckets }
     {
         self.buckets
     }
 
-    /// The link to the bucket's last place.
+    /// Returns the link to the last place of the bucket.
     pub(crate) fn head(&self, bucket: usize) -> usize
         requires { bucket < length (items_of self.now.heads) }
         ensures { result ≡ slice_index (items_of self.now.heads) bucket }
@@ -48,7 +48,7 @@ impl Chains {
         self.heads.get(bucket)
     }
 
-    /// The link to the place before this one in its bucket.
+    /// Returns the link to the place before this one in its bucket.
     pub(crate) fn next(&self, place: usize) -> usize
         requires { place < length (items_of self.now.nexts) }
         ensures { result ≡ slice_index (items_of self.now.nexts) place }
@@ -56,7 +56,7 @@ impl Chains {
         self.nexts.get(place)
     }
 
-    /// Chains the place, which comes behind all those that are chained, in its bucket.
+    /// Adds the place to its bucket. It must come after all places that have been added.
     pub(crate) fn add(&mut self, place: usize, bucket: usize)
         requires bucket { bucket < length (items_of self.old.heads) }
         requires place { place < length (items_of self.old.nexts) }

@@ -1,16 +1,16 @@
-//! In which bucket a state lies.
+//! The hash of a state, and its bucket.
 
 ghost use Rattle.std.specs.Prelude.{◌≡◌, ◌<◌, ◌≤◌, ◌^◌, fold};
 ghost use Rattle.closed_index.specs.Buckets as spec;
 
-/// 2^64 divided by the golden ratio: multiples of it spread over all bits (Knuth 1998, section 6.4).
+/// 2^64 divided by the golden ratio, for multiplicative hashing (Knuth 1998, section 6.4).
 const MULTIPLIER: u64 = 11_400_714_819_323_198_485;
 
-/// 2^32, which parts the upper half of a hash from the lower one.
+/// 2^32, which separates the upper half of a hash from the lower half.
 const HALF: u64 = 4_294_967_296;
 
-/// The hash with one more value. The rotation brings the upper half, in which each bit rests on all those below it, to where
-/// the multiplication spreads it again.
+/// The hash with one more value. In a product each bit depends on all lower bits of the factors, so the upper half is
+/// mixed best; the rotation moves it down, where the next multiplication propagates it to all bits above.
 #[tactic(auto, unfolding(crate::specs::Buckets::mixed))]
 fn mixed(hash: u64, value: u32) -> u64
     ensures { result ≡ spec.mixed hash value }
@@ -29,8 +29,8 @@ fn hash_of(state: &[u32]) -> u64
     hash
 }
 
-/// The bucket of a state, of so many: the upper half of its hash times their number, divided by 2^32, so that no two
-/// buckets differ by more than one in how many hashes they have.
+/// The bucket of a state: the upper half of its hash times the number of buckets, divided by 2^32. So the numbers of
+/// upper halves that lead to two buckets differ by at most one.
 #[tactic(auto, unfolding(crate::specs::Buckets::bucket_of))]
 pub(crate) fn bucket_of(state: &[u32], buckets: usize) -> usize
     requires some { 0 < buckets }

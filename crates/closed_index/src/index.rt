@@ -1,4 +1,4 @@
-//! The index.
+//! The index of a closed list.
 
 ghost use Rattle.std.specs.Prelude.{◌≡◌, ◌<◌, false, length, slice_get, All, IfOk};
 ghost use Rattle.std.specs.Option.{option_map_or};
@@ -13,11 +13,13 @@ use certificates::ClosedList;
 use std::alloc::{AllocError, Global};
 use std::marker::Model;
 
-/// Finds a closed list's states by their values, in 8 bytes a state where there are fewer than 2^32 states. An index of its
-/// own, since a map of the usual kind would hold each state a second time, as its key. A contract sees it as the list.
+/// An index of a closed list by the values of its states. It takes 8 bytes for each state if there are fewer than 2^32
+/// states. A usual hash map would store each state a second time, as its key. In contracts its value is the closed
+/// list.
 ///
-/// The states are chained by a hash of their values, with as many buckets as states (at most 2^32 - 1): a look-up compares a
-/// state with about one other on average, and with all of them where they were chosen so that their hashes collide.
+/// The states are chained by a hash of their values, with as many buckets as states (at most 2^32 - 1). A look-up
+/// compares a state with about one other on average, and with all of them if they were chosen so that their hashes
+/// collide.
 #[derive(Drop)]
 pub struct ClosedIndex<'a> {
     closed: &'a ClosedList,
@@ -36,7 +38,7 @@ impl<'a> Model for ClosedIndex<'a> {
     ghost invariant = { λ index. IndexesTo (length index.closed.now) index.closed.now index.chains };
 }
 
-/// Whether the entry at that place lists the state with this cost or less.
+/// Whether the entry at a place has the state with at most this cost.
 fn lists_at(closed: &ClosedList, place: usize, state: &[u32], cost: u64) -> bool
     requires { place < length closed.now }
     ensures { result ≡ option_map_or (lists state.now cost) (slice_get closed.now place) false }
@@ -44,7 +46,7 @@ fn lists_at(closed: &ClosedList, place: usize, state: &[u32], cost: u64) -> bool
     closed.has_state(place, state) && closed.cost(place) <= cost
 }
 
-/// Chains every state in its bucket. The states are unpacked one after another into `state`, which is as long as each.
+/// Adds every state to its bucket. `state` is a buffer for the values of one state.
 fn chained(closed: &ClosedList, room: Chains, state: &mut [u32]) -> Chains
     requires room { HasRoom (length closed.now) room }
     requires state { All (λ e. length e.state ≡ length state.old) closed.now }
@@ -60,7 +62,7 @@ fn chained(closed: &ClosedList, room: Chains, state: &mut [u32]) -> Chains
 }
 
 impl<'a> ClosedIndex<'a> {
-    /// The index of the list, in time linear in it. An `Err` is of too little memory.
+    /// Makes the index of the list, in linear time. Fails only if allocation fails.
     pub fn new(alloc: Global, closed: &'a ClosedList) -> Result<ClosedIndex<'a>, AllocError>
         ensures { IfOk result (λ index. index ≡ closed.now) }
     {
@@ -70,14 +72,14 @@ impl<'a> ClosedIndex<'a> {
         Ok(ClosedIndex { closed, chains })
     }
 
-    /// Whether the state is listed with this cost or less.
+    /// Whether the state is in the closed list with at most this cost.
     pub fn is_listed(&self, state: &[u32], cost: u64) -> bool
         ensures { result ≡ is_listed self.now state.now cost }
     {
         let mut link = self.chains.head(bucket_of(state, self.chains.buckets()));
         while link > 0 {
             let place = link - 1;
-            // Read before the state, so that memory brings both at once.
+            // read before the state, so that the two memory accesses overlap
             link = self.chains.next(place);
             if lists_at(self.closed, place, state, cost) {
                 return true;

@@ -1,4 +1,4 @@
-//! The states of a closed list, found by their values.
+//! The index of a closed list by the values of its states.
 #![tactic(auto)]
 
 mod chains;

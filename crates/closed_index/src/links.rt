@@ -1,11 +1,11 @@
-//! Links between states.
+//! Links between places.
 
 ghost use Rattle.std.specs.Prelude.{◌≡◌, ◌<◌, length, replicate, slice_index, slice_set, IfOk};
 ghost use Rattle.closed_index.specs.Links.{items_of, limit_of};
 
 use std::alloc::{AllocError, Global};
 
-/// Numbers, in 4 bytes each where all are below 2^32, and in 8 otherwise.
+/// Numbers, of 4 bytes each if all are below 2^32, and else of 8.
 #[derive(Drop)]
 pub(crate) enum Links {
     Narrow(Vec<u32>),
@@ -13,7 +13,7 @@ pub(crate) enum Links {
 }
 
 impl Links {
-    /// So many numbers, each 0, which may become as large as the greatest.
+    /// Returns `len` numbers, each 0, which can be set to any number up to `greatest`. Fails only if allocation fails.
     pub(crate) fn new(alloc: Global, len: usize, greatest: usize) -> Result<Links, AllocError>
         ensures items { IfOk result (λ links. items_of links ≡ replicate len 0) }
         ensures limit { IfOk result (λ links. greatest < limit_of links) }
@@ -25,7 +25,7 @@ impl Links {
         }
     }
 
-    /// The number at that place.
+    /// Returns the number at a place.
     pub(crate) fn get(&self, index: usize) -> usize
         requires { index < length (items_of self.now) }
         ensures { result ≡ slice_index (items_of self.now) index }
@@ -36,7 +36,7 @@ impl Links {
         }
     }
 
-    /// Puts a number at that place.
+    /// Sets the number at a place.
     pub(crate) fn set(&mut self, index: usize, link: usize)
         requires index { index < length (items_of self.old) }
         requires link { link < limit_of self.old }

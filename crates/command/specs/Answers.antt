@@ -1,4 +1,4 @@
--- What is answered for the three texts of a domain, a problem and a plan.
+-- The answer for the three texts of a domain, a problem and a plan.
 use Rattle.std.specs.Prelude.{◌≡◌, ◌≢◌, ℕ, List, string_bytes}
 use Rattle.std.specs.Option.{option_map}
 use Rattle.planning.specs.Planning.{PlanningTask}
@@ -22,7 +22,7 @@ verdict_status (NoSuchAction number) = 3
 verdict_status (NotApplicable number l) = 3
 verdict_status (GoalOpen l) = 3
 
--- The texts spell a task and a plan, and the line and the status are those of the verdict on the plan.
+-- the texts spell a task and a plan, and the line and the status are those of the verdict on the plan
 pub record IsAnswer (domain problem plan line : List ℕ) (status : ℕ) : Type 0 where
   pub task : PlanningTask
   pub spelled : SpellTask domain problem task
@@ -33,8 +33,8 @@ pub record IsAnswer (domain problem plan line : List ℕ) (status : ℕ) : Type 
   pub line_is : line ≡ verdict_line_of task verdict
   pub status_is : status ≡ verdict_status verdict
 
--- The texts are refused: the first two for their first fault, with the word that it names, or the plan for its own
--- where they spell a task.
+-- the texts are refused: the first two for their first fault, with the word that it prints, or the plan for its own if
+-- they spell a task
 abbrev pub IsRefusal : List ℕ → List ℕ → List ℕ → Fault → Type 0
 IsRefusal domain problem plan OutOfMemory = Unit {0}
 IsRefusal domain problem plan (CannotRead file) = ⊥

@@ -1,4 +1,5 @@
--- The check of a certificate for a finite-domain task: the words that ask for it, what is answered for the two texts, and what it does.
+-- The check of a certificate for a finite-domain task: the words that request it, the answer for the two texts, and what
+-- the command does.
 use Rattle.std.specs.Prelude.{◌≡◌, ℕ, true, List, [], ◌∷◌, ◌++◌, codes}
 use Rattle.device.specs.Events.{Event, HasRead}
 use Rattle.checker.specs.Verdicts.{verdict_text}
@@ -10,7 +11,7 @@ use Rattle.replies.specs.declared.fault.Fault.{Fault}
 use Rattle.replies.specs.Faults.{fault_of_check}
 use Rattle.replies.specs.Runs.{is_operand, Follows}
 
--- the words ask for a check: the program's name, `check-sas`, and two files
+-- the words request a check: the program's name, `check-sas`, and two files
 pub record AskForCheck (words : List (List ℕ)) (sas cert : List ℕ) : Type 0 where
   pub program : List ℕ
   pub are : words ≡ program ∷ codes "check-sas" ∷ sas ∷ cert ∷ []
@@ -22,14 +23,14 @@ abbrev pub check_status : Verdict → ℕ
 check_status (Accepted bound) = 0
 check_status (Rejected violation) = 3
 
--- The texts spell a task and a certificate for it, and the line and the status are those of the verdict on the certificate.
+-- the texts spell a task and a certificate, and the line and the status are those of the verdict on the certificate
 pub record IsCheckAnswer (sas cert line : List ℕ) (status : ℕ) : Type 0 where
   pub verdict : Verdict
   pub holds : IsAnswer sas cert verdict
   pub line_is : line ≡ verdict_text verdict ++ codes "\n"
   pub status_is : status ≡ check_status verdict
 
--- One of the texts is refused by the checker, for this fault.
+-- one of the texts is refused by the checker, with this fault
 pub record IsCheckRefusal (sas cert : List ℕ) (e : Fault) : Type 0 where
   pub fault : CheckFault
   pub refused : IsRefusal sas cert fault
@@ -39,7 +40,7 @@ pub record IsCheckRefusal (sas cert : List ℕ) (e : Fault) : Type 0 where
 abbrev pub check_reads : List ℕ → List ℕ → List ℕ → List ℕ → List Event
 check_reads sas s cert c = HasRead sas s ∷ HasRead cert c ∷ []
 
--- The two files are read, in this order, and then the verdict's line is put out, or one of the texts is refused.
+-- the two files are read, in this order; then the verdict's line is printed, or one of the texts is refused
 pub record Checks (old new : List Event) (sas cert : List ℕ) (status : ℕ) : Type 0 where
   pub sas_text : List ℕ
   pub cert_text : List ℕ

@@ -5,7 +5,7 @@ use Rattle.solver.specs.Choices.{Choices}
 use Rattle.solve_command.specs.declared.settings.Settings.{Settings}
 use Rattle.solve_command.specs.Texts.{files_of}
 
--- the text is a number by digits alone, in this range, and a u64
+-- the text spells a number with digits only, in this range and below 2^64
 pub record IsNumberIn (least most : ℕ) (text : List ℕ) : Type 0 where
   pub numeral : IsNumeral 10 text
   pub fits : digits_value 10 text < 2 ^ 64
@@ -17,19 +17,19 @@ abbrev pub IsNumberOf : ℕ → ℕ → Option (List ℕ) → Option ℕ → Typ
 IsNumberOf least most None number = number ≡ None
 IsNumberOf least most (Some text) number = IsNumberIn least most text × (number ≡ Some (digits_value 10 text))
 
--- the number of an option with this value, or where it has none a number that stands for it
+-- the number of an option with this value, or a default if it has none
 abbrev pub IsNumberOr : ℕ → ℕ → ℕ → Option (List ℕ) → ℕ → Type 0
 IsNumberOr absent least most None number = number ≡ absent
 IsNumberOr absent least most (Some text) number = IsNumberIn least most text × (number ≡ digits_value 10 text)
 
--- how a task is to be solved, by the values of the options
+-- the options of the solver, by the values of the command's options
 pub record AreChoicesOf (value : List ℕ → Option (List ℕ)) (choices : Choices) : Type 0 where
   pub workers : IsNumberOr 4 1 64 (value (codes "workers")) choices.workers
   pub table : IsNumberOr 100000 1 16777216 (value (codes "table")) choices.table
   pub limit : IsNumberOf 0 9223372036854775807 (value (codes "limit")) choices.limit
   pub steps : IsNumberOr 1000000 0 9223372036854775807 (value (codes "steps")) choices.steps
 
--- what is asked for beside the task, by the values of the options
+-- what is requested beside the task, by the values of the command's options
 pub record AreSettingsOf (value : List ℕ → Option (List ℕ)) (settings : Settings) : Type 0 where
   pub choices : AreChoicesOf value settings.options
   pub seed : IsNumberOr 0 0 9223372036854775807 (value (codes "simulate")) settings.seed

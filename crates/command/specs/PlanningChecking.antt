@@ -1,4 +1,5 @@
--- The check of a certificate for a planning task: what is answered for the three texts.
+-- The check of a certificate for a planning task: the answer for the three texts, the words that request it, and what the
+-- command does.
 use Rattle.std.specs.Prelude.{◌≡◌, ℕ, true, List, [], ◌∷◌, ◌++◌, codes}
 use Rattle.device.specs.Events.{Event}
 use Rattle.pddl_checker.specs.Judgements.{verdict_text}
@@ -17,14 +18,14 @@ abbrev pub planning_check_status : PlanningVerdict → ℕ
 planning_check_status (Accepted bound) = 0
 planning_check_status (Rejected violation) = 3
 
--- The texts spell a task and a certificate for it, and the line and the status are those of the verdict on the certificate.
+-- the texts spell a task and a certificate, and the line and the status are those of the verdict on the certificate
 pub record IsPlanningCheckAnswer (domain problem cert line : List ℕ) (status : ℕ) : Type 0 where
   pub verdict : PlanningVerdict
   pub holds : checked.IsAnswer domain problem cert verdict
   pub line_is : line ≡ verdict_text verdict ++ codes "\n"
   pub status_is : status ≡ planning_check_status verdict
 
--- One of the texts is refused, for this fault, or a limit is passed.
+-- one of the texts is refused, with this fault, or a limit is exceeded
 abbrev pub IsPlanningCheckRefusal : List ℕ → List ℕ → List ℕ → Fault → Type 0
 IsPlanningCheckRefusal domain problem cert OutOfMemory = Unit {0}
 IsPlanningCheckRefusal domain problem cert (CannotRead file) = ⊥
@@ -37,7 +38,7 @@ IsPlanningCheckRefusal domain problem cert GroundLimit = checked.IsRefusal domai
 IsPlanningCheckRefusal domain problem cert (TaskTooLarge table) = checked.IsRefusal domain problem cert (check.Limit table)
 IsPlanningCheckRefusal domain problem cert TotalTooLarge = ⊥
 
--- the words ask for a check: the program's name, `check`, and three files
+-- the words request a check: the program's name, `check`, and three files
 pub record AskForPlanningCheck (words : List (List ℕ)) (domain problem cert : List ℕ) : Type 0 where
   pub program : List ℕ
   pub are : words ≡ program ∷ codes "check" ∷ domain ∷ problem ∷ cert ∷ []
@@ -45,7 +46,7 @@ pub record AskForPlanningCheck (words : List (List ℕ)) (domain problem cert : 
   pub problem_is : is_operand problem ≡ true
   pub cert_is : is_operand cert ≡ true
 
--- The three files are read, in this order, and then the verdict's line is put out, or one of the texts is refused.
+-- the three files are read, in this order; then the verdict's line is printed, or one of the texts is refused
 pub record ChecksPlanning (old new : List Event) (domain problem cert : List ℕ) (status : ℕ) : Type 0 where
   pub domain_text : List ℕ
   pub problem_text : List ℕ

@@ -7,17 +7,17 @@ use Rattle.solve_command.specs.SasSolving.{SolvesSas}
 use Rattle.solve_command.specs.Texts.{files_of}
 use Rattle.command.specs.Options.{AreSettingsOf}
 
--- the value of an operand, or where it has none the empty text
+-- the value of an operand, or the empty text if it has none
 abbrev pub operand : (List ℕ → Option (List ℕ)) → List ℕ → List ℕ
 operand value name = unwrap_or (value name) []
 
--- the planning task of these files is solved as the options ask for
+-- the planning task of these files is solved as the options request
 pub record SolvesByWords (value : List ℕ → Option (List ℕ)) (old new : List Event) (status : ℕ) : Type 0 where
   pub settings : Settings
   pub asked : AreSettingsOf value settings
   pub solves : Solves old new (operand value (codes "DOMAIN")) (operand value (codes "PROBLEM")) settings.options settings.seed (files_of settings) status
 
--- the finite-domain task of this file is solved as the options ask for
+-- the finite-domain task of this file is solved as the options request
 pub record SolvesSasByWords (value : List ℕ → Option (List ℕ)) (old new : List Event) (status : ℕ) : Type 0 where
   pub settings : Settings
   pub asked : AreSettingsOf value settings

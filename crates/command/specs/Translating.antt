@@ -1,4 +1,4 @@
--- The translation of a planning task: what is answered for its two texts.
+-- The translation of a planning task: the answer for its two texts, the words that request it, and what the command does.
 use Rattle.std.specs.Prelude.{◌≡◌, ℕ, true, List, [], ◌∷◌, ◌++◌, length, map, codes}
 use Rattle.device.specs.Events.{Event}
 use Rattle.planning.specs.Planning.{PlanningTask}
@@ -11,7 +11,7 @@ use Rattle.replies.specs.Runs.{is_operand, Follows, task_reads}
 use Rattle.replies.specs.declared.fault.Fault.{Fault}
 use Rattle.replies.specs.declared.fault.Fault.TheVariants.{OutOfMemory, CannotRead, CannotWrite, Task, Plan, Sas, Cert, GroundLimit, TaskTooLarge, TotalTooLarge}
 
--- The texts spell a task, and the text is the one that is written of a translation of it, which has the same plans.
+-- the texts spell a task, and the text is the written form of a translation of it with the same plans
 pub record IsTranslationText (domain problem text : List ℕ) : Type 0 where
   pub task : PlanningTask
   pub spelled : SpellTask domain problem task
@@ -20,7 +20,7 @@ pub record IsTranslationText (domain problem text : List ℕ) : Type 0 where
   pub same : HasSamePlans task translated
   pub text_is : text ≡ written translated.task (map (λ v. length v.places) translated.variables)
 
--- One of the texts is refused, for this fault, or a limit is passed.
+-- one of the texts is refused, with this fault, or a limit is exceeded
 abbrev pub IsTranslationRefusal : List ℕ → List ℕ → Fault → Type 0
 IsTranslationRefusal domain problem OutOfMemory = Unit {0}
 IsTranslationRefusal domain problem (CannotRead file) = ⊥
@@ -34,18 +34,18 @@ IsTranslationRefusal domain problem (TaskTooLarge table) =
     (task : PlanningTask) × SpellTask domain problem task × IsUntranslated task (translating.Limit table)
 IsTranslationRefusal domain problem TotalTooLarge = ⊥
 
--- the words ask for a translation: the program's name, `translate`, and two files
+-- the words request a translation: the program's name, `translate`, and two files
 pub record AskForTranslation (words : List (List ℕ)) (domain problem : List ℕ) : Type 0 where
   pub program : List ℕ
   pub are : words ≡ program ∷ codes "translate" ∷ domain ∷ problem ∷ []
   pub domain_is : is_operand domain ≡ true
   pub problem_is : is_operand problem ≡ true
 
--- the text is a translation's, and the status 0
+-- the text is that of a translation, and the status is 0
 abbrev pub IsTranslationAnswer : List ℕ → List ℕ → List ℕ → ℕ → Type 0
 IsTranslationAnswer domain problem text status = IsTranslationText domain problem text × (status ≡ 0)
 
--- The two files are read, in this order, and then the text of a translation is put out, or one of the texts is refused.
+-- the two files are read, in this order; then the text of a translation is printed, or one of the texts is refused
 pub record Translates (old new : List Event) (domain problem : List ℕ) (status : ℕ) : Type 0 where
   pub domain_text : List ℕ
   pub problem_text : List ℕ

@@ -1,10 +1,10 @@
--- The validation of a plan: the words that ask for it, and what it does.
+-- The validation of a plan: the words that request it, and what the command does.
 use Rattle.std.specs.Prelude.{◌≡◌, ℕ, true, List, [], ◌∷◌, ◌++◌, codes}
 use Rattle.device.specs.Events.{Event, HasRead}
 use Rattle.replies.specs.Runs.{is_operand, Follows}
 use Rattle.command.specs.Answers.{IsAnswer, IsRefusal}
 
--- the words ask for a plan's validation: the program's name, `validate`, and three files
+-- the words request a plan's validation: the program's name, `validate`, and three files
 pub record AskForValidation (words : List (List ℕ)) (domain problem plan : List ℕ) : Type 0 where
   pub program : List ℕ
   pub are : words ≡ program ∷ codes "validate" ∷ domain ∷ problem ∷ plan ∷ []
@@ -16,7 +16,7 @@ pub record AskForValidation (words : List (List ℕ)) (domain problem plan : Lis
 abbrev pub reads : List ℕ → List ℕ → List ℕ → List ℕ → List ℕ → List ℕ → List Event
 reads domain d problem p plan l = HasRead domain d ∷ HasRead problem p ∷ HasRead plan l ∷ []
 
--- The three files are read, in this order, and then the verdict's line is put out, or one of the texts is refused.
+-- the three files are read, in this order; then the verdict's line is printed, or one of the texts is refused
 pub record Validates (old new : List Event) (domain problem plan : List ℕ) (status : ℕ) : Type 0 where
   pub domain_text : List ℕ
   pub problem_text : List ℕ

@@ -11,7 +11,7 @@ use device::Device;
 use replies::{Fault, FileWord, read_file, reply, report};
 use std::alloc::{AllocError, Global};
 
-/// The exit status of a verdict: 0 where the certificate is accepted, else 3.
+/// The exit status of a verdict: 0 if the certificate is accepted, else 3.
 fn check_status(verdict: &Verdict) -> u8
     ensures status { result ≡ check_status verdict.now }
     ensures small { result ≤ 3 }
@@ -22,7 +22,7 @@ fn check_status(verdict: &Verdict) -> u8
     }
 }
 
-/// The verdict's line, with its line feed.
+/// The verdict's line, with its line feed. Fails only if allocation fails.
 fn check_line(alloc: Global, verdict: &Verdict) -> Result<String, AllocError>
     ensures { IfOk result (λ line. string_bytes line ≡ verdict_text verdict.now ++ codes "\n") }
 {
@@ -31,10 +31,11 @@ fn check_line(alloc: Global, verdict: &Verdict) -> Result<String, AllocError>
     Ok(line)
 }
 
-/// The line that is printed for a certificate's text beside a task's, with its line feed, and the exit status: 0 where the certificate is
-/// accepted, else 3. Each text goes as soon as it is read.
+/// The line that is printed for a certificate's text and a task's, with its line feed, and the exit status: 0 if the
+/// certificate is accepted, else 3. Each text is dropped as soon as it is parsed.
 ///
-/// A fault is the first of the task's text, or that of the certificate's where the other spells a task.
+/// Fails with the first fault of the task's text; if that spells a task, with the first fault of the certificate's; or
+/// with `OutOfMemory`.
 fn check_of<R: AllocGlobal>(rt: &R, sas: Vec<u8>, cert: Vec<u8>) -> Result<(String, u8), Fault>
     ensures answer { IfOk result (λ r. IsCheckAnswer sas.items cert.items (string_bytes r.0) r.1) }
     ensures small { IfOk result (λ r. r.1 ≤ 3) }
@@ -50,7 +51,7 @@ fn check_of<R: AllocGlobal>(rt: &R, sas: Vec<u8>, cert: Vec<u8>) -> Result<(Stri
     }
 }
 
-/// Reads the two files, in this order.
+/// The bytes of the two files, read in this order. Fails as `read_file` does.
 fn read_texts<D: Device>(
     alloc: Global,
     device: &mut D,
@@ -67,7 +68,8 @@ fn read_texts<D: Device>(
     Ok((sas, cert))
 }
 
-/// Checks a certificate: reads the two files, and puts out the verdict's line or reports the fault. Gives the exit status.
+/// Checks a certificate for a finite-domain task: reads the two files, and prints the verdict's line or reports the
+/// fault. Returns the exit status.
 pub fn run_check<D: Device, R: AllocGlobal>(rt: &R, device: &mut D, sas: &str, cert: &str) -> u8
     ensures done { (h : List Event) → D.history device.old ≡ Some h → D.failure_count device.new ≡ D.failure_count device.old → result ≢ 6 →
         (new : List Event) × (D.history device.new ≡ Some new) × Checks h new sas.now cert.now result }

@@ -1,4 +1,4 @@
-//! The words of the command line.
+//! The command line.
 
 ghost use Rattle.std.specs.Prelude.{◌≡◌, ◌≢◌, ◌≤◌, ◌+◌, ℕ, List, codes, length, slice_get, Some, IfOk, IfSome, OnErr, IsSomeAnd};
 ghost use Rattle.names.specs.Names.{texts_of};
@@ -155,7 +155,7 @@ fn check_sas_command<'a>(alloc: Global) -> Result<Command<'a>, AllocError> {
         )
 }
 
-// The commands that judge a plan or a certificate.
+/// Adds the commands that judge a plan or a certificate.
 fn with_judging<'a>(alloc: Global, command: Command<'a>) -> Result<Command<'a>, AllocError> {
     command
         .subcommand(validate_command(alloc)?)?
@@ -163,7 +163,7 @@ fn with_judging<'a>(alloc: Global, command: Command<'a>) -> Result<Command<'a>, 
         .subcommand(check_command(alloc)?)
 }
 
-// The commands that translate or solve a task.
+/// Adds the commands that translate or solve a task.
 fn with_solving<'a>(alloc: Global, command: Command<'a>) -> Result<Command<'a>, AllocError> {
     command
         .subcommand(translate_command(alloc)?)?
@@ -220,7 +220,7 @@ fn run_words<D: Device, R: AllocGlobal>(
     }
 }
 
-/// Shows help on standard output, or what is wrong with the words on standard error.
+/// Prints help on standard output, or reports an error in the words on standard error. Returns the exit status.
 fn show<D: Device>(alloc: Global, device: &mut D, error: &Error) -> u8
     ensures counted { result ≡ 7 → D.failure_count device.old + 1 ≤ D.failure_count device.new }
 {
@@ -237,7 +237,7 @@ fn show<D: Device>(alloc: Global, device: &mut D, error: &Error) -> u8
     put_text(alloc, device, text.as_bytes(), 0)
 }
 
-/// Whether no option begins with the word.
+/// Whether the word does not start an option.
 fn is_operand(word: &str) -> bool
     ensures { result ≡ is_operand word.now }
 {
@@ -247,7 +247,7 @@ fn is_operand(word: &str) -> bool
     }
 }
 
-/// The files of a plan's validation, where the words are a command and three files, and nothing else.
+/// The files of a plan's validation, if the words are the program, the command and three files, and nothing else.
 fn plain_validation(words: &[String]) -> Option<(&str, &str, &str)>
     ensures five { IfSome result (λ _. length words.now ≡ 5) }
     ensures found { (domain problem plan : List ℕ) → AskForValidation (texts_of words.now) domain problem plan →
@@ -272,7 +272,8 @@ fn plain_validation(words: &[String]) -> Option<(&str, &str, &str)>
     }
 }
 
-/// The files of a check, where the words are a command and two files, and nothing else.
+/// The files of a check for a finite-domain task, if the words are the program, the command and two files, and nothing
+/// else.
 fn plain_check(words: &[String]) -> Option<(&str, &str)>
     ensures { (sas cert : List ℕ) → AskForCheck (texts_of words.now) sas cert →
         IsSomeAnd result (λ files. (files.0.now ≡ sas) × (files.1.now ≡ cert)) }
@@ -291,7 +292,7 @@ fn plain_check(words: &[String]) -> Option<(&str, &str)>
     }
 }
 
-/// The files of a certificate's check for a planning task, where the words are a command and three files, and nothing else.
+/// The files of a check for a planning task, if the words are the program, the command and three files, and nothing else.
 fn plain_planning_check(words: &[String]) -> Option<(&str, &str, &str)>
     ensures command { IfSome result (λ _. slice_get (texts_of words.now) 1 ≡ Some (codes "check")) }
     ensures found { (domain problem cert : List ℕ) → AskForPlanningCheck (texts_of words.now) domain problem cert →
@@ -316,7 +317,7 @@ fn plain_planning_check(words: &[String]) -> Option<(&str, &str, &str)>
     }
 }
 
-/// The files of a translation, where the words are a command and two files, and nothing else.
+/// The files of a translation, if the words are the program, the command and two files, and nothing else.
 fn plain_translation(words: &[String]) -> Option<(&str, &str)>
     ensures command { IfSome result (λ _. slice_get (texts_of words.now) 1 ≡ Some (codes "translate")) }
     ensures found { (domain problem : List ℕ) → AskForTranslation (texts_of words.now) domain problem →
@@ -336,8 +337,8 @@ fn plain_translation(words: &[String]) -> Option<(&str, &str)>
     }
 }
 
-/// Does what the words ask for but for a certificate's check for a planning task and a translation, where nothing stands but the command and
-/// its files.
+/// Runs the commands other than a plain check for a planning task and a plain translation: those with nothing but the
+/// command and its files. Returns the exit status.
 fn run_others<D: Device, R: AllocGlobal>(words: &[String], device: &mut D, rt: &R) -> u8
     ensures validates { (h : List Event) (domain problem plan : List ℕ) → D.history device.old ≡ Some h → AskForValidation (texts_of words.now) domain problem plan →
         D.failure_count device.new ≡ D.failure_count device.old → result ≢ 6 →
@@ -360,11 +361,12 @@ fn run_others<D: Device, R: AllocGlobal>(words: &[String], device: &mut D, rt: &
     }
 }
 
-/// The whole program: does what the words ask for, the first of which is the program's name, and gives the exit status.
+/// The whole program: does what the words request, the first of which is the program's name, and returns the exit status.
 ///
-/// Files are read, and text is written, through the device. 0: valid, accepted, translated or solved, or help was shown; 1: a text is refused; 2: the
-/// words ask for nothing; 3: the plan is not valid, or the certificate is rejected; 4: there is no plan; 5: a search came to a limit;
-/// 6: memory was refused; 7: the device failed to read a file or to write. A report on standard error that fails leaves the status as it is.
+/// Files are read and texts are written through the device. The statuses are 0: valid, accepted, translated or solved, or
+/// help was printed; 1: a text or a task is refused; 2: the words are not a command; 3: the plan is not valid, or the
+/// certificate is rejected; 4: there is no plan; 5: a search came to a limit; 6: memory ran out; 7: the device failed to
+/// read or to write. A report on standard error that fails leaves the status as it is.
 pub fn run<D: Device, R: AllocGlobal>(words: &[String], device: &mut D, rt: &R) -> u8
     ensures validates { (h : List Event) (domain problem plan : List ℕ) → D.history device.old ≡ Some h → AskForValidation (texts_of words.now) domain problem plan →
         D.failure_count device.new ≡ D.failure_count device.old → result ≢ 6 →

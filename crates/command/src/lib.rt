@@ -1,4 +1,4 @@
-//! The commands of optplan over any device: what each puts out or reports, and the status that it ends with.
+//! The commands of optplan, over any device: what each prints or reports, and its exit status.
 #![tactic(auto)]
 
 mod checking;

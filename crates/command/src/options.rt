@@ -1,4 +1,4 @@
-//! Options that take numbers.
+//! Options with numbers.
 
 ghost use Rattle.std.specs.Prelude.{◌≤◌, IfOk, IfSome, SomeIff};
 ghost use Rattle.std.specs.Str.Parse.{digits_value};
@@ -9,7 +9,7 @@ use clap::error::ErrorKind;
 use clap::{ArgMatches, Command, Error};
 use std::alloc::{AllocError, Global};
 
-/// A value that an option does not take, which takes numbers in a range.
+/// A value that is refused for an option that takes numbers in a range.
 #[derive(Clone, Copy, Debug)]
 pub(crate) struct RefusedValue<'a> {
     option: &'a str,
@@ -19,7 +19,7 @@ pub(crate) struct RefusedValue<'a> {
 }
 
 impl<'a> RefusedValue<'a> {
-    /// What the command says of the value.
+    /// The command's error for the value; an out-of-memory error if allocation fails.
     pub(crate) fn error(self, alloc: Global, command: Command<'_>) -> Error {
         let RefusedValue {
             option,
@@ -41,11 +41,11 @@ impl<'a> RefusedValue<'a> {
     }
 }
 
-/// The number that a text has by digits alone, if it lies in this range.
+/// The number that a text spells with digits only, if it is in this range.
 fn number_in(text: &str, least: u64, most: u64) -> Option<u64>
     ensures { SomeIff result (IsNumberIn least most text.now) (digits_value 10 text.now) }
 {
-    // to `parse` a plus is a sign
+    // `parse` takes a plus as a sign
     if text.starts_with('+') {
         return None;
     }
@@ -55,9 +55,7 @@ fn number_in(text: &str, least: u64, most: u64) -> Option<u64>
     }
 }
 
-/// The number that an option is given, if it is there.
-///
-/// A value that is no number in this range is refused.
+/// The number that is given for an option, if the option is there. Fails if the value is not a number in this range.
 pub(crate) fn number_for<'a>(
     words: &ArgMatches<'a>,
     option: &'a str,

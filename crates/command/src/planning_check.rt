@@ -13,7 +13,7 @@ use pddl_checker::{PlanningCheckFault, PlanningVerdict, check_pddl};
 use replies::{Fault, FileWord, read_file, reply, report, task_fault};
 use std::alloc::{AllocError, Global};
 
-/// The exit status of a verdict: 0 where the certificate is accepted, else 3.
+/// The exit status of a verdict: 0 if the certificate is accepted, else 3.
 fn planning_check_status(verdict: &PlanningVerdict) -> u8
     ensures status { result ≡ planning_check_status verdict.now }
     ensures small { result ≤ 3 }
@@ -24,7 +24,7 @@ fn planning_check_status(verdict: &PlanningVerdict) -> u8
     }
 }
 
-/// The verdict's line, with its line feed.
+/// The verdict's line, with its line feed. Fails only if allocation fails.
 fn planning_check_line(alloc: Global, verdict: &PlanningVerdict) -> Result<String, AllocError>
     ensures { IfOk result (λ line. string_bytes line ≡ verdict_text verdict.now ++ codes "\n") }
 {
@@ -33,7 +33,7 @@ fn planning_check_line(alloc: Global, verdict: &PlanningVerdict) -> Result<Strin
     Ok(line)
 }
 
-/// The checker's fault as the program's, with the word that it is printed with.
+/// The checker's fault as the program's, with the word that it prints.
 fn planning_check_fault(
     alloc: Global,
     fault: PlanningCheckFault,
@@ -54,10 +54,11 @@ fn planning_check_fault(
     }
 }
 
-/// The line that is printed for a certificate's text beside those of a domain and a problem, with its line feed, and the exit
-/// status: 0 where the certificate is accepted, else 3.
+/// The line that is printed for a certificate's text and the texts of a domain and a problem, with its line feed, and the
+/// exit status: 0 if the certificate is accepted, else 3.
 ///
-/// A fault is the one of the domain and the problem that goes first, or the first of the certificate, or a limit that is passed.
+/// Fails with the fault of the domain and the problem that comes first, with the first fault of the certificate, with the
+/// limit that is exceeded, or with `OutOfMemory`.
 fn planning_check_of<R: AllocGlobal>(
     rt: &R,
     domain: &[u8],
@@ -86,7 +87,7 @@ struct Texts {
     cert: Vec<u8>,
 }
 
-/// Reads the three files, in this order.
+/// The bytes of the three files, read in this order. Fails as `read_file` does.
 fn read_texts<D: Device>(
     alloc: Global,
     device: &mut D,
@@ -109,7 +110,8 @@ fn read_texts<D: Device>(
     })
 }
 
-/// Checks a certificate: reads the three files, and puts out the verdict's line or reports the fault. Gives the exit status.
+/// Checks a certificate for a planning task: reads the three files, and prints the verdict's line or reports the fault.
+/// Returns the exit status.
 pub fn run_planning_check<D: Device, R: AllocGlobal>(
     rt: &R,
     device: &mut D,

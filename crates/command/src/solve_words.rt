@@ -43,7 +43,7 @@ effects), and prints:
 The certificate that --cert asks for is what the command check-sas takes, beside the task. A text that cannot be read is
 refused with one line on standard error, and so is a task that is too large (status 1).";
 
-/// The greatest number of most options.
+/// The greatest number of most options, 2^63 - 1.
 const MOST: u64 = 9_223_372_036_854_775_807;
 
 fn option<'a>(alloc: Global, name: &'a str, value: &'a str, help: &'a str) -> Arg<'a> {
@@ -53,7 +53,7 @@ fn option<'a>(alloc: Global, name: &'a str, value: &'a str, help: &'a str) -> Ar
         .help(help)
 }
 
-/// The options that say how the task is searched.
+/// Adds the options of the search.
 fn with_search_options<'a>(alloc: Global, command: Command<'a>) -> Result<Command<'a>, AllocError> {
     command
         .arg(option(
@@ -93,7 +93,7 @@ fn with_search_options<'a>(alloc: Global, command: Command<'a>) -> Result<Comman
         .arg(option(alloc, "steps", "N", "How many steps may be drawn").default_value("1000000"))
 }
 
-/// The options that name files.
+/// Adds the options that name files.
 fn with_file_options<'a>(alloc: Global, command: Command<'a>) -> Result<Command<'a>, AllocError> {
     command
         .arg(option(alloc, "plan", "FILE", "Writes the plan to this file too"))?
@@ -105,7 +105,7 @@ fn with_file_options<'a>(alloc: Global, command: Command<'a>) -> Result<Command<
         ))
 }
 
-/// The command `solve`, by this name.
+/// The command `solve`, by this name. Fails only if allocation fails.
 pub(crate) fn solve_command<'a>(alloc: Global, name: &'a str) -> Result<Command<'a>, AllocError> {
     let command = Command::new(alloc, name)
         .about(SOLVE_ABOUT)
@@ -123,7 +123,7 @@ pub(crate) fn solve_command<'a>(alloc: Global, name: &'a str) -> Result<Command<
     with_file_options(alloc, with_search_options(alloc, command)?)
 }
 
-/// The command `solve-sas`, by this name.
+/// The command `solve-sas`, by this name. Fails only if allocation fails.
 pub(crate) fn solve_sas_command<'a>(
     alloc: Global,
     name: &'a str,
@@ -139,9 +139,8 @@ pub(crate) fn solve_sas_command<'a>(
     with_file_options(alloc, with_search_options(alloc, command)?)
 }
 
-/// How the task is to be searched, by the options. What they leave out is as in `Options::new`.
-///
-/// The first value that its option does not take is refused.
+/// The options of the search, as in `Options::new` where the words leave them out. Fails with the first value that is
+/// refused.
 fn search_options<'a>(words: &ArgMatches<'a>) -> Result<Options, RefusedValue<'a>>
     ensures { IfOk result (AreChoicesOf (λ name. first_value (found_of words.now) name)) }
 {
@@ -161,9 +160,7 @@ fn search_options<'a>(words: &ArgMatches<'a>) -> Result<Options, RefusedValue<'a
     }
 }
 
-/// What the words ask for beside the task.
-///
-/// The first value that its option does not take is refused.
+/// What the words request beside the task. Fails with the first value that is refused.
 fn settings_of<'a>(words: &ArgMatches<'a>) -> Result<Settings<'a>, RefusedValue<'a>>
     ensures { IfOk result (AreSettingsOf (λ name. first_value (found_of words.now) name)) }
 {
@@ -177,7 +174,8 @@ fn settings_of<'a>(words: &ArgMatches<'a>) -> Result<Settings<'a>, RefusedValue<
     })
 }
 
-/// Solves a planning task as the words ask for.
+/// Solves a planning task as the words request, and returns the exit status. Fails with the command's error for the first
+/// value that is refused, or if allocation fails.
 pub(crate) fn solve_by_words<D: Device, R: AllocGlobal>(
     rt: &R,
     device: &mut D,
@@ -200,7 +198,8 @@ pub(crate) fn solve_by_words<D: Device, R: AllocGlobal>(
     Ok(run_solve(rt, device, domain, problem, &settings))
 }
 
-/// Solves a finite-domain task as the words ask for.
+/// Solves a finite-domain task as the words request, and returns the exit status. Fails with the command's error for the
+/// first value that is refused, or if allocation fails.
 pub(crate) fn solve_sas_by_words<D: Device, R: AllocGlobal>(
     rt: &R,
     device: &mut D,

@@ -20,7 +20,7 @@ use translate::{Translated, translate};
 use translate_vars::TranslateFault;
 use variables::ListedVariable;
 
-/// How many atoms each variable has.
+/// The number of atoms of each variable. Fails only if allocation fails.
 fn sizes_of(alloc: Global, variables: &[ListedVariable]) -> Result<Vec<usize>, AllocError>
     ensures { IfOk result (λ sizes. sizes.items ≡ map (λ v. length v.places) variables.now) }
 {
@@ -31,7 +31,7 @@ fn sizes_of(alloc: Global, variables: &[ListedVariable]) -> Result<Vec<usize>, A
     Ok(sizes)
 }
 
-/// The text of a translated task.
+/// The text of a translated task. Fails only if allocation fails.
 fn text_of(alloc: Global, translated: &Translated) -> Result<Vec<u8>, AllocError>
     ensures { IfOk result (λ text. text.items ≡ written translated.now.task (map (λ v. length v.places) translated.now.variables)) }
 {
@@ -39,7 +39,8 @@ fn text_of(alloc: Global, translated: &Translated) -> Result<Vec<u8>, AllocError
     write_sas(alloc, translated.task(), &sizes)
 }
 
-/// The text of a translation of a task that texts spell.
+/// The text of a translation of a task that texts spell. Fails if the task or its translation exceeds a limit, or if
+/// allocation fails.
 fn translation_text(alloc: Global, task: &Task) -> Result<Vec<u8>, Fault>
     requires small { IsTrue (has_small_costs task.now) }
     requires costs { (a : Action) → IsActionOf task.now a → a.cost ≤ 2147483647 }
@@ -63,9 +64,8 @@ fn translation_text(alloc: Global, task: &Task) -> Result<Vec<u8>, Fault>
     }
 }
 
-/// The text of the translation of the task of two texts.
-///
-/// A fault is the one of the texts that goes first, or a limit that is passed.
+/// The text of the translation of the task that the texts spell. Fails with the fault of the texts that comes first, with
+/// the limit that is exceeded, or with `OutOfMemory`.
 fn translation_of(alloc: Global, domain: &[u8], problem: &[u8]) -> Result<Vec<u8>, Fault>
     ensures text { IfOk result (λ text. IsTranslationText domain.now problem.now text.items) }
     ensures refused { IfErr result (IsTranslationRefusal domain.now problem.now) }
@@ -76,7 +76,7 @@ fn translation_of(alloc: Global, domain: &[u8], problem: &[u8]) -> Result<Vec<u8
     }
 }
 
-/// Replies to the texts of a task: puts out the text of its translation, or reports their fault. Gives the exit status.
+/// Prints the text of a translation, or reports the fault of the texts, and returns the exit status.
 fn reply_text<D: Device>(alloc: Global, device: &mut D, answer: &Result<Vec<u8>, Fault>) -> u8
     ensures answered { result ≢ 6 → result ≢ 7 → IfOk answer.now (λ text. Adds (D.history device.old) (D.history device.new) (HasPut text.items)) }
     ensures status { result ≢ 6 → result ≢ 7 → IfOk answer.now (λ _. result ≡ 0) }
@@ -91,7 +91,8 @@ fn reply_text<D: Device>(alloc: Global, device: &mut D, answer: &Result<Vec<u8>,
     }
 }
 
-/// Translates a task: reads the two files, and puts out the text of its translation or reports the fault. Gives the exit status.
+/// Translates a planning task: reads the two files, and prints the text of its translation or reports the fault. Returns
+/// the exit status.
 pub fn run_translation<D: Device>(alloc: Global, device: &mut D, domain: &str, problem: &str) -> u8
     ensures done { (h : List Event) → D.history device.old ≡ Some h → D.failure_count device.new ≡ D.failure_count device.old → result ≢ 6 →
         (new : List Event) × (D.history device.new ≡ Some new) × Translates h new domain.now problem.now result }

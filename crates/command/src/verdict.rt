@@ -1,4 +1,4 @@
-//! From three texts to the line that is printed.
+//! The answer for the texts of a domain, a problem and a plan: the line that is printed.
 
 ghost use Rattle.std.specs.Prelude.{◌≡◌, ◌≤◌, ℕ, List, IsTrue, IfOk, IfErr, string_bytes};
 ghost use Rattle.planning.specs.Planning.{PlanningTask, has_small_costs};
@@ -15,7 +15,7 @@ use replies::{Fault, task_fault};
 use std::alloc::{AllocError, Global};
 use validate::{Plan, PlanFault, Verdict, read_plan, validate, verdict_line};
 
-/// The exit status of a verdict: 0 where the plan is valid, else 3.
+/// The exit status of a verdict: 0 if the plan is valid, else 3.
 fn verdict_status(verdict: &Verdict) -> u8
     ensures status { result ≡ verdict_status verdict.now }
     ensures small { result ≤ 3 }
@@ -36,7 +36,7 @@ fn plan_fault(fault: PlanFault) -> Fault
     }
 }
 
-/// The verdict's line, with its line feed, and the exit status.
+/// The verdict's line, with its line feed, and the exit status. Fails only if allocation fails.
 fn line_of(alloc: Global, task: &Task, plan: &Plan) -> Result<(String, u8), AllocError>
     requires small { IsTrue (has_small_costs task.now) }
     requires costs { CostsAtMost task.now 2147483647 }
@@ -49,7 +49,8 @@ fn line_of(alloc: Global, task: &Task, plan: &Plan) -> Result<(String, u8), Allo
     Ok((line, status))
 }
 
-/// What is answered for a plan's text in a task.
+/// The answer for a plan's text: the verdict's line, with its line feed, and the exit status. Fails with the fault of the
+/// plan's text, or with `OutOfMemory`.
 fn answer_of(alloc: Global, task: &Task, plan: &[u8]) -> Result<(String, u8), Fault>
     requires small { IsTrue (has_small_costs task.now) }
     requires costs { CostsAtMost task.now 2147483647 }
@@ -67,9 +68,10 @@ fn answer_of(alloc: Global, task: &Task, plan: &[u8]) -> Result<(String, u8), Fa
     }
 }
 
-/// The line that is printed for a plan, with its line feed, and the exit status: 0 where the plan is valid, else 3.
+/// The line that is printed for a plan, with its line feed, and the exit status: 0 if the plan is valid, else 3.
 ///
-/// A fault is the first of the domain and the problem, or that of the plan's text where these two spell a task.
+/// Fails with the fault of the domain and the problem that comes first; if they spell a task, with that of the plan's
+/// text; or with `OutOfMemory`.
 #[tactic(auto, unfolding(validate::specs::Verdicts::CostsAtMost))]
 pub fn verdict_of(
     alloc: Global,

@@ -1,4 +1,4 @@
--- The order of distances: it is a total order, and `distance_cmp` and the tests decide it.
+-- The order of distances is total, and `distance_cmp` decides it.
 use Rattle.std.proofs.Common.{◌≡◌, ℕ, ◌<◌, refl, ap, arith}
 use Rattle.std.specs.declared.cmp.Ordering.{Ordering}
 use Rattle.std.specs.declared.cmp.Ordering.TheVariants.{Less, Equal, Greater}
@@ -6,7 +6,7 @@ use Rattle.std.specs.Ordering.{nat_cmp, MatchOrdering}
 use Rattle.std.specs.Cmp.{IsTotalOrder, ranks, strict}
 use Rattle.cost.specs.Distances.{Distance, Finite, Infinite, ◌<ᵈ◌, distance_cmp}
 
--- nothing is below itself
+-- no distance is below itself
 pub not_below_itself : (d : Distance) → ¬ (d <ᵈ d)
 not_below_itself (Finite m) h = omega arith
 not_below_itself Infinite h = absurd h
@@ -22,7 +22,7 @@ match_finite Less m n h = h
 match_finite Equal m n h = ap Finite h
 match_finite Greater m n h = h
 
--- `distance_cmp` says which of two distances is below the other
+-- `distance_cmp` decides which of two distances is below the other
 pub distance_cmp-ranks : (d e : Distance) → MatchOrdering (distance_cmp d e) (d <ᵈ e) (d ≡ e) (e <ᵈ d)
 distance_cmp-ranks (Finite m) (Finite n) = match_finite (nat_cmp m n) m n (ranks m n)
 distance_cmp-ranks (Finite m) Infinite = tt

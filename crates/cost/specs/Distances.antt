@@ -1,4 +1,4 @@
--- Distances: numbers, and one that is above them all.
+-- Distances: numbers, and one that is greater than all of them.
 use Rattle.std.specs.Prelude.{◌≡◌, ℕ, ◌+◌, ◌<◌, ◌≤◌, Bool, true, false, nat_le, nat_lt, max, min, List, [], ◌∷◌, Option, None, Some, decimal, codes, refl}
 use Rattle.std.specs.declared.cmp.Ordering.{Ordering}
 use Rattle.std.specs.declared.cmp.Ordering.TheVariants.{Less, Equal, Greater}
@@ -11,12 +11,12 @@ pub data Distance : Type 0 where
   Finite : ℕ → Distance
   Infinite : Distance
 
--- what a kept value stands for
+-- the distance that a stored value represents
 abbrev pub distance_in : Value → Distance
 distance_in (value.Finite n) = Finite n
 distance_in value.Infinite = Infinite
 
--- how a distance is kept
+-- the stored value that represents a distance
 abbrev pub kept : Distance → Value
 kept (Finite n) = value.Finite n
 kept Infinite = value.Infinite
@@ -34,7 +34,7 @@ d ≤ᵈ Infinite = Unit {0}
 Infinite ≤ᵈ Finite n = ⊥
 Finite m ≤ᵈ Finite n = m ≤ n
 
--- the same as a test
+-- whether the first distance is at most the second
 abbrev pub is_at_most : Distance → Distance → Bool
 is_at_most d Infinite = true
 is_at_most Infinite (Finite n) = false
@@ -46,7 +46,7 @@ Infinite <ᵈ e = ⊥
 Finite m <ᵈ Infinite = Unit {0}
 Finite m <ᵈ Finite n = m < n
 
--- the same as a test
+-- whether the first distance is below the second
 abbrev pub is_below : Distance → Distance → Bool
 is_below Infinite e = false
 is_below (Finite m) Infinite = true
@@ -59,55 +59,55 @@ distance_cmp (Finite m) Infinite = Less
 distance_cmp Infinite (Finite n) = Greater
 distance_cmp Infinite Infinite = Equal
 
--- infinite plus anything is infinite
+-- the sum of two distances, which is infinite if one of them is
 abbrev pub ◌+ᵈ◌ : Distance → Distance → Distance
 Infinite +ᵈ e = Infinite
 Finite m +ᵈ Infinite = Infinite
 Finite m +ᵈ Finite n = Finite (m + n)
 
--- the larger of two
+-- the greater of two distances
 abbrev pub larger : Distance → Distance → Distance
 larger Infinite e = Infinite
 larger (Finite m) Infinite = Infinite
 larger (Finite m) (Finite n) = Finite (max m n)
 
--- the lesser of two
+-- the lesser of two distances
 abbrev pub lesser : Distance → Distance → Distance
 lesser Infinite e = e
 lesser (Finite m) Infinite = Finite m
 lesser (Finite m) (Finite n) = Finite (min m n)
 
--- the sum of distances
+-- the sum of a list of distances
 abbrev pub total : List Distance → Distance
 total [] = Finite 0
 total (d ∷ ds) = d +ᵈ total ds
 
--- the greatest of distances, and 0 where there is none
+-- the greatest of a list of distances, and 0 of an empty list
 abbrev pub greatest : List Distance → Distance
 greatest [] = Finite 0
 greatest (d ∷ ds) = larger d (greatest ds)
 
--- the least of distances, and infinite where there is none
+-- the least of a list of distances, and infinite of an empty list
 abbrev pub least : List Distance → Distance
 least [] = Infinite
 least (d ∷ ds) = lesser d (least ds)
 
--- a number above the limit
+-- the distance is a number greater than the limit
 abbrev pub IsPast : ℕ → Distance → Type 0
 IsPast limit Infinite = ⊥
 IsPast limit (Finite n) = limit < n
 
--- infinite, or a number that is at most the limit
+-- the distance is infinite, or a number that is at most the limit
 abbrev pub IsWithin : ℕ → Distance → Type 0
 IsWithin limit Infinite = Unit {0}
 IsWithin limit (Finite n) = n ≤ limit
 
--- a number is that distance, and no number is infinite
+-- the distance that an optional number represents: `None` is infinite
 abbrev pub distance_of : Option ℕ → Distance
 distance_of None = Infinite
 distance_of (Some n) = Finite n
 
--- a number in decimal, or `inf`
+-- the text of a distance: a number in decimal, or `inf`
 abbrev pub distance_text : Distance → List ℕ
 distance_text Infinite = codes "inf"
 distance_text (Finite n) = decimal n

@@ -16,7 +16,7 @@ pub const MAX_COST: u64 = 2_147_483_647;
 /// The greatest finite distance, 2^63.
 pub const MAX_DISTANCE: u64 = 9_223_372_036_854_775_808;
 
-/// What an operator costs: a whole number from 0 to 2147483647. A contract sees it as the number.
+/// The cost of an operator: a whole number from 0 to 2147483647. In contracts its value is that number.
 #[derive(Clone, Copy, Debug, PartialEq, Eq, PartialOrd, Ord, Hash)]
 pub struct Cost {
     value: u32,
@@ -36,13 +36,13 @@ impl Model for Cost {
 }
 
 impl Cost {
-    /// No cost.
+    /// The cost 0.
     pub const ZERO: Cost = Cost { value: 0 };
 
-    /// What each operator costs where a task states no costs.
+    /// The cost 1, which every operator has where the task states no costs.
     pub const ONE: Cost = Cost { value: 1 };
 
-    /// The cost of that many units: `None` exactly where it is past `MAX_COST`.
+    /// Returns the cost `value`, or `None` if it is greater than `MAX_COST`.
     pub fn new(value: u64) -> Option<Cost>
         ensures { SomeIff result (value ≤ MAX_COST) value }
     {
@@ -55,7 +55,7 @@ impl Cost {
         }
     }
 
-    /// The cost as a number.
+    /// Returns the cost as a number.
     pub fn get(self) -> u64
         ensures value { result ≡ self }
         ensures bound { result ≤ MAX_COST }
@@ -74,15 +74,15 @@ impl fmt::Display for Cost {
     }
 }
 
-// A number, or the distance that is above every number.
+/// A finite distance, or the distance that is greater than every number.
 #[derive(Clone, Copy, Debug, PartialEq, Eq, PartialOrd, Ord, Hash)]
 enum Value {
     Finite(u64),
     Infinite,
 }
 
-/// How far it is to a goal, or a bound on it: a whole number from 0 to 2^63, or infinite where there is no way.
-/// A contract sees it as a `Distance`.
+/// The distance of a state to a goal, or a bound on it: a whole number from 0 to 2^63, or infinite where no goal can be
+/// reached. In contracts its value is a `Distance`.
 #[derive(Clone, Copy, Debug, PartialEq, Eq, Hash)]
 pub struct Dist {
     value: Value,
@@ -104,12 +104,12 @@ impl Model for Dist {
 }
 
 impl Dist {
-    /// The distance from a goal to itself.
+    /// The distance 0, that of a goal to itself.
     pub const ZERO: Dist = Dist {
         value: Value::Finite(0),
     };
 
-    /// That number: `None` exactly where it is past `MAX_DISTANCE`.
+    /// Returns the finite distance `value`, or `None` if it is greater than `MAX_DISTANCE`.
     pub fn fin(value: u64) -> Option<Dist>
         ensures { SomeIff result (value ≤ MAX_DISTANCE) (Finite value) }
     {
@@ -122,7 +122,7 @@ impl Dist {
         }
     }
 
-    /// The distance that is above every number.
+    /// Returns the infinite distance.
     pub fn inf() -> Dist
         ensures { result ≡ Infinite }
     {
@@ -131,7 +131,7 @@ impl Dist {
         }
     }
 
-    /// The number, or `None` where the distance is infinite.
+    /// Returns the number, or `None` if the distance is infinite.
     pub fn get(self) -> Option<u64>
         ensures value { self ≡ distance_of result }
         ensures bound { IfSome result (λ value. value ≤ MAX_DISTANCE) }
@@ -142,7 +142,8 @@ impl Dist {
         }
     }
 
-    /// The distance after one more action: `None` exactly where it is a number past `MAX_DISTANCE`.
+    /// Returns the sum of the distance and the cost of one more action, or `None` if the sum is a number greater than
+    /// `MAX_DISTANCE`.
     pub fn plus(self, cost: Cost) -> Option<Dist>
         ensures sum { SomeIff result (IsWithin MAX_DISTANCE (self +ᵈ Finite cost)) (self +ᵈ Finite cost) }
         ensures past { IfNone result (IsPast MAX_DISTANCE (self +ᵈ Finite cost)) }
@@ -150,7 +151,7 @@ impl Dist {
         self.sum(Dist::from(cost))
     }
 
-    /// The sum of the two: `None` exactly where it is a number past `MAX_DISTANCE`.
+    /// Returns the sum of two distances, or `None` if it is a number greater than `MAX_DISTANCE`.
     pub fn sum(self, other: Dist) -> Option<Dist>
         ensures sum { SomeIff result (IsWithin MAX_DISTANCE (self +ᵈ other)) (self +ᵈ other) }
         ensures past { IfNone result (IsPast MAX_DISTANCE (self +ᵈ other)) }
@@ -161,7 +162,7 @@ impl Dist {
         }
     }
 
-    /// Whether there is no way.
+    /// Whether the distance is infinite, so that no goal can be reached.
     pub fn is_infinite(self) -> bool
         ensures { IsTrue result ↔ (self ≡ Infinite) }
     {
@@ -182,7 +183,7 @@ impl From<Cost> for Dist {
     }
 }
 
-/// A number is below a greater one, and each is below infinite.
+/// Numbers are in their order, and each is less than the infinite distance.
 impl Ord for Dist {
     ghost use Rattle.std.specs.Prelude.{refl};
     ghost use Rattle.std.specs.Cmp.{unsigned_ties};
@@ -235,82 +236,5 @@ impl fmt::Display for Dist {
             Value::Finite(value) => write!(f, "{value}"),
             Value::Infinite => write!(f, "inf"),
         }
-    }
-}
-
-#[cfg(test)]
-mod tests {
-    use super::*;
-    use std::test::Fail;
-
-    fn dist(value: u64) -> Dist {
-        Dist::fin(value).unwrap_or(Dist::inf())
-    }
-
-    #[test]
-    fn keeps_limits(rt: HostRuntime) {
-        for (value, fits_cost, fits_distance) in [
-            (0, true, true),
-            (2_147_483_647, true, true),
-            (2_147_483_648, false, true),
-            (4_294_967_296, false, true),
-            (9_223_372_036_854_775_808, false, true),
-            (9_223_372_036_854_775_809, false, false),
-            (18_446_744_073_709_551_615, false, false),
-        ] {
-            assert_eq!(rt;
-                Cost::new(value).map(|c| c.get()),
-                fits_cost.then_some(value)
-            );
-            let got = Dist::fin(value).and_then(|d| d.get());
-            assert_eq!(rt; got, fits_distance.then_some(value));
-        }
-        assert_eq!(rt;
-            (Cost::ZERO.get(), Cost::ONE.get(), Dist::ZERO.get()),
-            (0, 1, Some(0))
-        );
-        assert!(rt; Dist::inf().is_infinite() && !dist(7).is_infinite());
-    }
-
-    #[test]
-    fn adds_and_orders(rt: HostRuntime) {
-        let half = 4_611_686_018_427_387_904;
-        for (a, b, sum) in [
-            (3, 4, Some(7)),
-            (half, half, Some(MAX_DISTANCE)),
-            (half, half + 1, None),
-            (MAX_DISTANCE, MAX_DISTANCE, None),
-        ] {
-            assert_eq!(rt; dist(a).sum(dist(b)), sum.map(dist));
-            assert_eq!(rt; dist(a).sum(Dist::inf()), Some(Dist::inf()));
-            assert_eq!(rt; Dist::inf().sum(dist(b)), Some(Dist::inf()));
-            assert!(rt; dist(a) <= dist(b) && dist(b) < Dist::inf());
-        }
-        for (a, cost, sum) in [
-            (0, 5, Some(5)),
-            (MAX_DISTANCE, 0, Some(MAX_DISTANCE)),
-            (MAX_DISTANCE, 1, None),
-        ] {
-            let cost = Cost::new(cost);
-            assert_eq!(rt; cost.and_then(|c| dist(a).plus(c)), sum.map(dist));
-            assert_eq!(rt; cost.and_then(|c| Dist::inf().plus(c)), Some(Dist::inf()));
-        }
-    }
-
-    #[test]
-    fn prints(rt: HostRuntime) -> Result<(), Fail> {
-        for (value, text) in [
-            (dist(0), "0"),
-            (dist(MAX_DISTANCE), "9223372036854775808"),
-            (Dist::inf(), "inf"),
-        ] {
-            assert_eq!(rt; value.to_string(rt.alloc())?.as_str(), text);
-        }
-        let greatest = Cost::new(MAX_COST).map(Dist::from).unwrap_or(Dist::inf());
-        assert_eq!(rt; greatest.to_string(rt.alloc())?.as_str(), "2147483647");
-        if let Some(cost) = Cost::new(10) {
-            assert_eq!(rt; cost.to_string(rt.alloc())?.as_str(), "10");
-        }
-        Ok(())
     }
 }

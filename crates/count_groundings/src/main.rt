@@ -1,4 +1,5 @@
-//! Counts the atoms and the ground actions of a task, for the benchmark of grounding: `count_groundings DOMAIN PROBLEM`.
+//! Counts the relaxed reachable atoms and the ground actions of a task, for the benchmark of grounding:
+//! `count_groundings DOMAIN PROBLEM`.
 #![tactic(auto)]
 
 use device::{Device, ProcessDevice};
@@ -7,8 +8,8 @@ use pddl::read_task;
 use std::alloc::{AllocError, Global};
 use std::process::ExitCode;
 
-/// How many atoms the least closed set of a task's atoms has, and how many actions there are over it. `None` where the texts
-/// spell no task, or it is past the limits.
+/// The number of atoms in the least closed set of a task's atoms, and the number of actions over it. `None` if the texts
+/// spell no task, or a limit is exceeded.
 fn counts(
     alloc: Global,
     domain: &[u8],
@@ -23,7 +24,7 @@ fn counts(
     }
 }
 
-/// Puts the counts of two files out. Whether it did.
+/// Prints the counts for two files, and returns whether it did.
 fn put_counts<D: Device>(alloc: Global, device: &mut D, words: &[String]) -> bool {
     let [_, domain, problem] = words else {
         return false;

@@ -11,11 +11,11 @@ pub data Event : Type 0 where
   HasPut : List ℕ → Event
   HasReported : List ℕ → Event
 
--- the history of a device that tells one, with one event more
+-- the history of a device that specifies one, with one more event
 abbrev pub Adds : Option (List Event) → Option (List Event) → Event → Type 0
 Adds old new e = new ≡ option_map (λ h. h ++ e ∷ []) old
 
--- by how much a fault raises the count of failures
+-- the number of failures that a fault adds to the count
 abbrev pub failure_of : DeviceFault → ℕ
 failure_of Memory = 0
 failure_of Failed = 1

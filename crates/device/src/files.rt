@@ -9,7 +9,7 @@ use std::io::{ErrorKind, Write};
 use std::rt::Files;
 use std::{fs, io};
 
-/// The files of the system by their paths, and the process's own streams. It tells nothing of what passes.
+/// The files of the system by their paths, and the process's own streams. It specifies no history.
 #[derive(Drop)]
 pub struct ProcessDevice<'a, R: Files + Print + Eprint + AllocGlobal> {
     rt: &'a R,
@@ -17,14 +17,15 @@ pub struct ProcessDevice<'a, R: Files + Print + Eprint + AllocGlobal> {
 }
 
 impl<'a, R: Files + Print + Eprint + AllocGlobal> ProcessDevice<'a, R> {
-    /// The device of the process that this runtime stands for.
+    /// The device of this runtime's process.
     pub fn new(rt: &'a R) -> ProcessDevice<'a, R>
         ensures { result.failures ≡ 0 }
     {
         ProcessDevice { rt, failures: 0 }
     }
 
-    /// Counts a failure, unless it is want of memory, or the count is full.
+    /// The fault for an error of this kind: `Memory` if memory ran out or the count of failures is full, else `Failed`,
+    /// which is counted.
     fn fault_of(&mut self, kind: ErrorKind) -> DeviceFault
         ensures counted { self.new.failures ≡ self.old.failures + failure_of result }
         ensures failed { kind ≢ ErrorKind.OutOfMemory → self.old.failures < 2 ^ 64 - 1 → result ≡ DeviceFault.Failed }

@@ -1,4 +1,4 @@
-//! A device in memory, which tells what passes and fails at a call of the caller's choice. The tests use it.
+//! A device in memory, which records what passes and fails from a call on that the caller chooses. The tests use it.
 
 ghost use Rattle.std.specs.Prelude.{◌≡◌, ◌<◌, ◌-◌, ◌^◌, true, ◌+◌, ◌∷◌, [], ◌++◌, if◌then◌else◌, Some, map, string_bytes, IfOk, IfErr, OnOk, OnErr};
 ghost use Rattle.device.specs.Events.{failure_of};
@@ -7,16 +7,20 @@ ghost use Rattle.device.specs.Memory.{event_of};
 use crate::device::{Device, DeviceFault};
 use std::alloc::{AllocError, Global};
 
-/// What passed.
+/// A read or a write that was done.
 #[derive(Debug, Drop)]
 pub enum Recorded {
+    /// A file, by its name, and the bytes that were read.
     Read(String, Vec<u8>),
+    /// A file, by its name, and the bytes that were written.
     Written(String, Vec<u8>),
+    /// Bytes that were written to standard output.
     Put(Vec<u8>),
+    /// Bytes that were written to standard error.
     Reported(Vec<u8>),
 }
 
-/// Files by their names, and what passed so far.
+/// Files by their names, and the reads and writes so far.
 #[derive(Drop)]
 pub struct MemoryDevice<'a> {
     alloc: Global,
@@ -27,7 +31,7 @@ pub struct MemoryDevice<'a> {
 }
 
 impl<'a> MemoryDevice<'a> {
-    /// A device that holds these files, and fails its calls once so many went well.
+    /// A device with these files, each a name and bytes, that fails every call after the first `calls_left` ones.
     pub fn new(alloc: Global, files: &'a [(&'a str, &'a [u8])], calls_left: u64) -> MemoryDevice<'a>
         ensures files { result.files.now ≡ files.now }
         ensures calls { result.calls_left ≡ calls_left }
@@ -43,14 +47,14 @@ impl<'a> MemoryDevice<'a> {
         }
     }
 
-    /// What passed so far.
+    /// The reads and writes so far, in order.
     pub fn events(&self) -> &[Recorded]
         ensures { result.now ≡ self.now.events.items }
     {
         &self.events
     }
 
-    /// Whether this call is to fail, which is then counted.
+    /// Whether this call is to fail; if so, the failure is counted.
     fn fails(&mut self) -> bool
         ensures events { self.new.events ≡ self.old.events }
         ensures counted { self.new.failures ≡ (if result then self.old.failures + 1 else self.old.failures) }
@@ -66,7 +70,7 @@ impl<'a> MemoryDevice<'a> {
         false
     }
 
-    /// The fault of a file that is not there, which is counted unless the count is full.
+    /// The fault for a file that does not exist: `Failed`, which is counted, or `Memory` if the count is full.
     fn refusal(&mut self) -> DeviceFault
         ensures events { self.new.events ≡ self.old.events }
         ensures counted { self.new.failures ≡ self.old.failures + failure_of result }
@@ -79,7 +83,7 @@ impl<'a> MemoryDevice<'a> {
         DeviceFault::Failed
     }
 
-    /// The bytes of a file, if it is there.
+    /// The bytes of a file, if it exists.
     fn file(&self, name: &str) -> Option<&'a [u8]> {
         for (known, bytes) in self.files {
             if *known == name {

@@ -1,4 +1,5 @@
-//! The plan that a finished search by owners of states has found (hash distributed A*: Kishimoto, Fukunaga and Botea 2013).
+//! Plan extraction: the plan that a finished search by owners of states has found (hash distributed A*: Kishimoto,
+//! Fukunaga and Botea 2013).
 #![tactic(auto)]
 
 ghost use Rattle.std.specs.Prelude.{◌≡◌, ◌<◌, ◌≤◌, ℕ, length, Some, IfOk};
@@ -14,7 +15,7 @@ use owner::{Entry, Owner};
 use spread::Spread;
 use std::alloc::{AllocError, Global};
 
-/// What is kept of the node at that place of that owner.
+/// The entry of the node at that place of that owner.
 fn entry_at<S: Spread + Drop>(owners: &[Owner<'_, S>], worker: usize, index: usize) -> Entry
     requires worker { worker < length owners.now }
     requires index { (o : OwnerOf S) → At owners.now worker o → index < length o.nodes }
@@ -26,9 +27,9 @@ fn entry_at<S: Spread + Drop>(owners: &[Owner<'_, S>], worker: usize, index: usi
     owner.entry(index)
 }
 
-/// The operators, by their numbers and from the initial state on, that lead to the goal entry of that worker and place. They are
-/// found from the last one on, by the parents that the entries have at present, from owner to owner. The plan costs at most what
-/// the goal entry does, and exactly the bound where the owners are settled. An `Err` is of too little memory.
+/// The plan to a goal node, given by its worker and place: the numbers of the operators, from the initial state on. The
+/// operators are found from the last one to the first, by the nodes' present parents, from owner to owner. The plan costs
+/// at most the goal node's cost, and exactly the bound if the owners are settled. Fails only if allocation fails.
 pub fn plan_of<'a, S: Spread + Drop>(
     alloc: Global,
     joined: &Joined<'a, S>,

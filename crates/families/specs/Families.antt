@@ -6,12 +6,12 @@ use Rattle.fdr.specs.Tasks.{FiniteDomainTask, ranges, IsTask, IsState, LeadsToGo
 use Rattle.certificates.specs.Certificates.{Entry}
 use Rattle.families.specs.Owners.{At, list_at, same_state, SearchSpace, Parent, Message, Node, Packet, Log, f_value, IsRun}
 
--- the task is one, and each state has an owner
+-- the task is a finite-domain task, and each state has an owner
 pub record IsSearchSpace (space : SearchSpace) : Type 0 where
   pub task : IsTask space.task
   pub owner : (state : List ℕ) → space.owner_of state < space.owners
 
--- the heuristic is at most the cost of any operators that lead from a state of the task to a goal state
+-- the heuristic of a state of the task is at most the cost of any operators that lead from it to a goal state
 abbrev pub IsLowerBound : FiniteDomainTask → (List ℕ → Distance) → Type 0
 IsLowerBound task h =
     (plan state : List ℕ) → IsState (ranges task) state → LeadsToGoal task state plan → h state ≤ᵈ Finite (plan_cost task plan)
@@ -34,8 +34,8 @@ abbrev pub copies_from : ℕ → Message → List Packet → ℕ
 copies_from w m [] = 0
 copies_from w m (p ∷ ps) = (if (w == p.sender) && same_message m p.message then 1 else 0) + copies_from w m ps
 
--- the ends of the owners' runs, and the messages that were handed out and not taken; past the last owner stand owners that
--- never took a state
+-- the ends of the owners' runs, and the messages that were handed out and not taken; numbers past the last owner have
+-- owners that never took a state
 pub record Family : Type 0 where
   pub logs : ℕ → Log
   pub left : List Packet
@@ -45,8 +45,8 @@ abbrev pub least_of : ℕ → (ℕ → Distance) → Distance
 least_of zero f = Infinite
 least_of (suc n) f = lesser (least_of n f) (f n)
 
--- each log is a run's end; what each worker handed out, for each message, is what its owner took from that worker and what is
--- left of it; each bound that was seen is at least the least cost that was offered
+-- each log is the end of a run; for each message, what a worker handed out is what the message's owner took from that
+-- worker plus what is left of it; each bound that was seen is at least the least cost that was offered
 pub record IsLawful (space : SearchSpace) (family : Family) : Type 0 where
   pub runs : (w : ℕ) → IsRun space w (family.logs w)
   pub links : (w : ℕ) (m : Message)
@@ -60,7 +60,7 @@ pub record IsLawful (space : SearchSpace) (family : Family) : Type 0 where
 abbrev pub In : {X : Type 0} → X → List X → Type 0
 In x xs = (i : ℕ) × At xs i x
 
--- the bound is at most every pending f-value: of nodes not expanded, of messages in outboxes, of messages not taken
+-- the bound is at most every pending f-value: of nodes not expanded, of messages in outboxes, and of messages not taken
 pub record PendingAbove (space : SearchSpace) (family : Family) (bound : Distance) : Type 0 where
   pub nodes : (w i : ℕ) (n : Node) → w < space.owners → At (family.logs w).owner.nodes i n → n.expanded ≡ false
       → bound ≤ᵈ f_value space n.state n.cost
@@ -72,7 +72,7 @@ pub record PendingAbove (space : SearchSpace) (family : Family) (bound : Distanc
 abbrev pub best_of : SearchSpace → Family → Distance
 best_of space family = least_of space.owners (λ w. (family.logs w).owner.best)
 
--- the bound is the least cost of a goal state that was taken, and nothing pending could lead to less
+-- the bound is the least cost of a goal state that was taken, and no pending f-value is below it
 pub record IsSettled (space : SearchSpace) (family : Family) (bound : Distance) : Type 0 where
   pub best : bound ≡ best_of space family
   pub pending : PendingAbove space family bound
@@ -82,12 +82,12 @@ pub record IsSettled (space : SearchSpace) (family : Family) (bound : Distance) 
 abbrev pub entry_of : Node → Entry
 entry_of n = record { cost = n.cost; state = n.state }
 
--- the nodes that are expanded
+-- the expanded nodes, as entries of a closed list
 abbrev pub expanded_of : List Node → List Entry
 expanded_of [] = []
 expanded_of (n ∷ ns) = if n.expanded then entry_of n ∷ expanded_of ns else expanded_of ns
 
--- those of the owners 0 to n - 1
+-- the expanded nodes of the owners 0 to n - 1
 abbrev pub closed_of : ℕ → (ℕ → Log) → List Entry
 closed_of zero logs = []
 closed_of (suc n) logs = expanded_of (logs n).owner.nodes ++ closed_of n logs
@@ -98,23 +98,23 @@ NoTwice closed = AllPairs (λ d e. d.state ≡ e.state → ⊥) closed
 
 -- ---- the plan
 
--- following parents from a node of a worker leads to the start over these operators, the last one first
+-- following parents from node i of worker w leads to a node without a parent, over these operators, the last one first
 abbrev pub Follows : Family → ℕ → ℕ → List ℕ → Type 0
 Follows family w i [] = (n : Node) × At (family.logs w).owner.nodes i n × (n.parent ≡ None)
 Follows family w i (o ∷ back) =
     (n : Node) × (p : Parent) × At (family.logs w).owner.nodes i n × (n.parent ≡ Some p) × (p.operator ≡ o)
     × Follows family p.worker p.index back
 
--- the first cost and number of steps come before the second: by cost, and where it is the same by steps
+-- the first cost and number of steps are below the second: by cost, then by steps
 abbrev pub IsBelow : ℕ → ℕ → ℕ → ℕ → Type 0
 IsBelow cost steps cost' steps' = (cost < cost') ⊎ ((cost ≡ cost') × (steps < steps'))
 
--- the node that the parent names is there, at a lesser rank at present
+-- the node that the parent names exists, and has a lesser rank
 abbrev pub ParentBelow : Family → Node → Parent → Type 0
 ParentBelow family n p =
     (origin : Node) × At (family.logs p.worker).owner.nodes p.index origin × IsBelow origin.cost origin.steps n.cost n.steps
 
--- a node with a goal state and this cost
+-- node i of worker w has a goal state and this cost
 abbrev pub IsGoalNode : SearchSpace → Family → ℕ → ℕ → ℕ → Type 0
 IsGoalNode space family w i cost =
     (n : Node) × (w < space.owners) × At (family.logs w).owner.nodes i n × (is_goal_state space.task n.state ≡ true)

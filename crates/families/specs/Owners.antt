@@ -1,5 +1,5 @@
 -- Optimal search divided among owners of states (hash distributed A*: Kishimoto, Fukunaga and Botea 2013): one owner, its
--- nodes, its outboxes, and its runs, which are lists of events of its own. The owner of a number is that worker's.
+-- nodes, its outboxes, and its runs, which are lists of its own events. Worker w runs owner w.
 use Rattle.std.specs.Prelude.{◌≡◌, ℕ, zero, suc, ◌+◌, Bool, true, false, ◌&&◌, ◌||◌, not, ◌==◌, nat_lt, nat_eq, if◌then◌else◌, List, [], ◌∷◌, ◌++◌, length, Option, Some, None, slice_get, slice_set, replicate, filter_map}
 use Rattle.std.specs.List.{list_all, range_with_len}
 use Rattle.std.specs.Option.{option_map}
@@ -16,45 +16,45 @@ At [] i x = ⊥
 At (y ∷ ys) zero x = y ≡ x
 At (y ∷ ys) (suc i) x = At ys i x
 
--- the list at a place, and none past the end
+-- the list at a place, empty past the end
 abbrev pub list_at : {X : Type 0} → List (List X) → ℕ → List X
 list_at [] v = []
 list_at (q ∷ qs) zero = q
 list_at (q ∷ qs) (suc v) = list_at qs v
 
--- the function with another value at one number
+-- the function with another value at one argument
 abbrev pub put : {X : Type 0} → (ℕ → X) → ℕ → X → ℕ → X
 put f w x v = if v == w then x else f v
 
 -- ---- what is searched
 
--- a task, a heuristic, and who owns which state, among so many owners, numbered from 0
+-- a task, a heuristic, the owner of each state, and the number of owners, which are counted from 0
 pub record SearchSpace : Type 0 where
   pub task : FiniteDomainTask
   pub heuristic : List ℕ → Distance
   pub owner_of : List ℕ → ℕ
   pub owners : ℕ
 
--- what a plan through the state, reached at this cost, costs at least by the heuristic: f = g + h
+-- the f-value of a state that was reached at this cost: f = g + h
 abbrev pub f_value : SearchSpace → List ℕ → ℕ → Distance
 f_value space state cost = Finite cost +ᵈ space.heuristic state
 
 -- ---- what an owner has
 
--- where a state was reached from: a worker, the number of a node of it, and the number of an operator
+-- where a state was reached from: a worker, the place of one of its nodes, and the number of an operator
 pub record Parent : Type 0 where
   pub worker : ℕ
   pub index : ℕ
   pub operator : ℕ
 
--- a state that was reached, at what cost and over how many operators
+-- a state that was reached, with the cost, the number of operators and the parent
 pub record Message : Type 0 where
   pub state : List ℕ
   pub cost : ℕ
   pub steps : ℕ
   pub parent : Parent
 
--- a state that is kept; it is expanded if its successors at this cost and number of steps were made
+-- a state that is stored; it is expanded if its successors at this cost and number of steps were generated
 pub record Node : Type 0 where
   pub state : List ℕ
   pub cost : ℕ
@@ -62,19 +62,21 @@ pub record Node : Type 0 where
   pub parent : Option Parent
   pub expanded : Bool
 
--- a message with the worker that handed it out; it goes to the owner of its state
+-- a message with the worker that handed it out; its receiver is the owner of its state
 pub record Packet : Type 0 where
   pub sender : ℕ
   pub message : Message
 
--- an outbox for each owner, oldest message first; the bound that was seen last; the least cost at which a goal state was taken
+-- an owner: its nodes, an outbox for each owner (the oldest message first), the bound that it has seen last, and the
+-- least cost at which it has taken a goal state
 pub record Owner : Type 0 where
   pub nodes : List Node
   pub outboxes : List (List Message)
   pub bound : Distance
   pub best : Distance
 
--- an owner and what it did: messages taken and handed out, the last one first, the least bound seen, the least cost offered
+-- an owner and its history: messages taken and handed out (the last one first), the least bound seen, and the least cost
+-- offered
 pub record Log : Type 0 where
   pub owner : Owner
   pub taken : List Packet
@@ -88,14 +90,14 @@ pub record Log : Type 0 where
 unfoldable pub same_state : List ℕ → List ℕ → Bool
 same_state xs ys = pointwise nat_eq xs ys
 
--- the first cost and number of steps come before the second: by cost, and where it is the same by steps
+-- the first cost and number of steps are below the second: by cost, then by steps
 abbrev pub rank_less : ℕ → ℕ → ℕ → ℕ → Bool
 rank_less cost steps cost' steps' = nat_lt cost cost' || ((cost == cost') && nat_lt steps steps')
 
 abbrev pub node_of : Message → Node
 node_of m = record { state = m.state; cost = m.cost; steps = m.steps; parent = Some m.parent; expanded = false }
 
--- the nodes after a message is taken: each state is there once, with the least rank that was taken
+-- the nodes after a message is taken: each state occurs once, with the least rank at which it was taken
 abbrev pub improve : List Node → Message → List Node
 improve [] m = node_of m ∷ []
 improve (n ∷ ns) m =
@@ -113,7 +115,7 @@ took space o m =
       best = if is_goal_state space.task m.state then lesser o.best (Finite m.cost) else o.best;
     }
 
--- the owner after it puts a message last into the outbox to the owner of its state
+-- the owner after it appends a message to the outbox for the owner of the message's state
 abbrev pub posted : SearchSpace → Owner → Message → Owner
 posted space o m =
     record {
@@ -125,7 +127,8 @@ posted space o m =
 
 -- ---- expanding a node
 
--- a successor is dropped where its f-value reaches the bound; else its owner takes it at once, or it waits for another
+-- a successor is dropped if its f-value reaches the bound; else this owner takes it if the state is its own, or puts it
+-- into an outbox
 abbrev pub treat : SearchSpace → ℕ → Owner → Message → Owner
 treat space me o m =
     if is_at_most o.bound (f_value space m.state m.cost)
@@ -136,7 +139,7 @@ abbrev pub treat_all : SearchSpace → ℕ → Owner → List Message → Owner
 treat_all space me o [] = o
 treat_all space me o (m ∷ ms) = treat_all space me (treat space me o m) ms
 
--- the message of the state after a node of this worker by an operator
+-- the message for the state that an operator leads to from a node of this worker
 abbrev pub message_to : FiniteDomainTask → ℕ → ℕ → Node → ℕ → List ℕ → Message
 message_to task me index n o state =
     record {
@@ -146,7 +149,7 @@ message_to task me index n o state =
       parent = record { worker = me; index = index; operator = o };
     }
 
--- the node's successor by an operator, if that applies
+-- the node's successor by an operator, if the operator applies
 abbrev pub successor_by : FiniteDomainTask → ℕ → ℕ → Node → ℕ → Option Message
 successor_by task me index n o = option_map (message_to task me index n o) (step task n.state o)
 
@@ -160,13 +163,13 @@ marked n = record { state = n.state; cost = n.cost; steps = n.steps; parent = n.
 abbrev pub mark_node : Owner → ℕ → Node → Owner
 mark_node o index n = record { nodes = slice_set o.nodes index (marked n); outboxes = o.outboxes; bound = o.bound; best = o.best }
 
--- a node that is not expanded, whose f-value is below the bound and the least of all such
+-- whether a node is not expanded, has an f-value below the bound, and has the least f-value of the nodes not expanded
 unfoldable pub may_expand : SearchSpace → Owner → Node → Bool
 may_expand space o n =
     not n.expanded && (not (is_at_most o.bound (f_value space n.state n.cost))
     && list_all (λ x. x.expanded || is_at_most (f_value space n.state n.cost) (f_value space x.state x.cost)) o.nodes)
 
--- the owner after the node at a place is expanded, if there is one that may be
+-- the owner after the node at a place is expanded, if there is one and it may be expanded
 abbrev pub expanded_at : SearchSpace → ℕ → Owner → ℕ → Option Node → Owner
 expanded_at space me o index None = o
 expanded_at space me o index (Some n) =
@@ -176,12 +179,12 @@ expanded_at space me o index (Some n) =
 
 -- ---- runs
 
--- a message that this owner may take: its state is a state of the task, and its own
+-- whether this owner may take a message: its state is a state of the task, and this owner's
 abbrev pub fits : SearchSpace → ℕ → Message → Bool
 fits space me m = is_state (ranges space.task) m.state && (space.owner_of m.state == me)
 
--- what an owner does: take a message that a worker handed out, expand the node of a number, hand out the first message for a
--- worker, look at a bound, offer its best cost
+-- what an owner does: take a message that a worker handed out, expand the node at a place, hand out the first message for
+-- a worker, look at a bound, or offer its best cost
 pub data Event : Type 0 where
   Take : ℕ → Message → Event
   Expand : ℕ → Event
@@ -189,7 +192,7 @@ pub data Event : Type 0 where
   Look : Distance → Event
   Offer : Event
 
--- the log after the first message of the outbox to v, which is this list, is handed out
+-- the log after the first message of the outbox for v, given as this list, is handed out
 abbrev pub handed_out : ℕ → Log → List Message → Log
 handed_out v l [] = l
 handed_out v l (m ∷ ms) =
@@ -204,7 +207,7 @@ handed_out v l (m ∷ ms) =
       handed = m ∷ l.handed;
     }
 
--- the log after one event; where its condition fails nothing changes
+-- the log after one event; nothing changes if the event's condition fails
 abbrev pub happens : SearchSpace → ℕ → Log → Event → Log
 happens space me l (Take sender m) =
     if fits space me m
@@ -222,7 +225,7 @@ happens space me l Offer = record l { offered = lesser l.offered l.owner.best }
 abbrev pub first_node : SearchSpace → Node
 first_node space = record { state = space.task.initial; cost = 0; steps = 0; parent = None; expanded = false }
 
--- an owner at the beginning; the owner of the initial state starts with it, which counts as a taking
+-- an owner at the start; the owner of the initial state starts with that state, which counts as taken in `best`
 abbrev pub start_owner : SearchSpace → Bool → Owner
 start_owner space true =
     record {
@@ -243,11 +246,11 @@ start space me =
       offered = Infinite;
     }
 
--- the log of an owner after these events, the last one first
+-- the log of an owner after these events, given with the last one first
 abbrev pub run : SearchSpace → ℕ → List Event → Log
 run space me [] = start space me
 run space me (e ∷ es) = happens space me (run space me es) e
 
--- a run of this owner leads to the log
+-- some run of this owner ends in this log
 abbrev pub IsRun : SearchSpace → ℕ → Log → Type 0
 IsRun space me l = (es : List Event) × (run space me es ≡ l)

@@ -1,23 +1,24 @@
--- What threads hand on, each of which runs one owner of states: the owner's run, and what went through rings between them.
+-- Workers as threads, each of which runs one owner of states: the owner's run, and the messages that went through the
+-- rings between workers.
 use Rattle.std.specs.Prelude.{◌≡◌, ℕ, ◌+◌, false, List, ◌++◌}
 use Rattle.cost.specs.Distances.{◌≤ᵈ◌}
 use Rattle.families.specs.Owners.{At, SearchSpace, Message, Packet, Log, fits, IsRun}
 use Rattle.families.specs.Families.{In, Family, copies, copies_from, least_of}
 
--- the log is the end of a run; what was handed out is what the rings have as sent, but for what a full ring gave back and is
--- held; what the rings have as received was taken, but for messages that do not fit
+-- the log is the end of a run; what was handed out is what was sent into the rings plus what a full ring returned and the
+-- worker holds; what was received from the rings was taken, except messages that do not fit
 pub record IsWorker
     (space : SearchSpace) (w : ℕ) (l : Log) (sent received : ℕ → List Message) (held : List Message) (misfits : List Packet)
     : Type 0 where
   pub run : IsRun space w l
   pub handed : (m : Message) → copies m l.handed ≡ copies m (sent (space.owner_of m.state)) + copies m held
-  -- the ring to v has messages for v alone
+  -- the ring to v receives only messages for v
   pub pushed : (v : ℕ) (m : Message) → In m (sent v) → space.owner_of m.state ≡ v
   pub popped : (u : ℕ) (m : Message) → copies m (received u) ≡ copies_from u m l.taken + copies_from u m misfits
   pub unfit : (i : ℕ) (p : Packet) → At misfits i p → fits space w p.message ≡ false
 
--- all workers joined, each ring has what was received and what is still in it, what is left is what is held or in a ring, and
--- no bound that was seen is below the least cost that was offered
+-- all workers have joined; what was sent into a ring is what was received from it and what is still in it; what is left
+-- is what is held or in a ring; and no bound that was seen is below the least cost that was offered
 pub record AreJoined
     (space : SearchSpace) (family : Family) (sent received in_ring : ℕ → ℕ → List Message) (held : ℕ → List Message)
     (misfits : ℕ → List Packet)

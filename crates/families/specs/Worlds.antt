@@ -1,20 +1,20 @@
--- Worlds of owners of states in one thread, with the messages underway delivered in any order: every run of one is a schedule
--- of hash distributed A* (Kishimoto, Fukunaga and Botea 2013).
+-- Worlds of owners of states in one thread, with the messages underway delivered in any order: every run of a world is a
+-- schedule of hash distributed A* (Kishimoto, Fukunaga and Botea 2013).
 use Rattle.std.specs.Prelude.{◌≡◌, ℕ, zero, suc, ◌+◌, ◌<◌, ◌⊎◌, Bool, true, false, ◌&&◌, ◌||◌, ◌==◌, if◌then◌else◌, List, [], ◌∷◌, ◌++◌, Option, Some, None, length}
 use Rattle.std.specs.List.{list_all}
 use Rattle.cost.specs.Distances.{Distance, Infinite, is_at_most, lesser}
 use Rattle.families.specs.Owners.{At, list_at, SearchSpace, Message, Node, Packet, Owner, Log, Take, Expand, HandOut, Look, Offer, f_value, may_expand, put, happens, start}
 use Rattle.families.specs.Families.{Family, best_of, IsSettled}
 
--- the owners' logs, the messages handed out and not taken, the least cost offered, and who is at rest
+-- the owners' logs, the messages handed out and not taken, the least cost offered, and which owners are at rest
 pub record World : Type 0 where
   pub logs : ℕ → Log
   pub underway : List Packet
   pub bound : Distance
   pub resting : ℕ → Bool
 
--- what may happen: a worker expands its node of a number, sends its first message for another, is delivered the message of a
--- number among those underway to it, offers its best cost, looks at the bound, or rests
+-- what may happen: a worker expands its node at a place, sends its first message for another worker, is delivered a
+-- message (by its number among those underway to it), offers its best cost, looks at the bound, or rests
 pub data Step : Type 0 where
   Expands : ℕ → ℕ → Step
   Sends : ℕ → ℕ → Step
@@ -25,13 +25,13 @@ pub data Step : Type 0 where
 
 -- ---- messages underway
 
--- the packet of number k, counted from 0, of those to v
+-- packet k, counted from 0, of those to v
 abbrev pub nth_to : SearchSpace → ℕ → ℕ → List Packet → Option Packet
 nth_to space v k [] = None
 nth_to space v zero (p ∷ ps) = if space.owner_of p.message.state == v then Some p else nth_to space v zero ps
 nth_to space v (suc k) (p ∷ ps) = if space.owner_of p.message.state == v then nth_to space v k ps else nth_to space v (suc k) ps
 
--- the packets without that one
+-- the packets without packet k of those to v
 abbrev pub without_nth_to : SearchSpace → ℕ → ℕ → List Packet → List Packet
 without_nth_to space v k [] = []
 without_nth_to space v zero (p ∷ ps) = if space.owner_of p.message.state == v then ps else p ∷ without_nth_to space v zero ps
@@ -44,17 +44,17 @@ abbrev pub is_empty : {X : Type 0} → List X → Bool
 is_empty [] = true
 is_empty (x ∷ xs) = false
 
--- every node is expanded, or its f-value reaches the bound that was seen last
+-- every node is expanded or has an f-value that reaches the bound seen last
 abbrev pub no_open : SearchSpace → Owner → Bool
 no_open space o = list_all (λ n. n.expanded || is_at_most o.bound (f_value space n.state n.cost)) o.nodes
 
--- nothing to expand and nothing to send
+-- no node to expand and no message to send
 abbrev pub idle : SearchSpace → Owner → Bool
 idle space o = no_open space o && list_all is_empty o.outboxes
 
 -- ---- runs
 
--- the world after w sends the first message of its outbox to v, which is this list
+-- the world after w sends the first message of its outbox for v, given as this list
 abbrev pub sent : SearchSpace → World → ℕ → ℕ → List Message → World
 sent space world w v [] = world
 sent space world w v (m ∷ ms) =
@@ -63,7 +63,7 @@ sent space world w v (m ∷ ms) =
       underway = world.underway ++ record { sender = w; message = m } ∷ [];
     }
 
--- the world after v is delivered the packet of number k of those to it, which is this one; then v is not at rest
+-- the world after v is delivered packet k of those to it, given here; v is then not at rest
 abbrev pub delivered : SearchSpace → World → ℕ → ℕ → Option Packet → World
 delivered space world v k None = world
 delivered space world v k (Some p) =
@@ -73,7 +73,7 @@ delivered space world v k (Some p) =
       resting = put world.resting v false;
     }
 
--- the world after one step; only who is idle rests
+-- the world after one step; only an idle owner comes to rest
 abbrev pub world_after : SearchSpace → World → Step → World
 world_after space world (Expands w i) = record world { logs = put world.logs w (happens space w (world.logs w) (Expand i)) }
 world_after space world (Sends w v) = sent space world w v (list_at (world.logs w).owner.outboxes v)
@@ -101,30 +101,30 @@ family_of world = record { logs = world.logs; left = world.underway }
 
 -- ---- when nothing is left
 
--- how many messages are in outboxes
+-- the number of messages in outboxes
 abbrev pub waiting : List (List Message) → ℕ
 waiting [] = 0
 waiting (q ∷ qs) = length q + waiting qs
 
--- messages in outboxes, and owners not at rest, of the owners 0 to n - 1
+-- the number of messages in outboxes plus the number of owners not at rest, of the owners 0 to n - 1
 abbrev pub busy : ℕ → World → ℕ
 busy zero world = 0
 busy (suc n) world = (waiting (world.logs n).owner.outboxes + (if world.resting n then 0 else 1)) + busy n world
 
--- messages that were made and not taken, and owners not at rest
+-- the number of messages underway or in outboxes, plus the number of owners not at rest
 abbrev pub count : SearchSpace → World → ℕ
 count space world = length world.underway + busy space.owners world
 
--- nothing is underway or in an outbox, every owner is idle, and the family is settled
+-- no message is underway or in an outbox, every owner is idle, and the family is settled
 pub record IsQuiet (space : SearchSpace) (world : World) : Type 0 where
   pub underway : world.underway ≡ []
   pub outboxes : (w v : ℕ) → w < space.owners → list_at (world.logs w).owner.outboxes v ≡ []
   pub idle : (w : ℕ) → w < space.owners → idle space (world.logs w).owner ≡ true
   pub settled : IsSettled space (family_of world) (best_of space (family_of world))
 
--- ---- steps that are asked for
+-- ---- requests
 
--- the steps as they are asked for: who is to expand chooses the node
+-- steps as they are requested; the owner that is to expand a node chooses the node
 pub data Request : Type 0 where
   ToExpand : ℕ → Request
   ToSend : ℕ → ℕ → Request
@@ -133,11 +133,11 @@ pub data Request : Type 0 where
   ToLook : ℕ → Request
   ToRest : ℕ → Request
 
--- the owner has a node at this place, and may expand it
+-- the owner has a node at this place, which it may expand
 abbrev pub MayExpandAt : SearchSpace → Owner → ℕ → Type 0
 MayExpandAt space o i = (n : Node) × At o.nodes i n × (may_expand space o n ≡ true)
 
--- the step does what is asked for; one that is to expand a node expands one that may be, unless there is none
+-- the step does what is requested; a request to expand leads to a node that may be expanded, unless there is none
 abbrev pub Does : SearchSpace → World → Request → Step → Type 0
 Does space world (ToExpand w) s =
     (i : ℕ) × (s ≡ Expands w i) × (MayExpandAt space (world.logs w).owner i ⊎ (no_open space (world.logs w).owner ≡ true))
@@ -147,7 +147,7 @@ Does space world (ToOffer w) s = s ≡ Offers w
 Does space world (ToLook w) s = s ≡ Looks w
 Does space world (ToRest w) s = s ≡ Rests w
 
--- each step does what is asked for, in the world that those before it lead to
+-- each step does what is requested, in the world that the steps before it lead to
 abbrev pub IsRunOf : SearchSpace → World → List Request → List Step → Type 0
 IsRunOf space world [] [] = Unit {0}
 IsRunOf space world (x ∷ xs) (s ∷ ss) = Does space world x s × IsRunOf space (world_after space world s) xs ss

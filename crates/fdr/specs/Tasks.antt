@@ -1,4 +1,5 @@
--- Finite-domain tasks (SAS+: Bäckström and Nebel 1995), their states and their plans. A state is the list of the variables' values.
+-- Finite-domain tasks (SAS+: Bäckström and Nebel 1995), their states and their plans. A state is the list of the values
+-- of the variables.
 use Rattle.std.specs.Prelude.{◌≡◌, ℕ, ◌<◌, ◌≤◌, Bool, true, ◌==◌, ◌&&◌, not, if◌then◌else◌, List, [], ◌∷◌, length, map, Option, Some, None, option_and_then, IsSomeAnd, slice_get, slice_index, slice_set, fold, sum_by, All, false, nat_lt, String, Vec}
 use Rattle.std.specs.String.{string_bytes}
 use Rattle.std.specs.List.{list_all, list_any}
@@ -14,8 +15,8 @@ pub record Operator : Type 0 where
   pub effect : List Fact
   pub cost : ℕ
 
--- A variable is a place in the ranges, and its values are the numbers below its range, each with a name. Without the
--- metric each operator costs 1.
+-- A variable is a place in the list of ranges, and its values are the numbers below its range, each with a name.
+-- Without the metric each operator costs 1.
 pub record FiniteDomainTask : Type 0 where
   pub metric : Bool
   pub value_names : List (List (List ℕ))
@@ -23,11 +24,11 @@ pub record FiniteDomainTask : Type 0 where
   pub goal : List Fact
   pub operators : List Operator
 
--- how many values each variable has
+-- the number of values of each variable
 abbrev pub ranges : FiniteDomainTask → List ℕ
 ranges task = map length task.value_names
 
--- a value below its range for each variable
+-- a list is a state: for each variable a value below its range
 pub record IsState (ranges state : List ℕ) : Type 0 where
   pub as_long : length state ≡ length ranges
   pub in_range : (v : ℕ) → v < length ranges → slice_index state v < slice_index ranges v
@@ -45,7 +46,7 @@ abbrev pub are_distinct : List Fact → Bool
 are_distinct [] = true
 are_distinct (f ∷ fs) = not (names_variable fs f.variable) && are_distinct fs
 
--- values in range, at most one a variable
+-- facts with values in range, at most one for each variable
 pub record IsAssignment (ranges : List ℕ) (facts : List Fact) : Type 0 where
   pub in_range : All (IsInRange ranges) facts
   pub distinct : are_distinct facts ≡ true
@@ -54,34 +55,34 @@ pub record IsOperator (ranges : List ℕ) (op : Operator) : Type 0 where
   pub precondition : IsAssignment ranges op.precondition
   pub effect : IsAssignment ranges op.effect
 
--- the state is one, conditions and effects are assignments
+-- the initial state is a state, and the goal, preconditions and effects are assignments
 pub record IsTask (task : FiniteDomainTask) : Type 0 where
   pub initial : IsState (ranges task) task.initial
   pub goal : IsAssignment (ranges task) task.goal
   pub operators : All (IsOperator (ranges task)) task.operators
 
--- whether a variable has more values than it may have
+-- whether a variable has more than 65536 values
 abbrev pub has_long_range : List (List (List ℕ)) → Bool
 has_long_range value_names = list_any (λ names. nat_lt 65536 (length names)) value_names
 
--- as many variables, values of a variable and operators as a task may have
+-- the task passes no limit on variables, values of a variable, or operators
 pub record IsWithinLimits (task : FiniteDomainTask) : Type 0 where
   pub variables : length task.value_names ≤ 65536
   pub values : has_long_range task.value_names ≡ false
   pub operators : length task.operators ≤ 4294967295
 
--- the first of these tables that is too long
+-- the limit is the first one that the task passes
 abbrev pub IsPastLimit : FiniteDomainTask → TaskLimit → Type 0
 IsPastLimit task Variables = 65536 < length task.value_names
 IsPastLimit task Values = (length task.value_names ≤ 65536) × (has_long_range task.value_names ≡ true)
 IsPastLimit task Operators =
     (length task.value_names ≤ 65536) × (has_long_range task.value_names ≡ false) × (4294967295 < length task.operators)
 
--- the texts of names, as they lie in memory
+-- the bytes of the names, from their representation in memory
 abbrev pub names_in : {Y Z : Type 0} → List (Vec (String Z) Y) → List (List (List ℕ))
 names_in value_names = map (λ names. map string_bytes names.items) value_names
 
--- the task of these parts, as they lie in memory
+-- the task with these parts, from their representation in memory
 abbrev pub task_of : {Y Z : Type 0} → Bool → List (Vec (String Z) Y) → List ℕ → List Fact → List Operator → FiniteDomainTask
 task_of metric value_names initial goal operators =
     record {
@@ -92,51 +93,51 @@ task_of metric value_names initial goal operators =
       operators = operators;
     }
 
--- the variable has this value in the state
+-- whether the variable has this value in the state
 abbrev pub holds : List ℕ → Fact → Bool
 holds state f = slice_index state f.variable == f.value
 
 abbrev pub applies : Operator → List ℕ → Bool
 applies op state = list_all (holds state) op.precondition
 
--- whether the operator of this number exists and applies
+-- whether the operator with this number exists and applies
 abbrev pub applies_at : FiniteDomainTask → ℕ → List ℕ → Bool
 applies_at task o state = option_map_or (λ op. applies op state) (slice_get task.operators o) false
 
--- the state with the values that facts give
+-- the state in which the variables of the facts have the facts' values
 abbrev pub with_values : List Fact → List ℕ → List ℕ
 with_values facts state = fold (λ s f. slice_set s f.variable f.value) state facts
 
--- the state in which each variable of the effect has the value that it is given
+-- the successor: each variable of the effect has the effect's value, and the others keep theirs
 abbrev pub successor : Operator → List ℕ → List ℕ
 successor op state = with_values op.effect state
 
 abbrev pub is_goal_state : FiniteDomainTask → List ℕ → Bool
 is_goal_state task state = list_all (holds state) task.goal
 
--- the state after an operator, given by its number, if it exists and applies
+-- the successor under the operator with this number, if it exists and applies
 abbrev pub step : FiniteDomainTask → List ℕ → ℕ → Option (List ℕ)
 step task state o =
     option_and_then (λ op. if applies op state then Some (successor op state) else None) (slice_get task.operators o)
 
--- the state after a list of operators, if each applies in turn
+-- the state after a sequence of operators, if each of them applies in turn
 abbrev pub state_after : FiniteDomainTask → List ℕ → List ℕ → Option (List ℕ)
 state_after task state [] = Some state
 state_after task state (o ∷ plan) = option_and_then (λ s. state_after task s plan) (step task state o)
 
--- the operators lead from the state to a goal state
+-- the sequence of operators leads from the state to a goal state
 abbrev pub LeadsToGoal : FiniteDomainTask → List ℕ → List ℕ → Type 0
 LeadsToGoal task state plan = IsSomeAnd (state_after task state plan) (λ s. is_goal_state task s ≡ true)
 
--- operators, by their numbers, that lead from the initial state to a goal state
+-- the sequence of operators, given by their numbers, leads from the initial state to a goal state
 abbrev pub IsPlan : FiniteDomainTask → List ℕ → Type 0
 IsPlan task plan = LeadsToGoal task task.initial plan
 
--- what an operator costs
+-- the cost of an operator under the metric, and 1 without it
 abbrev pub operator_cost : Bool → Operator → ℕ
 operator_cost metric op = if metric then op.cost else 1
 
--- what the operator of this number costs, and 0 where there is none
+-- the cost of the operator with this number, and 0 if there is none
 abbrev pub cost_of : FiniteDomainTask → ℕ → ℕ
 cost_of task o = option_map_or (operator_cost task.metric) (slice_get task.operators o) 0
 
@@ -144,10 +145,10 @@ cost_of task o = option_map_or (operator_cost task.metric) (slice_get task.opera
 abbrev pub plan_cost : FiniteDomainTask → List ℕ → ℕ
 plan_cost task plan = sum_by (cost_of task) plan
 
--- every plan costs at least this; where it is infinite there is no plan
+-- every plan costs at least the bound; if the bound is infinite, there is no plan
 abbrev pub EveryPlanCostsAtLeast : FiniteDomainTask → Distance → Type 0
 EveryPlanCostsAtLeast task bound = (plan : List ℕ) → IsPlan task plan → bound ≤ᵈ Finite (plan_cost task plan)
 
--- no list of operators is a plan
+-- no sequence of operators is a plan
 abbrev pub HasNoPlan : FiniteDomainTask → Type 0
 HasNoPlan task = (plan : List ℕ) → IsPlan task plan → ⊥

@@ -1,13 +1,15 @@
-//! Values of variables.
+//! Facts: values of variables.
 
 ghost use Rattle.std.specs.Prelude.{◌≡◌, ◌<◌, All, length};
 ghost use Rattle.std.specs.List.{list_all};
 ghost use Rattle.fdr.specs.Tasks as spec;
 
-/// A variable, counted from 0, and one of its values, counted from 0, as a condition or an effect names it.
+/// A fact: a variable and one of its values, as conditions and effects name them.
 #[derive(Clone, Copy, Debug, PartialEq, Eq, Hash)]
 pub struct Fact {
+    /// The number of the variable, counted from 0.
     pub variable: usize,
+    /// The number of its value, counted from 0.
     pub value: u32,
 }
 
@@ -24,7 +26,7 @@ pub(crate) fn all_hold(facts: &[Fact], state: &[u32]) -> bool
     true
 }
 
-/// Gives the variables the facts' values, in their order.
+/// Sets the variables of the facts to the facts' values, in their order. The other variables keep their values.
 pub(crate) fn set_values(facts: &[Fact], state: &mut [u32])
     requires { All (λ f. f.variable < length state.old) facts.now }
     ensures value { state.new ≡ spec.with_values facts.now state.old }

@@ -1,4 +1,4 @@
-//! Operators.
+//! Operators of finite-domain tasks.
 
 ghost use Rattle.std.specs.Prelude.{◌≡◌};
 
@@ -6,16 +6,17 @@ use crate::fact::Fact;
 use cost::Cost;
 use std::marker::Model;
 
-/// An operator. It applies in the states in which the facts of its precondition hold; the variables of its effect then have the
-/// effect's values, and the others keep theirs. The prevail conditions are those on variables that the effect leaves alone.
+/// An operator. It applies in the states in which each fact of its precondition holds. In the successor the variables
+/// of its effect have the effect's values, and all others keep theirs. The prevail conditions are the facts of the
+/// precondition on variables that the effect does not name.
 #[derive(Debug, Drop)]
 pub struct Operator {
     pub name: String,
-    /// At most one fact for each variable.
+    /// The facts that must hold. In a task at most one for each variable.
     pub precondition: Vec<Fact>,
-    /// At most one fact for each variable.
+    /// The facts that hold afterwards. In a task at most one for each variable.
     pub effect: Vec<Fact>,
-    /// What it costs under the metric; without the metric each operator costs 1.
+    /// The cost under the metric. Without the metric each operator costs 1.
     pub cost: Cost,
 }
 

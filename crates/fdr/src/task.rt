@@ -1,4 +1,4 @@
-//! Tasks.
+//! Finite-domain tasks and their limits.
 
 ghost use Rattle.std.specs.Prelude.{◌≡◌, ◌<◌, All, length, slice_index, unwrap_or, IfOk, IfErr, OnOk};
 ghost use Rattle.fdr.specs.Tasks as spec;
@@ -9,16 +9,16 @@ use crate::operator::Operator;
 use cost::Cost;
 use std::marker::Model;
 
-/// How many variables a task may have.
+/// The greatest number of variables of a task.
 const MAX_VARIABLES: usize = 65_536;
 
-/// How many values a variable may have.
+/// The greatest number of values of a variable.
 const MAX_VALUES: usize = 65_536;
 
-/// How many operators a task may have.
+/// The greatest number of operators of a task.
 const MAX_OPERATORS: usize = 4_294_967_295;
 
-/// A table of a task that is too long.
+/// The limit that a task passes.
 #[derive(Clone, Copy, Debug, PartialEq, Eq)]
 pub enum TaskLimit {
     /// More than 65,536 variables.
@@ -29,8 +29,8 @@ pub enum TaskLimit {
     Operators,
 }
 
-/// A finite-domain task. Its values are in range, each condition and each effect names a variable at most once, and no table is
-/// longer than it may be.
+/// A finite-domain task (SAS+: Bäckström and Nebel 1995). All values are in range, the goal and each precondition and
+/// effect name a variable at most once, and no limit of `TaskLimit` is passed.
 #[derive(Drop)]
 pub struct FdrTask {
     metric: bool,
@@ -52,7 +52,7 @@ impl Model for FdrTask {
         IsWithinLimits (task_of t.metric t.value_names.items t.initial.items t.goal.items t.operators.items) };
 }
 
-/// Whether a variable has more values than it may have.
+/// Whether a variable has more than `MAX_VALUES` values.
 fn has_long_range(value_names: &[Vec<String>]) -> bool
     ensures { result ≡ spec.has_long_range (spec.names_in value_names.now) }
 {
@@ -65,9 +65,11 @@ fn has_long_range(value_names: &[Vec<String>]) -> bool
 }
 
 impl FdrTask {
-    /// A task of these parts, of which the variables are given by the names of their values.
+    /// Makes a task of its parts. A variable is given by the names of its values, and `initial` has one value for each
+    /// variable. All values must be in range, and the goal and each precondition and effect must name a variable at most
+    /// once.
     ///
-    /// An `Err` says which table is too long: variables before values, and these before operators.
+    /// Fails with the first limit that is passed: variables before values, and values before operators.
     pub fn new(
         metric: bool,
         value_names: Vec<Vec<String>>,
@@ -98,37 +100,37 @@ impl FdrTask {
         })
     }
 
-    /// Recalls what holds of every task.
+    /// Proves the invariant of the type: the task is well-formed and within the limits. It does nothing at run time.
     pub fn recall(&self)
         ensures task { IsTask self.now }
         ensures limits { IsWithinLimits self.now }
     {
-        // the type's invariant is told where a field is read
+        // reading a field brings the type's invariant into the proof
         let _ = self.operators.len();
     }
 
-    /// Whether operators cost what they say; else each costs 1.
+    /// Whether operators have the costs that they state. Without the metric each operator costs 1.
     pub fn has_metric(&self) -> bool
         ensures { result ≡ self.now.metric }
     {
         self.metric
     }
 
-    /// How many variables there are.
+    /// Returns the number of variables.
     pub fn variable_count(&self) -> usize
         ensures { result ≡ length self.now.value_names }
     {
         self.value_names.len()
     }
 
-    /// The names of the values of each variable.
+    /// Returns the names of the values of each variable.
     pub fn value_names(&self) -> &[Vec<String>]
         ensures { spec.names_in result.now ≡ self.now.value_names }
     {
         &self.value_names
     }
 
-    /// How many values a variable has.
+    /// Returns the number of values of a variable.
     pub fn range(&self, variable: usize) -> usize
         requires { variable < length self.now.value_names }
         ensures { result ≡ slice_index (spec.ranges self.now) variable }
@@ -136,14 +138,14 @@ impl FdrTask {
         self.value_names[variable].len()
     }
 
-    /// How many operators there are.
+    /// Returns the number of operators.
     pub fn operator_count(&self) -> usize
         ensures { result ≡ length self.now.operators }
     {
         self.operators.len()
     }
 
-    /// The initial state.
+    /// Returns the initial state: one value for each variable.
     pub fn initial(&self) -> &[u32]
         ensures value { result.now ≡ self.now.initial }
         ensures state { IsState (spec.ranges self.now) result.now }
@@ -151,7 +153,7 @@ impl FdrTask {
         &self.initial
     }
 
-    /// The goal's facts, at most one for each variable.
+    /// Returns the facts of the goal, at most one for each variable.
     pub fn goal(&self) -> &[Fact]
         ensures value { result.now ≡ self.now.goal }
         ensures assignment { spec.IsAssignment (spec.ranges self.now) result.now }
@@ -159,7 +161,7 @@ impl FdrTask {
         &self.goal
     }
 
-    /// The operators, by their numbers.
+    /// Returns the operators, in the order of their numbers.
     pub fn operators(&self) -> &[Operator]
         ensures value { result.now ≡ self.now.operators }
         ensures operators { All (spec.IsOperator (spec.ranges self.now)) result.now }
@@ -175,7 +177,7 @@ impl FdrTask {
         all_hold(&self.goal, state)
     }
 
-    /// Whether an operator, given by its number, applies in the state.
+    /// Whether the operator with this number exists and applies in the state.
     pub fn applies(&self, operator: usize, state: &[u32]) -> bool
         requires { length state.now ≡ length self.now.value_names }
         ensures { result ≡ spec.applies_at self.now operator state.now }
@@ -186,7 +188,8 @@ impl FdrTask {
         }
     }
 
-    /// Makes of a state the one that an operator leads to, if it exists and applies; else the state stays as it is.
+    /// Replaces the state by its successor under the operator with this number, if that operator exists and applies.
+    /// Returns whether it does; if not, the state stays as it is.
     pub fn apply(&self, operator: usize, state: &mut [u32]) -> bool
         requires { length state.old ≡ length self.now.value_names }
         ensures applied { result ≡ spec.applies_at self.now operator state.old }
@@ -201,7 +204,7 @@ impl FdrTask {
         }
     }
 
-    /// What an operator, given by its number, costs: 1 without the metric, and 0 where there is no such operator.
+    /// Returns the cost of the operator with this number: 1 without the metric, and 0 if there is no such operator.
     pub fn cost(&self, operator: usize) -> Cost
         ensures { result ≡ spec.cost_of self.now operator }
     {

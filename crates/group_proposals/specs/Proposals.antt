@@ -1,4 +1,4 @@
--- Groups that are proposed: lists of places whose atoms are a usable group.
+-- Proposed groups: lists of places whose atoms are a usable group.
 use Rattle.std.specs.Prelude.{◌≡◌, ℕ, ◌≤◌, Bool, true, false, ◌&&◌, not, if◌then◌else◌, List, [], ◌∷◌, ◌++◌, length, slice_get, All}
 use Rattle.std.specs.List.{list_any}
 use Rattle.std.specs.List.Sorted.{IsStrictlyIncreasing}
@@ -7,19 +7,19 @@ use Rattle.planning.specs.Atoms.{same_numbers}
 use Rattle.mutex.specs.Groups.{is_usable, is_constant, is_excluded}
 use Rattle.mutex.specs.Places.{Indexed, atoms_at}
 
--- there is an atom at the place, which is not constant, and not the negation of which is a precondition or a goal
+-- the place has an atom that is neither constant nor excluded
 abbrev pub is_movable : Indexed → ℕ → Bool
 is_movable index place =
     option_map_or (λ p. not (is_constant index.task index.actions p) && not (is_excluded index.task index.actions p))
     (slice_get index.atoms place) false
 
--- two or more places, in their order, of atoms that are a usable group, and none of which is constant or excluded
+-- two or more places, strictly increasing, of atoms that are a usable group, none of them constant or excluded
 pub record IsProposal (index : Indexed) (places : List ℕ) : Type 0 where
   pub rising : IsStrictlyIncreasing places
   pub several : 2 ≤ length places
   pub movable : All (λ p. is_movable index p ≡ true) places
   pub usable : is_usable index.task index.actions (atoms_at index.atoms places) ≡ true
 
--- the lists with one more, at the end where it was not there
+-- the groups with this one, which is appended if it is not among them
 abbrev pub with_group : List (List ℕ) → List ℕ → List (List ℕ)
 with_group groups places = if list_any (same_numbers places) groups then groups else groups ++ places ∷ []

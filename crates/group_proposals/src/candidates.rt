@@ -3,7 +3,8 @@
 use crate::parts::{Member, Part};
 use std::alloc::{AllocError, Global};
 
-// Adds to the candidates those that are this one and one later part of another predicate, as far as there is room.
+/// Appends the candidates that extend the chosen parts by one later part of another predicate, until `longer` has
+/// `room` of them.
 fn extend_one(
     parts: &[Part],
     chosen: &[usize],
@@ -25,8 +26,8 @@ fn extend_one(
     Ok(())
 }
 
-/// The candidates of one more part, in order: each of these and one later part of another predicate. There are at most as
-/// many as there is room for.
+/// The candidates with one more part, in order: each of the given ones with one later part of another predicate. There
+/// are at most `room`.
 pub(crate) fn extended(
     alloc: Global,
     parts: &[Part],
@@ -47,7 +48,7 @@ fn push_members(from: &[Member], members: &mut Vec<Member>) -> Result<(), AllocE
     Ok(())
 }
 
-/// The members of the chosen parts, by object and then by place.
+/// The members of the chosen parts, ordered by object and then by place.
 pub(crate) fn members_of(
     alloc: Global,
     parts: &[Part],

@@ -16,7 +16,7 @@ use std::alloc::{AllocError, Global};
 use std::hash::{Hash, Hasher};
 use std::marker::Model;
 
-/// The places of a group's atoms, counted from 0.
+/// A group of atoms by their places, counted from 0.
 #[derive(Debug, Drop)]
 pub struct Group {
     places: Vec<usize>,
@@ -31,7 +31,7 @@ impl Model for Group {
 }
 
 impl Group {
-    /// The places in their order.
+    /// The places, in order.
     pub fn places(&self) -> &[usize]
         ensures { result.now ≡ self.now }
     {
@@ -63,7 +63,7 @@ impl Hash for Group {
     }
 }
 
-/// Groups in their order, none twice.
+/// Distinct groups, in order.
 #[derive(Drop)]
 pub struct Groups {
     set: IndexSet<Group>,
@@ -86,7 +86,7 @@ impl Groups {
         }
     }
 
-    /// The groups in their order. None stands twice.
+    /// The groups, in order. They are distinct.
     pub fn as_slice(&self) -> &[Group]
         ensures groups { result.now ≡ self.now }
         ensures distinct { AllPairs (λ g h. g ≢ h) self.now }
@@ -94,7 +94,7 @@ impl Groups {
         self.set.as_slice()
     }
 
-    // Puts the group at the end, unless it is there.
+    /// Appends the group if it is not in the list.
     fn push(&mut self, group: Group) -> Result<(), AllocError>
         ensures { OnOk result (self.new ≡ with_group self.old group) }
     {
@@ -102,7 +102,7 @@ impl Groups {
         Ok(())
     }
 
-    // Puts the places at the end, where they are two or more of a usable group, in their order, and not there yet.
+    /// Appends the group of these places if it can be proposed and is not in the list.
     pub(crate) fn offer(
         &mut self,
         alloc: Global,
@@ -120,7 +120,8 @@ impl Groups {
     }
 }
 
-// Whether the places can be proposed.
+/// Whether the places can be proposed: they are two or more, strictly increasing, of atoms that are neither constant
+/// nor excluded, and a usable group.
 fn is_proposal(index: &ActionIndex<'_>, places: &[usize]) -> bool
     ensures { OnTrue result (IsProposal index.now places.now) }
 {
@@ -130,7 +131,7 @@ fn is_proposal(index: &ActionIndex<'_>, places: &[usize]) -> bool
     are_movable(index, places) && index.is_usable(places)
 }
 
-// Whether each place is below the next.
+/// Whether the places are strictly increasing.
 fn is_rising(places: &[usize]) -> bool
     ensures { OnTrue result (IsStrictlyIncreasing places.now) }
 {
@@ -142,14 +143,14 @@ fn is_rising(places: &[usize]) -> bool
     true
 }
 
-// Whether none of the atoms at the places is constant or excluded.
+/// Whether no atom at the places is constant or excluded.
 fn are_movable(index: &ActionIndex<'_>, places: &[usize]) -> bool
     ensures { result ≡ list_all (is_movable index.now) places.now }
 {
     places.iter().all(|place| is_movable(index, *place))
 }
 
-// Whether there is an atom at the place that is neither constant nor excluded.
+/// Whether the place has an atom, and this is neither constant nor excluded.
 pub(crate) fn is_movable(index: &ActionIndex<'_>, place: usize) -> bool
     ensures { result ≡ is_movable index.now place }
 {

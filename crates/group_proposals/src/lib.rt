@@ -1,4 +1,4 @@
-//! Proposals of mutex groups: sets of predicates with one argument in common, tried for each object.
+//! Proposals of mutex groups: sets of predicates with one argument in common, instantiated for each object.
 #![tactic(auto)]
 
 mod candidates;

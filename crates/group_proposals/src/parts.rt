@@ -1,25 +1,25 @@
-//! The parts of which candidates are made: fluent predicates with one argument bound, or none.
+//! The parts of candidates: fluent predicates with one argument bound to the parameter, or with none.
 
 use crate::group_list::is_movable;
 use mutex::ActionIndex;
 use planning::{GroundAtom, LiftedEffect, Task};
 use std::alloc::{AllocError, Global};
 
-// An atom by its place, and the object that stands for the parameter.
+/// An atom by its place, and the object that stands for the parameter in it.
 #[derive(Debug, Clone, Copy, PartialEq, Eq, PartialOrd, Ord)]
 pub(crate) struct Member {
     pub(crate) object: usize,
     pub(crate) place: usize,
 }
 
-// A predicate, with the atoms of it that may be in a group.
+/// A predicate, with those of its atoms that may be in a group.
 #[derive(Drop)]
 pub(crate) struct Part {
     pub(crate) predicate: usize,
     pub(crate) members: Vec<Member>,
 }
 
-// Which argument of a predicate is bound to the parameter.
+/// The argument of a predicate that is bound to the parameter.
 #[derive(Debug, Clone, Copy)]
 enum Bound {
     None,
@@ -27,7 +27,7 @@ enum Bound {
 }
 
 impl Bound {
-    // The object that stands for the parameter in the atom. With none it is 0 for every atom.
+    /// The object that stands for the parameter in the atom, or 0 if no argument is bound.
     fn object(self, atom: &GroundAtom) -> usize {
         match self {
             Bound::None => 0,
@@ -45,7 +45,7 @@ fn mark_effects(fluent: &mut [bool], effects: &[LiftedEffect]) {
     }
 }
 
-// By predicate, whether the effect of a schema names it.
+/// For each predicate whether an effect of a schema names it.
 fn fluent_flags(alloc: Global, task: &Task) -> Result<Vec<bool>, AllocError> {
     let mut fluent = vec![in alloc; false; task.arities.len()]?;
     for schema in &task.schemas {
@@ -54,7 +54,7 @@ fn fluent_flags(alloc: Global, task: &Task) -> Result<Vec<bool>, AllocError> {
     Ok(fluent)
 }
 
-// The atoms that are of the predicate and may be in a group.
+/// The atoms of the predicate that may be in a group.
 fn members(
     alloc: Global,
     index: &ActionIndex<'_>,
@@ -85,7 +85,7 @@ fn push_part(
     Ok(())
 }
 
-/// The parts with one parameter, by predicate and then by the position that is bound.
+/// The parts with a bound argument, by predicate and then by the position of that argument.
 pub(crate) fn bound_parts(alloc: Global, index: &ActionIndex<'_>) -> Result<Vec<Part>, AllocError> {
     let task = index.task();
     let fluent = fluent_flags(alloc, task)?;
@@ -102,7 +102,7 @@ pub(crate) fn bound_parts(alloc: Global, index: &ActionIndex<'_>) -> Result<Vec<
     Ok(parts)
 }
 
-/// The parts without a parameter, by predicate.
+/// The parts without a bound argument, by predicate.
 pub(crate) fn free_parts(alloc: Global, index: &ActionIndex<'_>) -> Result<Vec<Part>, AllocError> {
     let task = index.task();
     let fluent = fluent_flags(alloc, task)?;

@@ -1,4 +1,4 @@
-//! The groups of a task that are proposed.
+//! Proposed mutex groups of a task.
 
 ghost use Rattle.std.specs.Prelude.{◌≡◌, All, IfOk, OnOk};
 ghost use Rattle.group_proposals.specs.Proposals.{IsProposal};
@@ -9,10 +9,10 @@ use crate::parts::{Member, Part, bound_parts, free_parts};
 use mutex::ActionIndex;
 use std::alloc::{AllocError, Global};
 
-/// As many candidates as are tried.
+/// The largest number of candidates that are tried.
 pub const MOST_CANDIDATES: usize = 4096;
 
-// Offers the places of the members of each object.
+/// Offers the places of the members of each object as a group. The members are ordered by object.
 fn offer_members(
     alloc: Global,
     index: &ActionIndex<'_>,
@@ -35,7 +35,7 @@ fn offer_members(
     groups.offer(alloc, index, &places)
 }
 
-// Offers the instances of each candidate.
+/// Offers the instances of each candidate.
 fn offer_candidates(
     alloc: Global,
     index: &ActionIndex<'_>,
@@ -53,7 +53,8 @@ fn offer_candidates(
     Ok(())
 }
 
-// Offers the instances of the candidates of one to three of the parts, the fewer first, and answers how much room is left.
+/// Offers the instances of the candidates of one to three of the parts, those of fewer parts first. Returns how many of
+/// the `room` candidates that may be tried are left.
 fn offer_parts(
     alloc: Global,
     index: &ActionIndex<'_>,
@@ -74,14 +75,14 @@ fn offer_parts(
     Ok(room)
 }
 
-/// Groups of the index's atoms that are proposed and usable: each is two or more places, in their order, of atoms that are a
-/// usable group and none of which is constant or excluded, and none stands twice.
+/// Proposed mutex groups of the index's atoms. Each is a usable group of two or more atoms, none of them constant or
+/// excluded, by their places in increasing order. The groups are distinct.
 ///
-/// A part is a predicate that an effect names: with one parameter, which stands at its only position, or at one of two; or
-/// without, where it has at most one position. A candidate is one to three parts of distinct predicates, all with the
-/// parameter or all without. The first 4,096 candidates are tried: those with the parameter first, then the fewer parts, then
-/// by the parts. Of a candidate each object has one instance, the atoms with the object for the parameter. An `Err` is of too
-/// little memory.
+/// A part is a predicate that an effect names, with one argument bound to the parameter, where it has one or two, or
+/// with none bound, where it has at most one. A candidate is one to three parts of distinct predicates, all of them
+/// with a bound argument or all without. The first 4,096 candidates are tried: those with a bound argument first, then
+/// those of fewer parts, then in the order of the parts. A candidate has one instance for each object: the atoms with
+/// that object for the parameter. Fails only if allocation fails.
 pub fn groups(alloc: Global, index: &ActionIndex<'_>) -> Result<Groups, AllocError>
     ensures { IfOk result (λ groups. All (IsProposal index.now) groups) }
 {

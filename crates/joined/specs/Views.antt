@@ -1,4 +1,4 @@
--- Packets as they lie in memory.
+-- Packets as they are stored.
 use Rattle.std.specs.Prelude.{List, map, flat_map}
 use Rattle.std.specs.Global.{Global}
 use Rattle.std.specs.declared.collections.VecDeque.{VecDeque}
@@ -13,6 +13,6 @@ packet_of p = record { sender = p.sender; message = message_of p.message }
 abbrev pub packets_in : VecDeque Packet Global → List machine.Packet
 packets_in queue = map packet_of queue.items
 
--- those of several queues
+-- the packets of several queues
 abbrev pub all_packets : List (VecDeque Packet Global) → List machine.Packet
 all_packets queues = flat_map packets_in queues

@@ -1,11 +1,11 @@
-//! What a search answers.
+//! The answer of a search.
 
 ghost use Rattle.std.specs.Prelude.{◌≡◌};
 
 /// What the owners of a search have found.
 #[derive(Clone, Copy, Debug, PartialEq, Eq)]
 pub enum SearchAnswer {
-    /// A cheapest plan costs so much.
+    /// The cost of a cheapest plan.
     Solved(u64),
     /// There is no plan.
     Unsolvable,

@@ -1,4 +1,4 @@
-//! The cheapest goal entry.
+//! The goal node of least cost.
 
 ghost use Rattle.std.specs.Prelude.{◌≡◌, ◌<◌, length, slice_get, All, None, Some, IfOk};
 ghost use Rattle.families.specs.Owners.{Node};
@@ -8,7 +8,7 @@ use owner::{Owner, Space};
 use spread::Spread;
 use std::alloc::{AllocError, Global};
 
-/// An entry with a goal state: its cost, its worker and its place.
+/// A node with a goal state: its cost, its worker and its place.
 #[derive(Clone, Copy)]
 pub(crate) struct Found {
     cost: u64,
@@ -16,7 +16,7 @@ pub(crate) struct Found {
     pub(crate) index: usize,
 }
 
-/// Whether an entry of that cost is better than what was found.
+/// Whether a node of that cost is cheaper than what was found.
 fn is_cheaper(cost: u64, found: Option<Found>) -> bool
     ensures { result ≡ is_cheaper cost found }
 {
@@ -26,7 +26,7 @@ fn is_cheaper(cost: u64, found: Option<Found>) -> bool
     }
 }
 
-/// The best after the entry at that place of one owner; the buffer is for use within, as it is below.
+/// The cheapest goal node after the node at that place of one owner; `state` is a buffer, here and below.
 fn better_entry<S: Spread + Drop>(
     owner: &Owner<'_, S>,
     worker: usize,
@@ -51,7 +51,7 @@ fn better_entry<S: Spread + Drop>(
     }
 }
 
-/// The best after the entries of one owner.
+/// The cheapest goal node after the nodes of one owner.
 fn best_of_owner<S: Spread + Drop>(
     owner: &Owner<'_, S>,
     worker: usize,
@@ -68,7 +68,7 @@ fn best_of_owner<S: Spread + Drop>(
     best
 }
 
-/// The best of all entries of these owners, which search this space. An `Err` is of too little memory.
+/// The cheapest goal node of these owners, all of this space. Fails only if allocation fails.
 pub(crate) fn best_of_owners<S: Spread + Drop>(
     alloc: Global,
     space: &Space<'_, S>,

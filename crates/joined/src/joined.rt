@@ -15,13 +15,13 @@ use std::alloc::{AllocError, Global};
 use std::collections::VecDeque;
 use std::marker::Model;
 
-/// Owners and messages not taken that stand at the end of a lawful family: however the owners' events were interleaved, each message
-/// that was taken had been handed out, and each bound that was seen had been offered.
+/// Owners and the messages not taken, at the end of a lawful family: however the owners' events were interleaved, each
+/// message that was taken had been handed out, and each bound that was seen is at least the least cost that was offered.
 #[derive(Drop)]
 pub struct Joined<'a, S: Spread + Drop> {
     space: &'a Space<'a, S>,
     owners: Vec<Owner<'a, S>>,
-    // to each owner, the oldest first
+    /// The messages not taken, in a queue for each owner, the oldest first.
     left: Vec<VecDeque<Packet>>,
     ghost lawful: { ∥ ((family : Family) × IsEndOf S.owner (record { space = space.now; owners = owners.items; left = all_packets left.items }) family) ∥₁ },
     ghost form: { IsForm (record { space = space.now; owners = owners.items; left = all_packets left.items }) },
@@ -37,7 +37,7 @@ impl<'a, S: Spread + Drop> Model for Joined<'a, S> {
 }
 
 impl<'a, S: Spread + Drop> Joined<'a, S> {
-    /// The end of a lawful family.
+    /// The end of a lawful family, from the space, the owners and the messages that were not taken.
     pub fn new(
         space: &'a Space<'a, S>,
         owners: Vec<Owner<'a, S>>,
@@ -54,16 +54,16 @@ impl<'a, S: Spread + Drop> Joined<'a, S> {
         }
     }
 
-    /// The bound at which the family is settled: the least cost at which a goal state was taken, infinite where none was, if nothing
-    /// pending could lead to less. `None` where it is not settled. An `Err` is of too little memory.
+    /// The bound at which the family is settled: the least cost at which a goal state was taken, infinite if none was,
+    /// provided that no pending f-value is below it. `None` if the family is not settled. Fails only if allocation fails.
     pub fn settled(&self, alloc: Global) -> Result<Option<Dist>, AllocError>
         ensures { IfOk result (IsSettledAnswer (space_at S.owner self.now) self.now.owners self.now.left) }
     {
         settled_bound(alloc, self.space, &self.owners, &self.left)
     }
 
-    /// A goal entry of the least cost: its worker and its place; among equals the one of the least worker, and there of the least place.
-    /// `None` where there is no goal entry. An `Err` is of too little memory.
+    /// The worker and the place of a goal node of least cost: of these the one of the least worker, and there of the
+    /// least place. Both are counted from 0. `None` if there is no goal node. Fails only if allocation fails.
     pub fn best(&self, alloc: Global) -> Result<Option<(usize, usize)>, AllocError>
         ensures { IfOk result (IsBestGoal self.now) }
     {
@@ -80,22 +80,23 @@ impl<'a, S: Spread + Drop> Joined<'a, S> {
         self.space
     }
 
-    /// The owners.
+    /// The owners, in the order of their numbers.
     pub fn owners(&self) -> &[Owner<'a, S>]
         ensures { result.now ≡ self.now.owners }
     {
         &self.owners
     }
 
-    /// What holds of every end: it is that of a lawful family, each owner has the space and its number, the space is one, and its
-    /// heuristic is at most what any operators cost that lead to a goal state. The body tells what the type keeps.
+    /// What holds of every end, the type's invariant stated as a contract: it is the end of a lawful family, each owner
+    /// has this space and its own number, the space is a search space, and the heuristic of a state is at most the cost
+    /// of any operators that lead from it to a goal state.
     pub fn recall(&self)
         ensures lawful { ∥ ((family : Family) × IsEndOf S.owner self.now family) ∥₁ }
         ensures form { IsForm self.now }
         ensures space { IsSearchSpace (space_at S.owner self.now) }
         ensures lower { IsLowerBound self.now.space.task (space_at S.owner self.now).heuristic }
     {
-        // the type's invariant is told where a field is read
+        // the type's invariant is available where a field is read
         self.owners[0].recall();
     }
 }

@@ -1,4 +1,4 @@
-//! The end of a search by owners of states, whatever their schedule was (hash distributed A*: Kishimoto, Fukunaga and Botea 2013).
+//! The end of a search by owners of states, for every schedule (hash distributed A*: Kishimoto, Fukunaga and Botea 2013).
 #![tactic(auto)]
 
 mod answer;

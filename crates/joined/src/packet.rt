@@ -4,9 +4,11 @@ ghost use Rattle.std.specs.Prelude.{◌≡◌};
 
 use owner::Message;
 
-/// A message with the worker that sent it.
+/// A message underway.
 #[derive(Drop)]
 pub struct Packet {
+    /// The worker that sent it, counted from 0.
     pub sender: usize,
+    /// The message.
     pub message: Message,
 }

@@ -1,4 +1,4 @@
-//! Whether the owners' work is settled.
+//! Whether the owners of a search are settled.
 
 ghost use Rattle.std.specs.Prelude.{◌≡◌, length, map, IfOk, All};
 ghost use Rattle.cost.specs.Distances.{lesser, least};
@@ -16,7 +16,7 @@ use spread::Spread;
 use std::alloc::{AllocError, Global};
 use std::collections::VecDeque;
 
-/// The f-value of a message; the buffer is for use within, as it is below.
+/// The f-value of a message; `state` is a buffer, here and below.
 fn f_of<S: Spread + Drop>(space: &Space<'_, S>, message: &Message, state: &mut [u32]) -> Dist
     requires small { IsSmallMessage space.now.task (message_of message.now) }
     requires buffer { length state.old ≡ length space.now.task.value_names }
@@ -26,7 +26,7 @@ fn f_of<S: Spread + Drop>(space: &Space<'_, S>, message: &Message, state: &mut [
     space.f(state, message.rank.cost)
 }
 
-/// The least f-value of messages, infinite where there is none.
+/// The least f-value of these messages, infinite if there is none.
 fn least_of_messages<S: Spread + Drop>(
     space: &Space<'_, S>,
     messages: &VecDeque<Message>,
@@ -43,7 +43,7 @@ fn least_of_messages<S: Spread + Drop>(
     least
 }
 
-/// The least f-value of messages underway, infinite where there is none.
+/// The least f-value of these messages underway, infinite if there is none.
 fn least_of_packets<S: Spread + Drop>(
     space: &Space<'_, S>,
     packets: &VecDeque<Packet>,
@@ -60,7 +60,7 @@ fn least_of_packets<S: Spread + Drop>(
     least
 }
 
-/// The least f-value of what one of so many owners has yet to expand or to hand out.
+/// The least f-value of an owner's nodes that are not expanded and of the messages in its outboxes.
 fn least_of_owner<S: Spread + Drop>(owner: &Owner<'_, S>, owners: usize, state: &mut [u32]) -> Dist
     requires owners { length owner.now.outboxes ≡ owners }
     requires buffer { length state.old ≡ length owner.now.space.task.value_names }
@@ -74,7 +74,7 @@ fn least_of_owner<S: Spread + Drop>(owner: &Owner<'_, S>, owners: usize, state: 
     least
 }
 
-/// The least f-value of what is in the owners and of what is left underway.
+/// The least pending f-value: of the owners' nodes and outboxes, and of the messages underway.
 fn least_pending<S: Spread + Drop>(
     space: &Space<'_, S>,
     owners: &[Owner<'_, S>],
@@ -95,7 +95,7 @@ fn least_pending<S: Spread + Drop>(
     least
 }
 
-/// The least cost at which any of the owners took a goal state, infinite where none did.
+/// The least cost at which any of the owners took a goal state, infinite if none did.
 fn best_goal<S: Spread + Drop>(owners: &[Owner<'_, S>]) -> Dist
     ensures { result ≡ least (map (λ o. o.best) owners.now) }
 {
@@ -106,9 +106,9 @@ fn best_goal<S: Spread + Drop>(owners: &[Owner<'_, S>]) -> Dist
     best
 }
 
-/// The bound at which the owners of a space are settled, where these are the messages handed out and not taken: the least cost at
-/// which a goal state was taken, infinite where none was, if nothing pending could lead to less. `None` where they are not. An `Err` is
-/// of too little memory.
+/// The bound at which the owners of a space are settled, given the messages that were handed out and not taken: the least
+/// cost at which a goal state was taken, infinite if none was, provided that no pending f-value is below it. `None` if
+/// they are not settled. Fails only if allocation fails.
 pub fn settled_bound<'a, S: Spread + Drop>(
     alloc: Global,
     space: &Space<'a, S>,

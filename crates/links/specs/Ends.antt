@@ -1,4 +1,4 @@
--- What was sent over a link, what was taken, and what is known to be in its ring.
+-- What was sent over a link, what was taken from it, and what is known to be in its ring.
 use Rattle.std.specs.Prelude.{◌≡◌, ℕ, List, []}
 use Rattle.rtrb.specs.Ring
 use Rattle.closed.specs.declared.message.Message.{Message}
@@ -9,7 +9,7 @@ use Rattle.links.specs.declared.ends.In.{In}
 abbrev pub sent : Out → List Message
 sent o = Ring.sent o.producer
 
--- for how many more messages the sender knows that there is room
+-- the number of further messages for which the sender knows that there is room
 abbrev pub room : Out → ℕ
 room o = Ring.known_free o.producer
 
@@ -17,7 +17,7 @@ room o = Ring.known_free o.producer
 abbrev pub received : In → List Message
 received i = Ring.received i.consumer
 
--- the messages that the receiver knows to be in the ring, which the next calls give
+-- the messages that the receiver knows to be in the ring, which the next calls of `pop` return
 abbrev pub known : In → List Message
 known i = Ring.known_items i.consumer
 
@@ -32,7 +32,7 @@ SameOut a b = Ring.SameProducer a.producer b.producer
 abbrev pub SameIn : In → In → Type 0
 SameIn a b = Ring.SameConsumer a.consumer b.consumer
 
--- the two ends of a link with room for so many messages, over which nothing was sent
+-- the two ends of a link with room for a number of messages, its capacity, over which nothing was sent
 pub record IsFresh (capacity : ℕ) (o : Out) (i : In) : Type 0 where
   pub ends : AreEnds o i
   pub room_is : room o ≡ capacity

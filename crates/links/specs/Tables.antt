@@ -4,7 +4,7 @@ use Rattle.links.specs.declared.ends.Out.{Out}
 use Rattle.links.specs.declared.ends.In.{In}
 use Rattle.links.specs.Ends.{IsFresh}
 
--- what each row has
+-- the elements of each row
 abbrev pub rows : {A G : Type 0} → List (Vec A G) → List (List A)
 rows {A} {G} vs = map (λ (v : Vec A G). v.items) vs
 

@@ -9,7 +9,7 @@ use closed::Message;
 use rtrb::{Consumer, Producer, Protocol, PushError, RingBuffer};
 use std::alloc::{AllocError, Global};
 
-/// What may go through a ring: messages at a cost and over a number of operators of at most 2^62.
+/// The protocol of a ring: messages at a cost of at most 2^62 and over at most 2^62 operators.
 pub struct SmallRanks;
 
 impl Protocol<Message> for SmallRanks {
@@ -18,19 +18,20 @@ impl Protocol<Message> for SmallRanks {
     ghost allows = { λ before m. HasSmallRank m };
 }
 
-/// The end that sends. A contract knows what was sent so far.
+/// The sending end of a link. A contract sees the messages sent so far.
 #[derive(Drop)]
 pub struct Out {
     producer: Producer<Message, Global, SmallRanks>,
 }
 
-/// The end that takes. A contract knows what was taken so far, and which messages are certainly in the ring.
+/// The receiving end of a link. A contract sees the messages taken so far, and the messages that are known to be in the
+/// ring.
 #[derive(Drop)]
 pub struct In {
     consumer: Consumer<Message, Global, SmallRanks>,
 }
 
-/// Both ends of a new link, which has room for so many messages. An `Err` is of too little memory.
+/// Both ends of a new link, which has room for `capacity` messages. Fails only if allocation fails.
 pub fn link(alloc: Global, capacity: usize) -> Result<(Out, In), AllocError>
     ensures { IfOk result (λ r. IsFresh capacity r.0 r.1) }
 {
@@ -39,7 +40,7 @@ pub fn link(alloc: Global, capacity: usize) -> Result<(Out, In), AllocError>
 }
 
 impl Out {
-    /// Whether there certainly is room for a message. No memory is taken.
+    /// Whether there is certainly room for a message. Allocates nothing.
     pub fn has_room(&mut self) -> bool
         ensures ring { SameOut self.old self.new }
         ensures same { sent self.new ≡ sent self.old }
@@ -49,7 +50,7 @@ impl Out {
         self.producer.slots() > 0
     }
 
-    /// Sends a message, or gives it back where the ring is full. No memory is taken.
+    /// Sends a message, or returns it if the ring is full. Allocates nothing.
     pub fn push(&mut self, message: Message) -> Result<(), Message>
         requires { HasSmallRank message }
         ensures ring { SameOut self.old self.new }
@@ -65,8 +66,8 @@ impl Out {
 }
 
 impl In {
-    /// Takes the oldest message, or `None` where it finds the ring empty; it finds none only where none is known to be there. No memory is
-    /// taken.
+    /// Takes the oldest message, or returns `None` if it finds the ring empty, which cannot happen while a message is
+    /// known to be in it. Allocates nothing.
     pub fn pop(&mut self) -> Option<Message>
         ensures ring { SameIn self.old self.new }
         ensures some { IfSome result (λ m. received self.new ≡ received self.old ++ m ∷ []) }
@@ -83,8 +84,8 @@ impl In {
     }
 }
 
-/// How many messages are in the ring of a link, both of whose ends are at hand: what was taken, and then these, is what was sent. As many
-/// calls of `pop` then give one.
+/// The number of messages in the ring of a link, from both of its ends: the messages taken, followed by these, are the
+/// messages sent. That number of calls of `pop` then return a message each.
 pub fn match_up(sender: &mut Out, receiver: &mut In) -> usize
     requires { AreEnds sender.old receiver.old }
     ensures ends { AreEnds sender.new receiver.new }

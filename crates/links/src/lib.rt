@@ -1,4 +1,5 @@
-//! Links between workers: a ring for each ordered pair of them, by which messages pass in the order in which they were sent.
+//! Links between workers: a ring for each ordered pair of workers, through which messages pass in the order in which they
+//! were sent.
 #![tactic(auto)]
 
 mod ends;

@@ -1,4 +1,4 @@
-//! The links of all pairs of workers.
+//! The links between all pairs of workers.
 
 ghost use Rattle.std.specs.Prelude.{◌≡◌, length, IfOk, vec_len};
 ghost use Rattle.links.specs.Tables.{rows, AreFresh, grown, AreMatched, HasSize};
@@ -6,16 +6,17 @@ ghost use Rattle.links.specs.Tables.{rows, AreFresh, grown, AreMatched, HasSize}
 use crate::ends::{In, Out, link};
 use std::alloc::{AllocError, Global};
 
-/// The ends of all links: at `outs[w][v]` and at `ins[v][w]` stand the two ends of the link from worker w to worker v.
+/// The ends of all links: `outs[w][v]` and `ins[v][w]` are the two ends of the link from worker w to worker v. Workers
+/// are counted from 0.
 #[derive(Drop)]
 pub struct LinkTable {
-    /// The ends that send, by the worker who does and then by whom it sends to.
+    /// The sending ends, by sender and then by receiver.
     pub outs: Vec<Vec<Out>>,
-    /// The ends that take, by the worker who does and then by who has sent.
+    /// The receiving ends, by receiver and then by sender.
     pub ins: Vec<Vec<In>>,
 }
 
-/// The links from one worker to each of so many.
+/// The ends of `workers` new links, each with room for `capacity` messages. Fails only if allocation fails.
 fn links_from(
     alloc: Global,
     workers: usize,
@@ -34,7 +35,7 @@ fn links_from(
     Ok((outs, ins))
 }
 
-/// Gives each worker one more end that takes.
+/// Appends one more receiving end to each worker's row. Fails only if allocation fails.
 fn add_ends(alloc: Global, ins: Vec<Vec<In>>, ends: Vec<In>) -> Result<Vec<Vec<In>>, AllocError>
     requires { vec_len ins ≡ vec_len ends }
     ensures { IfOk result (λ r. rows r.items ≡ grown (rows ins.items) ends.items) }
@@ -47,7 +48,7 @@ fn add_ends(alloc: Global, ins: Vec<Vec<In>>, ends: Vec<In>) -> Result<Vec<Vec<I
     Ok(all)
 }
 
-/// No end for each of so many workers.
+/// An empty row of receiving ends for each of `workers` workers. Fails only if allocation fails.
 fn no_ends(alloc: Global, workers: usize) -> Result<Vec<Vec<In>>, AllocError>
     ensures { IfOk result (λ r. HasSize workers 0 (rows r.items)) }
 {
@@ -59,8 +60,8 @@ fn no_ends(alloc: Global, workers: usize) -> Result<Vec<Vec<In>>, AllocError>
 }
 
 impl LinkTable {
-    /// A link from each of so many workers to each, with room for so many messages, over which nothing was sent. An `Err` is of too little
-    /// memory.
+    /// A link from each of `workers` workers to each of them, itself included, with room for `capacity` messages, over
+    /// which nothing was sent. Fails only if allocation fails.
     pub fn new(alloc: Global, workers: usize, capacity: usize) -> Result<LinkTable, AllocError>
         ensures size { IfOk result (λ t. HasSize workers workers (rows t.outs.items) × HasSize workers workers (rows t.ins.items)) }
         ensures matched { IfOk result (λ t. AreMatched capacity (rows t.outs.items) (rows t.ins.items)) }

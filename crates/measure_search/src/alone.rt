@@ -1,4 +1,4 @@
-//! One owner that has all states.
+//! A search by one owner, which has all states.
 
 ghost use Rattle.std.specs.Prelude.{◌≤◌, IfOk};
 
@@ -7,7 +7,7 @@ use owner::{Owner, OwnerFault, Space};
 use spread::Spread;
 use std::alloc::Global;
 
-/// Expands so many nodes, or as many as there are to expand. Gives how many.
+/// Expands `times` nodes, or fewer if no more can be expanded, and returns their number.
 fn expand_times<S: Spread + Drop>(owner: &mut Owner<'_, S>, times: u64) -> Result<u64, OwnerFault>
     ensures { IfOk result (λ count. count ≤ times) }
 {
@@ -19,8 +19,8 @@ fn expand_times<S: Spread + Drop>(owner: &mut Owner<'_, S>, times: u64) -> Resul
     Ok(times)
 }
 
-/// What an owner has come to that expands so many nodes, or all: how many it expanded, how many states it keeps, and the least f-value of
-/// those that are not expanded.
+/// The line for an owner that expands `steps` nodes, or fewer if no more can be expanded: the number of expansions, the
+/// number of states stored, and the least f-value of the nodes that are not expanded.
 pub(crate) fn expand_alone<'a, S: Spread + Drop>(
     alloc: Global,
     space: &'a Space<'a, S>,

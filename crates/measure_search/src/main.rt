@@ -1,4 +1,5 @@
-//! Searches a task without an end in view, for the benchmark of searches: `measure_search TASK OWNERS STEPS COLUMNS`.
+//! Searches a task for a given number of steps, for the benchmark of searches:
+//! `measure_search TASK OWNERS STEPS COLUMNS`.
 #![tactic(auto)]
 
 mod alone;
@@ -17,13 +18,14 @@ use spread::Zobrist;
 use std::alloc::{AllocError, Global};
 use std::process::ExitCode;
 
-/// As many owners as there may be.
+/// The greatest number of owners.
 const MOST_OWNERS: usize = 64;
 
-/// As many abstract states as a table may have.
+/// The greatest number of abstract states of a table.
 const MOST_TABLE: usize = 16_777_216;
 
-/// How much is searched: by how many owners, in how many steps, and with tables of how many abstract states.
+/// The size of a search: the number of owners, the number of steps, and the greatest number of abstract states of a
+/// table.
 #[derive(Clone, Copy)]
 struct Amounts {
     owners: usize,
@@ -31,7 +33,7 @@ struct Amounts {
     table: usize,
 }
 
-/// Columns with tables of at most so many abstract states, and none where there may be no state.
+/// Columns with tables of at most `table` abstract states, and no column if that is 0. Fails only if allocation fails.
 fn columns_of<'a>(alloc: Global, task: &'a FdrTask, table: usize) -> Result<Columns<'a>, AllocError>
     requires { table ≤ 2 ^ 24 }
     ensures { IfOk result (λ columns. columns.task ≡ task.now) }
@@ -42,7 +44,7 @@ fn columns_of<'a>(alloc: Global, task: &'a FdrTask, table: usize) -> Result<Colu
     choose_columns(alloc, task, table)
 }
 
-/// What the search of a task has come to.
+/// The line for the search of a task.
 fn searched<'a>(alloc: Global, task: &'a FdrTask, amounts: Amounts) -> Result<String, OwnerFault>
     requires table { amounts.table ≤ 2 ^ 24 }
     requires owners { 1 ≤ amounts.owners }
@@ -57,7 +59,7 @@ fn searched<'a>(alloc: Global, task: &'a FdrTask, amounts: Amounts) -> Result<St
     }
 }
 
-/// The line that the program puts out. `None` where the text is no task, or an amount is too large or too small.
+/// The line that the program prints. `None` if the text spells no task, or an amount is out of range.
 fn answer(alloc: Global, text: &[u8], amounts: Amounts) -> Result<Option<String>, OwnerFault> {
     let Ok(task) = read_sas(alloc, text) else {
         return Ok(None);
@@ -80,7 +82,7 @@ fn amounts_of(owners: &str, steps: &str, table: &str) -> Option<Amounts> {
     })
 }
 
-/// Puts the answer for a file and three numbers out. Whether it did.
+/// Prints the answer for a file and three numbers, and returns whether it did.
 fn put_answer<D: Device>(alloc: Global, device: &mut D, words: &[String]) -> bool {
     let [_, task, owners, steps, table] = words else {
         return false;

@@ -1,4 +1,4 @@
-//! Several owners in one thread.
+//! A search by several owners in one thread.
 
 ghost use Rattle.std.specs.Prelude.{◌≡◌, ◌<◌, ◌≤◌, IfOk};
 
@@ -9,10 +9,11 @@ use rand_xoshiro::Xoshiro256PlusPlus;
 use spread::Spread;
 use std::alloc::Global;
 
-/// The seed of the words by which steps are drawn.
+/// The seed of the words that draw the steps.
 const SEED: u64 = 1;
 
-/// The next step that would change something, drawn by the next word modulo their number; `None` where there is none.
+/// The step that the next word draws: of the steps that would change something, the one whose number is the word modulo
+/// their number; `None` if there are none.
 fn drawn<S: Spread + Drop>(
     world: &World<'_, S>,
     generator: &mut Xoshiro256PlusPlus,
@@ -24,7 +25,7 @@ fn drawn<S: Spread + Drop>(
     }
 }
 
-/// Does so many steps, or as many as there are to do. Gives how many.
+/// Does `times` steps, or fewer if there is no work left, and returns their number.
 fn step_times<S: Spread + Drop>(world: &mut World<'_, S>, times: u64) -> Result<u64, OwnerFault>
     ensures count { IfOk result (λ count. count ≤ times) }
     ensures whole { IfOk result (λ _. world.new.spent ≡ world.old.spent) }
@@ -34,14 +35,14 @@ fn step_times<S: Spread + Drop>(world: &mut World<'_, S>, times: u64) -> Result<
         if world.count() == 0 {
             return Ok(done);
         }
-        // while something is left to do some step would change something; else a look would do no harm
+        // while there is work left, some step would change something; if none would, a look is harmless
         let step = drawn(world, &mut generator).unwrap_or(WorldStep::Look(0));
         world.step(step)?;
     }
     Ok(times)
 }
 
-/// How many states all owners keep.
+/// The number of states that all owners store, at most the greatest `usize`.
 fn kept_by<S: Spread + Drop>(owners: &[Owner<'_, S>]) -> usize {
     let mut kept: usize = 0;
     for owner in owners {
@@ -50,7 +51,8 @@ fn kept_by<S: Spread + Drop>(owners: &[Owner<'_, S>]) -> usize {
     kept
 }
 
-/// What owners have come to after so many steps, or all: how many steps there were, and how many states are kept.
+/// The line for owners after `steps` steps, or fewer if there is no work left: the number of steps, and the number of
+/// states stored.
 pub(crate) fn step_together<'a, S: Spread + Drop>(
     alloc: Global,
     space: &'a Space<'a, S>,

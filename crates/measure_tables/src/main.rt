@@ -1,4 +1,5 @@
-//! Makes the tables of a task and asks for lower bounds, for the benchmark of tables: `measure_tables TASK LIMIT TIMES`.
+//! Makes the pattern databases of a task and evaluates lower bounds, for the benchmark of tables:
+//! `measure_tables TASK LIMIT TIMES`.
 #![tactic(auto)]
 
 mod states;
@@ -14,7 +15,7 @@ use scp::{Columns, choose_columns};
 use std::alloc::{AllocError, Global};
 use std::process::ExitCode;
 
-/// The greatest of the lower bounds of the states, asked for so many times, of one state after the other and then again.
+/// The greatest of `times` lower bounds, of one state after the other and then again from the first.
 fn greatest_bound(columns: &Columns<'_>, states: &[Vec<u32>], times: usize) -> Dist
     requires some { 0 < length states.now }
     requires states { All (λ state. IsState (ranges columns.now.task) state.items) states.now }
@@ -26,7 +27,7 @@ fn greatest_bound(columns: &Columns<'_>, states: &[Vec<u32>], times: usize) -> D
     greatest
 }
 
-/// How many tables there are in all columns.
+/// The number of tables in all columns, at most the greatest `usize`.
 fn table_count(columns: &Columns<'_>) -> usize {
     let mut count: usize = 0;
     for column in columns.tables() {
@@ -35,7 +36,7 @@ fn table_count(columns: &Columns<'_>) -> usize {
     count
 }
 
-/// The line that the program puts out. `None` where the text is no task, or the limit none.
+/// The line that the program prints. `None` if the text spells no task, or the limit is out of range.
 fn answer(
     alloc: Global,
     text: &[u8],
@@ -59,7 +60,7 @@ fn answer(
     Ok(Some(line))
 }
 
-/// Puts the answer for a file and two numbers out. Whether it did.
+/// Prints the answer for a file and two numbers, and returns whether it did.
 fn put_answer<D: Device>(alloc: Global, device: &mut D, words: &[String]) -> bool {
     let [_, task, limit, times] = words else {
         return false;

@@ -1,4 +1,4 @@
-//! States to ask for.
+//! The states whose lower bounds are evaluated.
 
 ghost use Rattle.std.specs.Prelude.{◌≡◌, length, All, IfOk};
 ghost use Rattle.fdr.specs.Tasks.{ranges, IsState};
@@ -8,10 +8,10 @@ use rand_core::{Rng, SeedableRng};
 use rand_xoshiro::SplitMix64;
 use std::alloc::{AllocError, Global};
 
-/// How many states are drawn.
+/// The number of states that are drawn.
 const STATES: usize = 1000;
 
-/// A state in which each variable has a value that is drawn.
+/// A state whose values are drawn. Fails only if allocation fails.
 fn draw_state(
     alloc: Global,
     task: &FdrTask,
@@ -28,7 +28,8 @@ fn draw_state(
     Ok(state)
 }
 
-/// States whose values are drawn by SplitMix64 (Steele, Lea and Flood 2014) from seed 1, state by state.
+/// 1000 states whose values are drawn by SplitMix64 (Steele, Lea and Flood 2014) from seed 1, state by state. Fails only
+/// if allocation fails.
 pub(crate) fn draw_states(alloc: Global, task: &FdrTask) -> Result<Vec<Vec<u32>>, AllocError>
     ensures len { IfOk result (λ states. length states.items ≡ 1000) }
     ensures states { IfOk result (λ states. All (λ state. IsState (ranges task.now) state.items) states.items) }

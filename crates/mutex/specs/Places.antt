@@ -1,4 +1,4 @@
--- Atoms by their places in a list, and what actions do at places.
+-- Atoms by their places in a list, and the effects of actions by places.
 use Rattle.std.specs.Prelude.{ℕ, Bool, ◌&&◌, ◌||◌, ◌==◌, not, if◌then◌else◌, List, None, slice_get, position}
 use Rattle.std.specs.List.{list_all, list_any, filter_map}
 use Rattle.planning.specs.Atoms.{Atom, Literal, same_atom, contains}
@@ -14,32 +14,32 @@ pub record Indexed : Type 0 where
 abbrev pub atoms_at : List Atom → List ℕ → List Atom
 atoms_at atoms places = filter_map (slice_get atoms) places
 
--- the number is one of these
+-- the number is one of the numbers
 abbrev pub has : List ℕ → ℕ → Bool
 has numbers k = list_any (λ n. n == k) numbers
 
--- the places of those atoms that are in the list
+-- the places of those of the atoms that are in the list
 abbrev pub places_of : List Atom → List Atom → List ℕ
 places_of atoms more = filter_map (λ p. position (same_atom p) atoms) more
 
--- the places of the atoms of the literals of one sign
+-- the places of the atoms of the literals with this sign
 abbrev pub literal_places : List Atom → Bool → List Literal → List ℕ
 literal_places atoms sign literals =
     filter_map (λ l. if (if l.positive then sign else not sign) then position (same_atom l.atom) atoms else None) literals
 
--- the places of those deleted atoms that are not also added
+-- the places of those deleted atoms that are not added too
 abbrev pub removed_places : List Atom → List Atom → List Atom → List ℕ
 removed_places atoms adds deletes =
     filter_map (λ p. if contains adds p then None else position (same_atom p) atoms) deletes
 
--- of what is added, one number alone is one of the group
+-- no other number of the group than this one is added
 abbrev pub adds_alone : List ℕ → ℕ → List ℕ → Bool
 adds_alone group place added = list_all (λ q. q == place || not (has group q)) added
 
--- what is wanted has one of the group that is the number or is removed
+-- one of the wanted numbers of the group is this one or is removed
 abbrev pub gives_way : List ℕ → ℕ → List ℕ → List ℕ → Bool
 gives_way group place wanted removed = list_any (λ r. has group r && (r == place || has removed r)) wanted
 
--- one of the numbers is of the group
+-- one of the numbers is in the group
 abbrev pub meets : List ℕ → List ℕ → Bool
 meets group numbers = list_any (has group) numbers

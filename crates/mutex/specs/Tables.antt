@@ -1,4 +1,4 @@
--- What the tables of an index say: rows of places by action, rows of actions by place, and flags by place.
+-- The meaning of the tables of an index: rows of places by action, rows of actions by place, and flags by place.
 use Rattle.std.specs.Prelude.{ℕ, ◌≡◌, ◌<◌, Bool, true, false, ◌&&◌, ◌||◌, ◌==◌, not, nat_le, count_by, List, [], length, map, slice_index_or}
 use Rattle.std.specs.List.{list_all, list_any}
 use Rattle.planning.specs.Atoms.{Atom}
@@ -7,11 +7,11 @@ use Rattle.atoms.specs.Order.{AreDistinct}
 use Rattle.mutex.specs.declared.tables.Tables.{Tables}
 use Rattle.mutex.specs.Places.{has, places_of, literal_places, removed_places, adds_alone, gives_way, meets}
 
--- the row of this number, which is empty past the end
+-- the row with this number, or an empty one if there is none
 abbrev pub row : List (List ℕ) → ℕ → List ℕ
 row rows k = slice_index_or rows k []
 
--- the rows by place have an action exactly where its row by action has the place
+-- the row of a place has an action if and only if the row of the action has the place
 abbrev pub IsTranspose : ℕ → List (List ℕ) → List (List ℕ) → Type 0
 IsTranspose count rows columns = (p k : ℕ) → p < count → has (row columns p) k ≡ has (row rows k) p
 
@@ -27,7 +27,8 @@ pub record AreTables (task : PlanningTask) (atoms : List Atom) (actions : List A
       ≡ (list_any (λ a. has (literal_places atoms false a.precondition) p) actions || has (literal_places atoms false task.goal) p)
 
 module _ (tables : Tables) (group : List ℕ) where
-  -- the action adds this place alone of the group, and wants one of the group that is this one or is removed
+  -- the action adds no other place of the group than this one, and wants a place of the group that is this one or is
+  -- removed
   abbrev pub takes_over_at : ℕ → ℕ → Bool
   takes_over_at place k =
       adds_alone group place (row tables.added k) && gives_way group place (row tables.wanted k) (row tables.removed k)
@@ -36,15 +37,15 @@ module _ (tables : Tables) (group : List ℕ) where
   abbrev pub is_taken_over : ℕ → Bool
   is_taken_over place = list_all (takes_over_at place) (row tables.adders place)
 
-  -- the action adds or wants a place of the group
+  -- the action adds or wants a place of the group; it wants those of its positive preconditions
   abbrev pub starts_inside_at : ℕ → Bool
   starts_inside_at k = meets group (row tables.added k) || meets group (row tables.wanted k)
 
-  -- each action that removes this place adds or wants one of the group
+  -- each action that removes this place adds or wants a place of the group
   abbrev pub is_left_inside : ℕ → Bool
   is_left_inside place = list_all starts_inside_at (row tables.removers place)
 
-  -- each action that removes this place adds one of the group
+  -- each action that removes this place adds a place of the group
   abbrev pub is_refilled : ℕ → Bool
   is_refilled place = list_all (λ k. meets group (row tables.added k)) (row tables.removers place)
 

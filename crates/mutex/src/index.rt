@@ -1,4 +1,4 @@
-//! The index of a task's actions by the atoms that they touch, and the tests that are made with it.
+//! The index of a task's actions by the atoms that they add or remove, and the tests that use it.
 
 ghost use Rattle.std.specs.Prelude.{◌≡◌, ℕ, ◌<◌, All, length, slice_get, IfOk, IfSome};
 ghost use Rattle.std.specs.List.Sorted.{IsStrictlyIncreasing};
@@ -11,10 +11,11 @@ use planning::{GroundAction, Task};
 use std::alloc::{AllocError, Global};
 use std::marker::Model;
 
-/// A task, a list of atoms and a list of its ground actions, with the places of the atoms that each action wants, adds and
-/// removes, and for each atom the actions that add and remove it. Atoms that are not in the list play no part.
+/// A task, a list of atoms and a list of ground actions, with the places of the atoms that each action has as positive
+/// preconditions, adds and removes, and for each atom the actions that add it and those that remove it. An action
+/// removes an atom if it deletes and does not add it. Atoms that are not in the list are ignored.
 ///
-/// A list of atoms is given by their places in the list, counted from 0, and is called a group.
+/// A group is a list of atoms, given by their places in the list, counted from 0.
 #[derive(Drop)]
 pub struct ActionIndex<'a> {
     task: &'a Task,
@@ -35,10 +36,10 @@ impl<'a> Model for ActionIndex<'a> {
 }
 
 impl<'a> ActionIndex<'a> {
-    /// The index of these actions. An `Err` is of too little memory.
+    /// The index of these actions. Fails only if allocation fails.
     ///
-    /// It is made in time linear in the literals of the task and of the actions, where an action's deleted atoms are looked
-    /// up among those that it adds.
+    /// Takes time linear in the numbers of atoms and of the literals and effects of the task and the actions, and for
+    /// each action in the product of the numbers of its delete and add effects.
     pub fn new(
         alloc: Global,
         task: &'a Task,
@@ -70,11 +71,11 @@ impl<'a> ActionIndex<'a> {
         self.atoms
     }
 
-    /// Whether the atoms at these places are a usable group: at most one is initially true; an action adds at most one, and
-    /// then has a precondition in the group that is this atom or is removed; and an action that removes one and adds none has
-    /// a precondition in the group (Helmert 2009, mutex groups).
+    /// Whether the atoms at these places are a usable group: at most one is initially true; an action adds at most one,
+    /// and then has a precondition in the group that is this atom or that it removes; and an action that removes one
+    /// and adds none has a precondition in the group (Helmert 2009, mutex groups).
     ///
-    /// It looks at the actions that add or remove one of the atoms, and takes no memory.
+    /// Looks only at the actions that add or remove one of the atoms, and allocates nothing.
     pub fn is_usable(&self, places: &[usize]) -> bool
         requires rising { IsStrictlyIncreasing places.now }
         requires within { All (λ p. p < length self.now.atoms) places.now }
@@ -83,9 +84,10 @@ impl<'a> ActionIndex<'a> {
         self.tables.is_usable(places)
     }
 
-    /// Whether the group of the atoms at these places is full: one is initially true, and an action that removes one adds one.
+    /// Whether the group of the atoms at these places is full: at least one is initially true, and every action that
+    /// removes one adds one.
     ///
-    /// It looks at the actions that remove one of the atoms, and takes no memory.
+    /// Looks only at the actions that remove one of the atoms, and allocates nothing.
     pub fn is_full(&self, places: &[usize]) -> bool
         requires rising { IsStrictlyIncreasing places.now }
         requires within { All (λ p. p < length self.now.atoms) places.now }
@@ -94,8 +96,8 @@ impl<'a> ActionIndex<'a> {
         self.tables.is_full(places)
     }
 
-    /// Whether the atom at the place is constant: it is initially true, no action removes it, and no precondition or goal is its
-    /// negation.
+    /// Whether the atom at the place is constant: it is initially true, no action removes it, and neither a
+    /// precondition nor the goal contains its negation.
     pub fn is_constant(&self, place: usize) -> bool
         requires { place < length self.now.atoms }
         ensures { IfSome (slice_get self.now.atoms place) (λ p. result ≡ is_constant self.now.task self.now.actions p) }
@@ -103,7 +105,7 @@ impl<'a> ActionIndex<'a> {
         self.tables.is_constant(place)
     }
 
-    /// Whether a precondition or a goal is the negation of the atom at the place.
+    /// Whether the atom at the place is excluded: a precondition or the goal contains its negation.
     pub fn is_excluded(&self, place: usize) -> bool
         requires { place < length self.now.atoms }
         ensures { IfSome (slice_get self.now.atoms place) (λ p. result ≡ is_excluded self.now.task self.now.actions p) }

@@ -1,4 +1,4 @@
-//! Laws of mutex groups. Each function states one as its contract, for every task, and its body is empty.
+//! Laws of mutex groups. The contract of each function states one, for every task; its body is empty.
 
 ghost use Rattle.std.specs.Prelude.{◌≡◌, true, List, Some, All, Contains};
 ghost use Rattle.std.specs.List.{list_any};
@@ -7,8 +7,8 @@ ghost use Rattle.planning.specs.Planning.{PlanningTask, Action};
 ghost use Rattle.planning.specs.Plans.{state_after};
 ghost use Rattle.mutex.specs.Groups.{is_usable, is_full, is_constant};
 
-/// In every state that a run of the actions reaches from the initial atoms, at most one atom of a usable group is true, and
-/// of a full one at least one.
+/// In every state that a sequence of the actions reaches from the initial state, at most one atom of a usable group is
+/// true, and at least one atom of a full group.
 pub fn groups_are_exclusive()
     ensures one { (task : PlanningTask) (actions : List Action) (group : List Atom) → is_usable task actions group ≡ true →
         (plan : List Action) (state : State) → All (Contains actions) plan →
@@ -18,7 +18,7 @@ pub fn groups_are_exclusive()
         state_after (contains task.initial) plan ≡ Some state → list_any state group ≡ true }
 {}
 
-/// In every such state each constant atom is true.
+/// In every state that a sequence of the actions reaches from the initial state, each constant atom is true.
 pub fn constants_stay_true()
     ensures { (task : PlanningTask) (actions : List Action) (p : Atom) → is_constant task actions p ≡ true →
         (plan : List Action) (state : State) → All (Contains actions) plan →

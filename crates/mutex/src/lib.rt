@@ -1,4 +1,4 @@
-//! Mutex groups: lists of atoms of which at most one is true at a time, tested against the actions that touch them.
+//! Mutex groups: lists of atoms of which at most one is true at a time, tested by the actions that add or remove them.
 #![tactic(auto)]
 
 mod build;

@@ -1,18 +1,18 @@
-//! Rows of numbers, all in one vector.
+//! Rows of numbers, stored in one vector.
 
 ghost use Rattle.std.specs.Prelude.{◌≡◌, ◌++◌, [], ◌∷◌, length, slice_index_or, OnOk};
 
 use std::alloc::{AllocError, Global};
 use std::marker::Model;
 
-// Where a row begins, and where it ends.
+/// The start of a row in the vector, and its end, which is behind its last number.
 #[derive(Debug, Clone, Copy)]
 struct Span {
     start: usize,
     end: usize,
 }
 
-// Rows of numbers of places, or of actions.
+/// Rows of numbers of places, or of actions.
 #[derive(Drop)]
 pub(crate) struct Rows {
     spans: Vec<Span>,
@@ -46,7 +46,7 @@ impl Rows {
         self.spans.len()
     }
 
-    // Puts the row at the end.
+    /// Appends the row.
     pub(crate) fn push(&mut self, row: &[usize]) -> Result<(), AllocError>
         ensures { OnOk result (self.new ≡ self.old ++ row.now ∷ []) }
     {
@@ -57,7 +57,7 @@ impl Rows {
         Ok(())
     }
 
-    // The row of this number, which is empty past the end.
+    /// The row with this number, or an empty one if there is none.
     pub(crate) fn row(&self, number: usize) -> &[usize]
         ensures { result.now ≡ slice_index_or self.now number [] }
     {

@@ -1,4 +1,4 @@
-//! The tables of an index, and what they tell of a list of places.
+//! The tables of an index, and the tests of groups by them.
 
 ghost use Rattle.std.specs.Prelude.{◌≡◌, ◌==◌, [], length, slice_index_or, false, nat_le, count_by, IfOk};
 ghost use Rattle.std.specs.List.{list_any, list_all};
@@ -13,8 +13,9 @@ use atoms::Atoms;
 use planning::{GroundAction, Task};
 use std::alloc::{AllocError, Global};
 
-// By action, the places of the atoms that it wants, adds and removes; by place, the actions that add and remove the atom, and
-// whether it is initially true, or a precondition or a goal is its negation.
+/// For each action the places of the atoms of its positive preconditions, of those that it adds and of those that it
+/// removes; for each place the actions that add its atom and those that remove it, whether it is initially true, and
+/// whether a precondition or the goal contains its negation.
 #[derive(Drop)]
 pub(crate) struct Tables {
     pub(crate) wanted: Rows,
@@ -57,7 +58,8 @@ impl Tables {
         })
     }
 
-    // Whether the action adds this place alone of the group, and a wanted place of the group is this one or is removed.
+    /// Whether the action adds no other place of the group than this one, and one of its positive preconditions in the
+    /// group is this place or is removed.
     fn takes_over(&self, group: &[usize], place: usize, action: usize) -> bool
         requires { IsStrictlyIncreasing group.now }
         ensures { result ≡ takes_over_at self.now group.now place action }
@@ -71,7 +73,7 @@ impl Tables {
             )
     }
 
-    // Whether each action that adds this place takes it over.
+    /// Whether each action that adds this place takes it over.
     fn is_taken_over(&self, group: &[usize], place: usize) -> bool
         requires { IsStrictlyIncreasing group.now }
         ensures { result ≡ is_taken_over self.now group.now place }
@@ -82,7 +84,7 @@ impl Tables {
             .all(|action| self.takes_over(group, place, *action))
     }
 
-    // Whether the action adds or wants a place of the group.
+    /// Whether the action adds a place of the group or has one as a positive precondition.
     fn starts_inside(&self, group: &[usize], action: usize) -> bool
         requires { IsStrictlyIncreasing group.now }
         ensures { result ≡ starts_inside_at self.now group.now action }
@@ -90,7 +92,7 @@ impl Tables {
         meets(group, self.added.row(action)) || meets(group, self.wanted.row(action))
     }
 
-    // Whether each action that removes this place adds or wants one of the group.
+    /// Whether each action that removes this place adds a place of the group or has one as a positive precondition.
     fn is_left_inside(&self, group: &[usize], place: usize) -> bool
         requires { IsStrictlyIncreasing group.now }
         ensures { result ≡ is_left_inside self.now group.now place }
@@ -101,7 +103,7 @@ impl Tables {
             .all(|action| self.starts_inside(group, *action))
     }
 
-    // Whether each action that removes this place adds one of the group.
+    /// Whether each action that removes this place adds a place of the group.
     fn is_refilled(&self, group: &[usize], place: usize) -> bool
         requires { IsStrictlyIncreasing group.now }
         ensures { result ≡ is_refilled self.now group.now place }
@@ -112,35 +114,35 @@ impl Tables {
             .all(|action| meets(group, self.added.row(*action)))
     }
 
-    // Whether the atom at the place is initially true.
+    /// Whether the atom at the place is initially true.
     fn is_initial(&self, place: usize) -> bool
         ensures { result ≡ slice_index_or self.now.initial.items place false }
     {
         self.initial.get(place).copied().unwrap_or(false)
     }
 
-    // Whether a precondition or a goal is the negation of the atom at the place.
+    /// Whether a precondition or the goal contains the negation of the atom at the place.
     pub(crate) fn is_excluded(&self, place: usize) -> bool
         ensures { result ≡ slice_index_or self.now.excluded.items place false }
     {
         self.excluded.get(place).copied().unwrap_or(false)
     }
 
-    // Whether no action removes the atom at the place.
+    /// Whether no action removes the atom at the place.
     fn is_kept(&self, place: usize) -> bool
         ensures { result ≡ (length (slice_index_or self.now.removers place []) == 0) }
     {
         self.removers.row(place).is_empty()
     }
 
-    // Whether the atom at the place is initially true, not removed and not excluded.
+    /// Whether the atom at the place is initially true, is not removed and is not excluded.
     pub(crate) fn is_constant(&self, place: usize) -> bool
         ensures { result ≡ is_constant_by self.now place }
     {
         self.is_initial(place) && self.is_kept(place) && !self.is_excluded(place)
     }
 
-    // Whether at most one of the group is initially true.
+    /// Whether at most one atom of the group is initially true.
     fn starts_with_one(&self, group: &[usize]) -> bool
         ensures { result ≡ nat_le (count_by (λ p. slice_index_or self.now.initial.items p false) group.now) 1 }
     {
@@ -151,7 +153,7 @@ impl Tables {
             <= 1
     }
 
-    // Whether one of the group is initially true.
+    /// Whether at least one atom of the group is initially true.
     fn starts_with_some(&self, group: &[usize]) -> bool
         ensures { result ≡ list_any (λ p. slice_index_or self.now.initial.items p false) group.now }
     {
@@ -179,7 +181,7 @@ impl Tables {
         group.iter().all(|place| self.is_refilled(group, *place))
     }
 
-    // Whether the group is usable, as the tables tell it.
+    /// Whether the group is usable, by the tables.
     pub(crate) fn is_usable(&self, group: &[usize]) -> bool
         requires { IsStrictlyIncreasing group.now }
         ensures { result ≡ is_usable_by self.now group.now }
@@ -187,7 +189,7 @@ impl Tables {
         self.starts_with_one(group) && self.are_taken_over(group) && self.are_left_inside(group)
     }
 
-    // Whether the group is full, as the tables tell it.
+    /// Whether the group is full, by the tables.
     pub(crate) fn is_full(&self, group: &[usize]) -> bool
         requires { IsStrictlyIncreasing group.now }
         ensures { result ≡ is_full_by self.now group.now }
@@ -196,7 +198,7 @@ impl Tables {
     }
 }
 
-// Whether the place is one of the group.
+/// Whether the place is one of the group.
 fn is_one_of(group: &[usize], place: usize) -> bool
     requires { IsStrictlyIncreasing group.now }
     ensures { result ≡ has group.now place }
@@ -204,7 +206,7 @@ fn is_one_of(group: &[usize], place: usize) -> bool
     group.binary_search(&place).is_ok()
 }
 
-// Whether one of the places is of the group.
+/// Whether one of the places is in the group.
 fn meets(group: &[usize], places: &[usize]) -> bool
     requires { IsStrictlyIncreasing group.now }
     ensures { result ≡ meets group.now places.now }
@@ -212,7 +214,7 @@ fn meets(group: &[usize], places: &[usize]) -> bool
     places.iter().any(|place| is_one_of(group, *place))
 }
 
-// Whether this place alone is one of the group among those that are added.
+/// Whether no other place of the group than this one is added.
 fn adds_alone(group: &[usize], place: usize, added: &[usize]) -> bool
     requires { IsStrictlyIncreasing group.now }
     ensures { result ≡ adds_alone group.now place added.now }
@@ -222,7 +224,7 @@ fn adds_alone(group: &[usize], place: usize, added: &[usize]) -> bool
         .all(|other| *other == place || !is_one_of(group, *other))
 }
 
-// Whether a wanted place of the group is this one or is removed.
+/// Whether one of the wanted places of the group is this one or is removed.
 fn gives_way(group: &[usize], place: usize, wanted: &[usize], removed: &[usize]) -> bool
     requires { IsStrictlyIncreasing group.now }
     ensures { result ≡ gives_way group.now place wanted.now removed.now }

@@ -9,12 +9,9 @@ use indexmap::IndexSet;
 use std::alloc::{AllocError, Global};
 use std::marker::Model;
 
-#[cfg(test)]
-mod tests;
-
 /// Distinct names, each with its number: its place in the order in which they were first added, counted from 0.
 ///
-/// A clause sees the texts of the names, in that order. Each look-up is by hash and allocates nothing.
+/// In contracts the value is the list of the texts, in that order. Each look-up is by hash and allocates nothing.
 #[derive(Debug, Drop)]
 pub struct Names {
     table: IndexSet<String>,
@@ -30,7 +27,7 @@ impl Model for Names {
 }
 
 impl Names {
-    /// No names. It allocates nothing until the first is added.
+    /// An empty table. Allocates nothing before the first name is added.
     pub fn new(alloc: Global) -> Names
         ensures { result ≡ [] }
     {
@@ -39,7 +36,7 @@ impl Names {
         }
     }
 
-    /// How many names there are.
+    /// The number of names.
     pub fn len(&self) -> usize
         ensures { result ≡ length self.now }
     {
@@ -53,7 +50,7 @@ impl Names {
         self.table.is_empty()
     }
 
-    /// The number of a name, or `None` where it is not there.
+    /// The number of the name, or `None` if the name is not in the table.
     pub fn place_of(&self, name: &str) -> Option<usize>
         ensures place { result ≡ place_of self.now name.now }
         ensures bound { IfSome result (λ n. n < length self.now) }
@@ -61,7 +58,7 @@ impl Names {
         self.table.get_index_of(name)
     }
 
-    /// The number of a name, or how many names there are where it is not there.
+    /// The number of the name, or `len()` if the name is not in the table.
     pub fn number_of(&self, name: &str) -> usize
         ensures number { result ≡ number_of self.now name.now }
         ensures bound { result ≤ length self.now }
@@ -69,16 +66,17 @@ impl Names {
         self.place_of(name).unwrap_or(self.len())
     }
 
-    /// Whether a name is there.
+    /// Whether the name is in the table.
     pub fn contains(&self, name: &str) -> bool
         ensures { result ≡ is_there self.now name.now }
     {
         self.table.contains(name)
     }
 
-    /// Adds a name that is not there yet, and gives its number. A name that is there keeps its number, and nothing is allocated.
+    /// Adds the name if it is new, and returns its number. A name that is in the table keeps its number, and nothing is
+    /// allocated.
     ///
-    /// An `Err`, of too little memory, comes for a new name only and leaves the names as they were.
+    /// Fails only if allocation fails, which happens for a new name only, and then leaves the names as they were.
     pub fn add(&mut self, alloc: Global, name: &str) -> Result<usize, AllocError>
         ensures names { OnOk result (self.new ≡ with_name self.old name.now) }
         ensures number { IfOk result (λ n. n ≡ number_of self.new name.now) }
@@ -94,7 +92,7 @@ impl Names {
         Ok(number)
     }
 
-    /// The name with a number, or `None` where the number is not below `len`.
+    /// The name with the number, or `None` if the number is not below `len()`.
     pub fn name(&self, number: usize) -> Option<&str>
         ensures name { option_map (λ s. s.now) result ≡ slice_get self.now number }
         ensures found { IsSome result ↔ (number < length self.now) }
@@ -104,7 +102,7 @@ impl Names {
         Some(name.as_str())
     }
 
-    /// A second table of the same names with the same numbers. An `Err` is of too little memory.
+    /// A copy of the table, with the same names and the same numbers. Fails only if allocation fails.
     pub fn try_clone(&self) -> Result<Names, AllocError>
         ensures { IfOk result (λ n. n ≡ self.now) }
     {
@@ -112,7 +110,7 @@ impl Names {
         Ok(Names { table })
     }
 
-    /// A law: no name stands twice, so the number of the name with the number n is n.
+    /// A law: the names are distinct, so the number of the name with the number n is n.
     pub fn are_distinct(&self)
         ensures { AreDistinct self.now }
     {

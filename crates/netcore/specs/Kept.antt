@@ -1,4 +1,4 @@
--- What every world in memory keeps, and what a step comes to.
+-- The invariant of worlds as they are stored, and the result of a step.
 use Rattle.std.specs.Prelude.{◌≡◌, ℕ, ◌<◌, Bool, false, List, length, All}
 use Rattle.families.specs.Owners.{At, Packet}
 use Rattle.families.specs.Worlds as machine
@@ -8,7 +8,7 @@ use Rattle.netcore.specs.declared.step.WorldStep.{WorldStep}
 use Rattle.netcore.specs.Worlds.{WorldOf, space_in, Shows, Steps, IsAfter, IsStepRefusal}
 use Rattle.netcore.specs.Possible.{would_change}
 
--- what a step that is done comes to, and whether it changed something
+-- the result of a step that is done, and whether it changed something
 pub record IsStepDone {S : Type 0} (owner : S → List ℕ → ℕ → ℕ) (old new : WorldOf S) (asked : WorldStep) (changed : Bool) : Type 0 where
   pub stepped : (world : machine.World) → Shows owner old world → Steps owner old world asked new
   pub changed_is : changed ≡ would_change owner old asked
@@ -17,15 +17,15 @@ pub record IsStepDone {S : Type 0} (owner : S → List ℕ → ℕ → ℕ) (old
   pub owners : length new.owners ≡ length old.owners
   pub spent : new.spent ≡ old.spent
 
--- what a step that is refused comes to
+-- the result of a step that is refused
 pub record IsStepRefused {S : Type 0} (owner : S → List ℕ → ℕ → ℕ) (old new : WorldOf S) (asked : WorldStep) (fault : OwnerFault) : Type 0 where
   pub refused : IsStepRefusal owner old new asked fault
   pub space : new.space ≡ old.space
   pub owners : length new.owners ≡ length old.owners
 
--- the world has owners, and as many queues, bounds and flags; each owner has the world's space, its number and an outbox for each
--- owner; each message underway may be handed to the owner that it is underway to; and unless memory ran out in a step the world is
--- the one after a run
+-- the world has owners, and as many queues, bounds and flags; each owner has the world's space, its own number and an
+-- outbox for each owner; each message underway may be handed to the owner to which it is underway; and unless memory ran
+-- out in a step, the world is the one after some run
 pub record IsWorld {S : Type 0} (owner : S → List ℕ → ℕ → ℕ) (w : WorldOf S) : Type 0 where
   pub some : 0 < length w.owners
   pub queues : length w.underway ≡ length w.owners

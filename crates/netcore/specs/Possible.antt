@@ -12,7 +12,7 @@ use Rattle.netcore.specs.declared.possible.OwnStep.{OwnStep}
 use Rattle.netcore.specs.declared.possible.OwnStep.TheVariants as own
 use Rattle.netcore.specs.Worlds.{WorldOf, space_in}
 
--- what holds of the owner of a number and the bound that it has seen last; false where there is no such owner
+-- whether this holds of the owner of a number and the bound that it has seen last; false if there is no such owner
 abbrev pub at_owner : {S : Type 0} → WorldOf S → ℕ → (OwnerOf S → Distance → Bool) → Bool
 at_owner w v holds = option_map_or (λ o. option_map_or (holds o) (slice_get w.seen v) false) (slice_get w.owners v) false
 
@@ -20,8 +20,9 @@ at_owner w v holds = option_map_or (λ o. option_map_or (holds o) (slice_get w.s
 abbrev pub differ : Distance → Distance → Bool
 differ x y = not (is_at_most x y && is_at_most y x)
 
--- the step would change something: there is a node to expand below the bound seen, whatever the limit; a message to send, or one
--- underway of that number; a cost below the least offered; a bound that was not yet seen; an active owner that is idle
+-- whether the step would change something: there is a node to expand below the bound seen last, whatever the limit; a
+-- message to send; a message of that number underway; a cost below the least offered; a bound not yet seen; or an idle
+-- owner not at rest
 abbrev pub would_change : {S : Type 0} → (S → List ℕ → ℕ → ℕ) → WorldOf S → WorldStep → Bool
 would_change owner w (Expand v) = at_owner w v (λ o b. not (no_open (space_in owner w) (under o b)))
 would_change owner w (Send v to) = at_owner w v (λ o b. not (is_empty (list_at o.outboxes to)))
@@ -35,14 +36,14 @@ would_change owner w (Rest v) =
 abbrev pub below : ℕ → List ℕ
 below n = range_with_len 0 n
 
--- the owner's step of this kind
+-- the step of this kind by an owner
 abbrev pub own_step : OwnStep → ℕ → WorldStep
 own_step own.Expand v = Expand v
 own_step own.Offer v = Offer v
 own_step own.Look v = Look v
 own_step own.Rest v = Rest v
 
--- a step for each owner that would change something
+-- the owners' steps of one kind that would change something
 abbrev pub by_owner : {S : Type 0} → (S → List ℕ → ℕ → ℕ) → WorldOf S → (ℕ → WorldStep) → List WorldStep
 by_owner owner w step = filter (would_change owner w) (map step (below (length w.owners)))
 
@@ -50,12 +51,12 @@ by_owner owner w step = filter (would_change owner w) (map step (below (length w
 abbrev pub sends_of : {S : Type 0} → (S → List ℕ → ℕ → ℕ) → WorldOf S → ℕ → List WorldStep
 sends_of owner w v = filter (would_change owner w) (map (Send v) (below (length w.owners)))
 
--- a step for each message underway, from this owner on
+-- a step for each message underway, where the first queue is that to owner v
 abbrev pub deliveries : ℕ → List (List Packet) → List WorldStep
 deliveries v [] = []
 deliveries v (ps ∷ queues) = map (Deliver v) (below (length ps)) ++ deliveries (suc v) queues
 
--- all steps that would change something, by kind, each by increasing numbers
+-- all steps that would change something, by kind, and in each kind by increasing numbers
 abbrev pub possible_steps : {S : Type 0} → (S → List ℕ → ℕ → ℕ) → WorldOf S → List WorldStep
 possible_steps owner w =
     by_owner owner w Expand ++ flat_map (sends_of owner w) (below (length w.owners)) ++ deliveries 0 w.underway

@@ -1,5 +1,5 @@
--- Owners of states in one thread as they lie in memory, with the messages underway delivered in any order (hash distributed A*:
--- Kishimoto, Fukunaga and Botea 2013).
+-- Owners of states in one thread as they are stored, with the messages underway delivered in any order (hash distributed
+-- A*: Kishimoto, Fukunaga and Botea 2013).
 use Rattle.std.specs.Prelude.{◌≡◌, ℕ, ◌≤◌, ◌==◌, Bool, List, [], length, map, filter, flat_map, ◌∷◌, ◌++◌}
 use Rattle.cost.specs.Distances.{Distance, Infinite}
 use Rattle.families.specs.Owners as owners
@@ -13,8 +13,8 @@ use Rattle.owner.specs.declared.fault.OwnerFault.TheVariants.{OutOfMemory}
 use Rattle.netcore.specs.declared.step.WorldStep.{WorldStep}
 use Rattle.netcore.specs.declared.step.WorldStep.TheVariants.{Expand, Send, Deliver, Offer, Look, Rest}
 
--- the space, the owners, the messages underway to each of them, the oldest first, the bounds that they have seen last, the least
--- cost offered, who is at rest, and whether a step ran out of memory half way
+-- the space, the owners, the messages underway to each of them (the oldest first), the bound that each has seen last, the
+-- least cost that was offered, which owners are at rest, and whether a step ran out of memory halfway
 pub record WorldOf (S : Type 0) : Type 0 where
   pub space : SpaceOf S
   pub owners : List (OwnerOf S)
@@ -24,21 +24,21 @@ pub record WorldOf (S : Type 0) : Type 0 where
   pub resting : List Bool
   pub spent : Bool
 
--- the space as the world's owners search it
+-- the search space of the world's owners
 abbrev pub space_in : {S : Type 0} → (S → List ℕ → ℕ → ℕ) → WorldOf S → SearchSpace
 space_in owner w = searched owner w.space (length w.owners)
 
--- the messages to an owner, in their order
+-- the messages to one owner, in their order
 abbrev pub packets_to : SearchSpace → ℕ → List Packet → List Packet
 packets_to space v packets = filter (λ p. space.owner_of p.message.state == v) packets
 
--- an owner that has nothing, and had no goal state
+-- an owner without nodes and messages, which has taken no goal state
 pub record IsVoid (o : owners.Owner) : Type 0 where
   pub nodes : o.nodes ≡ []
   pub outboxes : (u : ℕ) → list_at o.outboxes u ≡ []
   pub best : o.best ≡ Infinite
 
--- the world that lies in memory is this one, of which it has no more than it needs: past the last owner stand owners that have nothing
+-- the stored world represents this one; past its last owner, the latter has owners that are void
 pub record Shows {S : Type 0} (owner : S → List ℕ → ℕ → ℕ) (w : WorldOf S) (world : machine.World) : Type 0 where
   pub owners : (v : ℕ) (o : OwnerOf S) (b : Distance) → At w.owners v o → At w.seen v b → (world.logs v).owner ≡ under o b
   pub underway : (v : ℕ) (ps : List Packet) → At w.underway v ps → packets_to (space_in owner w) v world.underway ≡ ps
@@ -46,15 +46,15 @@ pub record Shows {S : Type 0} (owner : S → List ℕ → ℕ → ℕ) (w : Worl
   pub resting : (v : ℕ) (r : Bool) → At w.resting v r → world.resting v ≡ r
   pub others : (v : ℕ) → length w.owners ≤ v → IsVoid (world.logs v).owner
 
--- the messages underway, in any order
+-- the messages underway, queue by queue
 abbrev pub left_in : {S : Type 0} → WorldOf S → List Packet
 left_in w = flat_map (λ ps. ps) w.underway
 
--- the world of the definition after these steps, from the beginning
+-- the world of the definition after these steps, from the start
 abbrev pub world_after_run : SearchSpace → List Step → machine.World
 world_after_run space steps = world_run space (world_start space) steps
 
--- what is asked for by a step
+-- the request for a step
 abbrev pub request_of : WorldStep → Request
 request_of (Expand w) = ToExpand w
 request_of (Send w v) = ToSend w v
@@ -63,20 +63,22 @@ request_of (Offer w) = ToOffer w
 request_of (Look w) = ToLook w
 request_of (Rest w) = ToRest w
 
--- from the world that one shows, a step that does what is asked for leads to the world that the other shows
+-- a step that does what is requested leads from the world that the old one represents to the world that the new one
+-- represents
 pub record Steps {S : Type 0} (owner : S → List ℕ → ℕ → ℕ) (old : WorldOf S) (world : machine.World) (asked : WorldStep) (new : WorldOf S)
     : Type 0 where
   pub step : Step
   pub does : Does (space_in owner old) world (request_of asked) step
   pub shown : Shows owner new (world_after (space_in owner old) world step)
 
--- the world is the one after a run that does what is asked for, from the beginning
+-- the stored world represents the one after a run from the start that does what is requested
 pub record IsAfter {S : Type 0} (owner : S → List ℕ → ℕ → ℕ) (space : SearchSpace) (asked : List WorldStep) (w : WorldOf S) : Type 0 where
   pub steps : List Step
   pub run : IsRunOf space (world_start space) (map request_of asked) steps
   pub shown : Shows owner w (world_after_run space steps)
 
--- a step is refused as the owner that is to expand its next node refuses it; but for want of memory the world is as it was
+-- a step is refused as the owner refuses it that is to expand its next node; the world is as it was, unless memory ran
+-- out
 abbrev pub IsStepRefusal : {S : Type 0} → (S → List ℕ → ℕ → ℕ) → WorldOf S → WorldOf S → WorldStep → OwnerFault → Type 0
 IsStepRefusal {S = S} owner old new asked OutOfMemory = Unit {0}
 IsStepRefusal {S = S} owner old new asked e =

@@ -1,4 +1,4 @@
-//! How much is left to do in a world.
+//! The number of messages and of active owners in a world.
 
 ghost use Rattle.std.specs.Prelude.{◌≡◌, ◌-◌, ◌^◌, length, min, not, sum_by, count_by};
 ghost use Rattle.families.specs.Worlds.{waiting};
@@ -9,7 +9,7 @@ use owner::Owner;
 use spread::Spread;
 use std::collections::VecDeque;
 
-/// How many messages are in the owners' outboxes, at most 2^128 - 1.
+/// The number of messages in the owners' outboxes, or 2^128 - 1 if it is greater.
 pub fn waiting_count<S: Spread + Drop>(owners: &[Owner<'_, S>]) -> u128
     ensures { result ≡ min (sum_by (λ o. waiting o.outboxes) owners.now) (2 ^ 128 - 1) }
 {
@@ -20,7 +20,7 @@ pub fn waiting_count<S: Spread + Drop>(owners: &[Owner<'_, S>]) -> u128
     count
 }
 
-/// How many messages are underway, at most 2^128 - 1.
+/// The number of messages underway, or 2^128 - 1 if it is greater.
 pub fn underway_count(queues: &[VecDeque<Packet>]) -> u128
     ensures { result ≡ min (length (all_packets queues.now)) (2 ^ 128 - 1) }
 {
@@ -31,7 +31,7 @@ pub fn underway_count(queues: &[VecDeque<Packet>]) -> u128
     count
 }
 
-/// How many owners are not at rest.
+/// The number of owners that are not at rest.
 pub fn awake_count(resting: &[bool]) -> usize
     ensures { result ≡ count_by not resting.now }
 {

@@ -12,7 +12,7 @@ use joined::Packet;
 use spread::Spread;
 use std::collections::VecDeque;
 
-/// A kind of step that an owner does by itself.
+/// A kind of step that an owner does alone, without a message.
 #[derive(Clone, Copy)]
 enum OwnStep {
     Expand,
@@ -22,7 +22,7 @@ enum OwnStep {
 }
 
 impl OwnStep {
-    /// The owner's step of this kind.
+    /// The step of this kind by this worker.
     fn of(self, worker: usize) -> WorldStep
         ensures { result ≡ own_step self worker }
     {
@@ -51,8 +51,8 @@ fn nth_delivery(queues: &[VecDeque<Packet>], number: u128) -> Option<WorldStep>
 }
 
 impl<'a, S: Spread + Drop> World<'a, S> {
-    /// Whether the step would change something. A step of an owner or of a message that does not exist would not; that an owner may
-    /// expand no more nodes plays no part.
+    /// Whether the step would change something. A step of an owner or a message that does not exist would not. The limit
+    /// on expansions plays no part.
     pub fn would_change(&self, step: WorldStep) -> bool
         ensures { result ≡ would_change S.owner self.now step }
     {
@@ -66,7 +66,7 @@ impl<'a, S: Spread + Drop> World<'a, S> {
         }
     }
 
-    /// Whether the worker has a node to expand below the bound that it has seen.
+    /// Whether the worker has a node to expand below the bound that it has seen last.
     fn could_expand(&self, worker: usize) -> bool
         ensures { result ≡ would_change S.owner self.now (Expand worker) }
     {
@@ -76,7 +76,7 @@ impl<'a, S: Spread + Drop> World<'a, S> {
         self.owners[worker].least_open() < self.seen[worker]
     }
 
-    /// Whether the worker has a message for the other.
+    /// Whether the worker has a message in its outbox for the other.
     fn could_send(&self, worker: usize, to: usize) -> bool
         ensures { result ≡ would_change S.owner self.now (Send worker to) }
     {
@@ -89,7 +89,7 @@ impl<'a, S: Spread + Drop> World<'a, S> {
         self.owners[worker].outbox_len(to) > 0
     }
 
-    /// Whether a message of that number is underway to the worker.
+    /// Whether a message of that number, counted from 0, is underway to the worker.
     fn could_deliver(&self, worker: usize, number: usize) -> bool
         ensures { result ≡ would_change S.owner self.now (Deliver worker number) }
     {
@@ -99,7 +99,7 @@ impl<'a, S: Spread + Drop> World<'a, S> {
         }
     }
 
-    /// Whether the worker has taken a goal state below the bound.
+    /// Whether the worker has taken a goal state at a cost below the bound.
     fn could_offer(&self, worker: usize) -> bool
         ensures { result ≡ would_change S.owner self.now (Offer worker) }
     {
@@ -109,7 +109,7 @@ impl<'a, S: Spread + Drop> World<'a, S> {
         }
     }
 
-    /// Whether the worker has not seen the bound.
+    /// Whether the bound that the worker has seen last is not the present one.
     fn could_look(&self, worker: usize) -> bool
         ensures { result ≡ would_change S.owner self.now (Look worker) }
     {
@@ -119,7 +119,7 @@ impl<'a, S: Spread + Drop> World<'a, S> {
         }
     }
 
-    /// Whether the worker is active and idle.
+    /// Whether the worker is idle and not at rest.
     fn could_rest(&self, worker: usize) -> bool
         ensures { result ≡ would_change S.owner self.now (Rest worker) }
     {
@@ -132,14 +132,14 @@ impl<'a, S: Spread + Drop> World<'a, S> {
         self.owners[worker].is_idle(self.seen[worker])
     }
 
-    /// How many owners there are.
+    /// The number of owners.
     fn owner_count(&self) -> usize
         ensures { result ≡ length self.now.owners }
     {
         self.owners.len()
     }
 
-    /// How many owners' steps of this kind would change something.
+    /// The number of steps of this kind that would change something.
     fn own_count(&self, kind: OwnStep) -> usize
         ensures { result ≡ length (by_owner S.owner self.now (own_step kind)) }
     {
@@ -148,7 +148,7 @@ impl<'a, S: Spread + Drop> World<'a, S> {
             .count()
     }
 
-    /// The step of that number among those of this kind.
+    /// The step of that number, counted from 0, among those of this kind that would change something.
     fn nth_own(&self, kind: OwnStep, number: u128) -> Option<WorldStep>
         ensures { result ≡ slice_get (by_owner S.owner self.now (own_step kind)) number }
     {
@@ -166,7 +166,7 @@ impl<'a, S: Spread + Drop> World<'a, S> {
         None
     }
 
-    /// To how many owners this one has a message.
+    /// The number of owners for which this one has a message.
     fn send_count_of(&self, worker: usize) -> usize
         requires { worker < length self.now.owners }
         ensures { result ≡ length (sends_of S.owner self.now worker) }
@@ -174,7 +174,7 @@ impl<'a, S: Spread + Drop> World<'a, S> {
         self.owners[worker].outboxes_in_use()
     }
 
-    /// The step of that number among those that send a message of this owner.
+    /// The step of that number, counted from 0, among those that send a message of this owner.
     fn nth_send_of(&self, worker: usize, number: usize) -> Option<WorldStep>
         ensures { result ≡ slice_get (sends_of S.owner self.now worker) number }
     {
@@ -191,7 +191,7 @@ impl<'a, S: Spread + Drop> World<'a, S> {
         None
     }
 
-    /// How many pairs of owners have a message waiting, at most 2^128 - 1.
+    /// The number of pairs of owners of which the first has a message for the second, or 2^128 - 1 if it is greater.
     fn send_count(&self) -> u128
         ensures { result ≡ min (length (flat_map (sends_of S.owner self.now) (below (length self.now.owners)))) (2 ^ 128 - 1) }
     {
@@ -202,15 +202,15 @@ impl<'a, S: Spread + Drop> World<'a, S> {
         count
     }
 
-    /// How many messages are underway, at most 2^128 - 1.
+    /// The number of messages underway, or 2^128 - 1 if it is greater.
     fn delivery_count(&self) -> u128
         ensures { result ≡ min (length (deliveries 0 self.now.underway)) (2 ^ 128 - 1) }
     {
         underway_count(&self.underway)
     }
 
-    /// How many steps would change something, at most 2^128 - 1. For n owners it looks at some n numbers, however many states and messages
-    /// there are.
+    /// The number of steps that would change something, or 2^128 - 1 if it is greater. Takes time linear in the number of
+    /// owners, whatever the number of states and messages.
     pub fn possible_count(&self) -> u128
         ensures { result ≡ min (length (possible_steps S.owner self.now)) (2 ^ 128 - 1) }
     {
@@ -222,7 +222,7 @@ impl<'a, S: Spread + Drop> World<'a, S> {
             .saturating_add(self.own_count(OwnStep::Rest) as u128)
     }
 
-    /// The step of that number among those that send, counted from 0.
+    /// The step of that number, counted from 0, among those that send a message.
     fn nth_send(&self, number: u128) -> Option<WorldStep>
         ensures { result ≡ slice_get (flat_map (sends_of S.owner self.now) (below (length self.now.owners))) number }
     {
@@ -237,7 +237,8 @@ impl<'a, S: Spread + Drop> World<'a, S> {
         None
     }
 
-    /// The step of that number among those by which an owner offers, looks or rests.
+    /// The step of that number, counted from 0, among those by which an owner offers, looks or rests and that would
+    /// change something.
     fn nth_later(&self, number: u128) -> Option<WorldStep>
         ensures { result ≡ slice_get (by_owner S.owner self.now Offer ++ by_owner S.owner self.now Look ++ by_owner S.owner self.now Rest) number }
     {
@@ -252,8 +253,9 @@ impl<'a, S: Spread + Drop> World<'a, S> {
         self.nth_own(OwnStep::Rest, number)
     }
 
-    /// The step of that number, counted from 0, among those that would change something: Expand, Send, Deliver, Offer, Look, Rest, each by
-    /// increasing numbers. `None` where there are not so many. For n owners it looks at some n numbers.
+    /// The step of that number, counted from 0, among those that would change something, in the order Expand, Send,
+    /// Deliver, Offer, Look, Rest, and in each kind by increasing numbers. `None` if there are not more than `number` of
+    /// them. Takes time linear in the number of owners.
     pub fn possible_step(&self, number: u128) -> Option<WorldStep>
         ensures { result ≡ slice_get (possible_steps S.owner self.now) number }
     {

@@ -1,4 +1,4 @@
-//! The world of the owners.
+//! The world of owners.
 
 ghost use Rattle.std.specs.Prelude.{◌≡◌, ◌≢◌, ℕ, ◌<◌, ◌+◌, ◌-◌, ◌^◌, min, not, sum_by, count_by, List, [], Option, false, map, length, slice_get, replicate, IfOk, IfErr, MatchResult};
 ghost use Rattle.fdr.specs.Tasks.{ranges, IsState};
@@ -28,8 +28,8 @@ use std::alloc::{AllocError, Global};
 use std::collections::VecDeque;
 use std::marker::Model;
 
-/// Owners of states, the messages underway to each of them, the bounds that they have seen last, the least cost offered, and who is at
-/// rest.
+/// Owners of states, the messages underway to each of them, the bound that each has seen last, the least cost that was
+/// offered, and which owners are at rest.
 #[derive(Drop)]
 pub struct World<'a, S: Spread + Drop> {
     pub(crate) space: &'a Space<'a, S>,
@@ -38,7 +38,7 @@ pub struct World<'a, S: Spread + Drop> {
     pub(crate) seen: Vec<Dist>,
     pub(crate) bound: Dist,
     pub(crate) resting: Vec<bool>,
-    // a step ran out of memory half way, so the owners are at the end of no run
+    /// Whether a step ran out of memory halfway, after which the owners are at the end of no run.
     spent: bool,
 }
 
@@ -72,7 +72,7 @@ impl<'a, S: Spread + Drop> Model for World<'a, S> {
     }) };
 }
 
-/// Owners at the beginning, each with its number. An `Err` is of too little memory.
+/// Owners at the start, each with its number. Fails only if allocation fails.
 fn first_owners<'a, S: Spread + Drop>(
     alloc: Global,
     space: &'a Space<'a, S>,
@@ -88,7 +88,7 @@ fn first_owners<'a, S: Spread + Drop>(
     Ok(owners)
 }
 
-/// As many queues with no message. An `Err` is of too little memory.
+/// `count` empty queues. Fails only if allocation fails.
 fn empty_queues(alloc: Global, count: usize) -> Result<Vec<VecDeque<Packet>>, AllocError>
     ensures { IfOk result (λ queues. map packets_in queues.items ≡ replicate count []) }
 {
@@ -100,8 +100,8 @@ fn empty_queues(alloc: Global, count: usize) -> Result<Vec<VecDeque<Packet>>, Al
 }
 
 impl<'a, S: Spread + Drop> World<'a, S> {
-    /// A world at its beginning: every owner is active and has seen no bound, and the owner of the initial state has it. An `Err` is of
-    /// too little memory.
+    /// A world at its start: no owner is at rest or has seen a bound, and the owner of the initial state has it. Fails
+    /// only if allocation fails.
     pub fn start(
         alloc: Global,
         space: &'a Space<'a, S>,
@@ -124,7 +124,8 @@ impl<'a, S: Spread + Drop> World<'a, S> {
         })
     }
 
-    /// The worker expands its next node below the bound that it has seen.
+    /// The worker expands its next node below the bound that it has seen last. Returns whether there was one. A fault is
+    /// that of the owner.
     fn expand(&mut self, worker: usize) -> Result<bool, OwnerFault>
         ensures { MatchResult result (IsStepDone S.owner self.old self.new (Expand worker)) (IsStepRefused S.owner self.old self.new (Expand worker)) }
     {
@@ -142,7 +143,8 @@ impl<'a, S: Spread + Drop> World<'a, S> {
         }
     }
 
-    /// The worker's oldest message for another goes underway.
+    /// The first worker's oldest message for the second goes underway. Returns whether there was one. Fails only if
+    /// allocation fails, and then the world is spent.
     fn send(&mut self, worker: usize, to: usize) -> Result<bool, AllocError>
         ensures { MatchResult result (IsStepDone S.owner self.old self.new (Send worker to)) (λ _. IsStepRefused S.owner self.old self.new (Send worker to) OutOfMemory) }
     {
@@ -168,7 +170,8 @@ impl<'a, S: Spread + Drop> World<'a, S> {
         }
     }
 
-    /// The worker takes the message of that number of those underway to it, and is at rest no more.
+    /// The worker takes the message of that number, counted from 0, of those underway to it, and is then not at rest.
+    /// Returns whether there was one. Fails only if allocation fails, and then the world is spent.
     fn deliver(&mut self, worker: usize, number: usize) -> Result<bool, AllocError>
         ensures { MatchResult result (IsStepDone S.owner self.old self.new (Deliver worker number)) (λ _. IsStepRefused S.owner self.old self.new (Deliver worker number) OutOfMemory) }
     {
@@ -190,7 +193,8 @@ impl<'a, S: Spread + Drop> World<'a, S> {
         }
     }
 
-    /// The bound becomes the lesser of itself and the least cost at which the worker has taken a goal state.
+    /// The bound becomes the lesser of itself and the least cost at which the worker has taken a goal state. Returns
+    /// whether it changed.
     fn offer(&mut self, worker: usize) -> bool
         ensures { IsStepDone S.owner self.old self.new (Offer worker) result }
     {
@@ -205,7 +209,7 @@ impl<'a, S: Spread + Drop> World<'a, S> {
         true
     }
 
-    /// The worker sees the present bound.
+    /// The worker sees the present bound. Returns whether it had seen another one.
     fn look(&mut self, worker: usize) -> bool
         ensures { IsStepDone S.owner self.old self.new (Look worker) result }
     {
@@ -219,7 +223,8 @@ impl<'a, S: Spread + Drop> World<'a, S> {
         true
     }
 
-    /// The worker is at rest if it has nothing to expand and nothing to send.
+    /// The worker comes to rest if it has no node to expand and no message to send. Returns whether it did and was not at
+    /// rest before.
     fn rest(&mut self, worker: usize) -> bool
         ensures { IsStepDone S.owner self.old self.new (Rest worker) result }
     {
@@ -236,8 +241,8 @@ impl<'a, S: Spread + Drop> World<'a, S> {
         true
     }
 
-    /// Does a step. Gives whether something changed. A fault is that of the owner that is to expand a node, and leaves the world as it
-    /// was, except `OutOfMemory`, after which it is only good to be let go.
+    /// Does a step, and returns whether something changed. A fault other than `OutOfMemory` is that of the owner that is
+    /// to expand a node, and leaves the world as it was; after `OutOfMemory` the world must not be used again.
     pub fn step(&mut self, step: WorldStep) -> Result<bool, OwnerFault>
         ensures stepped { (world : machine.World) → Shows S.owner self.old world → IfOk result (λ _. Steps S.owner self.old world step self.new) }
         ensures changed { IfOk result (λ changed. changed ≡ would_change S.owner self.old step) }
@@ -257,7 +262,7 @@ impl<'a, S: Spread + Drop> World<'a, S> {
         }
     }
 
-    /// The world after these steps, from the beginning. A fault is that of a step.
+    /// The world after these steps, from the start. A fault is that of a step, or `OutOfMemory`.
     pub fn run(
         alloc: Global,
         space: &'a Space<'a, S>,
@@ -278,7 +283,8 @@ impl<'a, S: Spread + Drop> World<'a, S> {
         Ok(world)
     }
 
-    /// How many messages are underway or in outboxes, and how many owners are not at rest, at most 2^128 - 1.
+    /// The number of messages underway or in outboxes plus the number of owners not at rest, or 2^128 - 1 if it is
+    /// greater.
     fn pending(&self) -> u128
         ensures { result ≡ min (length (left_in self.now) + sum_by (λ o. waiting o.outboxes) self.now.owners + count_by not self.now.resting) (2 ^ 128 - 1) }
     {
@@ -286,8 +292,9 @@ impl<'a, S: Spread + Drop> World<'a, S> {
         messages.saturating_add(awake_count(&self.resting) as u128)
     }
 
-    /// The number of messages that were made and not taken, and of owners that are not at rest, at most 2^128 - 1. While it is not 0, some
-    /// step would change something.
+    /// The number of messages underway or in outboxes plus the number of owners not at rest, or 2^128 - 1 if it is
+    /// greater. If it is 0 in a world that is not spent, the owners are settled; if it is not 0, some step would change
+    /// something.
     pub fn count(&self) -> u128
         ensures count { (world : machine.World) → Shows S.owner self.now world → result ≡ min (machine.count (space_in S.owner self.now) world) (2 ^ 128 - 1) }
         ensures quiet { result ≡ 0 → (asked : List WorldStep) (after : IsAfter S.owner (space_in S.owner self.now) asked self.now) →
@@ -299,16 +306,16 @@ impl<'a, S: Spread + Drop> World<'a, S> {
         self.pending()
     }
 
-    /// The bound at which the owners are settled: the least cost at which a goal state was taken, infinite where none was, if nothing
-    /// pending could lead to less. `None` where they are not. An `Err` is of too little memory.
+    /// The bound at which the owners are settled: the least cost at which a goal state was taken, infinite if none was,
+    /// provided that no pending f-value is below it. `None` if they are not settled. Fails only if allocation fails.
     pub fn settled(&self, alloc: Global) -> Result<Option<Dist>, AllocError>
         ensures { IfOk result (IsSettledAnswer (space_in S.owner self.now) self.now.owners (left_in self.now)) }
     {
         settled_bound(alloc, self.space, &self.owners, &self.underway)
     }
 
-    /// What the owners have found: the cost of a cheapest plan or that there is none, or `None` where they are not settled. An `Err` is of
-    /// too little memory.
+    /// What the owners have found: the cost of a cheapest plan, or that there is no plan; `None` if they are not settled.
+    /// Fails only if allocation fails.
     pub fn answer(&self, alloc: Global) -> Result<Option<SearchAnswer>, AllocError>
         ensures { IfOk result (λ answer. (at : Option Distance) × IsSettledAnswer (space_in S.owner self.now) self.now.owners (left_in self.now) at × (answer ≡ answer_of at)) }
     {
@@ -321,7 +328,7 @@ impl<'a, S: Spread + Drop> World<'a, S> {
         }
     }
 
-    /// What the search has come to, as the end of a lawful family. No step may have run out of memory.
+    /// The end of the search, as the end of a lawful family. The world must not be spent.
     pub fn joined(self) -> Joined<'a, S>
         requires { self.spent ≡ false }
         ensures shown { (asked : List WorldStep) (after : IsAfter S.owner (space_in S.owner self.entry) asked self.entry) →
@@ -335,14 +342,15 @@ impl<'a, S: Spread + Drop> World<'a, S> {
         Joined::new(self.space, self.owners, self.underway)
     }
 
-    /// Whether a step ran out of memory half way. Such a world is only good to be let go.
+    /// Whether a step ran out of memory halfway. Such a world must not be used again.
     pub fn is_spent(&self) -> bool
         ensures { result ≡ self.now.spent }
     {
         self.spent
     }
 
-    /// Every world is the one after some run, unless a step ran out of memory. The body tells what the type keeps.
+    /// The type's invariant, stated as a contract: every world that is not spent is the world after some run, and it has
+    /// owners.
     pub fn recall(&self)
         ensures run { self.now.spent ≡ false → ∥ ((asked : List WorldStep) × IsAfter S.owner (space_in S.owner self.now) asked self.now) ∥₁ }
         ensures some { 0 < length self.now.owners }

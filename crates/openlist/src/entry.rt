@@ -1,21 +1,21 @@
-//! What an open list holds.
+//! Entries of an open list, and their order.
 
-/// How a state was reached: at what cost and over how many operators. Ranks are ordered by cost, and where it is the same by
-/// the number of operators.
+/// The rank at which a state was reached: the cost of the path to it, and its number of operators. Ranks are ordered by
+/// cost, then by the number of operators.
 #[derive(Clone, Copy, Debug, PartialEq, Eq, PartialOrd, Ord)]
 pub struct Rank {
-    /// What the operators on the way cost, at most 2^62 in a search.
+    /// The cost of the operators on the path, at most 2^62 in a search.
     pub cost: u64,
-    /// How many operators there are, at most 2^62 in a search.
+    /// The number of operators on the path, at most 2^62 in a search.
     pub steps: u64,
 }
 
-/// A state to be expanded. Entries are ordered by f, where it is the same by rank, and where that is the same by place.
+/// A state to be expanded. Entries are ordered by f, then by rank, then by place.
 #[derive(Clone, Copy, Debug, PartialEq, Eq, PartialOrd, Ord)]
 pub struct OpenEntry {
-    /// What a plan through the state costs at least by the heuristic: f = g + h.
+    /// The f-value: the cost at which the state was reached plus the state's heuristic value, f = g + h.
     pub f: u64,
-    /// How the state was reached.
+    /// The rank at which the state was reached.
     pub rank: Rank,
     /// The state's place in its owner's table, counted from 0.
     pub index: usize,

@@ -1,4 +1,4 @@
-//! An open list that is a binary heap.
+//! An open list as a binary heap.
 
 ghost use Rattle.std.specs.Prelude.{◌≡◌, []};
 
@@ -9,11 +9,12 @@ use std::cmp::Reverse;
 use std::collections::BinaryHeap;
 use std::marker::Model;
 
-/// An open list as a binary heap (Williams 1964): a push or a pop takes time logarithmic in the number of entries, `least` a
-/// constant time. A contract sees the entries, in the heap's own order, and how many more go in without more memory.
+/// An open list as a binary heap (Williams 1964): a push or a pop takes time logarithmic in the number of entries,
+/// `least` takes constant time. A contract sees the entries, in the heap's own order, and how many more entries fit
+/// without an allocation.
 #[derive(Drop)]
 pub struct Heap {
-    // a binary heap gives its greatest element, and the first entry is the least
+    /// The entries, reversed: a binary heap gives its greatest element, and the first entry is the least one.
     heap: BinaryHeap<Reverse<OpenEntry>>,
 }
 
@@ -33,7 +34,7 @@ impl Model for Heap {
 }
 
 impl Heap {
-    /// An open list without an entry.
+    /// An empty open list.
     pub fn new(alloc: Global) -> Heap
         ensures { result.entries ≡ [] }
     {

@@ -1,11 +1,11 @@
-//! Laws of the order of entries. Each function states some as its contract, for all entries, and its body is empty.
+//! Laws of the order of entries. Each function states laws as its contract, for all entries, and its body is empty.
 
 ghost use Rattle.std.specs.Prelude.{◌≡◌, ◌≤◌, ◌⊎◌, ℕ, List, true, false, Contains, IsPermutation};
 ghost use Rattle.openlist.specs.declared.entry.OpenEntry.{OpenEntry};
 ghost use Rattle.openlist.specs.OpenLists.{comes_first, IsFirst, entry_of};
 
-/// The order of entries is a total order, f does not fall along it, and which entry is the first of some is the same however
-/// these are arranged: there is at most one such entry.
+/// The order of entries is total, and f does not fall along it. The first entry of a list does not depend on how the list
+/// is arranged, and there is at most one.
 pub fn entries_are_ordered()
     ensures reflexive { (x : OpenEntry) → comes_first x x ≡ true }
     ensures total { (x y : OpenEntry) → (comes_first x y ≡ true) ⊎ (comes_first y x ≡ true) }

@@ -1,4 +1,4 @@
-//! Open lists of best-first search: which state of those not yet expanded comes next (Hart, Nilsson and Raphael 1968).
+//! Open lists of best-first search: which of the states not yet expanded comes next (Hart, Nilsson and Raphael 1968).
 #![tactic(auto)]
 
 mod entry;

@@ -1,9 +1,9 @@
-//! What an open list is.
+//! The trait of open lists.
 
 use crate::entry::OpenEntry;
 use std::alloc::AllocError;
 
-/// A bag of entries that gives the first of them in the order of entries.
+/// A multiset of entries from which the first, in the order of entries, is taken.
 pub trait OpenList: Drop {
     ghost use Rattle.std.specs.Prelude.{◌≡◌, ℕ, List, [], ◌∷◌, Contains, IsOk, IfSome, IfNone, OnOk, OnErr};
     ghost use Rattle.std.specs.List.Sorted.{IsPermutation};
@@ -13,24 +13,24 @@ pub trait OpenList: Drop {
     /// The entries, in no particular order.
     ghost entries: { Self → List OpenEntry };
 
-    /// Entries of these f-values, in this order and with any left out, can be pushed without more memory.
+    /// Entries of these f-values, in this order and with any left out, can be pushed without an allocation.
     ghost HasRoom: { Self → List ℕ → Type 0 };
 
-    /// Makes room to push entries of these f-values in this order, with any left out. An `Err` is of too little memory; the
-    /// entries stay.
+    /// Makes room to push entries of these f-values in this order, with any left out. Fails only if allocation fails. The
+    /// entries stay the same in either case.
     fn reserve(&mut self, fs: &[u64]) -> Result<(), AllocError>
         ensures entries { IsPermutation (entries self.old) (entries self.new) }
         ensures room { OnOk result (HasRoom self.new fs.now) };
 
-    /// Puts an entry in. An `Err` is of too little memory, and leaves the entries as they were; it does not come where there
-    /// is room.
+    /// Adds an entry. Fails only if allocation fails, and then leaves the entries as they were; it cannot fail where
+    /// `HasRoom` holds for f-values of which the first is the entry's.
     fn push(&mut self, entry: OpenEntry) -> Result<(), AllocError>
         ensures pushed { OnOk result (IsPermutation (entry ∷ entries self.old) (entries self.new)) }
         ensures unchanged { OnErr result (IsPermutation (entries self.old) (entries self.new)) }
         ensures succeeds { (fs : List ℕ) → HasRoom self.old (entry.f ∷ fs) → IsOk result }
         ensures room { (fs : List ℕ) → HasRoom self.old (entry.f ∷ fs) → HasRoom self.new fs };
 
-    /// Takes the first entry out, or gives `None` where there is none. No memory is taken.
+    /// Removes and returns the first entry, or returns `None` if the list is empty. Allocates nothing.
     fn pop(&mut self) -> Option<OpenEntry>
         ensures first { IfSome result (λ e. IsFirst e (entries self.old)) }
         ensures rest { IfSome result (λ e. IsPermutation (entries self.old) (e ∷ entries self.new)) }
@@ -38,12 +38,12 @@ pub trait OpenList: Drop {
         ensures empty { IfNone result (entries self.new ≡ []) }
         ensures room { (fs : List ℕ) → HasRoom self.old fs → HasRoom self.new fs };
 
-    /// The first entry, or `None` where there is none. No memory is taken.
+    /// The first entry, or `None` if the list is empty. Allocates nothing.
     fn least(&self) -> Option<OpenEntry>
         ensures member { IfSome result (λ e. Contains (entries self.now) e) }
         ensures first { IfSome result (λ e. IsFirst e (entries self.now)) }
         ensures none { IfNone result (entries self.now ≡ []) };
 
-    /// Room for some is room for fewer.
+    /// Room for a list of f-values is room for its tail.
     ghost fewer: { (s : Self) (f : ℕ) (fs : List ℕ) → HasRoom s (f ∷ fs) → HasRoom s fs };
 }

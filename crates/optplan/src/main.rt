@@ -1,4 +1,5 @@
-//! optplan: an optimal sequential planner for PDDL whose every answer is checked by a program that does not trust it.
+//! optplan: an optimal sequential planner for PDDL. `solve` runs no checker: with a plan or `unsolvable` it gives a
+//! certificate that the separate checker provably accepts, if the certificate's text has at most 2^30 bytes.
 #![tactic(auto)]
 
 use command::run;

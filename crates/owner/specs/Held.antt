@@ -1,17 +1,18 @@
--- What every owner keeps.
+-- The invariant of owners.
 use Rattle.std.specs.Prelude.{ℕ, ◌+◌, ◌<◌, ◌≤◌, List, length, All, IfSome}
 use Rattle.fdr.specs.Tasks.{FiniteDomainTask, cost_of}
 use Rattle.families.specs.Owners.{At, Node, list_at}
 use Rattle.openlist.specs.declared.entry.Rank.{Rank}
 use Rattle.owner.specs.Owned.{OwnerOf, space_of, most_total, IsKept, IsMessageTo}
 
--- the owner is one of several, its nodes and messages are where they belong, and no more nodes are expanded than may be
+-- the owner is one of several, its nodes are its own, its messages are in the outboxes of their owners, and no more nodes
+-- were expanded than the limit allows
 pub record IsOwner {S : Type 0} (owner : S → List ℕ → ℕ → ℕ) (o : OwnerOf S) : Type 0 where
   pub owners : o.worker < length o.outboxes
   pub nodes : (i : ℕ) (n : Node) → At o.nodes i n → IsKept (space_of owner o) o.worker n
   pub messages : (to : ℕ) → to < length o.outboxes → All (IsMessageTo (space_of owner o) to) (list_at o.outboxes to)
   pub counted : IfSome o.space.limit (λ limit. o.expansions ≤ limit)
 
--- an operator leads from this rank to one that is not too great
+-- the operator leads from this rank to a cost and a number of operators of at most 2^62
 abbrev pub IsSmallStep : FiniteDomainTask → Rank → ℕ → Type 0
 IsSmallStep task rank o = (rank.cost + cost_of task o ≤ most_total) × (rank.steps + 1 ≤ most_total)

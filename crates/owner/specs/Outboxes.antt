@@ -1,4 +1,4 @@
--- Outboxes as they lie in memory.
+-- Outboxes as they are stored.
 use Rattle.std.specs.Prelude.{ℕ, List, map, not, count_by}
 use Rattle.std.specs.declared.collections.VecDeque.{VecDeque}
 use Rattle.families.specs.Owners as machine
@@ -10,6 +10,6 @@ use Rattle.closed.specs.Tables.{message_of}
 abbrev pub boxes_of : {Y : Type 0} → List (VecDeque Message Y) → List (List machine.Message)
 boxes_of queues = map (λ q. map message_of q.items) queues
 
--- how many outboxes have a message
+-- the number of outboxes with a message
 abbrev pub count_in_use : List (List machine.Message) → ℕ
 count_in_use boxes = count_by (λ b. not (is_empty b)) boxes

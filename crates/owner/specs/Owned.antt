@@ -1,4 +1,4 @@
--- One owner of states as it lies in memory, and what expanding its next node comes to (hash distributed A*: Kishimoto, Fukunaga
+-- One owner of states as it is stored, and what expanding its next node does (hash distributed A*: Kishimoto, Fukunaga
 -- and Botea 2013).
 use Rattle.std.specs.Prelude.{◌≡◌, ◌≢◌, ℕ, suc, ◌+◌, ◌<◌, ◌≤◌, ◌^◌, ◌⊎◌, Bool, true, false, ◌&&◌, ◌||◌, not, ◌==◌, nat_le, if◌then◌else◌, List, [], ◌∷◌, length, Option, Some, None, is_some}
 use Rattle.cost.specs.Distances.{Distance, Infinite, is_at_most, lesser}
@@ -9,8 +9,8 @@ use Rattle.owner.specs.declared.fault.OwnerFault.{OwnerFault}
 use Rattle.owner.specs.declared.fault.OwnerFault.TheVariants.{OutOfMemory, TotalTooLarge, LimitReached}
 use Rattle.owner.specs.Spaces.{SpaceOf, searched}
 
--- the space and the owner's number; its nodes; an outbox for each owner, oldest message first; the least cost at which a goal state
--- was taken; and, under a limit, how often it expanded a node
+-- the space and the owner's number; its nodes; an outbox for each owner, the oldest message first; the least cost at
+-- which a goal state was taken; and, under a limit, the number of nodes that it has expanded
 pub record OwnerOf (S : Type 0) : Type 0 where
   pub space : SpaceOf S
   pub worker : ℕ
@@ -19,7 +19,7 @@ pub record OwnerOf (S : Type 0) : Type 0 where
   pub best : Distance
   pub expansions : ℕ
 
--- the space as the owners search it, of which each has an outbox
+-- the search space of the owners, each of which has an outbox
 abbrev pub space_of : {S : Type 0} → (S → List ℕ → ℕ → ℕ) → OwnerOf S → SearchSpace
 space_of owner o = searched owner o.space (length o.outboxes)
 
@@ -27,11 +27,12 @@ space_of owner o = searched owner o.space (length o.outboxes)
 abbrev pub under : {S : Type 0} → OwnerOf S → Distance → Owner
 under o bound = record { nodes = o.nodes; outboxes = o.outboxes; bound = bound; best = o.best }
 
--- a path may cost so much, and have so many operators
+-- the greatest cost of a path, and the greatest number of operators on it
 abbrev pub most_total : ℕ
 most_total = 2 ^ 62
 
--- a message that this owner may be handed: its state is one of the task and this owner's, and its rank is not too great
+-- a message that may be handed to this owner: its state is a state of the task and this owner's, and its cost and number
+-- of operators are at most 2^62
 pub record IsMessageTo (space : SearchSpace) (to : ℕ) (m : Message) : Type 0 where
   pub state : IsState (ranges space.task) m.state
   pub owner : space.owner_of m.state ≡ to
@@ -40,7 +41,7 @@ pub record IsMessageTo (space : SearchSpace) (to : ℕ) (m : Message) : Type 0 w
 
 -- ---- the next node
 
--- what comes first: less f, then a lesser rank, then an earlier place
+-- the order of expansion: by f, then by rank, then by place
 abbrev pub goes_before : SearchSpace → ℕ → Node → ℕ → Node → Bool
 goes_before space i m j n =
     not (is_at_most (f_value space n.state n.cost) (f_value space m.state m.cost))
@@ -48,23 +49,23 @@ goes_before space i m j n =
     && (rank_less m.cost m.steps n.cost n.steps
     || ((m.cost == n.cost) && ((m.steps == n.steps) && nat_le i j))))
 
--- an open node: not expanded, and its f-value is finite
+-- an open node: it is not expanded, and its f-value is finite
 abbrev pub is_open : SearchSpace → Node → Bool
 is_open space n = not n.expanded && not (is_at_most Infinite (f_value space n.state n.cost))
 
--- the node at the place is open, its f-value is below the bound, and it goes before all open nodes
+-- the node at the place is open, its f-value is below the bound, and it comes first of all open nodes
 pub record IsNext (space : SearchSpace) (nodes : List Node) (bound : Distance) (i : ℕ) (n : Node) : Type 0 where
   pub there : At nodes i n
   pub open_node : is_open space n ≡ true
   pub below : is_at_most bound (f_value space n.state n.cost) ≡ false
   pub first : (j : ℕ) (x : Node) → At nodes j x → is_open space x ≡ true → goes_before space i n j x ≡ true
 
--- each successor of the node is at a total that is not too great
+-- the cost and the number of operators of each successor of the node are at most 2^62
 abbrev pub HasSmallSuccessors : FiniteDomainTask → Node → Type 0
 HasSmallSuccessors task n =
     (o : ℕ) → applies_at task o n.state ≡ true → (n.cost + cost_of task o ≤ most_total) × (suc n.steps ≤ most_total)
 
--- a successor of the node is at too great a total
+-- the cost or the number of operators of some successor of the node is above 2^62
 abbrev pub HasLargeSuccessor : FiniteDomainTask → Node → Type 0
 HasLargeSuccessor task n =
     (o : ℕ) × (applies_at task o n.state ≡ true)
@@ -72,7 +73,7 @@ HasLargeSuccessor task n =
 
 -- ---- expanding it
 
--- the owner's next node is expanded under the bound, and so many messages are put into outboxes
+-- the owner's next node is expanded under the bound, and `posted` messages are put into outboxes
 pub record Expands {S : Type 0} (owner : S → List ℕ → ℕ → ℕ) (bound : Distance) (old : OwnerOf S) (posted : ℕ) (new : OwnerOf S)
     : Type 0 where
   pub index : ℕ
@@ -86,13 +87,13 @@ pub record Expands {S : Type 0} (owner : S → List ℕ → ℕ → ℕ) (bound 
   pub worker : new.worker ≡ old.worker
   pub counted : new.expansions ≡ (if is_some old.space.limit then suc old.expansions else old.expansions)
 
--- what the owner answers to a request to expand its next node: nothing where there is none below the bound, else how many messages
--- it put into outboxes
+-- the result of a call to expand the next node: none if no node has an f-value below the bound, else the number of
+-- messages put into outboxes
 abbrev pub IsExpansion : {S : Type 0} → (S → List ℕ → ℕ → ℕ) → Distance → OwnerOf S → OwnerOf S → Option ℕ → Type 0
 IsExpansion owner bound old new None = (no_open (space_of owner old) (under old bound) ≡ true) × (new ≡ old)
 IsExpansion owner bound old new (Some posted) = Expands owner bound old posted new
 
--- why it is refused; but for want of memory the owner is as it was
+-- why a call to expand is refused; the owner is as it was, unless memory ran out
 abbrev pub IsRefusal : {S : Type 0} → (S → List ℕ → ℕ → ℕ) → Distance → OwnerOf S → OwnerOf S → OwnerFault → Type 0
 IsRefusal owner bound old new OutOfMemory = Unit {0}
 IsRefusal owner bound old new LimitReached =
@@ -101,15 +102,15 @@ IsRefusal owner bound old new TotalTooLarge =
     (i : ℕ) × (n : Node) × IsNext (space_of owner old) old.nodes bound i n × (old.space.limit ≢ Some old.expansions)
     × HasLargeSuccessor old.space.task n × (new ≡ old)
 
--- ---- what the owner keeps
+-- ---- the owner's invariant
 
--- the least f-value of the nodes that are not expanded, infinite where there is none
+-- the least f-value of the nodes that are not expanded, infinite if there is none
 abbrev pub least_open : SearchSpace → List Node → Distance
 least_open space [] = Infinite
 least_open space (n ∷ ns) =
     lesser (if n.expanded then Infinite else f_value space n.state n.cost) (least_open space ns)
 
--- nodes are of states of the task that are the owner's, at ranks that are not too great
+-- the node's state is a state of the task and the owner's, and its cost and number of operators are at most 2^62
 pub record IsKept (space : SearchSpace) (worker : ℕ) (n : Node) : Type 0 where
   pub state : IsState (ranges space.task) n.state
   pub owner : space.owner_of n.state ≡ worker

@@ -1,5 +1,5 @@
--- The open list of an owner against its nodes. Entries are left in it that are out of date: of nodes that were reached at a lesser
--- rank since, or were expanded. The first entry never is.
+-- The open list of an owner and its nodes. Stale entries stay in the list: of nodes that have since been reached at a
+-- lesser rank, or have been expanded. The first entry is never stale.
 use Rattle.std.specs.Prelude.{◌≡◌, ℕ, ◌≤◌, ◌^◌, true, false, List, [], ◌∷◌, Option, Some, None, Contains}
 use Rattle.cost.specs.Distances.{Distance, Finite, ◌+ᵈ◌}
 use Rattle.checker_clauses.specs.Clauses.{heuristic_of}
@@ -22,11 +22,11 @@ pub record ReachedOf (S : Type 0) : Type 0 where
 abbrev pub h_of : {S : Type 0} → SpaceOf S → List ℕ → Distance
 h_of space = heuristic_of space.task space.columns
 
--- the message of these parts
+-- the message with these parts
 abbrev pub message_at : List ℕ → Rank → Parent → machine.Message
 message_at state rank parent = record { state = state; cost = rank.cost; steps = rank.steps; parent = parent_of parent }
 
--- the entry is of a node that was reached at its rank, and since then perhaps at a lesser one
+-- the entry's node was reached at the entry's rank, and has that rank or a lesser one now
 pub record IsOf (h : List ℕ → Distance) (nodes : List Node) (e : OpenEntry) : Type 0 where
   pub node : Node
   pub there : At nodes e.index node
@@ -35,7 +35,7 @@ pub record IsOf (h : List ℕ → Distance) (nodes : List Node) (e : OpenEntry) 
   pub cost : node.cost ≤ e.rank.cost
   pub steps : node.cost ≡ e.rank.cost → node.steps ≤ e.rank.steps
 
--- the entry is of a node that is not expanded and has its rank
+-- the entry's node is not expanded and has the entry's rank
 pub record IsCurrent (nodes : List Node) (e : OpenEntry) : Type 0 where
   pub node : Node
   pub there : At nodes e.index node
@@ -43,18 +43,18 @@ pub record IsCurrent (nodes : List Node) (e : OpenEntry) : Type 0 where
   pub cost : node.cost ≡ e.rank.cost
   pub steps : node.steps ≡ e.rank.steps
 
--- each open node has its entry, and each entry is of a node
+-- each open node has an entry, and each entry is of a node
 pub record AreQueued (h : List ℕ → Distance) (nodes : List Node) (entries : List OpenEntry) : Type 0 where
   pub complete : (i : ℕ) (n : Node) (f : ℕ) → At nodes i n → n.expanded ≡ false → Finite n.cost +ᵈ h n.state ≡ Finite f
       → Contains entries (entry_of f n.cost n.steps i)
   pub sound : (e : OpenEntry) → Contains entries e → IsOf h nodes e
 
--- and the first entry is not out of date
+-- the same, and the first entry is current
 pub record IsQueue (h : List ℕ → Distance) (nodes : List Node) (entries : List OpenEntry) : Type 0 where
   pub queued : AreQueued h nodes entries
   pub top : (e : OpenEntry) → Contains entries e → IsFirst e entries → IsCurrent nodes e
 
--- the entry is of an open node that goes before all open nodes
+-- the entry is of an open node that comes first of all open nodes
 pub record IsLeast (h : List ℕ → Distance) (nodes : List Node) (e : OpenEntry) : Type 0 where
   pub node : Node
   pub there : At nodes e.index node
@@ -70,7 +70,7 @@ pub record IsLeast (h : List ℕ → Distance) (nodes : List Node) (e : OpenEntr
 abbrev pub HasNoneOpen : (List ℕ → Distance) → List Node → Type 0
 HasNoneOpen h nodes = (i : ℕ) (n : Node) (f : ℕ) → At nodes i n → n.expanded ≡ false → Finite n.cost +ᵈ h n.state ≡ Finite f → ⊥
 
--- the entry that goes into the open list where a state is reached at this f-value, if that is finite
+-- the entry that is added to the open list when a state is reached at this f-value, if that is finite
 abbrev pub added : Option ℕ → Rank → Outcome → List OpenEntry
 added None rank outcome = []
 added (Some f) rank (New i) = record { f = f; rank = rank; index = i } ∷ []

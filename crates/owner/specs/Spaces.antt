@@ -1,19 +1,19 @@
--- What owners of states search: a task with the columns of its heuristic, a spread of its states over owners, and a limit on how
--- many states each may expand.
+-- What owners of states search: a task with the columns of its heuristic, a spread of its states over owners, and a limit
+-- on the number of states that each may expand.
 use Rattle.std.specs.Prelude.{ℕ, List, Option}
 use Rattle.fdr.specs.Tasks.{FiniteDomainTask}
 use Rattle.certificates.specs.Certificates.{Table}
 use Rattle.checker_clauses.specs.Clauses.{heuristic_of}
 use Rattle.families.specs.Owners.{SearchSpace}
 
--- the spread is of a type S
+-- a space whose spread is of the type S
 pub record SpaceOf (S : Type 0) : Type 0 where
   pub task : FiniteDomainTask
   pub columns : List (List Table)
   pub spread : S
   pub limit : Option ℕ
 
--- the space as so many owners search it, where `owner` says which of them the spread gives a state
+-- the search space for n owners, where `owner` specifies the owner that the spread gives a state
 abbrev pub searched : {S : Type 0} → (S → List ℕ → ℕ → ℕ) → SpaceOf S → ℕ → SearchSpace
 searched owner space n =
     record {

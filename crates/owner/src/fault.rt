@@ -1,4 +1,4 @@
-//! Why an owner expands no node.
+//! The faults of an expansion.
 
 ghost use Rattle.std.specs.Prelude.{◌≡◌};
 ghost use Rattle.owner.specs.declared.fault.OwnerFault.TheVariants.{OutOfMemory};
@@ -12,10 +12,10 @@ pub enum OwnerFault {
     /// Memory ran out.
     #[error("out of memory")]
     OutOfMemory,
-    /// A successor would be reached at a cost, or over a number of operators, past 2^62.
+    /// A successor would have a cost, or a number of operators, above 2^62.
     #[error("a path past 2^62")]
     TotalTooLarge,
-    /// The owner has expanded as many nodes as it may.
+    /// The owner has expanded as many nodes as its limit allows.
     #[error("the limit on expansions is reached")]
     LimitReached,
 }

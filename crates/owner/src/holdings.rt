@@ -1,4 +1,4 @@
-//! What an owner has, beside room to work in.
+//! What an owner has, without its buffers.
 
 ghost use Rattle.std.specs.Prelude.{◌≡◌, ◌≢◌, ℕ, suc, ◌+◌, ◌<◌, ◌≤◌, ◌^◌, ◌++◌, ◌∷◌, [], ◌==◌, length, map, slice_get, slice_set, replicate, Some, None, true, false, is_some, if◌then◌else◌, IsTrue, ◌↔◌, IfOk, IfSome, IfNone, OnOk, OnErr};
 ghost use Rattle.std.specs.Option.{option_to_list};
@@ -26,8 +26,8 @@ use std::alloc::{AllocError, Global};
 use std::collections::VecDeque;
 use std::marker::Model;
 
-/// What an owner has: the states that it has taken, an outbox for each owner, and the least cost at which it has taken a goal
-/// state. A contract sees it as the owner.
+/// What an owner has: the states that it has taken, an outbox for each owner, and the least cost at which it has taken a
+/// goal state. A contract sees it as the owner.
 #[derive(Drop)]
 pub(crate) struct Holdings<'a, S: Spread + Drop> {
     worker: usize,
@@ -62,14 +62,14 @@ impl<'a, S: Spread + Drop> Model for Holdings<'a, S> {
     }) };
 }
 
-/// Whether the distance is at most the other.
+/// Whether the first distance is at most the second.
 fn is_within(distance: Dist, other: Dist) -> bool
     ensures { result ≡ is_at_most distance other }
 {
     distance <= other
 }
 
-/// A number that is not too great as a distance.
+/// The distance of a number that is at most 2^63.
 fn finite(value: u64) -> Dist
     requires { value ≤ 2 ^ 63 }
     ensures { result ≡ Finite value }
@@ -78,7 +78,7 @@ fn finite(value: u64) -> Dist
 }
 
 impl<'a, S: Spread + Drop> Holdings<'a, S> {
-    /// What the `worker`-th of `owners` has at the beginning, counted from 0. An `Err` is of too little memory.
+    /// What worker `worker` of `owners`, counted from 0, has at the start. Fails only if allocation fails.
     pub(crate) fn start(
         alloc: Global,
         space: &'a Space<'a, S>,
@@ -110,7 +110,7 @@ impl<'a, S: Spread + Drop> Holdings<'a, S> {
         })
     }
 
-    /// Takes a state of its own. An `Err` is of too little memory, and changes nothing.
+    /// Takes a state of its own. Fails only if allocation fails, and then changes nothing.
     pub(crate) fn take(
         &mut self,
         state: &[u32],
@@ -131,8 +131,8 @@ impl<'a, S: Spread + Drop> Holdings<'a, S> {
         Ok(())
     }
 
-    /// Treats a successor: it is dropped where its f-value reaches the bound, taken where it is this owner's, and else put into the
-    /// outbox for its owner. Gives whether it was put out. An `Err` is of too little memory.
+    /// Treats a successor: drops it if its f-value reaches the bound, takes it if it is this owner's, and else puts it
+    /// into the outbox for its owner. Returns whether it was put into an outbox. Fails only if allocation fails.
     pub(crate) fn treat(
         &mut self,
         alloc: Global,
@@ -182,14 +182,14 @@ impl<'a, S: Spread + Drop> Holdings<'a, S> {
         Some(entry)
     }
 
-    /// Whether it has expanded as many nodes as it may.
+    /// Whether it has expanded as many nodes as its limit allows.
     pub(crate) fn is_at_limit(&self) -> bool
         ensures { IsTrue result ↔ (self.now.space.limit ≡ Some self.now.expansions) }
     {
         self.reached.space().limit() == Some(self.expansions)
     }
 
-    /// Notes that the node that is to be expanded next is expanded.
+    /// Marks the node that is to be expanded next as expanded.
     pub(crate) fn expand_next(&mut self)
         requires allowed { self.old.space.limit ≢ Some self.old.expansions }
         requires some { (e : EntryOf) × IsLeast (h_of self.old.space) self.old.nodes e }
@@ -208,7 +208,7 @@ impl<'a, S: Spread + Drop> Holdings<'a, S> {
         }
     }
 
-    /// The oldest message for that owner, which is then in no outbox; `None` where there is none.
+    /// Removes and returns the oldest message for that owner, or returns `None` if there is none.
     pub(crate) fn next_out(&mut self, to: usize) -> Option<Message>
         requires { to < length self.old.outboxes }
         ensures first { list_at self.old.outboxes to ≡ map message_of (option_to_list result) ++ list_at self.new.outboxes to }
@@ -219,14 +219,14 @@ impl<'a, S: Spread + Drop> Holdings<'a, S> {
         self.outboxes.take_out(to)
     }
 
-    /// Whether there is nothing to expand below the bound and nothing to hand out.
+    /// Whether there is no node to expand below the bound and no message to hand out.
     pub(crate) fn is_idle(&self, bound: Dist) -> bool
         ensures { result ≡ idle (space_of S.owner self.now) (under self.now bound) }
     {
         self.next(bound).is_none() && self.outboxes.are_empty()
     }
 
-    /// The least f-value of the nodes that are not expanded.
+    /// The least f-value of the nodes that are not expanded, infinite if there is none.
     pub(crate) fn least_open(&self) -> Dist
         ensures { result ≡ least_open (space_of S.owner self.now) self.now.nodes }
     {
@@ -300,7 +300,7 @@ impl<'a, S: Spread + Drop> Holdings<'a, S> {
         self.reached.copy_state(index, state)
     }
 
-    /// What holds of every owner. The body tells what the type keeps.
+    /// What holds of every owner: the type's invariant, stated as a contract.
     pub(crate) fn recall(&self)
         ensures { IsOwner S.owner self.now }
     {

@@ -17,8 +17,9 @@ use std::marker::Model;
 #[derive(Drop)]
 pub(crate) struct Outboxes {
     queues: Vec<VecDeque<Message>>,
-    // how many of them have a message, and how many messages there are, so that nobody has to look through all
+    /// The number of outboxes with a message. It is kept, as is `messages`, so that no query goes through all outboxes.
     in_use: usize,
+    /// The number of messages in all outboxes.
     messages: u128,
 }
 
@@ -37,7 +38,7 @@ impl Model for Outboxes {
         × (o.messages ≡ waiting (boxes_of o.queues.items)) };
 }
 
-/// So many empty queues. An `Err` is of too little memory.
+/// `owners` empty queues. Fails only if allocation fails.
 fn empty_queues(alloc: Global, owners: usize) -> Result<Vec<VecDeque<Message>>, AllocError>
     ensures { IfOk result (λ queues. boxes_of queues.items ≡ replicate owners []) }
 {
@@ -48,7 +49,8 @@ fn empty_queues(alloc: Global, owners: usize) -> Result<Vec<VecDeque<Message>>, 
     Ok(queues)
 }
 
-/// Puts a message last into the queue of that number. An `Err` is of too little memory, and leaves the queues as they were.
+/// Appends a message to the queue of that number. Fails only if allocation fails, and then leaves the queues as they
+/// were.
 fn push_last(
     queues: &mut Vec<VecDeque<Message>>,
     to: usize,
@@ -62,7 +64,7 @@ fn push_last(
     Ok(())
 }
 
-/// Takes the oldest message out of the queue of that number.
+/// Removes and returns the oldest message of the queue of that number, or returns `None` if it is empty.
 fn pop_oldest(queues: &mut Vec<VecDeque<Message>>, to: usize) -> Option<Message>
     requires { to < length queues.old.items }
     ensures first { list_at (boxes_of queues.old.items) to ≡ map message_of (option_to_list result) ++ list_at (boxes_of queues.new.items) to }
@@ -74,7 +76,7 @@ fn pop_oldest(queues: &mut Vec<VecDeque<Message>>, to: usize) -> Option<Message>
 }
 
 impl Outboxes {
-    /// So many empty outboxes. An `Err` is of too little memory.
+    /// `owners` empty outboxes. Fails only if allocation fails.
     pub(crate) fn empty(alloc: Global, owners: usize) -> Result<Outboxes, AllocError>
         ensures { IfOk result (λ outboxes. outboxes ≡ replicate owners []) }
     {
@@ -85,7 +87,8 @@ impl Outboxes {
         })
     }
 
-    /// Puts a message last into the outbox for that owner. An `Err` is of too little memory, and leaves the outboxes as they were.
+    /// Appends a message to the outbox for that owner. Fails only if allocation fails, and then leaves the outboxes as
+    /// they were.
     pub(crate) fn post(&mut self, to: usize, message: Message) -> Result<(), AllocError>
         requires { to < length self.old }
         ensures posted { OnOk result (self.new ≡ slice_set self.old to (list_at self.old to ++ message_of message ∷ [])) }
@@ -100,7 +103,7 @@ impl Outboxes {
         Ok(())
     }
 
-    /// Takes the oldest message out of the outbox for that owner; `None` where there is none.
+    /// Removes and returns the oldest message of the outbox for that owner, or returns `None` if it is empty.
     pub(crate) fn take_out(&mut self, to: usize) -> Option<Message>
         requires { to < length self.old }
         ensures first { list_at self.old to ≡ map message_of (option_to_list result) ++ list_at self.new to }
@@ -123,21 +126,21 @@ impl Outboxes {
         &self.queues[to]
     }
 
-    /// How many owners there are.
+    /// The number of owners.
     pub(crate) fn len(&self) -> usize
         ensures { result ≡ length self.now }
     {
         self.queues.len()
     }
 
-    /// How many outboxes have a message.
+    /// The number of outboxes with a message.
     pub(crate) fn in_use(&self) -> usize
         ensures { result ≡ count_in_use self.now }
     {
         self.in_use
     }
 
-    /// How many messages are in all outboxes.
+    /// The number of messages in all outboxes.
     pub(crate) fn messages(&self) -> u128
         ensures { result ≡ waiting self.now }
     {

@@ -1,4 +1,4 @@
-//! The owner.
+//! The owner of states.
 
 ghost use Rattle.std.specs.Prelude.{◌≡◌, ℕ, ◌<◌, ◌≤◌, ◌++◌, ◌∷◌, [], ◌==◌, length, map, slice_get, slice_set, Some, All, IfOk, IfErr, IfSome, IfNone, OnOk};
 ghost use Rattle.std.specs.Option.{option_to_list};
@@ -24,16 +24,18 @@ use std::alloc::{AllocError, Global};
 use std::collections::VecDeque;
 use std::marker::Model;
 
-/// One owner of states: the states that it has taken, those of them that it has yet to expand, an outbox for each owner, and the
-/// least cost at which it has taken a goal state. A contract sees it without the bound that it has seen last, which is handed to
-/// each call that needs it.
+/// One owner of states: the states that it has taken, those of them that it has yet to expand, an outbox for each owner,
+/// and the least cost at which it has taken a goal state. A contract sees it without the bound that it has seen last,
+/// which is an argument of each call that needs it.
 #[derive(Drop)]
 pub struct Owner<'a, S: Spread + Drop> {
     alloc: Global,
     holdings: Holdings<'a, S>,
-    // room for a state, for a successor of it, and for the operators that apply in it
+    /// A buffer for the values of a state.
     state: Vec<u32>,
+    /// A buffer for the values of a successor of that state.
     successor: Vec<u32>,
+    /// A buffer for the operators that apply in that state.
     applicable: Vec<usize>,
 }
 
@@ -50,7 +52,7 @@ impl<'a, S: Spread + Drop> Model for Owner<'a, S> {
         × (length o.successor.items ≡ length o.holdings.space.task.value_names) };
 }
 
-/// Writes the values of a message's state.
+/// Writes the values of a message's state into `state`.
 fn unpack(message: &Message, layout: &Layout, state: &mut Vec<u32>)
     requires form { IsState layout.now message.now.state.values.items }
     requires len { length state.old.items ≡ length layout.now }
@@ -59,7 +61,7 @@ fn unpack(message: &Message, layout: &Layout, state: &mut Vec<u32>)
     message.state.unpack(layout, state);
 }
 
-/// Writes the values of the state at that place.
+/// Writes the values of the state at that place into `state`.
 fn read_state<S: Spread + Drop>(holdings: &Holdings<'_, S>, index: usize, state: &mut Vec<u32>)
     requires index { index < length holdings.now.nodes }
     requires len { length state.old.items ≡ length holdings.now.space.task.value_names }
@@ -70,8 +72,8 @@ fn read_state<S: Spread + Drop>(holdings: &Holdings<'_, S>, index: usize, state:
 }
 
 impl<'a, S: Spread + Drop> Owner<'a, S> {
-    /// An owner at the beginning, the `worker`-th of `owners`, counted from 0; the owner of the initial state has it, at cost 0. An
-    /// `Err` is of too little memory.
+    /// An owner at the start: worker `worker` of `owners`, counted from 0. The owner of the initial state has it, at cost
+    /// 0. Fails only if allocation fails.
     pub fn start(
         alloc: Global,
         space: &'a Space<'a, S>,
@@ -86,16 +88,18 @@ impl<'a, S: Spread + Drop> Owner<'a, S> {
         ensures owners { IfOk result (λ o. length o.outboxes ≡ owners) }
     {
         let width = space.task().variable_count();
+        let state = vec![in alloc; 0; width]?;
+        let successor = vec![in alloc; 0; width]?;
         Ok(Owner {
             alloc,
             holdings: Holdings::start(alloc, space, worker, owners)?,
-            state: vec![in alloc; 0; width]?,
-            successor: vec![in alloc; 0; width]?,
+            state,
+            successor,
             applicable: Vec::new(alloc),
         })
     }
 
-    /// Takes a message. An `Err` is of too little memory; it gives the message back and leaves the owner as it was.
+    /// Takes a message. Fails only if allocation fails, and then returns the message and leaves the owner as it was.
     pub fn take(&mut self, message: Message) -> Result<(), (Message, AllocError)>
         requires { IsMessageTo (space_of S.owner self.old) self.old.worker (message_of message) }
         ensures taken { OnOk result ((bound : Distance) → under self.new bound ≡ took (space_of S.owner self.old) (under self.old bound) (message_of message)) }
@@ -114,12 +118,12 @@ impl<'a, S: Spread + Drop> Owner<'a, S> {
         }
     }
 
-    /// Expands the next node whose f-value is below the bound, which is the one that the owner has seen last: of least f, of these
-    /// the one of the least rank, and of these the one reached first. Its successors whose f-value reaches the bound are dropped,
-    /// those that this owner has are taken, and the others are put into outboxes.
+    /// Expands the next node whose f-value is below `bound`, the bound that the owner has seen last: the node of least f,
+    /// among these the one of least rank, and among these the one reached first. Its successors whose f-value reaches the
+    /// bound are dropped, those that are this owner's are taken, and the others are put into outboxes.
     ///
-    /// Gives how many messages were put into outboxes, or `None` where there is no such node; that changes nothing. A fault leaves
-    /// the owner as it was, except `OutOfMemory`, after which it is only good to be let go.
+    /// Returns the number of messages that were put into outboxes, or `None` if there is no such node, which changes
+    /// nothing. A fault leaves the owner as it was, except `OutOfMemory`, after which the owner must not be used again.
     pub fn expand(&mut self, bound: Dist) -> Result<Option<usize>, OwnerFault>
         ensures expanded { IfOk result (IsExpansion S.owner bound self.old self.new) }
         ensures refused { IfErr result (IsRefusal S.owner bound self.old self.new) }
@@ -153,7 +157,7 @@ impl<'a, S: Spread + Drop> Owner<'a, S> {
         Ok(Some(posted))
     }
 
-    /// The oldest message for that owner, which is then in no outbox; `None` where there is none. No memory is taken.
+    /// Removes and returns the oldest message for that owner, or returns `None` if there is none. Allocates nothing.
     pub fn next_out(&mut self, to: usize) -> Option<Message>
         requires { to < length self.old.outboxes }
         ensures first { list_at self.old.outboxes to ≡ map message_of (option_to_list result) ++ list_at self.new.outboxes to }
@@ -164,28 +168,28 @@ impl<'a, S: Spread + Drop> Owner<'a, S> {
         self.holdings.next_out(to)
     }
 
-    /// Whether there is nothing to expand below the bound and nothing to hand out. No memory is taken.
+    /// Whether there is no node to expand below the bound and no message to hand out. Allocates nothing.
     pub fn is_idle(&self, bound: Dist) -> bool
         ensures { result ≡ idle (space_of S.owner self.now) (under self.now bound) }
     {
         self.holdings.is_idle(bound)
     }
 
-    /// The least cost at which a goal state was taken, infinite where none was. No memory is taken.
+    /// The least cost at which a goal state was taken, infinite if none was. Allocates nothing.
     pub fn best_goal(&self) -> Dist
         ensures { result ≡ self.now.best }
     {
         self.holdings.best()
     }
 
-    /// The least f-value of the nodes that are not expanded, infinite where there is none. No memory is taken.
+    /// The least f-value of the nodes that are not expanded, infinite if there is none. Allocates nothing.
     pub fn least_open(&self) -> Dist
         ensures { result ≡ least_open (space_of S.owner self.now) self.now.nodes }
     {
         self.holdings.least_open()
     }
 
-    /// How many messages are in the outbox for that owner.
+    /// The number of messages in the outbox for that owner.
     pub fn outbox_len(&self, to: usize) -> usize
         requires { to < length self.now.outboxes }
         ensures { result ≡ length (list_at self.now.outboxes to) }
@@ -201,21 +205,21 @@ impl<'a, S: Spread + Drop> Owner<'a, S> {
         self.holdings.outbox(to)
     }
 
-    /// How many outboxes have a message.
+    /// The number of outboxes with a message.
     pub fn outboxes_in_use(&self) -> usize
         ensures { result ≡ count_in_use self.now.outboxes }
     {
         self.holdings.outboxes_in_use()
     }
 
-    /// How many messages are in all outboxes.
+    /// The number of messages in all outboxes.
     pub fn messages(&self) -> u128
         ensures { result ≡ waiting self.now.outboxes }
     {
         self.holdings.messages()
     }
 
-    /// How often it expanded a node, counted where there is a limit on that, and 0 otherwise.
+    /// The number of nodes that it has expanded, counted only if there is a limit on it, and 0 otherwise.
     pub fn expansions(&self) -> u64
         ensures { result ≡ self.now.expansions }
     {
@@ -229,14 +233,14 @@ impl<'a, S: Spread + Drop> Owner<'a, S> {
         self.holdings.space()
     }
 
-    /// How many states it has taken.
+    /// The number of states that it has taken.
     pub fn len(&self) -> usize
         ensures { result ≡ length self.now.nodes }
     {
         self.holdings.len()
     }
 
-    /// What is kept of the state at that place, counted from 0.
+    /// The entry of the state at that place, counted from 0.
     pub fn entry(&self, index: usize) -> Entry
         requires { index < length self.now.nodes }
         ensures { (n : Node) → slice_get self.now.nodes index ≡ Some n → n ≡ node_with n.state result }
@@ -244,7 +248,7 @@ impl<'a, S: Spread + Drop> Owner<'a, S> {
         self.holdings.entry(index)
     }
 
-    /// Writes the values of the state at that place.
+    /// Writes the values of the state at that place, counted from 0, into `state`.
     pub fn copy_state(&self, index: usize, state: &mut [u32])
         requires index { index < length self.now.nodes }
         requires len { length state.old ≡ length self.now.space.task.value_names }
@@ -253,8 +257,9 @@ impl<'a, S: Spread + Drop> Owner<'a, S> {
         self.holdings.copy_state(index, state)
     }
 
-    /// What holds of every owner: nodes and messages are of states of the task, each where it belongs, at totals of at most 2^62. The
-    /// body tells what the type keeps.
+    /// What holds of every owner, the type's invariant stated as a contract: the space is a search space whose heuristic
+    /// is a lower bound, nodes have states of the task that are this owner's, messages have states of the task that are
+    /// their receiver's, and costs and numbers of operators are at most 2^62.
     pub fn recall(&self)
         ensures space { IsSearchSpace (space_of S.owner self.now) }
         ensures lower { IsLowerBound self.now.space.task (space_of S.owner self.now).heuristic }

@@ -17,13 +17,13 @@ use spread::Spread;
 use std::alloc::{AllocError, Global};
 use std::marker::Model;
 
-/// The states that were reached, and the open ones in the order in which they are to be expanded. A contract sees the space and a
-/// node for each state.
+/// The states that were reached, and the open ones in the order in which they are to be expanded. A contract sees the
+/// space and a node for each state.
 #[derive(Drop)]
 pub(crate) struct Reached<'a, S: Spread + Drop> {
     space: &'a Space<'a, S>,
     table: ClosedTable,
-    // the open nodes, and nodes as they were before they were improved or expanded
+    /// The open nodes, and stale entries: nodes as they were before they were improved or expanded.
     queue: Heap,
 }
 
@@ -39,7 +39,7 @@ impl<'a, S: Spread + Drop> Model for Reached<'a, S> {
     ghost invariant = { λ r. (r.table.ranges ≡ ranges r.space.now.task) × IsQueue (h_of r.space.now) r.table.nodes r.queue.entries };
 }
 
-/// Makes room for an entry of this f-value, if it is finite.
+/// Makes room for an entry of this f-value, if it is finite. Fails only if allocation fails.
 fn make_room(heap: &mut Heap, f: Option<u64>) -> Result<(), AllocError>
     ensures entries { IsPermutation heap.old.entries heap.new.entries }
     ensures room { OnOk result (IfSome f (λ f. HasRoomFor heap.new (f ∷ []))) }
@@ -50,7 +50,7 @@ fn make_room(heap: &mut Heap, f: Option<u64>) -> Result<(), AllocError>
     }
 }
 
-/// Puts the entry of a state in that was reached, if it is new or was improved, and its f-value is finite.
+/// Adds the entry of a state that was reached, if it is new or was improved, and its f-value is finite.
 fn put_in(heap: &mut Heap, f: Option<u64>, rank: Rank, outcome: Outcome)
     requires { IfSome f (λ f. HasRoomFor heap.old (f ∷ [])) }
     ensures { IsPermutation (added f rank outcome ++ heap.old.entries) heap.new.entries }
@@ -71,7 +71,7 @@ fn is_current(table: &ClosedTable, entry: OpenEntry) -> bool
     !node.expanded && node.rank == entry.rank
 }
 
-/// Takes entries that are out of date from the top, until the first one is not.
+/// Removes stale entries from the top, until the first entry is current or none is left.
 fn drop_stale(table: &ClosedTable, heap: &mut Heap)
     requires { All (λ e. e.index < length table.now.nodes) heap.old.entries }
     ensures { (h : List ℕ → Distance) → AreQueued h table.now.nodes heap.old.entries → IsQueue h table.now.nodes heap.new.entries }
@@ -85,7 +85,7 @@ fn drop_stale(table: &ClosedTable, heap: &mut Heap)
 }
 
 impl<'a, S: Spread + Drop> Reached<'a, S> {
-    /// None of the states. An `Err` is of too little memory.
+    /// An empty table and an empty open list. Fails only if allocation fails.
     pub(crate) fn new(alloc: Global, space: &'a Space<'a, S>) -> Result<Reached<'a, S>, AllocError>
         ensures { IfOk result (λ r. r ≡ record { space = space.now; nodes = [] }) }
     {
@@ -96,14 +96,14 @@ impl<'a, S: Spread + Drop> Reached<'a, S> {
         })
     }
 
-    /// The space.
+    /// The space that is searched.
     pub(crate) fn space(&self) -> &'a Space<'a, S>
         ensures { result.now ≡ self.now.space }
     {
         self.space
     }
 
-    /// Notes that a state was reached. An `Err` is of too little memory, and changes nothing.
+    /// Records that a state was reached. Fails only if allocation fails, and then changes nothing.
     pub(crate) fn reach(
         &mut self,
         state: &[u32],
@@ -123,7 +123,7 @@ impl<'a, S: Spread + Drop> Reached<'a, S> {
         Ok(())
     }
 
-    /// The entry of the open node that is to be expanded next.
+    /// The entry of the open node that is to be expanded next, or `None` if no node is open.
     pub(crate) fn least(&self) -> Option<OpenEntry>
         ensures some { IfSome result (IsLeast (h_of self.now.space) self.now.nodes) }
         ensures none { IfNone result (HasNoneOpen (h_of self.now.space) self.now.nodes) }
@@ -131,7 +131,7 @@ impl<'a, S: Spread + Drop> Reached<'a, S> {
         self.queue.least()
     }
 
-    /// Notes that the node that is to be expanded next is expanded.
+    /// Marks the node that is to be expanded next as expanded.
     pub(crate) fn expand_least(&mut self)
         ensures nodes { (e : EntryOf) (n : Node) → IsLeast (h_of self.old.space) self.old.nodes e → At self.old.nodes e.index n →
             self.new.nodes ≡ slice_set self.old.nodes e.index (marked n) }
@@ -143,14 +143,14 @@ impl<'a, S: Spread + Drop> Reached<'a, S> {
         }
     }
 
-    /// How many states there are.
+    /// The number of states.
     pub(crate) fn len(&self) -> usize
         ensures { result ≡ length self.now.nodes }
     {
         self.table.len()
     }
 
-    /// What is kept of the state at that place.
+    /// The entry of the state at that place, counted from 0.
     pub(crate) fn entry(&self, index: usize) -> Entry
         requires { index < length self.now.nodes }
         ensures { (n : Node) → slice_get self.now.nodes index ≡ Some n → n ≡ node_with n.state result }
@@ -158,7 +158,7 @@ impl<'a, S: Spread + Drop> Reached<'a, S> {
         self.table.entry(index)
     }
 
-    /// Writes the values of the state at that place.
+    /// Writes the values of the state at that place, counted from 0, into `state`.
     pub(crate) fn copy_state(&self, index: usize, state: &mut [u32])
         requires index { index < length self.now.nodes }
         requires len { length state.old ≡ length self.now.space.task.value_names }

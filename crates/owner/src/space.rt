@@ -1,4 +1,4 @@
-//! What is searched.
+//! The space that owners search.
 
 ghost use Rattle.std.specs.Prelude.{◌≡◌, ◌<◌, ◌≤◌, ◌^◌, [], length, IfOk, OnOk, OnErr};
 ghost use Rattle.cost.specs.Distances.{◌+ᵈ◌, Finite};
@@ -17,7 +17,7 @@ use std::alloc::{AllocError, Global};
 use std::marker::Model;
 use successor_generator::SuccessorGenerator;
 
-/// What owners search: a task, the columns of its heuristic, which owner has which state, and how many nodes each owner may
+/// What owners search: a task, the columns of its heuristic, the owner of each state, and how many nodes each owner may
 /// expand, if there is a limit. A contract sees the task, the tables, the spread and the limit.
 #[derive(Drop)]
 pub struct Space<'a, S: Spread + Drop> {
@@ -42,7 +42,7 @@ impl<'a, S: Spread + Drop> Model for Space<'a, S> {
 }
 
 impl<'a, S: Spread + Drop> Space<'a, S> {
-    /// The space of a task. An `Err` is of too little memory.
+    /// The space of a task. Fails only if allocation fails.
     pub fn new(
         alloc: Global,
         task: &'a FdrTask,
@@ -80,14 +80,15 @@ impl<'a, S: Spread + Drop> Space<'a, S> {
         &self.columns
     }
 
-    /// What forms of its states need to know of the task.
+    /// What the forms of its states need of the task.
     pub fn layout(&self) -> &Layout
         ensures { result.now ≡ tasks.ranges self.now.task }
     {
         &self.layout
     }
 
-    /// What a plan through the state, reached at this cost, costs at least by the heuristic: f = g + h. The cost is at most 2^62.
+    /// The f-value of a state that was reached at this cost, which is at most 2^62: the cost plus the state's heuristic
+    /// value, f = g + h.
     pub fn f(&self, state: &[u32], cost: u64) -> Dist
         requires state { IsState (tasks.ranges self.now.task) state.now }
         requires cost { cost ≤ 2 ^ 62 }
@@ -99,7 +100,7 @@ impl<'a, S: Spread + Drop> Space<'a, S> {
         }
     }
 
-    /// The owner of a state, among so many.
+    /// The owner of a state, given the number of owners. Owners are counted from 0.
     pub fn owner_of(&self, state: &[u32], owners: usize) -> usize
         requires owners { 0 < owners }
         requires state { IsState (tasks.ranges self.now.task) state.now }
@@ -109,8 +110,8 @@ impl<'a, S: Spread + Drop> Space<'a, S> {
         self.spread.owner_of(state, owners)
     }
 
-    /// Puts the numbers of the operators that apply in the state, in increasing order, in place of what `found` holds. An `Err` is
-    /// of too little memory, and leaves `found` empty.
+    /// Replaces the content of `found` by the numbers of the operators that apply in the state, in increasing order.
+    /// Fails only if allocation fails, and then leaves `found` empty.
     pub fn applicable(&self, state: &[u32], found: &mut Vec<usize>) -> Result<(), AllocError>
         requires { length state.now ≡ length self.now.task.value_names }
         ensures found { OnOk result (found.new.items ≡ applicable_operators self.now.task state.now) }
@@ -119,8 +120,8 @@ impl<'a, S: Spread + Drop> Space<'a, S> {
         self.generator.applicable(state, found)
     }
 
-    /// The task is one, each state of it has an owner, and the heuristic is at most the cost of any operators that lead to a goal
-    /// state. The body tells what the parts keep.
+    /// What holds of every space, the invariant of its parts stated as a contract: the task is a finite-domain task, and
+    /// the heuristic of a state is at most the cost of any operators that lead from it to a goal state.
     pub fn recall(&self)
         ensures task { IsTask self.now.task }
         ensures lower { IsLowerBound self.now.task (heuristic_of self.now.task self.now.columns) }
@@ -129,7 +130,7 @@ impl<'a, S: Spread + Drop> Space<'a, S> {
         self.columns.recall();
     }
 
-    /// How many nodes each owner may expand, if there is a limit.
+    /// The greatest number of nodes that each owner may expand, if there is a limit.
     pub fn limit(&self) -> Option<u64>
         ensures { result ≡ self.now.limit }
     {

@@ -1,4 +1,4 @@
-//! The successors of a node that is expanded.
+//! The successors of a node.
 
 ghost use Rattle.std.specs.Prelude.{◌≡◌, ◌+◌, ◌<◌, ◌≤◌, ◌||◌, nat_lt, length, true, if◌then◌else◌, ℕ, List, Some, None, filter_map, All, IfOk, OnOk};
 ghost use Rattle.std.specs.List.{list_any};
@@ -17,10 +17,10 @@ use openlist::{OpenEntry, Rank};
 use spread::Spread;
 use std::alloc::{AllocError, Global};
 
-/// The greatest cost of a path, and the greatest number of operators on it, 2^62.
+/// The greatest cost of a path, and the greatest number of operators on it: 2^62.
 const MOST_TOTAL: u64 = 4_611_686_018_427_387_904;
 
-/// Whether one of the operators leads from this rank to one that is too great.
+/// Whether the successor by one of these operators would have a cost or a number of operators above 2^62.
 pub(crate) fn has_large_successor(task: &FdrTask, operators: &[usize], rank: Rank) -> bool
     requires cost { rank.cost ≤ most_total }
     requires steps { rank.steps ≤ most_total }
@@ -31,8 +31,8 @@ pub(crate) fn has_large_successor(task: &FdrTask, operators: &[usize], rank: Ran
     })
 }
 
-/// Treats the successor by one operator of the state that is expanded; the buffer is for use within. Gives whether it was put into
-/// an outbox.
+/// Treats the successor of a state by one operator; `successor` is a buffer. Returns whether the successor was put into
+/// an outbox. Fails only if allocation fails.
 fn treat_successor<S: Spread + Drop>(
     alloc: Global,
     holdings: &mut Holdings<'_, S>,
@@ -69,8 +69,8 @@ fn treat_successor<S: Spread + Drop>(
     holdings.treat(alloc, bound, successor, rank, parent)
 }
 
-/// Treats the successors by these operators, in their order, of the state that is expanded; the buffer is for use within. Gives how
-/// many were put into outboxes. An `Err` is of too little memory.
+/// Treats the successors of a state by these operators, in their order; `successor` is a buffer. Returns the number of
+/// successors that were put into outboxes. Fails only if allocation fails.
 pub(crate) fn treat_successors<S: Spread + Drop>(
     alloc: Global,
     holdings: &mut Holdings<'_, S>,

@@ -1,4 +1,4 @@
-//! What every form needs to know of its task.
+//! What a form needs of its task: the ranges of the variables.
 
 ghost use Rattle.std.specs.Prelude.{◌≡◌, ◌↔◌, length, IsTrue, IfOk};
 ghost use Rattle.fdr.specs.Tasks as tasks;
@@ -8,7 +8,8 @@ use fdr::FdrTask;
 use std::alloc::{AllocError, Global};
 use std::marker::Model;
 
-/// How many values each variable of a task has, which says how much room its values need. A contract sees these numbers.
+/// The range (number of values) of each variable of a task, from which a form computes the room it needs. A contract sees
+/// these numbers.
 #[derive(Drop)]
 pub struct Layout {
     ranges: Vec<usize>,
@@ -23,7 +24,7 @@ impl Model for Layout {
 }
 
 impl Layout {
-    /// The layout of the task's states. An `Err` is of too little memory.
+    /// The layout of the task's states. Fails only if allocation fails.
     pub fn new(alloc: Global, task: &FdrTask) -> Result<Layout, AllocError>
         ensures { IfOk result (λ l. l ≡ tasks.ranges task.now) }
     {
@@ -34,7 +35,7 @@ impl Layout {
         Ok(Layout { ranges })
     }
 
-    /// How many variables there are.
+    /// The number of variables.
     pub fn variable_count(&self) -> usize
         ensures { result ≡ length self.now }
     {

@@ -1,4 +1,4 @@
-//! Forms in which the states of a finite-domain task are kept.
+//! Forms in which the states of a finite-domain task are stored.
 #![tactic(auto)]
 
 mod form;

@@ -7,10 +7,11 @@ use crate::layout::Layout;
 use smallvec::SmallVec;
 use std::alloc::{AllocError, Global};
 
-/// How many values lie in the form itself. A form takes 64 bytes then, a line of most processors' caches.
+/// The number of values that are stored in the form itself. A form then takes 64 bytes, a cache line of most processors.
 const INLINE_VALUES: usize = 12;
 
-/// A state as the list of its values, 4 bytes each: 12 values at most lie in the form itself, and more in an allocation of their own.
+/// A state as the list of its values, 4 bytes each. Up to 12 values are stored in the form itself, more of them in an
+/// allocation of their own.
 #[derive(Drop, Debug, PartialEq, Eq, Hash)]
 pub struct Plain {
     values: SmallVec<u32, INLINE_VALUES>,

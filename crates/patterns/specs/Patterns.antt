@@ -4,13 +4,13 @@ use Rattle.std.specs.List.Sorted.{IsStrictlyIncreasing}
 use Rattle.fdr.specs.Tasks.{FiniteDomainTask, ranges}
 use Rattle.abstraction.specs.Projections.{size_of, AllExist}
 
--- variables of the task, each below the next, with at most so many abstract states
+-- strictly increasing variables of the task, whose projection has at most `limit` abstract states
 pub record IsPattern (task : FiniteDomainTask) (limit : ℕ) (pattern : List ℕ) : Type 0 where
   pub increasing : IsStrictlyIncreasing pattern
   pub exist : AllExist (ranges task) pattern
   pub within : size_of (ranges task) pattern ≤ limit
 
--- at most 64 different patterns, none of them empty
+-- at most 64 distinct patterns, none of them empty
 pub record ArePatterns (task : FiniteDomainTask) (limit : ℕ) (patterns : List (List ℕ)) : Type 0 where
   pub each : All (IsPattern task limit) patterns
   pub some : All (λ p. p ≢ []) patterns

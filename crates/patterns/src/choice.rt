@@ -11,10 +11,10 @@ use crate::growth::grow;
 use fdr::FdrTask;
 use std::alloc::{AllocError, Global};
 
-/// As many patterns as are chosen.
+/// The greatest number of patterns that are chosen.
 pub const MOST_PATTERNS: usize = 64;
 
-/// Which variables the goal names.
+/// For each variable, whether the goal names it.
 fn goal_variables(alloc: Global, task: &FdrTask) -> Result<Vec<bool>, AllocError>
     ensures { IfOk result (λ named. length named.items ≡ length task.now.value_names) }
 {
@@ -25,14 +25,14 @@ fn goal_variables(alloc: Global, task: &FdrTask) -> Result<Vec<bool>, AllocError
     Ok(named)
 }
 
-/// Whether the pattern is there.
+/// Whether the pattern is one of the patterns.
 fn has_pattern(patterns: &[Vec<usize>], pattern: &[usize]) -> bool
     ensures { result ≡ list_any (λ p. pointwise nat_eq p.items pattern.now) patterns.now }
 {
     patterns.iter().any(|other| other.as_slice() == pattern)
 }
 
-/// Puts the pattern at the end, unless it is empty or there already.
+/// Appends the pattern, unless it is empty or one of the patterns.
 fn push_pattern(patterns: &mut Vec<Vec<usize>>, pattern: Vec<usize>) -> Result<(), AllocError>
     ensures { OnOk result ((task : FiniteDomainTask) (limit : ℕ) → ArePatterns task limit (map (λ p. p.items) patterns.old.items) →
         IsPattern task limit pattern.items → length patterns.old.items < 64 →
@@ -44,13 +44,14 @@ fn push_pattern(patterns: &mut Vec<Vec<usize>>, pattern: Vec<usize>) -> Result<(
     Ok(())
 }
 
-/// The patterns whose tables guide the search, each a list of variables in order with at most `limit` abstract states: at
-/// most 64, none of them empty, and no two the same.
+/// Chooses the patterns whose pattern databases guide the search, each a list of variables in increasing order with at
+/// most `limit` abstract states, which must be at least 1. There are at most 64 patterns, none is empty, and no two are
+/// the same. Fails only if allocation fails.
 ///
-/// For each variable of the goal, in order, a pattern begins with it if its range is within the limit, and grows along the
-/// causes of its changes (Helmert 2006, causal graphs): as long as possible the least variable is added that stands in a
-/// precondition of an operator with an effect on the pattern and keeps it within the limit. The contract says nothing of
-/// which are chosen. An `Err` is of too little memory.
+/// For each variable of the goal, in order, whose range is within the limit, a pattern starts with it and grows along
+/// the causal graph (Helmert 2006): the least variable is added that occurs in a precondition of an operator with an
+/// effect on the pattern and keeps the pattern within the limit, until there is none. The contract does not specify
+/// which patterns are chosen.
 pub fn choose_patterns(
     alloc: Global,
     task: &FdrTask,

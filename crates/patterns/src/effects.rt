@@ -1,16 +1,16 @@
-//! Operators by the variables of their effects.
+//! Operators, indexed by the variables of their effects.
 
 use fdr::{FdrTask, Operator};
 use std::alloc::{AllocError, Global};
 
-/// An operator has an effect on a variable; both by their numbers.
+/// An operator has an effect on a variable. Both are given by their numbers.
 #[derive(Clone, Copy, PartialEq, Eq, PartialOrd, Ord)]
 pub(crate) struct Effect {
     pub(crate) variable: usize,
     pub(crate) operator: usize,
 }
 
-/// The effects of an operator.
+/// Appends the effects of an operator.
 fn push_effects(
     effects: &mut Vec<Effect>,
     number: usize,
@@ -25,7 +25,7 @@ fn push_effects(
     Ok(())
 }
 
-/// The effects of all operators, by variable and then by operator.
+/// The effects of all operators, ordered by variable and then by operator.
 pub(crate) fn effects_of(alloc: Global, task: &FdrTask) -> Result<Vec<Effect>, AllocError> {
     let mut effects = Vec::new(alloc);
     for (number, operator) in task.operators().iter().enumerate() {

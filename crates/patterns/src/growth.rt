@@ -8,20 +8,21 @@ use crate::effects::Effect;
 use fdr::{FdrTask, Operator};
 use std::alloc::{AllocError, Global};
 
-/// Where a variable stands while a pattern grows.
+/// The status of a variable while a pattern grows.
 #[derive(Clone, Copy, PartialEq, Eq)]
 enum Standing {
-    /// No condition of an operator with an effect on the pattern is on it, so far.
+    /// No operator with an effect on the pattern has a precondition on it.
     Unnamed,
-    /// Such a condition is on it, and it is not yet decided whether it fits.
+    /// Such an operator has a precondition on it, and it has not been decided whether it fits.
     Named,
-    /// It does not fit, and never will, since a pattern only grows.
+    /// It does not fit. It never will, since a pattern only grows.
     LeftOut,
     /// It is in the pattern.
     Taken,
 }
 
-/// Notes that the operator's conditions name their variables, and lowers `least` to the least that was not yet named.
+/// Marks the variables of the operator's precondition as named, and lowers `least` to the least of them that was
+/// unnamed.
 fn name_conditions(standings: &mut [Standing], operator: &Operator, least: &mut usize) {
     for fact in &operator.precondition {
         if standings.get(fact.variable) == Some(&Standing::Unnamed) {
@@ -31,8 +32,8 @@ fn name_conditions(standings: &mut [Standing], operator: &Operator, least: &mut 
     }
 }
 
-/// Notes the variables of the conditions of all operators with an effect on the variable, and gives the least that was not yet
-/// named, or the variable itself where that is less.
+/// Marks the variables in the preconditions of all operators with an effect on the variable. Returns the least of them
+/// that was unnamed, or the variable itself if that is less.
 fn name_causes(
     task: &FdrTask,
     effects: &[Effect],
@@ -52,7 +53,7 @@ fn name_causes(
     least
 }
 
-/// The place of the first named variable from that one on.
+/// The first named variable from `from` on.
 fn next_named(standings: &[Standing], from: usize) -> Option<usize>
     ensures { IfSome result (λ v. v < length standings.now) }
 {
@@ -64,7 +65,7 @@ fn next_named(standings: &[Standing], from: usize) -> Option<usize>
     None
 }
 
-/// How many abstract states there are with one more variable, if they are within the limit.
+/// The number of abstract states with one more variable, if it is within the limit.
 fn larger_size(task: &FdrTask, variable: usize, size: usize, limit: usize) -> Option<usize>
     requires { variable < length task.now.value_names }
     ensures { IfSome result (λ larger. (larger ≡ slice_index (ranges task.now) variable * size) × (larger ≤ limit)) }
@@ -75,7 +76,8 @@ fn larger_size(task: &FdrTask, variable: usize, size: usize, limit: usize) -> Op
     }
 }
 
-/// The variables that were taken, in order, as far as they have at most `limit` abstract states.
+/// The variables that were taken, in order, as far as they have at most `limit` abstract states. Fails only if allocation
+/// fails.
 #[tactic(auto, using(crate::proofs::Longer::pattern_longer, crate::proofs::Longer::below_longer, crate::proofs::Longer::size_longer))]
 fn taken(
     alloc: Global,
@@ -100,9 +102,9 @@ fn taken(
     Ok(pattern)
 }
 
-/// The pattern that begins with a variable, whose range is within the limit: as long as possible the least variable is
-/// added that stands in a precondition of an operator with an effect on the pattern and keeps the number of abstract states
-/// within the limit.
+/// The pattern that starts with a variable whose range is within the limit. The least variable is added that occurs in
+/// a precondition of an operator with an effect on the pattern and keeps the number of abstract states within the
+/// limit, until there is none.
 pub(crate) fn grow(
     alloc: Global,
     task: &FdrTask,

@@ -1,4 +1,4 @@
-//! The choice of patterns for the tables of a task.
+//! The choice of patterns for the pattern databases of a task.
 #![tactic(auto)]
 
 mod choice;

@@ -5,5 +5,4 @@ pub mod Starts
 pub mod Expansion
 pub mod Totals
 pub mod Falls
-pub mod StairEntrances
 pub mod Zips

@@ -2,5 +2,4 @@ pub mod Orders
 pub mod Queues
 pub mod Saturations
 pub mod Searches
-pub mod Stairs
 pub mod Jobs

@@ -1,20 +1,20 @@
--- Which states a queue has.
+-- The states in a queue.
 use Rattle.std.specs.Prelude.{◌≡◌, ℕ, ◌+◌, ◌<◌, ◌≤◌, ◌⊎◌, length, slice_index}
 use Rattle.pdb.specs.declared.queue.Queue.{Queue}
 
--- how many states there are that may be in the queue
+-- the number of states that may be queued
 abbrev pub size_of : Queue → ℕ
 size_of q = length q.places.items
 
--- the state is in the queue
+-- the state is queued
 abbrev pub IsQueued : Queue → ℕ → Type 0
 IsQueued q s = slice_index q.places.items s < q.len
 
--- it is not
+-- the state is not queued
 abbrev pub IsAbsent : Queue → ℕ → Type 0
 IsAbsent q s = q.len ≤ slice_index q.places.items s
 
--- the queue has the state too
+-- the state has been added, and no other
 pub record HasAdded (old new : Queue) (state : ℕ) : Type 0 where
   pub same_size : size_of new ≡ size_of old
   pub here : IsQueued new state
@@ -22,7 +22,7 @@ pub record HasAdded (old new : Queue) (state : ℕ) : Type 0 where
   pub only : (s : ℕ) → s < size_of old → IsQueued new s → (s ≡ state) ⊎ IsQueued old s
   pub longer : new.len ≤ old.len + 1
 
--- the queue has lost the state, which it had
+-- the state, which was queued, has been removed, and no other has been added
 pub record HasTaken (old new : Queue) (state : ℕ) : Type 0 where
   pub same_size : size_of new ≡ size_of old
   pub inside : state < size_of old

@@ -1,4 +1,4 @@
-//! Many tables.
+//! Several tables at once.
 
 ghost use Rattle.std.specs.Prelude.{◌≡◌, ◌<◌, ◌^◌, length, All, IfOk};
 ghost use Rattle.std.specs.List.{AllZip};
@@ -10,14 +10,17 @@ use certificates::Values;
 use std::alloc::{AllocError, Global};
 use walks::BackwardAbstraction;
 
-/// A table to be made: of which abstraction, and the share of each operator of its task, in order.
+/// A table to compute: its abstraction, and the share of each operator of the task, in the order of their numbers.
 #[derive(Drop)]
 pub struct Job<'a, A> {
+    /// The abstraction of the task.
     pub abstraction: &'a A,
+    /// One share for each operator, each below 2^31.
     pub shares: &'a [u32],
 }
 
-/// The distances of each job, in order, as `distances` gives them. An `Err` is of too little memory.
+/// Returns the distances of each job, in order, as `distances` computes them. Each share must be below 2^31. Fails only
+/// if allocation fails.
 pub fn build_all<A: BackwardAbstraction>(
     alloc: Global,
     jobs: &[Job<'_, A>],

@@ -1,25 +1,26 @@
-//! A queue of states.
+//! The priority queue of abstract states.
 
 ghost use Rattle.std.specs.Prelude.{◌≡◌, ℕ, ◌+◌, ◌^◌, ◌<◌, ◌≤◌, length, slice_index, vec_len, IfOk, MatchOption};
 ghost use Rattle.pdb.specs.Orders.{IsOrder, exchanged, SameBefore};
 
 use std::alloc::{AllocError, Global};
 
-/// A queue of states, numbers below a size: a binary heap (Williams 1964) by values that are given with each call. A state stands
-/// in it at most once, and moves up when its value falls. It takes 8 bytes for each state, in the queue or not.
+/// A priority queue of states, which are the numbers below a size: a binary heap (Williams 1964). The values that order
+/// it are passed with each call. A state occurs at most once, and moves up when its value decreases. The queue takes 8
+/// bytes for each state below the size, queued or not.
 #[derive(Drop)]
 pub(crate) struct Queue {
-    // each state once; those in the queue come first, as a heap
+    /// Each state once. The queued states come first, as a heap.
     order: Vec<u32>,
-    // where in the order each state stands
+    /// The place of each state in `order`.
     places: Vec<u32>,
-    // how many are in the queue
+    /// The number of queued states.
     len: usize,
     ghost is_order: { IsOrder order.items places.items },
     ghost within: { len ≤ length order.items },
 }
 
-/// Exchanges two places of the order.
+/// Exchanges the states at two places of the order.
 fn exchange(order: &mut [u32], places: &mut [u32], first: usize, second: usize)
     requires order { IsOrder order.old places.old }
     requires first { first < length order.old }
@@ -36,7 +37,7 @@ fn exchange(order: &mut [u32], places: &mut [u32], first: usize, second: usize)
     places[b as usize] = first as u32;
 }
 
-/// Moves the state at that place up in the heap, past those with a greater value.
+/// Moves the state at `start` up in the heap, past states with a greater value.
 fn move_up(order: &mut [u32], places: &mut [u32], values: &[u64], start: usize)
     requires order { IsOrder order.old places.old }
     requires values { length values.now ≡ length places.old }
@@ -55,7 +56,7 @@ fn move_up(order: &mut [u32], places: &mut [u32], values: &[u64], start: usize)
     }
 }
 
-/// The one of the two places below a place whose state has the lesser value, if there is one among the first `len`.
+/// The child of a place whose state has the lesser value, if the place has a child among the first `len` places.
 fn lesser_below(order: &[u32], values: &[u64], len: usize, place: usize) -> Option<usize>
     requires small { length order.now ≤ 2 ^ 24 }
     requires states { (k : ℕ) → k < length order.now → slice_index order.now k < length values.now }
@@ -74,7 +75,7 @@ fn lesser_below(order: &[u32], values: &[u64], len: usize, place: usize) -> Opti
     Some(left)
 }
 
-/// Moves the first state down in the heap of the first `len`, past those with a lesser value.
+/// Moves the first state down in the heap of the first `len` places, past states with a lesser value.
 fn move_down(order: &mut [u32], places: &mut [u32], values: &[u64], len: usize)
     requires order { IsOrder order.old places.old }
     requires values { length values.now ≡ length places.old }
@@ -95,7 +96,7 @@ fn move_down(order: &mut [u32], places: &mut [u32], values: &[u64], len: usize)
     }
 }
 
-/// The numbers below the size, in order.
+/// The numbers below the size, in order. Fails only if allocation fails.
 fn numbers_below(alloc: Global, size: usize) -> Result<Vec<u32>, AllocError>
     requires { size ≤ 2 ^ 24 }
     ensures len { IfOk result (λ numbers. length numbers.items ≡ size) }
@@ -111,7 +112,7 @@ fn numbers_below(alloc: Global, size: usize) -> Result<Vec<u32>, AllocError>
 impl Queue {
     ghost use Rattle.pdb.specs.Queues.{size_of, IsQueued, IsAbsent, HasAdded, HasTaken};
 
-    /// A queue for that many states, with none in it. An `Err` is of too little memory.
+    /// Makes an empty queue for the states below the size. Fails only if allocation fails.
     pub(crate) fn new(alloc: Global, size: usize) -> Result<Queue, AllocError>
         requires { size ≤ 2 ^ 24 }
         ensures size { IfOk result (λ queue. size_of queue ≡ size) }
@@ -126,7 +127,7 @@ impl Queue {
         })
     }
 
-    /// Moves a state of the queue up since its value has fallen.
+    /// Moves a queued state up after its value has decreased.
     fn raise(&mut self, values: &[u64], state: usize)
         requires values { length values.now ≡ size_of self.old }
         requires state { state < size_of self.old }
@@ -139,7 +140,7 @@ impl Queue {
         move_up(&mut self.order, &mut self.places, values, place);
     }
 
-    /// Puts a state into the queue, where it is not, behind the others.
+    /// Appends a state that is not queued.
     fn append(&mut self, state: usize)
         requires state { state < size_of self.old }
         requires absent { IsAbsent self.old state }
@@ -150,7 +151,7 @@ impl Queue {
         self.len += 1;
     }
 
-    /// Puts the state into the queue, or moves it up there since its value has fallen.
+    /// Adds the state to the queue, or moves it up if it is queued and its value has decreased.
     pub(crate) fn add(&mut self, values: &[u64], state: usize)
         requires values { length values.now ≡ size_of self.old }
         requires state { state < size_of self.old }
@@ -163,7 +164,8 @@ impl Queue {
         self.raise(values, state);
     }
 
-    /// Takes a state out, one of least value as long as each state was moved up whose value fell.
+    /// Removes a state and returns it, or returns `None` if the queue is empty. The state has the least value, provided
+    /// that each state whose value decreased was moved up; this is not proved.
     pub(crate) fn take(&mut self, values: &[u64]) -> Option<usize>
         requires { length values.now ≡ size_of self.old }
         ensures { MatchOption result ((self.new ≡ self.old) × (self.old.len ≡ 0)) (λ state. HasTaken self.old self.new state) }

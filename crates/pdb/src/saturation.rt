@@ -1,4 +1,4 @@
-//! The least shares that keep a table of distances.
+//! The saturated cost function of a table of distances.
 
 ghost use Rattle.std.specs.Prelude.{◌≡◌, ℕ, ◌+◌, ◌^◌, ◌<◌, ◌≤◌, ◌⊎◌, length, slice_index, IfOk, OnOk};
 ghost use Rattle.cost.specs.Distances.{Finite};
@@ -11,7 +11,7 @@ use certificates::Values;
 use std::alloc::{AllocError, Global};
 use walks::BackwardAbstraction;
 
-/// How far this value is below that of a state, and 0 where it is not or that is infinite.
+/// The amount by which `value` is below the value of a state, and 0 if it is not below or that value is infinite.
 fn fall_from(values: &Values, state: usize, value: u64) -> u32
     requires state { state < length values.now }
     requires small { fall (value_in values.now state) (Finite value) < 2 ^ 32 }
@@ -23,7 +23,7 @@ fn fall_from(values: &Values, state: usize, value: u64) -> u32
     }
 }
 
-/// The greatest of this fall and those of the values from some states to a state with a finite value.
+/// The greatest of `least` and of the falls from the values of the states to `value`.
 fn greatest_fall(values: &Values, states: &[u32], value: u64, least: u32) -> u32
     requires states { (k : ℕ) → k < length states.now → slice_index states.now k < length values.now }
     requires falls { (k : ℕ) → k < length states.now →
@@ -41,8 +41,8 @@ fn greatest_fall(values: &Values, states: &[u32], value: u64, least: u32) -> u32
     greatest
 }
 
-/// Raises the shares to the falls of the values to one state. The lists are for the operators that lead to it and the states
-/// that they lead from. An `Err` is of too little memory.
+/// Raises the shares to the falls of the values over the transitions into one state. The lists are buffers for the
+/// operators that lead into it and for the states that they lead from. Fails only if allocation fails.
 fn cover<A: BackwardAbstraction>(
     abstraction: &A,
     values: &Values,
@@ -75,9 +75,10 @@ fn cover<A: BackwardAbstraction>(
     Ok(())
 }
 
-/// For each operator of the task, in order, the least share that keeps the distances: the greatest fall of the values over its
-/// transitions, from a finite value to a lesser one, and 0 where there is none. The values are the distances under the given
-/// shares, one for each operator. An `Err` is of too little memory.
+/// Returns the saturated cost function of a table: for each operator of the task, in order, the least share that
+/// preserves the distances (Seipp, Keller and Helmert 2020). It is the greatest fall of the values over the operator's
+/// transitions, from a finite value to a lesser one, and 0 if there is none. `values` must be the distances under
+/// `shares`, which has one share for each operator. Fails only if allocation fails.
 pub fn saturate<A: BackwardAbstraction>(
     alloc: Global,
     abstraction: &A,

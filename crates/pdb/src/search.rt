@@ -14,10 +14,10 @@ use cost::Dist;
 use std::alloc::{AllocError, Global};
 use walks::BackwardAbstraction;
 
-/// The value of an abstract state from which no walk to an abstract goal is found.
+/// The value of an abstract state from which no walk to an abstract goal has been found.
 const UNREACHED: u64 = 18_446_744_073_709_551_615;
 
-/// Gives the abstract goals the value 0 and puts them into the queue, where no state has a value yet and none is in the queue.
+/// Sets the values of the abstract goals to 0 and queues them. Before, no state has a value and the queue is empty.
 fn add_goals<A: BackwardAbstraction>(abstraction: &A, values: &mut [u64], queue: &mut Queue)
     requires size { length values.old ≡ (A.abstraction abstraction.now).size }
     requires queue_size { size_of queue.old ≡ (A.abstraction abstraction.now).size }
@@ -33,7 +33,7 @@ fn add_goals<A: BackwardAbstraction>(abstraction: &A, values: &mut [u64], queue:
     }
 }
 
-/// Lowers the value of a state to this one where that is less, and then puts the state into the queue.
+/// Lowers the value of a state to `value`, if that is less, and then queues the state.
 fn lower(values: &mut [u64], queue: &mut Queue, state: usize, value: u64)
     requires state { state < length values.old }
     requires size { size_of queue.old ≡ length values.old }
@@ -45,8 +45,8 @@ fn lower(values: &mut [u64], queue: &mut Queue, state: usize, value: u64)
     }
 }
 
-/// Lowers the values of the states from which the operator leads to this one to what that shows. The list is for those states.
-/// An `Err` is of too little memory.
+/// Relaxes the transitions of an operator into a state: lowers the values of the states that they come from. `sources`
+/// is a buffer for these states. Fails only if allocation fails.
 fn relax<A: BackwardAbstraction>(
     abstraction: &A,
     shares: &[u32],
@@ -74,8 +74,8 @@ fn relax<A: BackwardAbstraction>(
     Ok(())
 }
 
-/// Lowers the values of all states from which some operator leads to this one. The lists are for the operators and those states.
-/// An `Err` is of too little memory.
+/// Relaxes all transitions into a state. The lists are buffers for the operators and for the states that they lead
+/// from. Fails only if allocation fails.
 fn expand<A: BackwardAbstraction>(
     abstraction: &A,
     shares: &[u32],
@@ -107,8 +107,8 @@ fn expand<A: BackwardAbstraction>(
     Ok(())
 }
 
-/// Takes one state after another out of the queue and lowers the values behind it, until none is left. An `Err` is of too little
-/// memory.
+/// Removes states from the queue and relaxes the transitions into them until the queue is empty. Fails only if
+/// allocation fails.
 fn settle<A: BackwardAbstraction>(
     alloc: Global,
     abstraction: &A,
@@ -139,7 +139,7 @@ fn settle<A: BackwardAbstraction>(
     Ok(())
 }
 
-/// The values as distances. An `Err` is of too little memory.
+/// The values as distances. Fails only if allocation fails.
 fn as_distances(alloc: Global, values: &[u64]) -> Result<Values, AllocError>
     ensures { IfOk result (λ distances. distances ≡ map kept_distance values.now) }
 {
@@ -150,13 +150,12 @@ fn as_distances(alloc: Global, values: &[u64]) -> Result<Values, AllocError>
     Ok(distances)
 }
 
-/// The distances from the abstract states, in order, to the abstract goals, where a step by an operator is as long as its share:
-/// for each state the least total of shares over the walks from it to an abstract goal, and infinite where there is none. There
-/// is a share below 2^31 for each operator of the task, in order. Finite distances are at most 2^55. An `Err` is of too little
-/// memory.
+/// Returns the distance of each abstract state, in order: the least total of shares over the walks from it to an
+/// abstract goal, and infinite if there is no walk. `shares` has a share below 2^31 for each operator of the task, in
+/// order. Finite distances are at most 2^55. Fails only if allocation fails.
 ///
-/// A search backwards from the goals (Dijkstra 1959; for tables of abstractions Culberson and Schaeffer 1998), which takes two
-/// words for each abstract state.
+/// This is a search backwards from the goals (Dijkstra 1959; for pattern databases Culberson and Schaeffer 1998). It
+/// takes 16 bytes for each abstract state, besides the result and the buffers of one expansion.
 pub fn distances<A: BackwardAbstraction>(
     alloc: Global,
     abstraction: &A,

@@ -1,4 +1,4 @@
--- The task that is put together from what was read.
+-- The task of a domain and a problem that were read.
 use Rattle.planning.specs.Planning.{PlanningTask}
 use Rattle.pddl_problem.specs.Initial.{values_of}
 use Rattle.pddl.specs.declared.domain.Domain.{Domain}

@@ -1,4 +1,4 @@
--- Passes over the texts of a task, of which the first with a fault decides.
+-- Passes over the texts of a task. The first one with a fault decides.
 use Rattle.std.specs.Prelude.{◌≡◌, List, [], ◌∷◌, Option, Some, None}
 use Rattle.pddl_syntax.specs.declared.fault.Fault.{Fault}
 use Rattle.pddl_syntax.specs.declared.fault.PlanningFile.{PlanningFile}
@@ -25,7 +25,7 @@ unfoldable pub first_pass : List Pass → Option FileFault
 first_pass [] = None
 first_pass (p ∷ ps) = in_file p.file (first_of None p.faults) (first_pass ps)
 
--- a refusal for memory, or for the first fault of a pass over a text
+-- that allocation failed, or the first fault of a pass over a text
 abbrev pub FailsBy : PddlFault → PlanningFile → Option Fault → Type 0
 FailsBy OutOfMemory file first = Unit {0}
 FailsBy (Tree other e) file first = ⊥
@@ -34,7 +34,7 @@ FailsBy (Section other f) file first = (other ≡ file) × (first ≡ Some f)
 abbrev pub Fails : PddlFault → Pass → Type 0
 Fails e p = FailsBy e p.file (first_of None p.faults)
 
--- a refusal of passes: for memory, or for the fault that goes first
+-- that allocation failed, or the first fault of the first pass that has one
 abbrev pub AllFail : PddlFault → List Pass → Type 0
 AllFail OutOfMemory ps = Unit {0}
 AllFail (Tree file e) ps = ⊥

@@ -1,4 +1,4 @@
--- The sums of what the actions cost at most.
+-- Upper bounds on the costs of actions.
 use Rattle.std.specs.Prelude.{◌≡◌, ℕ, ◌==◌, ◌&&◌, nat_lt, if◌then◌else◌, List, [], ◌∷◌, sum_by, unwrap_or}
 use Rattle.std.specs.Map.{lookup}
 use Rattle.planning.specs.declared.schema.Increase.{Increase}
@@ -8,40 +8,41 @@ use Rattle.pddl_syntax.specs.declared.fault.Fault.{Fault}
 use Rattle.pddl_syntax.specs.declared.fault.FaultKind.TheVariants.{CostRange}
 use Rattle.pddl_syntax.specs.Faults.{fault, faults_if}
 
--- the value, if it is one of this function and greater than others
+-- the value, if it is one of this function and is greater than the known one, otherwise that one
 abbrev pub greater_of : ℕ → FunctionValue → ℕ → ℕ
 greater_of number v known = if v.function.predicate == number && nat_lt known v.value then v.value else known
 
--- the greatest value of a function, where this is the greatest of others
+-- the greatest of the known value and the values of this function
 abbrev pub greatest_value : ℕ → List FunctionValue → ℕ → ℕ
 greatest_value number [] known = known
 greatest_value number (v ∷ vs) known = greatest_value number vs (greater_of number v known)
 
--- the value that is known of a function, and 0 where none is
+-- the value that is known of a function, or 0 if none is
 abbrev pub known_value : List (ℕ × ℕ) → ℕ → ℕ
 known_value known number = unwrap_or (lookup (λ n. number == n) known) 0
 
--- of each function the greatest of these values is known
+-- for each function the greatest of its values is known
 abbrev pub AreGreatest : List (ℕ × ℕ) → List FunctionValue → Type 0
 AreGreatest known values = (number : ℕ) → known_value known number ≡ greatest_value number values 0
 
--- what an increase adds at most
+-- the greatest amount of an increase
 abbrev pub most_of : List FunctionValue → Increase → ℕ
 most_of values (Amount n) = n
 most_of values (Value f) = greatest_value f.predicate values 0
 
--- the same by what is known of the functions
+-- the same by the values that are known of the functions
 abbrev pub most_known : List (ℕ × ℕ) → Increase → ℕ
 most_known known (Amount n) = n
 most_known known (Value f) = known_value known f.predicate
 
--- schemas at the places of their names, of which some may cost too much, by what an increase adds at most
+-- the faults of schemas, at the places of their names, whose increases may sum up to too much, by the greatest amount
+-- of each
 abbrev pub sum_faults : (Increase → ℕ) → List Schema → List ℕ → List Fault
 sum_faults most [] places = []
 sum_faults most (s ∷ schemas) [] = []
 sum_faults most (s ∷ schemas) (at ∷ places) =
     faults_if (nat_lt 2147483647 (sum_by most s.increases)) (fault CostRange at) (sum_faults most schemas places)
 
--- the same where these values are stated
+-- the same by these initial values
 unfoldable pub stated_sum_faults : List FunctionValue → List Schema → List ℕ → List Fault
 stated_sum_faults values schemas places = sum_faults (most_of values) schemas places

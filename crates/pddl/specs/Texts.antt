@@ -1,4 +1,4 @@
--- Which two texts spell which planning task, and which fault goes first where they spell none.
+-- Which two texts spell which planning task, and the first fault of texts that spell none.
 use Rattle.std.specs.Prelude.{◌≡◌, ℕ, ◌⊎◌, Bool, true, false, if◌then◌else◌, is_some, List, [], ◌∷◌, ◌++◌, map, Option, Some, None, codes}
 use Rattle.sexp.specs.Forms.{Forms, IsOne, none}
 use Rattle.sexp.specs.Grammar.{SpellsAll}
@@ -25,7 +25,7 @@ use Rattle.pddl.specs.declared.fault.PddlFault.TheVariants.{OutOfMemory, Tree, S
 use Rattle.pddl.specs.Passes.{Pass, FileFault, first_pass}
 use Rattle.pddl.specs.Sums.{stated_sum_faults}
 
--- what stands in a section, and nothing where it is missing
+-- the content of a section, which is empty if the section is missing
 abbrev pub inside : Option Part → Forms
 inside None = none
 inside (Some s) = s.inside
@@ -34,7 +34,7 @@ abbrev pub place : Option Part → ℕ
 place None = 0
 place (Some s) = s.at
 
--- the first section of a name
+-- the first section with this name
 abbrev pub part : Forms → List ℕ → Option Part
 part root name = section name (sections root)
 
@@ -44,7 +44,7 @@ place_in root name = place (part root name)
 abbrev pub inside_of : Forms → List ℕ → Forms
 inside_of root name = inside (part root name)
 
--- ---- what the texts declare, by the trees of the domain and of the problem
+-- ---- the declarations, from the trees of the domain and of the problem
 
 abbrev pub types_of : Forms → List (List ℕ)
 types_of d = type_names (declared false (inside_of d (codes ":types")))
@@ -55,7 +55,7 @@ supertypes_of d = supertypes (declared false (inside_of d (codes ":types")))
 abbrev pub constants_of : Forms → Objects
 constants_of d = objects_with (types_of d) no_objects (declared false (inside_of d (codes ":constants")))
 
--- what a section declares
+-- the declarations of a section
 abbrev pub declared_in : Forms → List ℕ → List Declared
 declared_in root name = declared false (inside_of root name)
 
@@ -65,7 +65,7 @@ predicates_of d = predicate_heads no_heads (inside_of d (codes ":predicates"))
 abbrev pub functions_of : Forms → Heads
 functions_of d = function_heads no_heads (inside_of d (codes ":functions"))
 
--- what the domain declares for its actions
+-- the declarations of a domain that its actions use
 abbrev pub declarations_of : Forms → Declarations
 declarations_of d = record {
   types = types_of d;
@@ -75,19 +75,19 @@ declarations_of d = record {
   objects = (constants_of d).names;
 }
 
--- what a problem with these objects may name
+-- the declarations that are visible in a problem with these objects
 abbrev pub scope_over : Declarations → Objects → Scope
 scope_over declarations objects =
     record { predicates = declarations.predicates; functions = declarations.functions; variables = []; objects = objects.names }
 
--- the constants, and behind them the problem's objects
+-- the constants, followed by the problem's objects
 abbrev pub objects_of : Declarations → Objects → Forms → Objects
 objects_of declarations constants p = objects_with declarations.types constants (declared_in p (codes ":objects"))
 
 abbrev pub actions_of : Forms → List Part
 actions_of d = all_sections (codes ":action") (sections d)
 
--- what the problem wants
+-- the goal's literals
 unfoldable pub goal_of : Scope → Forms → List Literal
 goal_of scope p = map (λ l. l.literal) (goal_literals scope (inside_of p (codes ":goal")))
 
@@ -99,7 +99,7 @@ has_metric p = is_some (part p (codes ":metric"))
 abbrev pub pass : PlanningFile → List Fault → Pass
 pass file faults = record { file = file; faults = faults }
 
--- the passes over what the domain declares
+-- the passes over the domain's declarations
 abbrev pub declaring_passes : Forms → List Pass
 declaring_passes d =
     pass Domain (head_faults Domain d)
@@ -120,7 +120,7 @@ abbrev pub stated_metric_faults : Option Part → List Fault
 stated_metric_faults None = []
 stated_metric_faults (Some s) = metric_faults s.at s.inside
 
--- the passes over what the problem states, where this is declared and there are these constants
+-- the passes over the problem: that over its heads, and below all of them, given the declarations and the constants
 abbrev pub problem_heads_pass : Forms → Pass
 problem_heads_pass p = pass Problem (head_faults Problem p)
 
@@ -150,7 +150,7 @@ stating_passes declarations constants p =
 
 -- ---- the task
 
--- of these declarations, constants and schemas with their names, by the problem's tree
+-- the task with these declarations, constants, schemas and their names, and with the problem's tree
 abbrev pub task_with : Declarations → Objects → List Schema → List (List ℕ) → Forms → PlanningTask
 task_with declarations constants schemas names p =
     let objects = objects_of declarations constants p in
@@ -178,11 +178,12 @@ places_of d = map place_of (actions_of d)
 abbrev pub task_of : Forms → Forms → PlanningTask
 task_of d p = task_with (declarations_of d) (constants_of d) (schemas_of d) (schema_names_of d) p
 
--- with the metric no action may cost too much: schemas with their places, and the values
+-- under the metric, the faults of schemas whose actions may cost too much, from the schemas with their places and the
+-- values
 abbrev pub sums_pass : Bool → List FunctionValue → List Schema → List ℕ → Pass
 sums_pass metric values schemas places = pass Domain (if metric then stated_sum_faults values schemas places else [])
 
--- the passes behind the problem's tree
+-- the passes after the problem's tree was read
 abbrev pub passes_with : Declarations → Objects → List Schema → List ℕ → Forms → List Pass
 passes_with declarations constants schemas places p =
     stating_passes declarations constants p
@@ -208,13 +209,13 @@ pub record SpellTask (domain problem : List ℕ) (t : PlanningTask) : Type 0 whe
   pub problem_sections : first_pass (problem_passes d p) ≡ None
   pub task_is : t ≡ task_of d p
 
--- the first fault of the domain's passes, or of the passes over both texts where the domain has none
+-- the first fault of the domain's passes or, if these have none, of the passes after the problem's tree was read
 abbrev pub IsPassFault : List ℕ → List ℕ → FileFault → Type 0
 IsPassFault domain problem e =
     ((d : Forms) × IsTree domain d × (first_pass (domain_passes d) ≡ Some e))
     ⊎ ((d : Forms) × (p : Forms) × IsTree domain d × IsTree problem p × (first_pass (domain_passes d) ≡ None) × (first_pass (problem_passes d p) ≡ Some e))
 
--- a refusal of a text for memory, or for the first fault of its tree
+-- that allocation failed, or the first fault of the text's tree
 abbrev pub IsTreeFault : PlanningFile → List ℕ → PddlFault → Type 0
 IsTreeFault file bytes OutOfMemory = Unit {0}
 IsTreeFault file bytes (Tree other e) = (other ≡ file) × IsFirstFault true bytes e
@@ -224,7 +225,8 @@ IsTreeFault file bytes (Section other f) = ⊥
 abbrev pub IsDomainText : List ℕ → Type 0
 IsDomainText domain = (d : Forms) × IsTree domain d × (first_pass (domain_passes d) ≡ None)
 
--- The fault that goes first: of the domain's tree, of the domain's passes, of the problem's tree, or of the passes over both.
+-- That allocation failed, or the first fault: of the domain's tree, of the domain's passes, of the problem's tree, or
+-- of the passes after it was read.
 abbrev pub IsTaskRefusal : List ℕ → List ℕ → PddlFault → Type 0
 IsTaskRefusal domain problem OutOfMemory = Unit {0}
 IsTaskRefusal domain problem (Tree Domain e) = IsFirstFault true domain e

@@ -1,4 +1,4 @@
-//! A domain: what it declares, and its actions.
+//! A domain: its declarations and its actions.
 
 ghost use Rattle.std.specs.Prelude.{◌≡◌, [], None, map, codes, true, IfErr, OnOk};
 ghost use Rattle.sexp.specs.Forms.{alone};
@@ -26,17 +26,17 @@ use pddl_syntax::{
 use sexp::Tree;
 use std::alloc::{AllocError, Global};
 
-/// What a domain says.
+/// The content of a domain.
 #[derive(Drop)]
 pub struct Domain {
     pub declarations: Declarations,
-    /// The constants, to which a problem adds its objects.
+    /// The constants, to which the objects of a problem are added.
     pub objects: Objects,
     pub actions: Actions,
 }
 
 impl Domain {
-    /// A domain that says nothing yet.
+    /// A domain without content, before its text is read.
     pub fn new(alloc: Global) -> Domain
         ensures { result.objects ≡ no_objects }
     {
@@ -210,7 +210,8 @@ fn declared_pass(alloc: Global, root: &Tree, domain: &mut Domain) -> Result<(), 
     Ok(())
 }
 
-/// Reads a domain from its tree. An `Err` is the first fault of the first pass with one, or of too little memory.
+/// Reads a domain from its tree. `domain` must be without content. Fails with the first fault of the first pass that
+/// has one, or if allocation fails, and then `domain` can only be dropped.
 pub fn read_domain(alloc: Global, root: &Tree, domain: &mut Domain) -> Result<(), PddlFault>
     requires { domain.old.objects ≡ no_objects }
     ensures declarations { OnOk result (domain.new.declarations ≡ spec.declarations_of (alone root.now)) }

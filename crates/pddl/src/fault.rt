@@ -1,4 +1,4 @@
-//! Why two texts are no task.
+//! Why two texts are no planning task.
 
 ghost use Rattle.std.specs.Prelude.{◌≡◌};
 ghost use Rattle.pddl.specs.declared.fault.PddlFault.TheVariants.{OutOfMemory};
@@ -7,14 +7,14 @@ use pddl_syntax::{Fault, PlanningFile};
 use sexp::SexpFault;
 use std::alloc::AllocError;
 
-/// Why two texts are no planning task: the fault that goes first.
+/// Why two texts are no planning task: their first fault.
 #[derive(Clone, Copy, Debug, PartialEq, Eq)]
 pub enum PddlFault {
-    /// Memory was refused.
+    /// Allocation failed. This says nothing about the texts.
     OutOfMemory,
-    /// A text is no tree (F1 to F7).
+    /// A fault of a text's tree (F1 to F7).
     Tree(PlanningFile, SexpFault),
-    /// What stands in a text is at fault (F10 to F19).
+    /// A fault of a text's content (F10 to F19).
     Section(PlanningFile, Fault),
 }
 

@@ -12,7 +12,7 @@ use pddl_syntax::{Fault, PlanningFile, Section, find_section, read_heads, sectio
 use sexp::Tree;
 use std::alloc::Global;
 
-/// The first section of a name in a text, and an empty one at 0 where there is none.
+/// The first section with this name in a text, or an empty one at 0 if there is none.
 pub fn part_of<'a>(root: &'a Tree, name: &str) -> Section<'a>
     ensures place { result.at ≡ place_in (alone root.now) name.now }
     ensures inside { views result.items.now ≡ inside_of (alone root.now) name.now }
@@ -24,7 +24,7 @@ pub fn part_of<'a>(root: &'a Tree, name: &str) -> Section<'a>
     }
 }
 
-/// Ends a pass over a text, of which this is the first fault.
+/// Ends a pass over a text. Fails with the first fault that the pass found.
 pub fn judge(file: PlanningFile, first: Option<Fault>) -> Result<(), PddlFault>
     ensures clean { OnOk result (first ≡ None) }
     ensures fault { IfErr result (λ e. FailsBy e file first) }
@@ -35,7 +35,7 @@ pub fn judge(file: PlanningFile, first: Option<Fault>) -> Result<(), PddlFault>
     }
 }
 
-/// Reads the heads of the sections of a text.
+/// Checks the heads of the sections of a text. Fails with the first fault of these, or if allocation fails.
 pub fn heads_pass(alloc: Global, file: PlanningFile, root: &Tree) -> Result<(), PddlFault>
     ensures clean { OnOk result (first_of None (head_faults file (alone root.now)) ≡ None) }
     ensures fault { IfErr result (λ e. Fails e (pass file (head_faults file (alone root.now)))) }

@@ -1,4 +1,4 @@
-//! A problem: its objects, what is true at first, what is wanted, and whether actions cost what they say.
+//! A problem: its objects, its initial state, its goal and its metric.
 
 ghost use Rattle.std.specs.Prelude.{◌≡◌, [], length, None, codes, IfErr, OnOk};
 ghost use Rattle.sexp.specs.Forms.{alone};
@@ -27,7 +27,7 @@ use planning::{GroundAtom, GroundLiteral};
 use sexp::Tree;
 use std::alloc::{AllocError, Global};
 
-/// What a problem says, apart from its objects.
+/// The content of a problem, without its objects.
 #[derive(Drop)]
 pub struct Problem {
     pub initial: Vec<GroundAtom>,
@@ -37,7 +37,7 @@ pub struct Problem {
 }
 
 impl Problem {
-    /// A problem that says nothing yet.
+    /// A problem without content, before its text is read.
     pub fn new(alloc: Global) -> Problem {
         Problem {
             initial: Vec::new(alloc),
@@ -114,7 +114,7 @@ fn goal_pass(
     judge(PlanningFile::Problem, first)
 }
 
-/// Notes the faults of the metric, and tells whether there is one.
+/// Records the faults of the metric, and returns whether there is one.
 #[tactic(auto, unfolding(pddl_syntax::specs::Faults::first_of))]
 fn read_metric(root: &Tree, first: &mut Option<Fault>) -> bool
     ensures metric { result ≡ spec.has_metric (alone root.now) }
@@ -139,8 +139,9 @@ fn metric_pass(root: &Tree, metric: &mut bool) -> Result<(), PddlFault>
     judge(PlanningFile::Problem, first)
 }
 
-/// Reads a problem from its tree, and adds its objects to the constants. No action is around, so there are no variables.
-/// An `Err` is the first fault of the first pass with one, or of too little memory.
+/// Reads a problem from its tree, and adds its objects to the constants. `variables` must be empty, since a problem has
+/// no parameters. Fails with the first fault of the first pass that has one, or if allocation fails, and then `objects`
+/// and `problem` can only be dropped.
 pub fn read_problem(
     alloc: Global,
     root: &Tree,
@@ -172,7 +173,7 @@ pub fn read_problem(
     Ok(())
 }
 
-/// Notes the schemas whose actions may cost too much, under the metric.
+/// Records the schemas whose actions may cost too much, if there is a metric.
 #[tactic(auto, unfolding(pddl_syntax::specs::Faults::first_of))]
 fn read_sums(
     alloc: Global,
@@ -195,7 +196,8 @@ fn read_sums(
     Ok(())
 }
 
-/// Ends with the schemas whose actions may cost too much, under the metric.
+/// The pass over the costs of actions. Fails with the first schema whose actions may cost too much, if there is a
+/// metric, or if allocation fails.
 fn sums_pass(alloc: Global, problem: &Problem, actions: &Actions) -> Result<(), PddlFault>
     requires { length actions.now.schemas.items ≡ length actions.now.places.items }
     ensures clean { OnOk result (first_of None (spec.sums_pass problem.now.metric (values_of problem.now.values.entries) actions.now.schemas.items actions.now.places.items).faults ≡ None) }
@@ -206,7 +208,9 @@ fn sums_pass(alloc: Global, problem: &Problem, actions: &Actions) -> Result<(), 
     judge(PlanningFile::Domain, first)
 }
 
-/// Adds a problem to a domain, and judges what actions may cost.
+/// Reads a problem, adds its objects to the domain, and checks the costs of actions. `variables` must be empty. Fails
+/// with the first fault of the first pass that has one, or if allocation fails, and then `domain` and `problem` can
+/// only be dropped.
 pub fn with_problem(
     alloc: Global,
     root: &Tree,

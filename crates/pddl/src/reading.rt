@@ -19,7 +19,7 @@ use planning::{Task, Vocabulary};
 use sexp::{SexpFault, Tree};
 use std::alloc::Global;
 
-/// Reads the tree of a text. An `Err` is its first fault, or of too little memory.
+/// Reads the tree of a text. Fails with the first fault, or if allocation fails.
 fn tree_of(alloc: Global, file: PlanningFile, bytes: &[u8]) -> Result<Tree, PddlFault>
     ensures found { IfOk result (λ t. IsTree bytes.now (alone t)) }
     ensures fault { IfErr result (λ e. IsTreeFault file bytes.now e) }
@@ -31,96 +31,129 @@ fn tree_of(alloc: Global, file: PlanningFile, bytes: &[u8]) -> Result<Tree, Pddl
     }
 }
 
-/// Reads both texts. An `Err` is the fault that goes first, or of too little memory.
-fn read_texts(
-    alloc: Global,
-    domain_text: &[u8],
-    problem_text: &[u8],
-    variables: &Names,
-    domain: &mut Domain,
-    problem: &mut Problem,
-) -> Result<(), PddlFault>
-    requires no_objects { domain.old.objects ≡ no_objects }
-    requires no_variables { variables.now ≡ [] }
-    ensures found { OnOk result (SpellTask domain_text.now problem_text.now (task_in domain.new problem.new)) }
-    ensures places { OnOk result (length domain.new.actions.schemas.items ≡ length domain.new.actions.places.items) }
-    ensures sums { OnOk result (first_of None (sums_pass problem.new.metric (values_of problem.new.values.entries) domain.new.actions.schemas.items domain.new.actions.places.items).faults ≡ None) }
-    ensures fault { IfErr result (λ e. IsTaskRefusal domain_text.now problem_text.now e) }
-{
-    let domain_tree = tree_of(alloc, PlanningFile::Domain, domain_text)?;
-    read_domain(alloc, &domain_tree, domain)?;
-    let problem_tree = tree_of(alloc, PlanningFile::Problem, problem_text)?;
-    with_problem(alloc, &problem_tree, variables, domain, problem)
-}
-
-/// What was read of the two texts.
+/// The content of the two texts.
 #[derive(Drop)]
 struct TaskParts {
     domain: Domain,
     problem: Problem,
 }
 
-/// The task that was read.
-fn assembled(domain: Domain, problem: Problem) -> Task
-    ensures { result ≡ task_in domain problem }
-{
-    let declarations = domain.declarations;
-    let actions = domain.actions;
-    let types = declarations.types;
-    let (predicates, arities) = declarations.predicates.into_parts();
-    let (functions, _) = declarations.functions.into_parts();
-    let (objects, object_types) = domain.objects.into_parts();
-    Task {
-        supertypes: types.supertypes,
-        object_types,
-        arities,
-        schemas: actions.schemas,
-        initial: problem.initial,
-        goal: problem.goal,
-        values: problem.values,
-        metric: problem.metric,
-        vocabulary: Vocabulary {
-            objects,
-            predicates,
-            functions,
-            schemas: actions.names,
-        },
+impl TaskParts {
+    /// The parts of a task before any text is read.
+    fn new(alloc: Global) -> TaskParts
+        ensures { result.domain.objects ≡ no_objects }
+    {
+        TaskParts {
+            domain: Domain::new(alloc),
+            problem: Problem::new(alloc),
+        }
+    }
+
+    /// The task of these parts.
+    fn assembled(self) -> Task
+        ensures { result ≡ task_in self.domain self.problem }
+    {
+        let domain = self.domain;
+        let problem = self.problem;
+        let declarations = domain.declarations;
+        let actions = domain.actions;
+        let types = declarations.types;
+        let (predicates, arities) = declarations.predicates.into_parts();
+        let (functions, _) = declarations.functions.into_parts();
+        let (objects, object_types) = domain.objects.into_parts();
+        Task {
+            supertypes: types.supertypes,
+            object_types,
+            arities,
+            schemas: actions.schemas,
+            initial: problem.initial,
+            goal: problem.goal,
+            values: problem.values,
+            metric: problem.metric,
+            vocabulary: Vocabulary {
+                objects,
+                predicates,
+                functions,
+                schemas: actions.names,
+            },
+        }
     }
 }
 
-/// Reads a planning task from the texts of its domain and its problem, in bytes.
+/// Reads both texts into `parts`, which must be without content. Fails with the first fault, or if allocation fails.
+fn read_into(
+    alloc: Global,
+    domain: &[u8],
+    problem: &[u8],
+    variables: &Names,
+    parts: &mut TaskParts,
+) -> Result<(), PddlFault>
+    requires no_objects { parts.old.domain.objects ≡ no_objects }
+    requires no_variables { variables.now ≡ [] }
+    ensures found { OnOk result (SpellTask domain.now problem.now (task_in parts.new.domain parts.new.problem)) }
+    ensures places { OnOk result (length parts.new.domain.actions.schemas.items ≡ length parts.new.domain.actions.places.items) }
+    ensures sums { OnOk result (first_of None (sums_pass parts.new.problem.metric (values_of parts.new.problem.values.entries) parts.new.domain.actions.schemas.items parts.new.domain.actions.places.items).faults ≡ None) }
+    ensures fault { IfErr result (λ e. IsTaskRefusal domain.now problem.now e) }
+{
+    let domain_tree = tree_of(alloc, PlanningFile::Domain, domain)?;
+    read_domain(alloc, &domain_tree, &mut parts.domain)?;
+    let problem_tree = tree_of(alloc, PlanningFile::Problem, problem)?;
+    with_problem(
+        alloc,
+        &problem_tree,
+        variables,
+        &mut parts.domain,
+        &mut parts.problem,
+    )
+}
+
+/// Reads both texts. Fails with the first fault, or if allocation fails.
+fn read_parts(
+    alloc: Global,
+    domain: &[u8],
+    problem: &[u8],
+    variables: &Names,
+) -> Result<TaskParts, PddlFault>
+    requires { variables.now ≡ [] }
+    ensures found { IfOk result (λ p. SpellTask domain.now problem.now (task_in p.domain p.problem)) }
+    ensures places { IfOk result (λ p. length p.domain.actions.schemas.items ≡ length p.domain.actions.places.items) }
+    ensures sums { IfOk result (λ p. first_of None (sums_pass p.problem.metric (values_of p.problem.values.entries) p.domain.actions.schemas.items p.domain.actions.places.items).faults ≡ None) }
+    ensures fault { IfErr result (λ e. IsTaskRefusal domain.now problem.now e) }
+{
+    let mut parts = TaskParts::new(alloc);
+    match read_into(alloc, domain, problem, variables, &mut parts) {
+        Err(fault) => {
+            // A call, so that this function drops one value and not each of its parts.
+            drop(parts);
+            Err(fault)
+        }
+        Ok(()) => Ok(parts),
+    }
+}
+
+/// Reads a planning task from the texts of its domain and its problem, in bytes (McDermott and others 1998; Fox and
+/// Long 2003).
 ///
-/// An `Err` is the fault that goes first: of the domain's tree, then of the domain's parts in the order heads, requirements, types,
-/// constants, predicates, functions and actions, then of the problem's tree, then of the problem's parts in the order heads,
-/// objects, initial state, goal and metric, and last of what actions may cost. Within a part the fault at the least
-/// place goes first. Or it is of too little memory (McDermott and others 1998; Fox and Long 2003).
+/// Fails with the first fault, or if allocation fails. The faults come in this order: those of the domain's tree; those
+/// of the domain's parts, in the order heads, requirements, types, constants, predicates, functions and actions; those
+/// of the problem's tree; those of the problem's parts, in the order heads, objects, initial state, goal and metric;
+/// and last those of the actions' costs. Within a part the fault at the least place comes first.
 pub fn read_task(alloc: Global, domain: &[u8], problem: &[u8]) -> Result<Task, PddlFault>
-    // What is read is spelled so.
+    // The result is what the texts spell.
     ensures found { IfOk result (λ t. SpellTask domain.now problem.now t) }
-    // What is spelled so is read, unless memory runs out.
+    // Texts that spell a task are read, unless allocation fails.
     ensures only { (t : PlanningTask) → SpellTask domain.now problem.now t → IfOk result (λ r. r ≡ t) }
     ensures never_refused { (t : PlanningTask) → SpellTask domain.now problem.now t → IfErr result (λ e. e ≡ PddlFault.OutOfMemory) }
-    // No cost passes 64 bits.
+    // No cost reaches 2^63.
     ensures small { IfOk result (λ t. IsTrue (has_small_costs t)) }
-    // Each action costs at most so much.
+    // The bound on an action's cost.
     ensures costs { IfOk result (λ t. (a : Action) → IsActionOf t a → a.cost ≤ 2147483647) }
-    // What else comes is the fault that goes first.
+    // An error is the first fault, or that allocation failed.
     ensures fault { IfErr result (λ e. IsTaskRefusal domain.now problem.now e) }
 {
     let variables = Names::new(alloc);
-    let mut parts = TaskParts {
-        domain: Domain::new(alloc),
-        problem: Problem::new(alloc),
-    };
-    match read_texts(
-        alloc,
-        domain,
-        problem,
-        &variables,
-        &mut parts.domain,
-        &mut parts.problem,
-    ) {
+    match read_parts(alloc, domain, problem, &variables) {
         Err(fault) => Err(fault),
-        Ok(()) => Ok(assembled(parts.domain, parts.problem)),
+        Ok(parts) => Ok(parts.assembled()),
     }
 }

@@ -1,4 +1,4 @@
-//! What the actions cost at most.
+//! Upper bounds on the costs of actions.
 
 ghost use Rattle.std.specs.Prelude.{◌≡◌, ◌==◌, ◌&&◌, if◌then◌else◌, ℕ, length, nat_lt, sum_by, IfOk, OnOk};
 ghost use Rattle.pddl_syntax.specs.Faults.{first_of};
@@ -10,20 +10,20 @@ use pddl_syntax::{Fault, FaultKind, blame_if};
 use planning::{ActionSchema, GroundAtom, Increase};
 use std::alloc::{AllocError, Global};
 
-/// No action may cost more.
+/// The largest cost that an action may have.
 const MAX_COST: u64 = 2_147_483_647;
 
-/// The greatest value so far of each function that has one.
+/// The greatest value found so far of each function that has a value.
 type GreatestValues = IndexMap<usize, u64>;
 
-/// The greatest value of a function, and 0 where it has none.
+/// The greatest value of a function, or 0 if it has none.
 fn value_of(greatest: &GreatestValues, function: usize) -> u64
     ensures { result ≡ spec.known_value greatest.now.entries function }
 {
     greatest.get(&function).copied().unwrap_or(0)
 }
 
-/// Keeps the value of a function if it is the greatest so far.
+/// Keeps a value of a function if it is the greatest so far.
 fn keep_value(greatest: &mut GreatestValues, function: usize, value: u64) -> Result<(), AllocError>
     ensures { (other : ℕ) → OnOk result (spec.known_value greatest.new.entries other
         ≡ (if function == other && nat_lt (spec.known_value greatest.old.entries other) value then value else spec.known_value greatest.old.entries other)) }
@@ -34,7 +34,7 @@ fn keep_value(greatest: &mut GreatestValues, function: usize, value: u64) -> Res
     Ok(())
 }
 
-/// The greatest value that is stated for each function: one pass over the values, however many schemas there are.
+/// The greatest of each function's initial values. Takes one pass over the values, whatever the number of schemas.
 fn greatest_values(
     alloc: Global,
     values: &IndexMap<GroundAtom, u64>,
@@ -57,7 +57,7 @@ fn most_of(greatest: &GreatestValues, increase: &Increase) -> u64
     }
 }
 
-/// Whether the increases may add to more than an action may cost. No sum is formed past that.
+/// Whether the increases may add up to more than an action may cost. No sum above that bound is computed.
 fn cost_too_much(greatest: &GreatestValues, increases: &[Increase]) -> bool
     ensures { result ≡ nat_lt 2147483647 (sum_by (spec.most_known greatest.now.entries) increases.now) }
 {
@@ -72,7 +72,7 @@ fn cost_too_much(greatest: &GreatestValues, increases: &[Increase]) -> bool
     false
 }
 
-/// Notes the schemas whose actions may cost too much, each at its place.
+/// Records the schemas whose actions may cost too much, each at its place.
 #[tactic(auto, unfolding(pddl_syntax::specs::Faults::first_of))]
 fn blame_schemas(
     greatest: &GreatestValues,
@@ -93,7 +93,8 @@ fn blame_schemas(
     }
 }
 
-/// The same by all values, in time linear in the values, the schemas and their increases. An `Err` is of too little memory.
+/// Records in `first` the schemas whose actions may cost too much, each at its place as F17. Takes time linear in the
+/// number of values, schemas and increases. Fails only if allocation fails.
 pub fn blame_sums(
     alloc: Global,
     values: &IndexMap<GroundAtom, u64>,

@@ -1,4 +1,4 @@
--- Actions: what they mean, and their faults.
+-- Actions: their meaning and their faults.
 use Rattle.std.specs.Prelude.{ℕ, if◌then◌else◌, List, [], ◌∷◌, ◌++◌, map, Option, Some, None, slice_get}
 use Rattle.sexp.specs.Forms.{Forms, none, word, group}
 use Rattle.names.specs.Names.{is_there, with_name}
@@ -21,17 +21,17 @@ use Rattle.pddl_effect.specs.Effects.{effects, increases, effects_faults}
 use Rattle.pddl_effect.specs.Literals.{literal_places, increase_places}
 use Rattle.pddl_action.specs.Keywords.{KeywordPart, parts, value_of, keyword_faults, none_seen}
 
--- what an action of these parameters may name
+-- the declarations that are visible in an action with these parameters
 abbrev pub scope_of : Declarations → List (List ℕ) → Scope
 scope_of d variables = record { predicates = d.predicates; functions = d.functions; variables = variables; objects = d.objects }
 
 -- ---- the parts of an action
 
--- the list of the parameters, without its brackets
+-- the content of the list of the parameters
 abbrev pub parameters_of : List KeywordPart → Forms
 parameters_of ps = root_parts (value_of Parameters ps)
 
--- with parameters of these types
+-- the schema with parameters of these types and these parts
 abbrev pub schema_in : List ℕ → Scope → List KeywordPart → Schema
 schema_in types scope ps = record {
   parameters = types;
@@ -56,7 +56,7 @@ value_literals Parameters value = []
 value_literals Precondition value = literal_places InCondition value
 value_literals Effect value = literal_places InEffect value
 
--- where the literals of the parts stand
+-- the places of the literals of the parts
 abbrev pub all_literals : List KeywordPart → List ℕ
 all_literals [] = []
 all_literals (p ∷ ps) = value_literals p.keyword p.value ++ all_literals ps
@@ -66,7 +66,7 @@ value_increases Parameters value = []
 value_increases Precondition value = increase_places InCondition value
 value_increases Effect value = increase_places InEffect value
 
--- where the increases of the parts stand
+-- the places of the increases of the parts
 abbrev pub all_increases : List KeywordPart → List ℕ
 all_increases [] = []
 all_increases (p ∷ ps) = value_increases p.keyword p.value ++ all_increases ps
@@ -75,41 +75,41 @@ abbrev pub past_fault : LimitedTable → Option ℕ → List Fault
 past_fault table None = []
 past_fault table (Some at) = fault (Limit table) at ∷ []
 
--- the first item past so many, of items at these places
+-- the fault of the first item past the limit, where the items have these places
 abbrev pub past_faults : LimitedTable → ℕ → List ℕ → List Fault
 past_faults table limit places = past_fault table (slice_get places limit)
 
 abbrev pub limit_faults : List KeywordPart → List Fault
 limit_faults ps = past_faults Literals 256 (all_literals ps) ++ past_faults Increases 16 (all_increases ps)
 
--- the schema by what stands behind the name
+-- the schema, from the expressions behind the name
 unfoldable pub schema_behind : Declarations → Forms → Schema
 schema_behind d f =
     schema_in (parameter_types d.types (parameters_of (parts None f))) (scope_of d (parameter_names (parameters_of (parts None f)))) (parts None f)
 
--- the parts of an action, whose parameters have these names
+-- the faults of the parts of an action with these parameters
 abbrev pub parts_faults : Declarations → List (List ℕ) → List KeywordPart → List Fault
 parts_faults d variables ps = values_faults d.types (scope_of d variables) ps ++ limit_faults ps
 
--- what stands behind the name, in the action at a place
+-- the faults of the expressions behind the name of the action at `home`
 abbrev pub behind_name_faults : Declarations → ℕ → Forms → List Fault
 behind_name_faults d home f = keyword_faults home none_seen None f ++ parts_faults d (parameter_names (parameters_of (parts None f))) (parts None f)
 
--- ---- one action, of which the part behind the word `:action` is given
+-- ---- one action, by the expressions behind the word `:action`
 
--- the name, behind actions of these names, in the action at a place
+-- the fault of the name of the action at `home`, which follows actions with these names
 abbrev pub named_faults : List (List ℕ) → ℕ → Forms → List Fault
 named_faults names home none = fault Shape home ∷ []
 named_faults names home (word s e t f) = if is_name t then faults_if (is_there names t) (fault TwiceDeclared s) [] else fault Shape s ∷ []
 named_faults names home (group s e i f) = fault Shape s ∷ []
 
--- the names with that of one more action, if it has one
+-- the names with that of one more action, if it has a name
 abbrev pub with_action_name : List (List ℕ) → Forms → List (List ℕ)
 with_action_name names none = names
 with_action_name names (word s e t f) = if is_name t then with_name names t else names
 with_action_name names (group s e i f) = names
 
--- where the name stands, and where the action stands if nothing is in the name's place
+-- the place of the name, or `home`, the place of the action, if there is none
 abbrev pub name_place : ℕ → Forms → ℕ
 name_place home none = home
 name_place home (word s e t f) = s
@@ -126,12 +126,12 @@ action_faults d names a = named_faults names a.at a.inside ++ behind_name_faults
 
 -- ---- all actions
 
--- the names with those of actions
+-- the names with those of the actions
 abbrev pub names_with : List (List ℕ) → List Part → List (List ℕ)
 names_with names [] = names
 names_with names (a ∷ actions) = names_with (with_action_name names a.inside) actions
 
--- actions behind others of these names
+-- the faults of actions that follow others with these names
 abbrev pub each_faults : Declarations → List (List ℕ) → List Part → List Fault
 each_faults d names [] = []
 each_faults d names (a ∷ actions) = action_faults d names a ++ each_faults d (with_action_name names a.inside) actions

@@ -1,4 +1,4 @@
--- What a domain declares for its actions.
+-- The declarations of a domain that its actions use.
 use Rattle.std.specs.Prelude.{ℕ, List}
 use Rattle.pddl_syntax.specs.Heads.{Heads}
 

@@ -1,10 +1,11 @@
 //! Actions.
 
 ghost use Rattle.std.specs.Prelude.{◌≡◌, ◌++◌, ◌∷◌, [], ℕ, List, map, None, slice_get, IfOk, OnOk};
-ghost use Rattle.sexp.specs.Forms.{Forms, before, views, alone};
+ghost use Rattle.sexp.specs.Forms.{Forms, before, views, alone, word as word_form};
 ghost use Rattle.pddl_syntax.specs.Faults.{first_of};
 ghost use Rattle.pddl_syntax.specs.Parameters.{parameter_types, parameter_names};
 ghost use Rattle.pddl_syntax.specs.Sections.{part_of};
+ghost use Rattle.pddl_terms.specs.Terms.{Scope as DeclaredScope};
 ghost use Rattle.pddl_effect.specs.Conditions.{conditions};
 ghost use Rattle.pddl_effect.specs.Effects.{effects, increases};
 ghost use Rattle.pddl_action.specs.Keywords as keywords;
@@ -32,15 +33,16 @@ const MAX_INCREASES: usize = 16;
 /// The actions of a domain, in the order of the text.
 #[derive(Drop)]
 pub struct Actions {
-    /// The schema of each action. What is at fault in it means nothing.
+    /// The schema of each action. What has a fault is left out.
     pub schemas: Vec<ActionSchema>,
-    /// The names, each once.
+    /// The names, without repetitions.
     pub names: Names,
-    /// The byte, counted from 0, at which the name of each action begins, or the action where nothing stands in the name's place.
+    /// The byte, counted from 0, at which the name of each action begins, or the action itself if nothing stands in the
+    /// place of its name.
     pub places: Vec<usize>,
 }
 
-/// The parameters of an action, which the first list of parameters gives. Their faults are noted with those of all parts.
+/// The parameters of an action, from its first list of parameters. Their faults are not recorded here.
 fn parameters_of(alloc: Global, types: &Types, parts: &[Part]) -> Result<Parameters, AllocError>
     ensures names { IfOk result (λ p. p.names ≡ parameter_names (spec.parameters_of (map keywords.part_of parts.now))) }
     ensures types { IfOk result (λ p. p.types.items ≡ parameter_types types.now.names (spec.parameters_of (map keywords.part_of parts.now))) }
@@ -52,7 +54,7 @@ fn parameters_of(alloc: Global, types: &Types, parts: &[Part]) -> Result<Paramet
     }
 }
 
-/// The precondition of an action, which the first one gives. Its faults are noted with those of all parts.
+/// The precondition of an action, from its first `:precondition`. Its faults are not recorded here.
 fn precondition_of(
     alloc: Global,
     scope: &Scope,
@@ -67,7 +69,7 @@ fn precondition_of(
     Ok(conditions)
 }
 
-/// The effects of an action, which the first effect gives. Its faults are noted with those of all parts.
+/// The effects and increases of an action, from its first `:effect`. Their faults are not recorded here.
 fn effects_of(alloc: Global, scope: &Scope, parts: &[Part]) -> Result<Effects, AllocError>
     ensures effects { IfOk result (λ e. e.effects.items ≡ effects scope.now (keywords.value_of Keyword.Effect (map keywords.part_of parts.now))) }
     ensures increases { IfOk result (λ e. e.increases.items ≡ increases scope.now (keywords.value_of Keyword.Effect (map keywords.part_of parts.now))) }
@@ -79,8 +81,46 @@ fn effects_of(alloc: Global, scope: &Scope, parts: &[Part]) -> Result<Effects, A
     Ok(effects)
 }
 
-/// Notes the faults of a part.
-#[tactic(auto, using(pddl_syntax::proofs::Trees::noting), unfolding(pddl_syntax::specs::Faults::first_of, crate::specs::Actions::value_faults))]
+/// Records the faults of a list of parameters.
+#[tactic(auto, unfolding(crate::specs::Actions::value_faults))]
+fn blame_parameters(
+    alloc: Global,
+    types: &Types,
+    value: &Tree,
+    first: &mut Option<Fault>,
+) -> Result<(), AllocError>
+    ensures { (scope : DeclaredScope) → OnOk result (first.new ≡ first_of first.old (spec.value_faults types.now.names scope Keyword.Parameters (alone value.now))) }
+{
+    let place = value.span().start;
+    parameters_list(alloc, items_of(value), types, place, first)?;
+    Ok(())
+}
+
+/// Records the faults of a precondition.
+fn blame_precondition(
+    alloc: Global,
+    scope: &Scope,
+    value: &Tree,
+    first: &mut Option<Fault>,
+) -> Result<(), AllocError>
+    ensures { (types : List (List ℕ)) → OnOk result (first.new ≡ first_of first.old (spec.value_faults types scope.now Keyword.Precondition (alone value.now))) }
+{
+    read_condition(alloc, scope, value, &mut Vec::new(alloc), first)
+}
+
+/// Records the faults of an effect.
+fn blame_effect(
+    alloc: Global,
+    scope: &Scope,
+    value: &Tree,
+    first: &mut Option<Fault>,
+) -> Result<(), AllocError>
+    ensures { (types : List (List ℕ)) → OnOk result (first.new ≡ first_of first.old (spec.value_faults types scope.now Keyword.Effect (alone value.now))) }
+{
+    read_effect(alloc, scope, value, &mut Effects::new(alloc), first)
+}
+
+/// Records the faults of a part.
 fn blame_value(
     alloc: Global,
     types: &Types,
@@ -91,21 +131,13 @@ fn blame_value(
     ensures { OnOk result (first.new ≡ first_of first.old (spec.value_faults types.now.names scope.now part.entry.keyword (alone part.entry.value.now))) }
 {
     match part.keyword {
-        Keyword::Parameters => {
-            let place = part.value.span().start;
-            parameters_list(alloc, items_of(part.value), types, place, first)?;
-        }
-        Keyword::Precondition => {
-            read_condition(alloc, scope, part.value, &mut Vec::new(alloc), first)?;
-        }
-        Keyword::Effect => {
-            read_effect(alloc, scope, part.value, &mut Effects::new(alloc), first)?;
-        }
+        Keyword::Parameters => blame_parameters(alloc, types, part.value, first),
+        Keyword::Precondition => blame_precondition(alloc, scope, part.value, first),
+        Keyword::Effect => blame_effect(alloc, scope, part.value, first),
     }
-    Ok(())
 }
 
-/// Notes the faults of each part.
+/// Records the faults of each part.
 #[tactic(auto, using(pddl_syntax::proofs::Trees::noting), unfolding(pddl_syntax::specs::Faults::first_of))]
 fn blame_values(
     alloc: Global,
@@ -148,7 +180,7 @@ fn places_of(alloc: Global, parts: &[Part]) -> Result<Places, AllocError>
     Ok(places)
 }
 
-/// Notes the first item past so many, of items at these places.
+/// Records the first of the items at these places that is past the limit, if there is one.
 #[tactic(auto, unfolding(pddl_syntax::specs::Faults::first_of))]
 fn blame_past(table: LimitedTable, limit: usize, places: &[usize], first: &mut Option<Fault>)
     ensures { first.new ≡ first_of first.old (spec.past_faults table limit places.now) }
@@ -158,7 +190,7 @@ fn blame_past(table: LimitedTable, limit: usize, places: &[usize], first: &mut O
     }
 }
 
-/// Notes what is past a limit in the parts of an action.
+/// Records the first literal and the first increase of an action that are past their limits.
 #[tactic(auto, using(pddl_syntax::proofs::Trees::noting), unfolding(pddl_syntax::specs::Faults::first_of))]
 fn blame_limits(alloc: Global, parts: &[Part], first: &mut Option<Fault>) -> Result<(), AllocError>
     ensures { OnOk result (first.new ≡ first_of first.old (spec.limit_faults (map keywords.part_of parts.now))) }
@@ -179,7 +211,7 @@ fn blame_limits(alloc: Global, parts: &[Part], first: &mut Option<Fault>) -> Res
     Ok(())
 }
 
-/// Notes the faults of the parts of an action, whose parameters have these names.
+/// Records the faults of the parts of an action. Its parameters are named `variables`.
 #[tactic(auto, using(pddl_syntax::proofs::Trees::noting), unfolding(pddl_syntax::specs::Faults::first_of))]
 fn blame_parts<'a>(
     alloc: Global,
@@ -195,7 +227,7 @@ fn blame_parts<'a>(
     blame_limits(alloc, parts, first)
 }
 
-/// The schema that parts give, whose parameters have these names and types.
+/// The schema of an action with these parts. Its parameters are named `variables` and have the types `parameters`.
 fn schema_in<'a>(
     alloc: Global,
     declarations: &'a Declarations,
@@ -216,8 +248,41 @@ fn schema_in<'a>(
     })
 }
 
-/// Reads what stands behind the name, in the action at a place.
-#[tactic(auto, using(pddl_syntax::proofs::Trees::noting, crate::proofs::Schemas::schema_read), unfolding(pddl_syntax::specs::Faults::first_of))]
+/// The schema of an action with these parts, whose faults are recorded in `first`. Its parameters are named `variables`
+/// and have the types `parameters`.
+fn noted_schema<'a>(
+    alloc: Global,
+    declarations: &'a Declarations,
+    variables: &'a Names,
+    parameters: Vec<usize>,
+    parts: &[Part],
+    first: &mut Option<Fault>,
+) -> Result<ActionSchema, AllocError>
+    ensures meaning { IfOk result (λ s. s ≡ spec.schema_in parameters.items (spec.scope_of declarations.now variables.now) (map keywords.part_of parts.now)) }
+    ensures faults { OnOk result (first.new ≡ first_of first.old (spec.parts_faults declarations.now variables.now (map keywords.part_of parts.now))) }
+{
+    blame_parts(alloc, declarations, variables, parts, first)?;
+    schema_in(alloc, declarations, variables, parameters, parts)
+}
+
+/// Reads the parts of an action into its schema, and records their faults.
+#[tactic(auto, using(crate::proofs::Schemas::schema_read))]
+fn read_parts(
+    alloc: Global,
+    declarations: &Declarations,
+    parts: &[Part],
+    first: &mut Option<Fault>,
+) -> Result<ActionSchema, AllocError>
+    ensures meaning { (f : Forms) → map keywords.part_of parts.now ≡ keywords.parts None f → IfOk result (λ s. s ≡ spec.schema_behind declarations.now f) }
+    ensures faults { OnOk result (first.new ≡ first_of first.old
+        (spec.parts_faults declarations.now (parameter_names (spec.parameters_of (map keywords.part_of parts.now))) (map keywords.part_of parts.now))) }
+{
+    let Parameters { names, types } = parameters_of(alloc, &declarations.types, parts)?;
+    noted_schema(alloc, declarations, &names, types, parts, first)
+}
+
+/// Reads the items behind the name of the action at `home` into its schema, and records their faults.
+#[tactic(auto, using(pddl_syntax::proofs::Trees::noting), unfolding(pddl_syntax::specs::Faults::first_of))]
 fn read_schema(
     alloc: Global,
     declarations: &Declarations,
@@ -229,12 +294,31 @@ fn read_schema(
     ensures faults { OnOk result (first.new ≡ first_of first.old (spec.behind_name_faults declarations.now home (views items.now))) }
 {
     let parts = parts(alloc, home, items, first)?;
-    let Parameters { names, types } = parameters_of(alloc, &declarations.types, &parts)?;
-    blame_parts(alloc, declarations, &names, &parts, first)?;
-    schema_in(alloc, declarations, &names, types, &parts)
+    read_parts(alloc, declarations, &parts, first)
 }
 
-/// Reads a name, behind actions of these names, and gives its place.
+/// Reads a word in the place of an action's name, and adds it to the names of the actions before it.
+#[tactic(auto, unfolding(pddl_syntax::specs::Faults::first_of))]
+fn read_name_word(
+    alloc: Global,
+    word: &str,
+    at: usize,
+    names: &mut Names,
+    first: &mut Option<Fault>,
+) -> Result<(), AllocError>
+    ensures names { OnOk result ((end : ℕ) (rest : Forms) → names.new ≡ spec.with_action_name names.old (word_form at end word.now rest)) }
+    ensures faults { OnOk result ((home end : ℕ) (rest : Forms) → first.new ≡ first_of first.old (spec.named_faults names.old home (word_form at end word.now rest))) }
+{
+    if word_kind(word) != WordKind::Name {
+        blame(first, at, FaultKind::Shape);
+        return Ok(());
+    }
+    blame_if(names.contains(word), first, at, FaultKind::TwiceDeclared);
+    names.add(alloc, word)?;
+    Ok(())
+}
+
+/// Reads an action's name, adds it to the names of the actions before it, and returns its place.
 #[tactic(auto, using(sexp::proofs::Walking::walking), unfolding(pddl_syntax::specs::Faults::first_of))]
 fn read_name_at(
     alloc: Global,
@@ -248,18 +332,7 @@ fn read_name_at(
 {
     match tree {
         Tree::Word { text, span } => {
-            let name = text.as_str();
-            if word_kind(name) == WordKind::Name {
-                blame_if(
-                    names.contains(name),
-                    first,
-                    span.start,
-                    FaultKind::TwiceDeclared,
-                );
-                names.add(alloc, name)?;
-            } else {
-                blame(first, span.start, FaultKind::Shape);
-            }
+            read_name_word(alloc, text.as_str(), span.start, names, first)?;
             Ok(span.start)
         }
         Tree::List { span, .. } => {
@@ -269,7 +342,8 @@ fn read_name_at(
     }
 }
 
-/// Reads the name of the action at a place, behind actions of these names, and gives where it stands.
+/// Reads the name of the action at `home`, adds it to the names of the actions before it, and returns its place, or
+/// `home` if there is none.
 #[tactic(auto, using(sexp::proofs::Walking::walking), unfolding(pddl_syntax::specs::Faults::first_of))]
 fn read_name(
     alloc: Global,
@@ -305,7 +379,7 @@ impl Actions {
     }
 
     /// Reads the next action.
-    #[tactic(auto, using(sexp::proofs::Walking::walking, pddl_syntax::proofs::Trees::noting), unfolding(pddl_syntax::specs::Faults::first_of, crate::specs::Actions::action_faults))]
+    #[tactic(auto, using(pddl_syntax::proofs::Trees::noting), unfolding(pddl_syntax::specs::Faults::first_of, crate::specs::Actions::action_faults))]
     fn read(
         &mut self,
         alloc: Global,
@@ -319,15 +393,15 @@ impl Actions {
         ensures faults { OnOk result (first.new ≡ first_of first.old (spec.action_faults declarations.now self.old.names (part_of section.entry))) }
     {
         let place = read_name(alloc, section.at, section.items, &mut self.names, first)?;
+        self.places.push(place)?;
         let items = without_first(section.items);
         let schema = read_schema(alloc, declarations, section.at, items, first)?;
-        self.places.push(place)?;
         self.schemas.push(schema)?;
         Ok(())
     }
 }
 
-/// Notes the section past those that a domain may have.
+/// Records the first section past those that a domain may have, if there is one.
 #[tactic(auto, unfolding(pddl_syntax::specs::Faults::first_of))]
 fn blame_sections(sections: &[Section], first: &mut Option<Fault>)
     ensures { first.new ≡ first_of first.old (spec.past_faults LimitedTable.Schemas 512 (map (λ a. a.at) (map part_of sections.now))) }
@@ -337,13 +411,14 @@ fn blame_sections(sections: &[Section], first: &mut Option<Fault>)
     }
 }
 
-/// Reads the actions of a domain, each given by what stands behind the word `:action`, and notes their faults.
+/// Reads the actions of a domain, each given by its items behind the word `:action`, and records their faults in
+/// `first`.
 ///
-/// F10 where an action, a term, a condition or an effect is of another form; F11 at what PDDL has and is not read, as
-/// `forall`; F12 at what is not declared; F13 at a list with another number of terms than its head has parameters; F14 at
-/// a name, a parameter or a keyword that was there before; F16 and F17 at a number by which no cost grows; F18 at the
-/// first action past 512, literal past 256, increase past 16 and parameter past 16. An `Err` is of too little memory.
-#[tactic(auto, using(pddl_syntax::proofs::Trees::noting, pddl_effect::proofs::Steps::appending), unfolding(pddl_syntax::specs::Faults::first_of))]
+/// F10 for an action, a term, a condition or an effect of another form; F11 for a construct of PDDL that is not
+/// supported, such as `forall`; F12 for a name that is not declared; F13 for a list whose number of terms is not that
+/// of its head's parameters; F14 for a name, a parameter or a keyword that occurs a second time; F16 and F17 for an
+/// increase by a number that is not whole or is out of range; F18 for the first action past 512, literal past 256,
+/// increase past 16 and parameter past 16. Fails only if allocation fails.
 pub fn read_actions(
     alloc: Global,
     declarations: &Declarations,

@@ -1,4 +1,4 @@
-//! What stands behind an action's name: keywords, each with a list.
+//! The parts of an action behind its name: keywords, each with a list.
 
 ghost use Rattle.std.specs.Prelude.{◌≡◌, ◌++◌, ℕ, List, Option, map, find, None, [], option_to_list, IfOk, OnOk};
 ghost use Rattle.std.specs.Option.{option_map};
@@ -11,7 +11,7 @@ use pddl_syntax::{Fault, FaultKind, blame, blame_if};
 use sexp::Tree;
 use std::alloc::{AllocError, Global};
 
-/// A word behind which a part of an action stands.
+/// A keyword of an action, which a list follows.
 #[derive(Clone, Copy, Debug, PartialEq, Eq)]
 pub enum Keyword {
     Parameters,
@@ -19,7 +19,7 @@ pub enum Keyword {
     Effect,
 }
 
-/// Which keywords stood in the action so far.
+/// The keywords that were read so far in the action.
 #[derive(Clone, Copy)]
 pub struct Seen {
     pub parameters: bool,
@@ -27,7 +27,7 @@ pub struct Seen {
     pub effect: bool,
 }
 
-/// A keyword and the list behind it.
+/// A keyword and the list that follows it.
 #[derive(Clone, Copy)]
 pub struct Part<'a> {
     pub keyword: Keyword,
@@ -81,11 +81,11 @@ impl Seen {
     }
 }
 
-/// The parts of an action that were read.
+/// The state of reading the parts of an action: what was read so far.
 #[derive(Drop)]
 struct PartList<'a> {
     seen: Seen,
-    /// The keyword whose value comes next.
+    /// The keyword whose list comes next.
     waiting: Option<Keyword>,
     parts: Vec<Part<'a>>,
 }
@@ -107,7 +107,7 @@ impl<'a> PartList<'a> {
         }
     }
 
-    /// Reads a word at a place.
+    /// Reads the word at `at`.
     #[tactic(auto, unfolding(pddl_syntax::specs::Faults::first_of))]
     fn read_word(&mut self, word: &str, at: usize, first: &mut Option<Fault>)
         ensures seen { self.new.seen ≡ spec.seen_after self.old.waiting self.old.seen (spec.keyword_of word.now) }
@@ -135,7 +135,7 @@ impl<'a> PartList<'a> {
         }
     }
 
-    /// Reads a list at a place.
+    /// Reads the list at `at`.
     #[tactic(auto, unfolding(pddl_syntax::specs::Faults::first_of))]
     fn read_list(
         &mut self,
@@ -172,9 +172,10 @@ impl<'a> PartList<'a> {
     }
 }
 
-/// Reads what stands behind an action's name, in the action at the byte `home`, and notes the faults of the
-/// keywords: F10 at what is no keyword, and at a word in the place of a keyword's list; F14 at a keyword that comes
-/// again; F10 at the action where the last keyword has nothing behind it. An `Err` is of too little memory.
+/// Reads the items behind the name of the action at the byte `home`, counted from 0, and records the faults of the
+/// keywords in `first`: F10 for an item that is no keyword, and for a word in the place of a keyword's list; F14 for a
+/// keyword that occurs a second time; F10 at the action if the last keyword has no list. Fails only if allocation
+/// fails.
 #[tactic(auto, unfolding(pddl_syntax::specs::Faults::first_of))]
 pub fn parts<'a>(
     alloc: Global,
@@ -195,7 +196,7 @@ pub fn parts<'a>(
     Ok(list.parts)
 }
 
-/// The first part of a keyword.
+/// The first part with this keyword, or `None` if there is none.
 pub fn find_part<'a>(parts: &[Part<'a>], keyword: Keyword) -> Option<Part<'a>>
     ensures { option_map spec.part_of result ≡ find (λ p. spec.same_keyword p.keyword keyword) (map spec.part_of parts.now) }
 {
@@ -207,7 +208,7 @@ pub fn find_part<'a>(parts: &[Part<'a>], keyword: Keyword) -> Option<Part<'a>>
     None
 }
 
-/// What stands in a list; nothing stands in a word.
+/// The items of a list, or none for a word.
 #[tactic(auto, using(sexp::proofs::Walking::walking))]
 pub fn items_of(tree: &Tree) -> &[Tree]
     ensures { views result.now ≡ root_parts (alone tree.now) }

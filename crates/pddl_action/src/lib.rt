@@ -1,6 +1,6 @@
-//! The actions of a planning domain: their names, keywords and what stands behind each (McDermott and others 1998; Fox
-//! and Long 2003), read into action schemas. A reader notes each fault with its place and goes on, so what is at
-//! fault means nothing, and the first fault is kept.
+//! The actions of a planning domain, read into action schemas: their names, their keywords and the values of these
+//! (McDermott and others 1998; Fox and Long 2003). A reader records each fault with its place and goes on. What has a
+//! fault adds nothing to the meaning, and the first fault is kept.
 #![tactic(auto)]
 
 mod action;

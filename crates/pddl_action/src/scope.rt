@@ -1,4 +1,4 @@
-//! What a domain declares for its actions.
+//! The declarations of a domain that its actions use.
 
 ghost use Rattle.std.specs.Prelude.{◌≡◌};
 
@@ -7,7 +7,7 @@ use pddl_syntax::{Heads, Types};
 use pddl_terms::Scope;
 use std::marker::Model;
 
-/// What a domain declares for its actions, in which only its constants are objects.
+/// The declarations of a domain that its actions use. Only its constants are objects there.
 #[derive(Drop)]
 pub struct Declarations {
     pub types: Types,
@@ -27,7 +27,7 @@ impl Model for Declarations {
 impl Declarations {
     ghost use Rattle.pddl_action.specs.Actions.{scope_of};
 
-    /// What an action of these parameters may name.
+    /// The declarations that are visible in an action with these parameters.
     pub fn scope<'a>(&'a self, variables: &'a Names) -> Scope<'a>
         ensures { result ≡ scope_of self.now variables.now }
     {

@@ -1,4 +1,4 @@
--- What is answered for the texts of a planning task and of a certificate.
+-- The answers to the texts of a planning task and of a certificate.
 use Rattle.std.specs.Prelude.{◌≡◌, ◌≢◌, ◌⊎◌, ℕ, List, Err}
 use Rattle.planning.specs.Planning.{PlanningTask}
 use Rattle.pddl.specs.Texts.{SpellTask, IsTaskRefusal}
@@ -34,18 +34,18 @@ pub record AreSpelled (domain problem cert : List ℕ) (j : Judged) (c : Certifi
   pub task_spelled : SpellTask domain problem j.task
   pub certificate_spelled : SpellsPlanningCertificate cert c j.words j.variables
 
--- The texts spell a task and a certificate for it, and the verdict is that on the certificate.
+-- The texts spell a task and a certificate for it, and the verdict is the one on the certificate.
 pub record IsAnswer (domain problem cert : List ℕ) (verdict : PlanningVerdict) : Type 0 where
   pub judged : Judged
   pub certificate : CertificateValue
   pub spelled : AreSpelled domain problem cert judged certificate
   pub holds : IsPlanningVerdict judged certificate verdict
 
--- the text's first fault; a certificate of the other kind is at fault in line 2, where the kind stands
+-- the first fault of the text; a certificate of the other kind has its fault on line 2, which states the kind
 abbrev pub IsCertificateFault : List ℕ → CertFault → Type 0
 IsCertificateFault cert e = (certificate_of cert ≡ Err e) ⊎ ((e ≡ cert_fault.Expected 2) × SpellsOther cert)
 
--- There is no verdict on this certificate for the task: memory ran out, or a limit is passed.
+-- There is no verdict on this certificate for the task: allocation failed, or a limit is passed.
 abbrev pub IsUnjudged : Judged → PlanningCheckFault → Type 0
 IsUnjudged j OutOfMemory = Unit {0}
 IsUnjudged j GroundLimit = IsFirstFault j.task (atoms_of j) (placed_of j) fault.GroundLimit
@@ -53,26 +53,27 @@ IsUnjudged j (Limit l) = IsFirstFault j.task (atoms_of j) (placed_of j) (fault.L
 IsUnjudged j (Task e) = ⊥
 IsUnjudged j (Cert e) = ⊥
 
--- There is none on a certificate: it is for a finite-domain task, or there is none on what it lists.
+-- There is no verdict on a certificate: it is for a finite-domain task, or there is none on the parts that it lists.
 abbrev pub IsUnanswered : PlanningTask → CertificateValue → PlanningCheckFault → Type 0
 IsUnanswered task c e =
     ((c.kind ≡ FiniteDomain) × (e ≡ Cert (cert_fault.Expected 2)))
     ⊎ ((words : List (List (List ℕ))) × (variables : List Variable) × (c.kind ≡ Planning words variables)
     × IsUnjudged (record { task = task; words = words; variables = variables }) e)
 
--- The task's texts are refused, for the fault that goes first.
+-- The texts of the task are refused with their first fault.
 abbrev pub IsRefusedTask : List ℕ → List ℕ → PlanningCheckFault → Type 0
 IsRefusedTask domain problem OutOfMemory = Unit {0}
 IsRefusedTask domain problem (Task e) = (e ≢ pddl_fault.OutOfMemory) × IsTaskRefusal domain problem e
 IsRefusedTask domain problem other = ⊥
 
--- The certificate's text is refused, for its first fault.
+-- The text of the certificate is refused with its first fault.
 abbrev pub IsRefusedCertificate : List ℕ → PlanningCheckFault → Type 0
 IsRefusedCertificate cert OutOfMemory = Unit {0}
 IsRefusedCertificate cert (Cert e) = (e ≢ cert_fault.OutOfMemory) × IsCertificateFault cert e
 IsRefusedCertificate cert other = ⊥
 
--- The task's texts are refused; or they spell a task, and the certificate's text is refused; or both are read, and a limit is passed.
+-- The texts of the task are refused; or they spell a task, and the text of the certificate is refused; or both
+-- are read, and there is no verdict on the certificate.
 abbrev pub IsRefusal : List ℕ → List ℕ → List ℕ → PlanningCheckFault → Type 0
 IsRefusal domain problem cert e =
     IsRefusedTask domain problem e

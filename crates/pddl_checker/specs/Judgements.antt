@@ -23,19 +23,19 @@ use Rattle.pddl_checker.specs.declared.verdict.PlanningVerdict.{PlanningVerdict}
 use Rattle.pddl_checker.specs.declared.verdict.PlanningVerdict.TheVariants.{Accepted, Rejected}
 use Rattle.pddl_checker.specs.Naming.{named_atoms, listed, words_text, words_of}
 
--- the place as it is printed
+-- the text of a violation
 abbrev pub violation_text : PlanningViolation → List ℕ
 violation_text (Atom atom) = codes "C1 atom " ++ string_bytes atom
 violation_text (VariablePlace v) = codes "C2 var " ++ decimal v
 violation_text (Uncovered atom) = codes "C2 atom " ++ string_bytes atom
 violation_text (Task v) = finite.violation_text v
 
--- the verdict as it is printed
+-- the text of a verdict
 abbrev pub verdict_text : PlanningVerdict → List ℕ
 verdict_text (Accepted bound) = codes "accepted " ++ bound_text bound
 verdict_text (Rejected v) = codes "rejected " ++ violation_text v
 
--- the listed atoms and the variables of a certificate, and its task
+-- a task, and the listed atoms and the variables of a certificate for it
 pub record Judged : Type 0 where
   pub task : PlanningTask
   pub words : List (List (List ℕ))
@@ -47,15 +47,15 @@ atoms_of j = named_atoms j.task.vocabulary j.words
 abbrev pub placed_of : Judged → List PlacedVariable
 placed_of j = map listed j.variables
 
--- the finite-domain task over them
+-- the finite-domain task over these atoms and variables
 abbrev pub finite_domain_task : Judged → FiniteDomainTask
 finite_domain_task j = translation j.task (variables_at (atoms_of j) (placed_of j)) (actions_over j.task (contains (atoms_of j)))
 
--- the words at this place
+-- the words of the listed atom at this place
 abbrev pub IsListedText : Judged → ℕ → List ℕ → Type 0
 IsListedText j k text = IsSomeAnd (slice_get j.words k) (λ words. text ≡ words_text words)
 
--- the place that is printed for what is wrong first with atoms and variables
+-- the violation that the first fault of atoms and variables stands for
 abbrev pub IsPlaceOf : Judged → TranslateFault → PlanningViolation → Type 0
 IsPlaceOf j (fault.BadAtom k) (Atom text) = IsListedText j k (string_bytes text)
 IsPlaceOf j (fault.Missing p) (Atom text) = string_bytes text ≡ words_text (words_of j.task.vocabulary p)
@@ -66,8 +66,8 @@ IsPlaceOf j (fault.NotFull v) (VariablePlace u) = v ≡ u
 IsPlaceOf j (fault.Uncovered k) (Uncovered text) = IsListedText j k (string_bytes text)
 IsPlaceOf j e v = ⊥
 
--- It is accepted for its bound where its atoms and variables are fit for the task and it fails nowhere for the finite-domain task over
--- them, and else rejected where it fails first.
+-- The certificate is accepted with its bound if its atoms and variables are fit for the task and it has no violation
+-- for the finite-domain task over them, and else rejected with its first violation.
 abbrev pub IsPlanningVerdict : Judged → CertificateValue → PlanningVerdict → Type 0
 IsPlanningVerdict j c (Accepted bound) =
     AreFit j.task (atoms_of j) (placed_of j) × IsVerdict (finite_domain_task j) c (over_variables.Accepted bound)
@@ -75,7 +75,7 @@ IsPlanningVerdict j c (Rejected (Task v)) =
     AreFit j.task (atoms_of j) (placed_of j) × IsVerdict (finite_domain_task j) c (over_variables.Rejected v)
 IsPlanningVerdict j c (Rejected v) = (e : TranslateFault) × IsFirstFault j.task (atoms_of j) (placed_of j) e × IsPlaceOf j e v
 
--- what the parts of a certificate say of a task
+-- the task, and the parts that a certificate lists for it
 abbrev pub judged_of : PlanningTask → AtomParts → Judged
 judged_of task parts = record { task = task; words = map atom_of parts.atoms.items; variables = map variable_of parts.variables.items }
 

@@ -1,4 +1,4 @@
--- What the words of a certificate name in a planning task.
+-- The atoms that the words of a certificate name in a planning task.
 use Rattle.std.specs.Prelude.{ℕ, List, [], ◌∷◌, ◌++◌, map, length, slice_index_or, codes}
 use Rattle.names.specs.Names.{number_of}
 use Rattle.planning.specs.Atoms.{Atom}
@@ -7,8 +7,8 @@ use Rattle.certificates.specs.Certificates.{Variable}
 use Rattle.cert_text.specs.Pieces.{joined}
 use Rattle.variables.specs.Variables.{PlacedVariable}
 
--- The atom that a predicate's name and the names of objects name. What is no such name has the number behind all of them,
--- so it is no atom of the task.
+-- The atom with this predicate and these objects, given by their names. A name of none of them has the number after all
+-- of them, so that the atom is not one of the task.
 abbrev pub named : Vocabulary → List (List ℕ) → Atom
 named names [] = record { predicate = length names.predicates; objects = [] }
 named names (w ∷ ws) = record { predicate = number_of names.predicates w; objects = map (number_of names.objects) ws }
@@ -16,7 +16,7 @@ named names (w ∷ ws) = record { predicate = number_of names.predicates w; obje
 abbrev pub named_atoms : Vocabulary → List (List (List ℕ)) → List Atom
 named_atoms names words = map (named names) words
 
--- a certificate's variable, over the atoms that it lists
+-- a variable of a certificate, over the atoms that it lists
 abbrev pub listed : Variable → PlacedVariable
 listed v = record { places = v.atoms; has_none = v.has_none_value }
 

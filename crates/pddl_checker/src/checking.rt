@@ -22,10 +22,10 @@ use pddl::{PddlFault, read_task};
 use planning::Task;
 use std::alloc::{AllocError, Global};
 
-/// The line on which a certificate's kind stands, counted from 1.
+/// The line that states the kind of a certificate, counted from 1.
 const KIND_LINE: usize = 2;
 
-// The task that the texts spell, or the fault that goes first.
+/// Reads the task that the texts spell. Fails with the first fault of the texts, or if allocation fails.
 fn read_planning_task(
     alloc: Global,
     domain: &[u8],
@@ -43,7 +43,7 @@ fn read_planning_task(
     }
 }
 
-// The certificate that the text spells, or the text's first fault.
+/// Reads the certificate that the text spells. Fails with the first fault of the text, or if allocation fails.
 fn read_certificate(alloc: Global, cert: &[u8]) -> Result<Certificate, PlanningCheckFault>
     ensures found { IfOk result (λ c. IsLawful c × (cert.now ≡ spelling c)) }
     ensures fault { IfErr result (IsRefusedCertificate cert.now) }
@@ -55,7 +55,8 @@ fn read_certificate(alloc: Global, cert: &[u8]) -> Result<Certificate, PlanningC
     }
 }
 
-// The verdict on a certificate for a task, where it is for a planning task.
+/// The verdict on a certificate for a task. Fails if the certificate is not for a planning task, if a limit is passed,
+/// or if allocation fails.
 fn answer<R: AllocGlobal>(
     rt: &R,
     task: &Task,
@@ -77,7 +78,8 @@ fn answer<R: AllocGlobal>(
     }
 }
 
-// The verdict on a certificate's text for a task that texts spell.
+/// The verdict on the text of a certificate for the task that texts spell. Fails with the first fault of the
+/// certificate's text, if a limit is passed, or if allocation fails.
 fn answer_to<R: AllocGlobal>(
     rt: &R,
     task: &Task,
@@ -94,7 +96,7 @@ fn answer_to<R: AllocGlobal>(
     answer(rt, task, &certificate)
 }
 
-// The same, where the text goes as soon as it is read.
+/// The same, but the text is dropped as soon as it has been read.
 fn answer_to_owned<R: AllocGlobal>(
     rt: &R,
     task: &Task,
@@ -110,13 +112,13 @@ fn answer_to_owned<R: AllocGlobal>(
     answer(rt, task, &certificate)
 }
 
-/// The verdict on a certificate's text for the planning task of two texts: `Accepted` with a bound exactly where the text spells a
-/// certificate for that bound which meets all clauses for the task that the texts spell, and else `Rejected` with the first
-/// clause and place. Where it is accepted every valid plan of the task costs at least the bound, whoever wrote the certificate,
-/// and there is none where that is infinite.
+/// Returns the verdict on the text of a certificate for the planning task that two texts spell. It is `Accepted` with a
+/// bound if the text spells a certificate with that bound that meets the clauses C1 to C8 for the task, and else
+/// `Rejected` with the first violation. After `Accepted` every valid plan of the task costs at least the bound, whoever
+/// wrote the certificate, and there is no valid plan if the bound is infinite.
 ///
-/// An `Err` is the fault of the task's texts that goes first, or else the first of the certificate's, or says that a limit of atoms,
-/// actions, variables or values is passed, or that memory ran out.
+/// Fails with the first fault of the task's texts; or else with the first fault of the certificate's text; or if a
+/// limit on atoms, actions, variables or values is passed; or if allocation fails.
 pub fn check_pddl<R: AllocGlobal>(
     rt: &R,
     domain: &[u8],
@@ -134,8 +136,8 @@ pub fn check_pddl<R: AllocGlobal>(
     answer_to(rt, &task, cert)
 }
 
-/// The same as `check_pddl`, but each text goes as soon as it is read: a certificate of millions of states is checked without its
-/// text in memory.
+/// The same as `check_pddl`, but each text is dropped as soon as it has been read, so that a certificate with millions
+/// of states is checked without its text in memory.
 pub fn check_pddl_owned<R: AllocGlobal>(
     rt: &R,
     domain: Vec<u8>,

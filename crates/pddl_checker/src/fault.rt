@@ -1,4 +1,4 @@
-//! Why there is no verdict.
+//! Faults of the texts that are checked.
 
 ghost use Rattle.std.specs.Prelude.{◌≡◌};
 ghost use Rattle.pddl_checker.specs.declared.fault.PlanningCheckFault.TheVariants.{OutOfMemory};
@@ -11,15 +11,15 @@ use std::alloc::{AllocError, AllocFailed};
 /// Why there is no verdict on the texts of a planning task and of a certificate.
 #[derive(Debug, Drop)]
 pub enum PlanningCheckFault {
-    /// Memory ran out. It says nothing of the texts.
+    /// Memory ran out. This does not depend on the texts.
     OutOfMemory,
-    /// The domain's or the problem's text is refused.
+    /// The text of the domain or of the problem is refused.
     Task(PddlFault),
-    /// The certificate's text is refused, or is for another kind of task (`Expected` in line 2).
+    /// The text of the certificate is refused, or it is one for a finite-domain task (`Expected` on line 2).
     Cert(CertFault),
-    /// F20: the certificate lists more than 262,144 atoms, or there are more than 1,048,576 actions over them.
+    /// F20: the certificate lists more than 262,144 atoms, or there are more than 1,048,576 ground actions over them.
     GroundLimit,
-    /// F18: the certificate has more than 65,536 variables, or one of more than 65,536 values.
+    /// F18: the certificate has more than 65,536 variables, or a variable with more than 65,536 values.
     Limit(TaskLimit),
 }
 

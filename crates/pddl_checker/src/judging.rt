@@ -24,7 +24,7 @@ use translate::with_variables;
 use translate_vars::TranslateFault;
 use variables::ListedVariable;
 
-// The words of the listed atom at the place.
+/// The words of the listed atom at the place. Fails only if allocation fails.
 fn listed_text(
     alloc: Global,
     task: &Task,
@@ -38,7 +38,8 @@ fn listed_text(
     words_text(alloc, &parts.atoms[place])
 }
 
-// The place that is printed for what is wrong first.
+/// The violation that the first fault of the listed atoms and variables stands for. Fails if the fault is a passed
+/// limit, or if allocation fails.
 fn place_of(
     alloc: Global,
     task: &Task,
@@ -71,7 +72,7 @@ fn place_of(
     }
 }
 
-// The verdict on the certificate for a finite-domain task.
+/// The verdict on the certificate for a finite-domain task. Fails only if allocation fails.
 fn verdict_over<R: AllocGlobal>(
     rt: &R,
     task: &FdrTask,
@@ -88,7 +89,7 @@ fn verdict_over<R: AllocGlobal>(
     }
 }
 
-// The atoms and the variables that the parts list.
+/// The atoms and the variables that a certificate lists.
 #[derive(Drop)]
 struct Listed {
     atoms: Vec<GroundAtom>,
@@ -105,11 +106,12 @@ fn listed_parts(alloc: Global, task: &Task, parts: &AtomParts) -> Result<Listed,
     Ok(Listed { atoms, variables })
 }
 
-/// The verdict on a certificate with these parts for a planning task: `Accepted` with its bound exactly where the atoms and variables
-/// are fit for the task and all clauses hold for the finite-domain task over them, and else `Rejected` with the first clause and
-/// place. Where it is accepted every valid plan costs at least the bound, whoever wrote it, and there is none where that is infinite.
+/// Returns the verdict on a certificate with these parts for a planning task: `Accepted` with its bound if the atoms
+/// and variables are fit for the task (C1 and C2) and the finite-domain task over them meets the clauses C3 to C8, and
+/// else `Rejected` with the first violation. After `Accepted` every valid plan costs at least the bound, whoever wrote
+/// the certificate, and there is no valid plan if the bound is infinite.
 ///
-/// An `Err` says that a limit of atoms, actions, variables or values is passed, or that memory ran out.
+/// Fails only if a limit on atoms, actions, variables or values is passed, or if allocation fails.
 pub fn judge<R: AllocGlobal>(
     rt: &R,
     task: &Task,

@@ -1,5 +1,6 @@
-//! The certificate checker over planning tasks: it says whether a certificate proves that every valid plan of a task costs at least its
-//! bound, from the texts of the task and of the certificate, and trusts nobody.
+//! The certificate checker for planning tasks. From the texts of a task and of a certificate it decides whether the
+//! certificate proves that every valid plan of the task costs at least its bound. It trusts neither the author of the
+//! certificate nor the search that it came from.
 #![tactic(auto)]
 
 mod checking;

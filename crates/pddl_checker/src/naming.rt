@@ -1,4 +1,4 @@
-//! What the words of a certificate name.
+//! The atoms that the words of a certificate name.
 
 ghost use Rattle.std.specs.Prelude.{◌≡◌, ◌++◌, ◌∷◌, [], map, slice_index_or, IfOk, OnOk, string_bytes};
 ghost use Rattle.std.specs.List.{flat_map};
@@ -14,7 +14,8 @@ use smallvec::SmallVec;
 use std::alloc::{AllocError, Global};
 use variables::ListedVariable;
 
-// The numbers of objects' names; a name of none has the number behind all.
+/// The numbers of the objects with these names. A name of no object has the number after all of them. Fails only if
+/// allocation fails.
 fn object_numbers(
     alloc: Global,
     names: &Names,
@@ -29,7 +30,7 @@ fn object_numbers(
     Ok(numbers)
 }
 
-// The atom that a predicate's name and objects' names name.
+/// The atom with this predicate and these objects, given by their names. Fails only if allocation fails.
 #[tactic(auto, using(crate::proofs::Lists::map_map))]
 fn named_by(
     alloc: Global,
@@ -44,7 +45,7 @@ fn named_by(
     Ok(GroundAtom::new(number, objects))
 }
 
-// The atom that the words name.
+/// The atom that the words name. Fails only if allocation fails.
 #[tactic(auto, using(crate::proofs::Lists::map_map))]
 fn named_atom(alloc: Global, names: &Vocabulary, words: &[String]) -> Result<GroundAtom, AllocError>
     ensures { IfOk result (λ p. p ≡ named names.now (texts_of words.now)) }
@@ -55,7 +56,8 @@ fn named_atom(alloc: Global, names: &Vocabulary, words: &[String]) -> Result<Gro
     }
 }
 
-/// The atoms that a certificate lists, by their words. What is no atom's name is an atom that the task does not have.
+/// The atoms that a certificate lists by their words. Words that do not name an atom give one that the task does not
+/// have. Fails only if allocation fails.
 pub(crate) fn named_atoms(
     alloc: Global,
     names: &Vocabulary,
@@ -80,7 +82,7 @@ fn places_of(alloc: Global, numbers: &[u32]) -> Result<Vec<usize>, AllocError>
     Ok(places)
 }
 
-/// The variables of a certificate.
+/// The variables of a certificate. Fails only if allocation fails.
 pub(crate) fn listed_variables(
     alloc: Global,
     variables: &[AtomVariable],
@@ -97,7 +99,7 @@ pub(crate) fn listed_variables(
     Ok(listed)
 }
 
-// Puts words behind a text, each behind a blank.
+/// Appends words to a text, each after a blank.
 fn push_words(text: &mut String, words: &[String]) -> Result<(), AllocError>
     ensures { OnOk result (string_bytes text.new ≡ string_bytes text.old ++ flat_map (λ w. 32 ∷ string_bytes w) words.now) }
 {
@@ -108,7 +110,7 @@ fn push_words(text: &mut String, words: &[String]) -> Result<(), AllocError>
     Ok(())
 }
 
-// Puts words behind a text, with blanks between them.
+/// Appends words to a text, with blanks between them.
 #[tactic(auto, using(crate::proofs::Lists::appending))]
 fn push_joined(text: &mut String, words: &[String]) -> Result<(), AllocError>
     ensures { OnOk result (string_bytes text.new ≡ string_bytes text.old ++ joined 32 (texts_of words.now)) }
@@ -122,7 +124,7 @@ fn push_joined(text: &mut String, words: &[String]) -> Result<(), AllocError>
     }
 }
 
-/// Words with blanks between them, in parentheses.
+/// Words with blanks between them, in parentheses. Fails only if allocation fails.
 #[tactic(auto, using(crate::proofs::Lists::appending))]
 pub(crate) fn words_text(alloc: Global, words: &[String]) -> Result<String, AllocError>
     ensures { IfOk result (λ text. string_bytes text ≡ words_text (texts_of words.now)) }
@@ -133,7 +135,7 @@ pub(crate) fn words_text(alloc: Global, words: &[String]) -> Result<String, Allo
     Ok(text)
 }
 
-// Puts the names of objects behind a text, each behind a blank.
+/// Appends the names of objects to a text, each after a blank.
 fn push_objects(text: &mut String, names: &Names, objects: &[usize]) -> Result<(), AllocError>
     ensures { OnOk result (string_bytes text.new ≡ string_bytes text.old
         ++ flat_map (λ o. 32 ∷ slice_index_or names.now o []) objects.now) }
@@ -145,14 +147,14 @@ fn push_objects(text: &mut String, names: &Names, objects: &[usize]) -> Result<(
     Ok(())
 }
 
-// The name of a number, and nothing where there is none.
+/// The name with this number, or the empty text if there is none.
 fn name_of(names: &Names, number: usize) -> &str
     ensures { result.now ≡ slice_index_or names.now number [] }
 {
     names.name(number).unwrap_or("")
 }
 
-/// An atom of the task by its names, as `words_text`.
+/// The names of an atom of the task, in the form of `words_text`. Fails only if allocation fails.
 #[tactic(auto, using(crate::proofs::Lists::appending))]
 pub(crate) fn atom_text(
     alloc: Global,

@@ -4,18 +4,20 @@ use checker_clauses::Violation;
 use cost::Dist;
 use std::fmt;
 
-/// Where a certificate fails for a planning task: the clause, and the place. Variables count from 0, and an atom is its words
-/// with blanks between them, in parentheses. It prints as `C1 atom (at a)`, `C2 var 0`, `C2 atom (at a)`, `C3 column 0 op 1`, and so on.
+/// A violation of a clause by a certificate for a planning task: the clause, and the place. Variables count from 0, and
+/// an atom is given by its words with blanks between them, in parentheses. It prints as `C1 atom (at a)`, `C2 var 0`,
+/// `C2 atom (at a)`, `C3 column 0 op 1`, and so on.
 #[derive(Debug, Drop)]
 pub enum PlanningViolation {
-    /// C1: the listed atom is no atom of the task or stands before, or the atom is not listed: it is initially true or a goal, or a listed
-    /// action adds it.
+    /// C1: the listed atom is not an atom of the task or is listed before; or the atom is missing from the list,
+    /// although it is initially true, a goal, or added by an action over the listed atoms.
     Atom(String),
-    /// C2: the variable has an atom that may not be in it, or is no group as it says.
+    /// C2: the variable has an atom that it must not have, or its atoms are not a mutex group of the kind that it
+    /// states.
     Variable(usize),
     /// C2: the listed atom is not constant, and in no variable.
     Uncovered(String),
-    /// C3 to C8, for the finite-domain task over the listed atoms and the variables.
+    /// C3 to C8: a violation for the finite-domain task over the listed atoms and the variables.
     Task(Violation),
 }
 
@@ -41,13 +43,13 @@ impl fmt::Display for PlanningViolation {
     }
 }
 
-/// What is said of a certificate for a planning task. It prints as `accepted N`, `accepted unsolvable`, or `rejected` with clause
-/// and place.
+/// The verdict on a certificate for a planning task. It prints as `accepted N`, as `accepted unsolvable`, or as
+/// `rejected` with clause and place.
 #[derive(Debug, Drop)]
 pub enum PlanningVerdict {
-    /// Every valid plan costs at least this. Infinite: there is none.
+    /// Every valid plan costs at least this much. If it is infinite, there is no valid plan.
     Accepted(Dist),
-    /// The certificate fails there, and nowhere before.
+    /// This is the first violation of the certificate.
     Rejected(PlanningViolation),
 }
 

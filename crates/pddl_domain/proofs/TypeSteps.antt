@@ -1,11 +1,11 @@
 -- Steps through the declarations of types.
 use Rattle.std.proofs.Common.{◌≡◌, ◌<◌, ◌≤◌, ◌+◌, ◌-◌, take, ℕ, Bool, true, false, cond, eqb, List, [], ◌∷◌, ◌++◌, length, map, drop, get_or, refl, sym, ap, subst, ◌∙◌, arith, append_assoc}
-use Rattle.std.specs.Prelude.{Option, Some, None, unwrap_or}
+use Rattle.std.specs.Prelude.{Option, Some, None, unwrap_or, codes}
 use Rattle.std.specs.List.{All, AllByRecursion, range_with_len}
 use Rattle.std.specs.Option.{option_map, IfSome}
 use Rattle.std.specs.String.{string_bytes}
-use Rattle.std.proofs.lemmas.List.{take_rest}
-use Rattle.std.proofs.lemmas.List.Elements.{All-from_recursion, All-same}
+use Rattle.std.proofs.lemmas.List.{take_rest, take_more}
+use Rattle.std.proofs.lemmas.List.Elements.{All-from_recursion, recursion_from_All, All-same}
 use Rattle.std.proofs.lemmas.List.FromFn.{length-map-range_with_len, get_or-map-range_with_len}
 use Rattle.names.specs.Names.{is_there, number_of, with_name}
 use Rattle.names.proofs.NameLists.{with_name-there, number_of-there, is_there-with_name_kept, is_there-with_name_itself}
@@ -18,7 +18,7 @@ use Rattle.pddl_syntax.specs.Typed.{Declared, spread, spread_run, with_type}
 use Rattle.pddl_syntax.specs.Parameters.{names_with}
 use Rattle.pddl_syntax.proofs.ParameterSteps.{spread_at, listed_at}
 use Rattle.pddl_domain.specs.declared.types.Subtype.{Subtype}
-use Rattle.pddl_domain.specs.Types.{with_parent, all_types, numbered, first_of_name, first_parent, parent_of, parents, is_twice, is_cyclic, subtype_faults}
+use Rattle.pddl_domain.specs.Types.{with_parent, all_types, type_names, numbered, first_of_name, first_parent, parent_of, parents, is_twice, is_cyclic, subtype_faults}
 
 -- ---- the names
 
@@ -73,6 +73,13 @@ map_append : {A B : Type 0} (f : A → B) (xs ys : List A) → map f (xs ++ ys) 
 map_append f [] ys = refl
 map_append f (x ∷ xs) ys = ap (λ (zs : List _). f x ∷ zs) (map_append f xs ys)
 
+-- one more item of a list that is mapped from its start
+pub mapped_more : {A B : Type 0} (f : A → B) (xs : List A) (i : ℕ) (d : A) (old new : List B) → i < length xs → old ≡ map f (take i xs) → new ≡ old ++ f (get_or xs i d) ∷ []
+    → new ≡ map f (take (i + 1) xs)
+mapped_more f xs i d old new lt e grown =
+    grown ∙ ap (λ (ys : List _). ys ++ f (get_or xs i d) ∷ []) e ∙ sym (map_append f (take i xs) (get_or xs i d ∷ []))
+    ∙ sym (ap (map f) (take_more xs i d lt))
+
 pub numbers_run : (names : List (List ℕ)) (old new : List Subtype) (rs : List Run) (i : ℕ) (r : Run) → i < length rs → r ≡ get_or rs i r → new ≡ old ++ map (numbered names) (spread_run r)
     → new ++ map (numbered names) (spread (drop (i + 1) rs)) ≡ old ++ map (numbered names) (spread (drop i rs))
 numbers_run names old new rs i r lt is e =
@@ -114,21 +121,30 @@ within_by all names (d ∷ ds) e =
     let has : HasParent all d.parent = subst (λ (k : List (List ℕ)). HasParent k d.parent) e (parent_stays next ds d.parent (has_parent (with_name names d.name) d.parent)) in
     (record { name = number_of-there all d.name named; parent = parent_within all d.parent has }, within_by all next ds e)
 
-pub within : (names : List (List ℕ)) (ds : List Declared) → AllByRecursion (IsWithin (length (all_types names ds))) (map (numbered (all_types names ds)) ds)
-within names ds = within_by (all_types names ds) names ds refl
+weaker_by : (P Q : Subtype → Type 0) → ((d : Subtype) → P d → Q d) → (ds : List Subtype) → AllByRecursion P ds → AllByRecursion Q ds
+weaker_by P Q f [] h = tt
+weaker_by P Q f (d ∷ ds) h = (f d h.0, weaker_by P Q f ds h.1)
 
-names_within_by : (count : ℕ) (ds : List Subtype) → AllByRecursion (IsWithin count) ds → AllByRecursion (λ (d : Subtype). d.name < count) ds
-names_within_by count [] h = tt
-names_within_by count (d ∷ ds) h = (h.0.name, names_within_by count ds h.1)
+each_within : (Q : ℕ → Subtype → Type 0) → ((m : ℕ) (d : Subtype) → IsWithin m d → Q m d) → (names : List (List ℕ)) (ds : List Declared) (xs : List Subtype) (n : ℕ)
+    → names ≡ type_names ds → xs ≡ map (numbered names) ds → n ≡ length names → All (Q n) xs
+each_within Q f names ds xs n named is n_is =
+    let all : AllByRecursion (IsWithin (length names)) (map (numbered names) ds) = within_by names (codes "object" ∷ []) ds (sym named) in
+    subst (λ (m : ℕ). All (Q m) xs) (sym n_is)
+    (All-same (Q (length names)) xs (map (numbered names) ds) is
+    (All-from_recursion (Q (length names)) (map (numbered names) ds) (weaker_by (IsWithin (length names)) (Q (length names)) (f (length names)) (map (numbered names) ds) all)))
 
-pub names_within : (count : ℕ) (ds : List Subtype) → AllByRecursion (IsWithin count) ds → (xs : List Subtype) (n : ℕ) → xs ≡ ds → n ≡ count → All (λ (d : Subtype). d.name < n) xs
-names_within count ds h xs n xs_are n_is =
-    subst (λ (m : ℕ). All (λ (d : Subtype). d.name < m) xs) (sym n_is)
-    (All-same (λ (d : Subtype). d.name < count) xs ds xs_are (All-from_recursion (λ (d : Subtype). d.name < count) ds (names_within_by count ds h)))
+-- the numbers of declarations are of the types that they name
+pub names_within : (names : List (List ℕ)) (ds : List Declared) (xs : List Subtype) (n : ℕ)
+    → names ≡ type_names ds → xs ≡ map (numbered names) ds → n ≡ length names → All (λ (d : Subtype). d.name < n) xs
+names_within = each_within (λ (m : ℕ) (d : Subtype). d.name < m) (λ m d h. h.name)
+
+pub supertypes_within : (names : List (List ℕ)) (ds : List Declared) (xs : List Subtype) (n : ℕ)
+    → names ≡ type_names ds → xs ≡ map (numbered names) ds → n ≡ length names → All (λ (d : Subtype). IfSome d.parent (λ p. p < n)) xs
+supertypes_within = each_within (λ (m : ℕ) (d : Subtype). IfSome d.parent (λ p. p < m)) (λ m d h. h.parent)
 
 -- ---- the supertypes
 
-first_parent-within : (count : ℕ) → 0 < count → (n : ℕ) (ds : List Subtype) → AllByRecursion (IsWithin count) ds → parent_of ds n < count
+first_parent-within : (count : ℕ) → 0 < count → (n : ℕ) (ds : List Subtype) → AllByRecursion (λ (d : Subtype). IfSome d.parent (λ p. p < count)) ds → parent_of ds n < count
 first_parent-within count some n [] h = some
 first_parent-within count some n (d ∷ ds) h = by (eqb d.name n) (first_parent-within count some n ds h.1)
   where
@@ -137,15 +153,15 @@ first_parent-within count some n (d ∷ ds) h = by (eqb d.name n) (first_parent-
     own (Some k) within = within
 
     by : (b : Bool) → parent_of ds n < count → first_parent (cond b (Some d) (first_of_name ds n)) < count
-    by true later = own d.parent h.0.parent
+    by true later = own d.parent h.0
     by false later = later
 
-pub parents_within : (count : ℕ) (ds : List Subtype) → AllByRecursion (IsWithin count) ds → (xs : List ℕ) → xs ≡ parents ds count → All (λ (s : ℕ). s < length xs) xs
+pub parents_within : (count : ℕ) (ds : List Subtype) → All (λ (d : Subtype). IfSome d.parent (λ p. p < count)) ds → (xs : List ℕ) → xs ≡ parents ds count → All (λ (s : ℕ). s < length xs) xs
 parents_within count ds h xs is k d lt =
     let long : length xs ≡ count = ap length is ∙ length-map-range_with_len (parent_of ds) 0 count in
     let short : k < count = omega (arith, long, lt) in
     let at : get_or xs k d ≡ parent_of ds k = ap (λ (ys : List ℕ). get_or ys k d) is ∙ get_or-map-range_with_len (parent_of ds) 0 count k k d short (omega arith) in
-    omega (arith, at, long, first_parent-within count (omega (arith, short)) k ds h)
+    omega (arith, at, long, first_parent-within count (omega (arith, short)) k ds (recursion_from_All (λ (e : Subtype). IfSome e.parent (λ p. p < count)) ds h))
 
 pub parents_are : (ds : List Subtype) (count : ℕ) (firsts : List (Option Subtype)) → firsts ≡ map (first_of_name ds) (range_with_len 0 count) → map first_parent firsts ≡ parents ds count
 parents_are ds count firsts is = ap (map first_parent) is ∙ each (range_with_len 0 count)
@@ -170,19 +186,19 @@ same_faults first other on_cycle other_cycle (d ∷ ds) h =
     cyclic : Bool → Bool
     cyclic b = is_cyclic (λ n. b) d
 
-pub table_faults : (count : ℕ) (ds : List Subtype) → AllByRecursion (IsWithin count) ds → (first : ℕ → Option Subtype) (on_cycle : ℕ → Bool)
+pub table_faults : (count : ℕ) (ds : List Subtype) → All (λ (d : Subtype). d.name < count) ds → (first : ℕ → Option Subtype) (on_cycle : ℕ → Bool)
     → (firsts : List (Option Subtype)) → firsts ≡ map first (range_with_len 0 count) → (marks : List Bool) → marks ≡ map on_cycle (range_with_len 0 count)
     → subtype_faults (λ n. get_or firsts n None) (λ n. get_or marks n false) ds ≡ subtype_faults first on_cycle ds
 table_faults count ds h first on_cycle firsts firsts_are marks marks_are =
-    same_faults (λ n. get_or firsts n None) first (λ n. get_or marks n false) on_cycle ds (each ds h)
+    same_faults (λ n. get_or firsts n None) first (λ n. get_or marks n false) on_cycle ds (each ds (recursion_from_All (λ (d : Subtype). d.name < count) ds h))
   where
-    each : (es : List Subtype) → AllByRecursion (IsWithin count) es
+    each : (es : List Subtype) → AllByRecursion (λ (d : Subtype). d.name < count) es
         → AllByRecursion (λ (d : Subtype). (get_or firsts d.name None ≡ first d.name) × (get_or marks d.name false ≡ on_cycle d.name)) es
     each [] g = tt
     each (d ∷ es) g = (
       (
-        ap (λ (xs : List (Option Subtype)). get_or xs d.name None) firsts_are ∙ get_or-map-range_with_len first 0 count d.name d.name None g.0.name (omega arith),
-        ap (λ (xs : List Bool). get_or xs d.name false) marks_are ∙ get_or-map-range_with_len on_cycle 0 count d.name d.name false g.0.name (omega arith),
+        ap (λ (xs : List (Option Subtype)). get_or xs d.name None) firsts_are ∙ get_or-map-range_with_len first 0 count d.name d.name None g.0 (omega arith),
+        ap (λ (xs : List Bool). get_or xs d.name false) marks_are ∙ get_or-map-range_with_len on_cycle 0 count d.name d.name false g.0 (omega arith),
       ),
       each es g.1,
     )

@@ -1,13 +1,13 @@
--- Cycles of supertypes, in the list of the supertype of each type.
+-- Cycles of supertypes, where `supertypes` lists the supertype of each type.
 use Rattle.std.specs.Prelude.{◌≡◌, ℕ, zero, suc, ◌≤◌, ◌==◌, Bool, List, length, slice_index}
 use Rattle.std.specs.List.{list_any, range_with_len}
 
--- the type so many steps above a type
+-- the type reached from a type after this many steps to the supertype
 abbrev pub ancestor : List ℕ → ℕ → ℕ → ℕ
 ancestor supertypes zero n = n
 ancestor supertypes (suc steps) n = ancestor supertypes steps (slice_index supertypes n)
 
--- some number of steps, and at least one, leads from the type back to it
+-- one or more steps to the supertype lead from the type back to it
 abbrev pub LiesOnCycle : List ℕ → ℕ → Type 0
 LiesOnCycle supertypes n = (steps : ℕ) × (1 ≤ steps) × (ancestor supertypes steps n ≡ n)
 

@@ -1,4 +1,4 @@
--- The sections of the predicates and of the functions: what they mean, and their faults.
+-- The sections of the predicates and of the functions: their meaning and their faults.
 use Rattle.std.specs.Prelude.{ℕ, ◌+◌, not, nat_le, Bool, true, false, if◌then◌else◌, List, [], ◌∷◌, ◌++◌, length, codes}
 use Rattle.sexp.specs.Forms.{Forms, none, word, group}
 use Rattle.names.specs.Names.{same_text, is_there}
@@ -21,11 +21,11 @@ abbrev pub with_item : WordKind → Heads → List ℕ → Forms → Heads
 with_item Name heads t parameters = with_head heads t (length (declared true parameters))
 with_item kind heads t parameters = heads
 
--- an item behind so many
+-- the fault of an item that follows `count` others, if it is past the limit
 abbrev pub past_limit : LimitedTable → ℕ → ℕ → List Fault → List Fault
 past_limit table count at fs = faults_if (nat_le 512 count) (fault (Limit table) at) fs
 
--- of an item at a place, whose head is a word at another place
+-- the faults of an item at the place `at`, whose head is a word at the place `head_at`
 abbrev pub item_faults : (List ℕ → Bool) → LimitedTable → Heads → ℕ → ℕ → ℕ → WordKind → List ℕ → Forms → List Fault
 item_faults known table heads count at head_at Name t parameters =
     past_limit table count at (faults_if (is_there heads.names t) (fault TwiceDeclared head_at) (parameters_faults known at parameters))
@@ -34,11 +34,11 @@ item_faults known table heads count at head_at kind t parameters =
 
 -- ---- predicates
 
--- an item named `=` is read over
+-- an item named `=` is skipped
 abbrev pub is_equals : List ℕ → Bool
 is_equals t = same_text t (codes "=")
 
--- the heads with those of a section
+-- the heads with those of the items of a section
 abbrev pub predicate_heads : Heads → Forms → Heads
 predicate_heads heads none = heads
 predicate_heads heads (word s e t f) = predicate_heads heads f
@@ -47,7 +47,7 @@ predicate_heads heads (group s e (group hs he head i) f) = predicate_heads heads
 predicate_heads heads (group s e (word hs he t i) f) =
     predicate_heads (if is_equals t then heads else with_item (word_kind t) heads t i) f
 
--- behind so many items, which had those heads
+-- the faults of items that follow `count` others, which declared `heads`
 abbrev pub predicates_faults : (List ℕ → Bool) → Heads → ℕ → Forms → List Fault
 predicates_faults known heads count none = []
 predicates_faults known heads count (word s e t f) = fault Shape s ∷ predicates_faults known heads count f
@@ -61,12 +61,12 @@ predicates_faults known heads count (group s e (word hs he t i) f) =
 
 -- ---- functions
 
--- a word among the functions: a hyphen, behind which a form is passed over, or any other
+-- the first result for a hyphen, behind which one expression is skipped, and the second for any other word
 abbrev pub by_hyphen : {A : Type 0} → WordKind → A → A → A
 by_hyphen Dash behind later = behind
 by_hyphen kind behind later = later
 
--- the heads with those of a section, from an item's place on and from a number's place on
+-- the heads with those of the items of a section, where an item comes next, and where a type comes next
 abbrev mutual
   pub function_heads : Heads → Forms → Heads
   function_heads heads none = heads
@@ -80,17 +80,18 @@ abbrev mutual
   heads_behind heads (word s e t f) = function_heads heads f
   heads_behind heads (group s e i f) = function_heads heads f
 
--- of a word behind a hyphen, which is to be `number`, and others
+-- the fault of a word behind a hyphen, which must be `number`, and other faults
 abbrev pub number_faults : ℕ → List ℕ → List Fault → List Fault
 number_faults s t rest = faults_if (not (same_text t (codes "number"))) (fault Unsupported s) rest
 
--- a word among the functions, where the run so far has no item or some
+-- the faults of a word among the functions, in a run that is empty so far or not
 abbrev pub word_faults : ℕ → WordKind → Bool → List Fault → List Fault → List Fault
 word_faults s Dash empty behind later = faults_if empty (fault Shape s) behind
 word_faults s kind empty behind later = fault Shape s ∷ later
 
--- Behind so many items, which had those heads, of which the run so far has none or some: from an item's place on and
--- from a number's place on. A number that is missing is missing in the section.
+-- The faults of items that follow `count` others, which declared `heads`, in a run that is empty so far or not: where
+-- an item comes next, and where a type comes next. A type that is missing is a fault at the section, which is at
+-- `home`.
 abbrev mutual
   pub functions_faults : (List ℕ → Bool) → ℕ → Bool → Heads → ℕ → Forms → List Fault
   functions_faults known home empty heads count none = []
@@ -108,14 +109,14 @@ abbrev mutual
   faults_behind known home heads count (word s e t f) = number_faults s t (functions_faults known home true heads count f)
   faults_behind known home heads count (group s e i f) = type_group_faults s i ++ functions_faults known home true heads count f
 
--- ---- the state of the code, which wants an item or a number
+-- ---- the state of the code, in which an item or a type comes next
 
--- the heads with those of what is left, where a number is wanted or not
+-- the heads with those of the remaining items, where a type comes next or not
 abbrev pub heads_from : Bool → Heads → Forms → Heads
 heads_from false heads f = function_heads heads f
 heads_from true heads f = heads_behind heads f
 
--- the faults of what is left, where a number is wanted or not
+-- the faults of the remaining items, where a type comes next or not
 abbrev pub faults_from : Bool → (List ℕ → Bool) → ℕ → Bool → Heads → ℕ → Forms → List Fault
 faults_from false known home empty heads count f = functions_faults known home empty heads count f
 faults_from true known home empty heads count f = faults_behind known home heads count f

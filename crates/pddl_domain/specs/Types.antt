@@ -1,4 +1,4 @@
--- The section of the types: what it means, and its faults.
+-- The section of the types: its meaning and its faults.
 use Rattle.std.specs.Prelude.{ℕ, ◌==◌, Bool, true, false, not, if◌then◌else◌, List, [], ◌∷◌, ◌++◌, map, length, find, Option, Some, None, unwrap_or, codes}
 use Rattle.std.specs.List.{range_with_len}
 use Rattle.std.specs.Option.{option_map, option_map_or}
@@ -13,33 +13,33 @@ use Rattle.pddl_domain.specs.Cycles.{lies_on_cycle}
 
 -- ---- the meaning
 
--- the names with that of a supertype, where it can be read
+-- the names with that of the supertype, if it can be read
 abbrev pub with_parent : List (List ℕ) → Option (List ℕ) → List (List ℕ)
 with_parent names None = names
 with_parent names (Some t) = with_name names t
 
--- a declaration's name and its supertype are types
+-- the names with those of the declared types and of their supertypes
 abbrev pub all_types : List (List ℕ) → List Declared → List (List ℕ)
 all_types names [] = names
 all_types names (d ∷ ds) = all_types (with_parent (with_name names d.name) d.parent) ds
 
--- the types, of which `object` is the first
+-- the names of the types, `object` first
 abbrev pub type_names : List Declared → List (List ℕ)
 type_names ds = all_types (codes "object" ∷ []) ds
 
--- a declaration in numbers
+-- a declaration by numbers
 abbrev pub numbered : List (List ℕ) → Declared → Subtype
 numbered names d = record { name = number_of names d.name; at = d.at; parent = option_map (number_of names) d.parent }
 
--- the declarations of a section in numbers
+-- the declarations of a section, by numbers
 abbrev pub subtypes : List Declared → List Subtype
 subtypes ds = map (numbered (type_names ds)) ds
 
--- the first mention of a type as a subtype
+-- the first declaration of a type, if it has one
 abbrev pub first_of_name : List Subtype → ℕ → Option Subtype
 first_of_name ds n = find (λ d. d.name == n) ds
 
--- the supertype of that mention, and `object` where there is none
+-- the supertype in that declaration, or `object` if there is none
 abbrev pub first_parent : Option Subtype → ℕ
 first_parent first = option_map_or (λ d. unwrap_or d.parent 0) first 0
 
@@ -47,7 +47,7 @@ first_parent first = option_map_or (λ d. unwrap_or d.parent 0) first 0
 abbrev pub parent_of : List Subtype → ℕ → ℕ
 parent_of ds n = first_parent (first_of_name ds n)
 
--- the supertype of each of so many types
+-- the supertype of each of `count` types
 abbrev pub parents : List Subtype → ℕ → List ℕ
 parents ds count = map (parent_of ds) (range_with_len 0 count)
 
@@ -57,28 +57,28 @@ supertypes ds = parents (subtypes ds) (length (type_names ds))
 
 -- ---- the faults
 
--- two numbers that are there and are different
+-- both numbers are given, and they differ
 abbrev pub differs : Option ℕ → Option ℕ → Bool
 differs (Some a) (Some b) = not (a == b)
 differs (Some a) None = false
 differs None other = false
 
--- declared under another type than at the first mention
+-- a declaration with another supertype than in the first one
 abbrev pub is_twice : Option Subtype → Subtype → Bool
 is_twice first d = option_map_or (λ e. differs e.parent d.parent) first false
 
--- `object` lies on a cycle where it is declared under another type
+-- `object` lies on a cycle if it is declared with another supertype
 abbrev pub is_cyclic : (ℕ → Bool) → Subtype → Bool
 is_cyclic on_cycle d = if d.name == 0 then differs (Some 0) d.parent else on_cycle d.name
 
--- of declarations, by the first declaration of each type and the types on cycles
+-- the faults of declarations, by the first declaration of each type and the types on cycles
 abbrev pub subtype_faults : (ℕ → Option Subtype) → (ℕ → Bool) → List Subtype → List Fault
 subtype_faults first on_cycle [] = []
 subtype_faults first on_cycle (d ∷ ds) =
     faults_if (is_twice (first d.name) d) (fault TwiceDeclared d.at)
     (faults_if (is_cyclic on_cycle d) (fault TypeCycle d.at) (subtype_faults first on_cycle ds))
 
--- of the section at a place
+-- the faults of the section at `home`
 abbrev pub types_faults : ℕ → Forms → List Fault
 types_faults home f =
     typed_faults false (λ t. true) home true f

@@ -13,15 +13,16 @@ ghost use Rattle.pddl_domain.specs.DeclaredHeads as spec;
 ghost use Rattle.pddl_domain.specs.DeclaredHeads.{with_item, past_limit, item_faults, predicate_heads, predicates_faults, function_heads, functions_faults, faults_behind, heads_from, faults_from};
 
 use pddl_syntax::{
-    Fault, FaultKind, Heads, LimitedTable, Types, WordKind, blame, blame_if, parameters_list,
-    word_kind,
+    Fault, FaultKind, Heads, LimitedTable, Parameters, Types, WordKind, blame, blame_if,
+    parameters_list, word_kind,
 };
 use sexp::Tree;
 use std::alloc::{AllocError, Global};
 
 const MAX_HEADS: usize = 512;
 
-/// An item `(HEAD PARAMETERS)`, whose head is a word, and the bytes at which it and its head begin.
+/// An item `(HEAD PARAMETERS)` whose head is a word, with the bytes at which the item and its head begin, counted from
+/// 0.
 #[derive(Clone, Copy)]
 struct Item<'a> {
     at: usize,
@@ -30,7 +31,7 @@ struct Item<'a> {
     parameters: &'a [Tree],
 }
 
-/// The predicates or functions that were read, and how many items these were.
+/// The predicates or functions read so far, and the number of items counted.
 #[derive(Drop)]
 struct Declarations {
     heads: Heads,
@@ -54,7 +55,7 @@ impl Declarations {
         }
     }
 
-    /// Counts an item, and notes whether it is past the limit.
+    /// Counts an item, and records it as a fault if it is past the limit.
     fn count_item(&mut self, table: LimitedTable, at: usize, first: &mut Option<Fault>)
         requires { self.old.count < usize.MAX }
         ensures heads { self.new.heads ≡ self.old.heads }
@@ -65,7 +66,30 @@ impl Declarations {
         self.count += 1;
     }
 
-    /// Reads an item.
+    /// Counts an item, and records its head as a fault if it is not a name or is declared already.
+    #[tactic(auto, unfolding(pddl_syntax::specs::Faults::first_of))]
+    fn count_head(&mut self, table: LimitedTable, item: Item, first: &mut Option<Fault>)
+        requires { self.old.count < usize.MAX }
+        ensures heads { self.new.heads ≡ self.old.heads }
+        ensures count { self.new.count ≡ self.old.count + 1 }
+        ensures faults { (known : List ℕ → Bool) (parameters : Forms) →
+            first_of first.old (item_faults known table self.old.heads self.old.count item.entry.at item.entry.head_at (word_kind item.entry.head.now) item.entry.head.now parameters)
+            ≡ first_of first.new (parameters_faults known item.entry.at parameters) }
+    {
+        self.count_item(table, item.at, first);
+        if word_kind(item.head) == WordKind::Name {
+            blame_if(
+                self.heads.names().contains(item.head),
+                first,
+                item.head_at,
+                FaultKind::TwiceDeclared,
+            );
+        } else {
+            blame(first, item.head_at, FaultKind::Shape);
+        }
+    }
+
+    /// Reads an item and records its faults. Fails only if allocation fails.
     #[tactic(auto, unfolding(pddl_syntax::specs::Faults::first_of))]
     fn read_item(
         &mut self,
@@ -81,24 +105,22 @@ impl Declarations {
         ensures faults { OnOk result (first.new ≡ first_of first.old (item_faults (is_there types.now.names) table self.old.heads self.old.count
             item.entry.at item.entry.head_at (word_kind item.entry.head.now) item.entry.head.now (views item.entry.parameters.now))) }
     {
-        self.count_item(table, item.at, first);
+        self.count_head(table, item, first);
+        let arity = arity_of(alloc, item.parameters, types, item.at, first)?;
         if word_kind(item.head) != WordKind::Name {
-            blame(first, item.head_at, FaultKind::Shape);
-            let _arity = arity_of(alloc, item.parameters, types, item.at, first)?;
             return Ok(());
         }
-        blame_if(
-            self.heads.names().contains(item.head),
-            first,
-            item.head_at,
-            FaultKind::TwiceDeclared,
-        );
-        let arity = arity_of(alloc, item.parameters, types, item.at, first)?;
         self.heads.add(alloc, item.head, arity)
     }
 }
 
-/// How many variables are declared, whose faults are noted.
+fn variable_count(parameters: &Parameters) -> usize
+    ensures { result ≡ length parameters.now.types.items }
+{
+    parameters.types.len()
+}
+
+/// The number of variables that the list at `home` declares. Their faults are recorded in `first`.
 fn arity_of(
     alloc: Global,
     parameters: &[Tree],
@@ -110,12 +132,12 @@ fn arity_of(
     ensures faults { OnOk result (first.new ≡ first_of first.old (parameters_faults (is_there types.now.names) home (views parameters.now))) }
 {
     let parameters = parameters_list(alloc, parameters, types, home, first)?;
-    Ok(parameters.types.len())
+    Ok(variable_count(&parameters))
 }
 
 // ---- predicates
 
-/// Reads what stands in an item of the predicates behind its parenthesis: a head and parameters.
+/// Reads an item of the predicates that has a head.
 fn read_predicate_head(
     alloc: Global,
     types: &Types,
@@ -153,7 +175,7 @@ fn read_predicate_head(
     }
 }
 
-/// Reads a list among the predicates.
+/// Reads an item of the predicates that is a list.
 #[tactic(auto, unfolding(pddl_syntax::specs::Faults::first_of))]
 fn read_predicate(
     alloc: Global,
@@ -180,7 +202,7 @@ fn read_predicate(
     }
 }
 
-/// Reads the next tree of the predicates.
+/// Reads the next item of the predicates.
 fn read_predicates_tree(
     alloc: Global,
     types: &Types,
@@ -205,10 +227,29 @@ fn read_predicates_tree(
     }
 }
 
-/// Reads the section of the predicates, the items behind its head, and notes its faults.
+/// Reads the items of the predicates.
+#[tactic(auto, unfolding(pddl_syntax::specs::Faults::first_of))]
+fn read_predicates(
+    alloc: Global,
+    types: &Types,
+    predicates: &mut Declarations,
+    items: &[Tree],
+    first: &mut Option<Fault>,
+) -> Result<(), AllocError>
+    requires { predicates.old.count ≡ 0 }
+    ensures heads { OnOk result (predicates.new.heads ≡ predicate_heads predicates.old.heads (views items.now)) }
+    ensures faults { OnOk result (first.new ≡ first_of first.old (predicates_faults (is_there types.now.names) predicates.old.heads predicates.old.count (views items.now))) }
+{
+    for tree in items {
+        read_predicates_tree(alloc, types, predicates, tree, first)?;
+    }
+    Ok(())
+}
+
+/// Reads the section of the predicates, whose items without its head are `items`, and records its faults in `first`.
 ///
-/// An item named `=` is read over, since `=` is there by itself. A predicate that is declared twice keeps the number of parameters
-/// of its first declaration (Fox and Long 2003; McDermott and others 1998). An `Err` is of too little memory.
+/// An item named `=` is skipped, since `=` is predefined. A predicate that is declared twice keeps the number of
+/// parameters of its first declaration (Fox and Long 2003; McDermott and others 1998). Fails only if allocation fails.
 #[tactic(auto, unfolding(pddl_syntax::specs::Faults::first_of))]
 pub fn predicates_section(
     alloc: Global,
@@ -220,19 +261,17 @@ pub fn predicates_section(
     ensures faults { OnOk result (first.new ≡ first_of first.old (predicates_faults (is_there types.now.names) no_heads 0 (views items.now))) }
 {
     let mut predicates = Declarations::new(alloc);
-    for tree in items {
-        read_predicates_tree(alloc, types, &mut predicates, tree, first)?;
-    }
+    read_predicates(alloc, types, &mut predicates, items, first)?;
     Ok(predicates.heads)
 }
 
 // ---- functions
 
-/// The part of the section of the functions that was read.
+/// The state of reading the section of the functions: what was read so far.
 #[derive(Drop)]
 struct Functions {
     declarations: Declarations,
-    /// Whether the run so far, behind the last number, has no item.
+    /// Whether no item was read since the last type.
     is_empty: bool,
     wants_number: bool,
 }
@@ -249,7 +288,7 @@ fn is_either(text: &str) -> bool
     text == "either"
 }
 
-/// Where the word `either` stands, if it is this tree.
+/// The place of the tree if it is the word `either`.
 fn either_at(tree: &Tree) -> Option<usize>
     ensures { (rest : Forms) → result ≡ either_at (before tree.now rest) }
 {
@@ -274,7 +313,7 @@ fn head_either_at(items: &[Tree]) -> Option<usize>
     }
 }
 
-/// A list where `number` is wanted.
+/// Records the fault of a list where `number` is expected: F11 at the word `either` if that is its head, otherwise F10.
 #[tactic(auto, unfolding(pddl_syntax::specs::Faults::first_of))]
 fn blame_number_list(items: &[Tree], at: usize, first: &mut Option<Fault>)
     ensures { first.new ≡ first_of first.old (type_group_faults at (views items.now)) }
@@ -285,7 +324,7 @@ fn blame_number_list(items: &[Tree], at: usize, first: &mut Option<Fault>)
     }
 }
 
-/// A tree where `number` is wanted.
+/// Records the fault of a tree where `number` is expected.
 fn blame_number(tree: &Tree, first: &mut Option<Fault>)
     ensures { (known : List ℕ → Bool) (home : ℕ) (heads : DeclaredHeads) (count : ℕ) (rest : Forms) →
         first_of first.old (faults_behind known home heads count (before tree.now rest)) ≡ first_of first.new (functions_faults known home true heads count rest) }
@@ -315,7 +354,7 @@ impl Functions {
         }
     }
 
-    /// Reads a word where an item is wanted.
+    /// Reads a word where an item is expected.
     #[tactic(auto, unfolding(pddl_syntax::specs::Faults::first_of))]
     fn read_word(&mut self, text: &str, at: usize, first: &mut Option<Fault>)
         requires { self.old.wants_number ≡ false }
@@ -334,7 +373,7 @@ impl Functions {
         }
     }
 
-    /// Reads what stands in an item behind its parenthesis: a head and parameters.
+    /// Reads an item that has a head.
     fn read_head(
         &mut self,
         alloc: Global,
@@ -373,7 +412,7 @@ impl Functions {
         }
     }
 
-    /// Reads a list where an item is wanted.
+    /// Reads a list where an item is expected.
     #[tactic(auto, unfolding(pddl_syntax::specs::Faults::first_of))]
     fn read_list(
         &mut self,
@@ -400,7 +439,7 @@ impl Functions {
         }
     }
 
-    /// Reads the next tree.
+    /// Reads the next tree of the section.
     fn read(
         &mut self,
         alloc: Global,
@@ -430,12 +469,35 @@ impl Functions {
             Tree::List { items, span } => self.read_list(alloc, types, items, span.start, first),
         }
     }
+
+    /// Reads all trees of the section at `home`.
+    #[tactic(auto, unfolding(pddl_syntax::specs::Faults::first_of))]
+    fn read_all(
+        &mut self,
+        alloc: Global,
+        types: &Types,
+        items: &[Tree],
+        home: usize,
+        first: &mut Option<Fault>,
+    ) -> Result<(), AllocError>
+        requires { self.old.declarations.count ≡ 0 }
+        ensures heads { OnOk result (self.new.declarations.heads ≡ heads_from self.old.wants_number self.old.declarations.heads (views items.now)) }
+        ensures faults { OnOk result (first.new ≡ first_of first.old
+            (faults_from self.old.wants_number (is_there types.now.names) home self.old.is_empty self.old.declarations.heads self.old.declarations.count (views items.now))) }
+    {
+        for tree in items {
+            self.read(alloc, types, tree, first)?;
+        }
+        blame_if(self.wants_number, first, home, FaultKind::Shape);
+        Ok(())
+    }
 }
 
-/// Reads the section of the functions, the items behind its head, and notes its faults. The section stands at a place.
+/// Reads the section of the functions at `home`, whose items without its head are `items`, and records its faults in
+/// `first`.
 ///
-/// Behind items `- number` may stand, which says nothing more (Fox and Long 2003). A function that is declared twice keeps the
-/// number of parameters of its first declaration. An `Err` is of too little memory.
+/// `- number` may follow items and adds nothing to their meaning (Fox and Long 2003). A function that is declared twice
+/// keeps the number of parameters of its first declaration. Fails only if allocation fails.
 #[tactic(auto, unfolding(pddl_syntax::specs::Faults::first_of))]
 pub fn functions_section(
     alloc: Global,
@@ -448,11 +510,6 @@ pub fn functions_section(
     ensures faults { OnOk result (first.new ≡ first_of first.old (functions_faults (is_there types.now.names) home true no_heads 0 (views items.now))) }
 {
     let mut functions = Functions::new(alloc);
-    for tree in items {
-        functions.read(alloc, types, tree, first)?;
-    }
-    if functions.wants_number {
-        blame(first, home, FaultKind::Shape);
-    }
+    functions.read_all(alloc, types, items, home, first)?;
     Ok(functions.declarations.heads)
 }

@@ -1,5 +1,5 @@
-//! What a domain declares: its types, its constants and the objects of a problem, its predicates and its functions,
-//! each with the faults of its section.
+//! The declarations of a domain: its types, its constants and the objects of a problem, its predicates and its
+//! functions, each with the faults of its section.
 #![tactic(auto)]
 
 mod cycles;

@@ -1,4 +1,4 @@
-//! The sections of the objects.
+//! The sections of the constants and the objects.
 
 ghost use Rattle.std.specs.Prelude.{◌≡◌, ◌++◌, ◌∷◌, ◌<◌, [], ℕ, List, Option, length, OnOk, IfOk, false};
 ghost use Rattle.std.specs.Option.{option_map, IfSome};
@@ -19,17 +19,18 @@ use std::marker::Model;
 
 const MAX_OBJECTS: usize = 4096;
 
-/// The objects of a task, in the order of their first declarations, each with its type there.
+/// The objects of a task, in the order of their first declarations, each with the type that it has there.
 ///
-/// The names of the types have numbers of their own here, since a type that is not declared has none among the types: so two
-/// declarations of an object are compared by numbers, and not by their texts.
+/// The names of the types have numbers of their own here, since a type that is not declared has none among the types.
+/// So two declarations of an object are compared by numbers, and not by texts.
 #[derive(Debug, Drop)]
 pub struct Objects {
     names: Names,
     types: Vec<usize>,
-    /// The names of types that stood behind objects.
+    /// The names of types that follow objects.
     texts: Names,
-    /// The number among these of each object's type at its first declaration, where it can be read.
+    /// For each object the number in `texts` of its type at its first declaration, or `None` if that type cannot be
+    /// read.
     firsts: Vec<Option<usize>>,
 }
 
@@ -43,7 +44,8 @@ impl Model for Objects {
     ghost invariant = { λ o. spec.AreTexts o.texts o.firsts.items };
 }
 
-/// How the objects of a run are declared: the number of their type, and that of its text, where it can be read.
+/// The type of a run's objects: its number among the types, and that of its name in `texts`, which is `None` if the
+/// type cannot be read.
 #[derive(Clone, Copy)]
 struct DeclaredType {
     number: usize,
@@ -51,7 +53,7 @@ struct DeclaredType {
 }
 
 impl Objects {
-    /// No objects. It allocates nothing until the first is declared.
+    /// An empty table of objects. Allocates nothing before the first object is declared.
     pub fn new(alloc: Global) -> Objects
         ensures { result ≡ spec.no_objects }
     {
@@ -70,15 +72,15 @@ impl Objects {
         &self.names
     }
 
-    /// The number of the type of each, in the order of the names: as many as there are types for one that is not declared, and 0,
-    /// which is `object`, for one that cannot be read.
+    /// The number of each object's type, in the order of the names. For a type that is not declared it is the number of
+    /// types, and for one that cannot be read it is 0, the number of `object`.
     pub fn types(&self) -> &[usize]
         ensures { result.now ≡ self.now.types }
     {
         &self.types
     }
 
-    /// The names and the types, where no more objects come.
+    /// The names and the numbers of the types, as `names` and `types` return them.
     pub fn into_parts(self) -> (Names, Vec<usize>)
         ensures names { result.0 ≡ self.names }
         ensures types { result.1.items ≡ self.types }
@@ -86,7 +88,7 @@ impl Objects {
         (self.names, self.types)
     }
 
-    /// The number of the text of the type at a name's first declaration.
+    /// The number in `texts` of the type at the first declaration of this name.
     fn first_text(&self, name: &str) -> Option<usize>
         ensures { result ≡ spec.first_text self.now name.now }
     {
@@ -94,7 +96,7 @@ impl Objects {
         *self.firsts.get(number)?
     }
 
-    /// The type of a run, whose text gets a number.
+    /// The type of a run. Its name is added to `texts`.
     fn type_of(
         &mut self,
         alloc: Global,
@@ -117,7 +119,7 @@ impl Objects {
         }
     }
 
-    /// Adds an object that is not there yet.
+    /// Adds an object. One that is declared already changes nothing.
     fn add(&mut self, alloc: Global, name: &str, declared: DeclaredType) -> Result<(), AllocError>
         requires { IfSome declared.text (λ n. n < length self.old.texts) }
         ensures { OnOk result (self.new ≡ with_entry self.old name.now declared.number declared.text) }
@@ -130,7 +132,8 @@ impl Objects {
         Ok(())
     }
 
-    /// Whether a name has another type at its first declaration than that of a text.
+    /// Whether the type at the first declaration of this name and the type with the number `text` are both known and
+    /// differ.
     fn is_other_type(&self, name: &str, text: Option<usize>) -> bool
         ensures { (p : Option (List ℕ)) → IsTextOf self.now.texts p text → result ≡ spec.differs_text (spec.first_type self.now name.now) p }
     {
@@ -138,7 +141,7 @@ impl Objects {
         differs(self.first_text(name), text)
     }
 
-    /// Declares an object, and notes whether it had another type or is one too many.
+    /// Declares an object, and records it as a fault if it was declared with another type or is past the limit.
     fn declare(
         &mut self,
         alloc: Global,
@@ -167,7 +170,7 @@ impl Objects {
         self.add(alloc, name, declared)
     }
 
-    /// Declares the objects of a run.
+    /// Declares the objects of a run, and records their faults.
     fn declare_run(
         &mut self,
         alloc: Global,
@@ -190,18 +193,19 @@ impl Objects {
     }
 }
 
-/// A law: where each object has a type, each has one behind further declarations too.
+/// A law: if each object has a type, each has one after further declarations too.
 #[tactic(auto, using(crate::proofs::ObjectSteps::types_count))]
 pub fn each_object_has_a_type()
     ensures { (types : List (List ℕ)) (o : DeclaredObjects) (ds : List Declared) → length o.types ≡ length o.names
         → length (objects_with types o ds).types ≡ length (objects_with types o ds).names }
 {}
 
-/// Reads a section of objects, the items behind its head, adds the objects, and notes the faults. The section stands at a place.
+/// Reads the section of objects at `home`, whose items without its head are `items`, adds the objects and records the
+/// faults in `first`.
 ///
-/// The constants of a domain and the objects of its problem are one table: an object that is declared twice, under types of
-/// different names, is at fault at the later place, and so is each past the 4,096th (Fox and Long 2003).
-/// An `Err` is of too little memory, and the objects are then of no more use.
+/// The constants of a domain and the objects of its problem are one table. An object that is declared twice, with types
+/// of different names, is a fault at the later place, and so is each object past the 4,096th (Fox and Long 2003). Fails
+/// only if allocation fails, and then the objects must not be used again.
 #[tactic(auto, unfolding(pddl_syntax::specs::Faults::first_of))]
 pub fn objects_section(
     alloc: Global,

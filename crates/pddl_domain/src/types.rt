@@ -1,13 +1,16 @@
 //! The section of the types.
 
-ghost use Rattle.std.specs.Prelude.{◌≡◌, ◌++◌, ◌<◌, ◌∷◌, [], ℕ, List, Option, map, length, slice_index_or, None, IfOk, OnOk, codes, false};
+ghost use Rattle.std.specs.Prelude.{◌≡◌, ◌++◌, ◌<◌, ◌∷◌, [], ℕ, List, Option, map, length, slice_index_or, None, IfOk, OnOk, codes, false, true};
 ghost use Rattle.std.specs.List.{All, range_with_len};
+ghost use Rattle.std.specs.Option.{IfSome, option_map};
 ghost use Rattle.sexp.specs.Forms.{views};
+ghost use Rattle.names.specs.Names.{number_of, with_name};
 ghost use Rattle.pddl_syntax.specs.Faults.{first_of};
-ghost use Rattle.pddl_syntax.specs.Typed.{declared, spread, spread_run, with_type, parent_text};
+ghost use Rattle.pddl_syntax.specs.Typed.{declared, spread, spread_run, with_type, parent_text, typed_faults};
 ghost use Rattle.pddl_syntax.specs.Parameters.{names_with};
+ghost use Rattle.pddl_domain.specs.Cycles.{lies_on_cycle};
 ghost use Rattle.pddl_domain.specs.Types as spec;
-ghost use Rattle.pddl_domain.specs.Types.{with_parent, all_types, numbered, first_of_name, first_parent, subtype_faults, types_faults};
+ghost use Rattle.pddl_domain.specs.Types.{with_parent, all_types, numbered, first_of_name, first_parent, parents, subtype_faults, types_faults};
 
 use crate::cycles::types_on_cycles;
 use names::Names;
@@ -15,7 +18,8 @@ use pddl_syntax::{Fault, FaultKind, Named, Run, Types, blame_if, typed_list};
 use sexp::Tree;
 use std::alloc::{AllocError, Global};
 
-/// A type and its supertype, by their numbers, as they are declared at a place.
+/// A declaration of a type at the byte `at`, counted from 0, with its supertype if that can be read. Both are given by
+/// their numbers.
 #[derive(Clone, Copy, Debug, PartialEq, Eq)]
 pub struct Subtype {
     pub name: usize,
@@ -23,7 +27,7 @@ pub struct Subtype {
     pub parent: Option<usize>,
 }
 
-/// Adds the supertype of a run.
+/// Adds the supertype of a run to the names.
 fn add_parent(alloc: Global, names: &mut Names, run: &Run) -> Result<(), AllocError>
     ensures { OnOk result (names.new ≡ with_parent names.old (parent_text run.now)) }
 {
@@ -33,7 +37,7 @@ fn add_parent(alloc: Global, names: &mut Names, run: &Run) -> Result<(), AllocEr
     Ok(())
 }
 
-/// Adds names.
+/// Adds the names of a run.
 fn add_names(alloc: Global, names: &mut Names, added: &[Named]) -> Result<(), AllocError>
     ensures { OnOk result ((p : Option (List ℕ)) → names.new ≡ names_with names.old (map (with_type p) added.now)) }
 {
@@ -43,7 +47,7 @@ fn add_names(alloc: Global, names: &mut Names, added: &[Named]) -> Result<(), Al
     Ok(())
 }
 
-/// Adds the types of a run. Its supertype is looked up once, however many names there are.
+/// Adds the types of a run. The supertype is looked up once, and not once for each name.
 fn add_run(alloc: Global, names: &mut Names, run: &Run) -> Result<(), AllocError>
     ensures { OnOk result (names.new ≡ all_types names.old (spread_run run.now)) }
 {
@@ -57,26 +61,41 @@ fn add_run(alloc: Global, names: &mut Names, run: &Run) -> Result<(), AllocError
     }
 }
 
-/// All types.
+/// Adds `object` and the types of the runs.
+fn add_types(alloc: Global, names: &mut Names, runs: &[Run]) -> Result<(), AllocError>
+    ensures { OnOk result (names.new ≡ all_types (with_name names.old (codes "object")) (spread runs.now)) }
+{
+    names.add(alloc, "object")?;
+    for run in runs {
+        add_run(alloc, names, run)?;
+    }
+    Ok(())
+}
+
+/// The names of all types of the runs, `object` first.
 fn type_names(alloc: Global, runs: &[Run]) -> Result<Names, AllocError>
     ensures { IfOk result (λ names. names ≡ spec.type_names (spread runs.now)) }
 {
     let mut names = Names::new(alloc);
-    names.add(alloc, "object")?;
-    for run in runs {
-        add_run(alloc, &mut names, run)?;
-    }
+    add_types(alloc, &mut names, runs)?;
     Ok(names)
 }
 
-/// Adds the declarations of a run in numbers.
+/// The number of the supertype of a run, or `None` if it cannot be read.
+fn parent_number(names: &Names, run: &Run) -> Option<usize>
+    ensures { result ≡ option_map (number_of names.now) (parent_text run.now) }
+{
+    match &run.parent {
+        Some(parent) => Some(names.number_of(parent.as_str())),
+        None => None,
+    }
+}
+
+/// Adds the declarations of a run, by numbers.
 fn number_run(names: &Names, run: &Run, subtypes: &mut Vec<Subtype>) -> Result<(), AllocError>
     ensures { OnOk result (subtypes.new.items ≡ subtypes.old.items ++ map (numbered names.now) (spread_run run.now)) }
 {
-    let parent = match &run.parent {
-        Some(parent) => Some(names.number_of(parent.as_str())),
-        None => None,
-    };
+    let parent = parent_number(names, run);
     for named in &run.names {
         subtypes.push(Subtype {
             name: names.number_of(named.name.as_str()),
@@ -87,7 +106,7 @@ fn number_run(names: &Names, run: &Run, subtypes: &mut Vec<Subtype>) -> Result<(
     Ok(())
 }
 
-/// The declarations in numbers.
+/// The declarations of the runs, by numbers.
 fn subtypes(alloc: Global, names: &Names, runs: &[Run]) -> Result<Vec<Subtype>, AllocError>
     ensures { IfOk result (λ subtypes. subtypes.items ≡ map (numbered names.now) (spread runs.now)) }
 {
@@ -98,7 +117,7 @@ fn subtypes(alloc: Global, names: &Names, runs: &[Run]) -> Result<Vec<Subtype>, 
     Ok(subtypes)
 }
 
-/// The first declaration of each of so many types, where it is declared.
+/// The first declaration of each of `count` types, or `None` for a type without one.
 fn first_declarations(
     alloc: Global,
     subtypes: &[Subtype],
@@ -129,7 +148,7 @@ fn first_parent(first: Option<Subtype>) -> usize
     }
 }
 
-/// The supertype of each type.
+/// The supertype of each type, by its first declaration.
 fn supertypes(alloc: Global, firsts: &[Option<Subtype>]) -> Result<Vec<usize>, AllocError>
     ensures { IfOk result (λ supertypes. supertypes.items ≡ map first_parent firsts.now) }
 {
@@ -140,7 +159,7 @@ fn supertypes(alloc: Global, firsts: &[Option<Subtype>]) -> Result<Vec<usize>, A
     Ok(supertypes)
 }
 
-/// Whether two things are there and are different.
+/// Whether both numbers are given and differ.
 pub fn differs(first: Option<usize>, second: Option<usize>) -> bool
     ensures { result ≡ spec.differs first second }
 {
@@ -159,7 +178,7 @@ fn is_twice(first: Option<Subtype>, subtype: Subtype) -> bool
     }
 }
 
-/// Notes which types are declared twice or lie on a cycle.
+/// Records the types that are declared twice with different supertypes, or lie on a cycle.
 #[tactic(auto, unfolding(pddl_syntax::specs::Faults::first_of))]
 fn blame_subtypes(
     subtypes: &[Subtype],
@@ -187,10 +206,98 @@ fn blame_subtypes(
     }
 }
 
-/// Reads the section of the types, the items behind its head, and notes its faults. The section stands at a place.
+/// Records the faults of the declarations, given the first declaration and the supertype of each type.
+fn blame_declarations(
+    alloc: Global,
+    subtypes: &[Subtype],
+    firsts: &[Option<Subtype>],
+    supertypes: &[usize],
+    first: &mut Option<Fault>,
+) -> Result<(), AllocError>
+    requires names_in { All (λ d. d.name < length supertypes.now) subtypes.now }
+    requires firsts { firsts.now ≡ map (first_of_name subtypes.now) (range_with_len 0 (length supertypes.now)) }
+    requires supertypes_in { All (λ s. s < length supertypes.now) supertypes.now }
+    ensures { OnOk result (first.new ≡ first_of first.old (subtype_faults (first_of_name subtypes.now) (lies_on_cycle supertypes.now) subtypes.now)) }
+{
+    let cyclic = types_on_cycles(alloc, supertypes)?;
+    blame_subtypes(subtypes, firsts, &cyclic, first);
+    Ok(())
+}
+
+/// The supertype of each of `count` types by their declarations, whose faults are recorded in `first`.
+fn noted_supertypes(
+    alloc: Global,
+    subtypes: &[Subtype],
+    count: usize,
+    first: &mut Option<Fault>,
+) -> Result<Vec<usize>, AllocError>
+    requires names_in { All (λ d. d.name < count) subtypes.now }
+    requires parents_in { All (λ d. IfSome d.parent (λ p. p < count)) subtypes.now }
+    ensures supertypes { IfOk result (λ supertypes. supertypes.items ≡ parents subtypes.now count) }
+    ensures faults { OnOk result (first.new ≡ first_of first.old (subtype_faults (first_of_name subtypes.now) (lies_on_cycle (parents subtypes.now count)) subtypes.now)) }
+{
+    let firsts = first_declarations(alloc, subtypes, count)?;
+    let supertypes = supertypes(alloc, &firsts)?;
+    blame_declarations(alloc, subtypes, &firsts, &supertypes, first)?;
+    Ok(supertypes)
+}
+
+/// The supertype of each type of the runs, whose names are `names`. The faults of the declarations are recorded in
+/// `first`.
+fn declared_supertypes(
+    alloc: Global,
+    names: &Names,
+    runs: &[Run],
+    first: &mut Option<Fault>,
+) -> Result<Vec<usize>, AllocError>
+    requires { names.now ≡ spec.type_names (spread runs.now) }
+    ensures supertypes { IfOk result (λ supertypes. supertypes.items ≡ spec.supertypes (spread runs.now)) }
+    ensures faults { OnOk result (first.new ≡ first_of first.old (subtype_faults (first_of_name (spec.subtypes (spread runs.now)))
+        (lies_on_cycle (spec.supertypes (spread runs.now))) (spec.subtypes (spread runs.now)))) }
+{
+    let subtypes = subtypes(alloc, names, runs)?;
+    noted_supertypes(alloc, &subtypes, names.len(), first)
+}
+
+/// The types of the runs. The faults of their declarations are recorded in `first`.
+fn declared_types(
+    alloc: Global,
+    runs: &[Run],
+    first: &mut Option<Fault>,
+) -> Result<Types, AllocError>
+    ensures names { IfOk result (λ types. types.names ≡ spec.type_names (spread runs.now)) }
+    ensures supertypes { IfOk result (λ types. types.supertypes.items ≡ spec.supertypes (spread runs.now)) }
+    ensures faults { OnOk result (first.new ≡ first_of first.old (subtype_faults (first_of_name (spec.subtypes (spread runs.now)))
+        (lies_on_cycle (spec.supertypes (spread runs.now))) (spec.subtypes (spread runs.now)))) }
+{
+    let names = type_names(alloc, runs)?;
+    let supertypes = declared_supertypes(alloc, &names, runs, first)?;
+    Ok(Types { names, supertypes })
+}
+
+/// Reads the typed list at `home`, in which every type counts as declared, and records its faults in `first`.
+fn type_runs(
+    alloc: Global,
+    items: &[Tree],
+    home: usize,
+    first: &mut Option<Fault>,
+) -> Result<Vec<Run>, AllocError>
+    ensures meaning { IfOk result (λ runs. spread runs.items ≡ declared false (views items.now)) }
+    ensures faults { OnOk result (first.new ≡ first_of first.old (typed_faults false (λ t. true) home true (views items.now))) }
+{
+    let none = Types {
+        names: Names::new(alloc),
+        supertypes: Vec::new(alloc),
+    };
+    typed_list(alloc, items, false, true, &none, home, first)
+}
+
+/// Reads the section of the types at `home`, whose items without its head are `items`, and records its faults in
+/// `first`.
 ///
-/// `object` is the first type. Each other type has one supertype, that of its first declaration; where it has none there, or none
-/// that can be read, this is `object` (Fox and Long 2003; McDermott and others 1998). An `Err` is of too little memory.
+/// `object` is the first type. Each other type has one supertype, that of its first declaration. If it has none there,
+/// or none that can be read, its supertype is `object` (Fox and Long 2003; McDermott and others 1998). Fails only if
+/// allocation fails.
 pub fn types_section(
     alloc: Global,
     items: &[Tree],
@@ -201,16 +308,6 @@ pub fn types_section(
     ensures supertypes { IfOk result (λ types. types.supertypes.items ≡ spec.supertypes (declared false (views items.now))) }
     ensures faults { OnOk result (first.new ≡ first_of first.old (types_faults home (views items.now))) }
 {
-    let none = Types {
-        names: Names::new(alloc),
-        supertypes: Vec::new(alloc),
-    };
-    let runs = typed_list(alloc, items, false, true, &none, home, first)?;
-    let names = type_names(alloc, &runs)?;
-    let subtypes = subtypes(alloc, &names, &runs)?;
-    let firsts = first_declarations(alloc, &subtypes, names.len())?;
-    let supertypes = supertypes(alloc, &firsts)?;
-    let cyclic = types_on_cycles(alloc, &supertypes)?;
-    blame_subtypes(&subtypes, &firsts, &cyclic, first);
-    Ok(Types { names, supertypes })
+    let runs = type_runs(alloc, items, home, first)?;
+    declared_types(alloc, &runs, first)
 }

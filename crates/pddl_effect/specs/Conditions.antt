@@ -1,4 +1,4 @@
--- Conditions: what they mean, and their faults.
+-- Conditions: their meaning and their faults.
 use Rattle.std.specs.Prelude.{ℕ, Bool, true, false, if◌then◌else◌, List, [], ◌∷◌, ◌++◌, Option, Some, None, option_to_list}
 use Rattle.std.specs.Option.{option_map}
 use Rattle.sexp.specs.Forms.{Forms, none, word, group}
@@ -23,7 +23,7 @@ equality_of positive (Some a) (Some b) = (if positive then Equal a b else Differ
 equality_of positive (Some a) None = []
 equality_of positive None b = []
 
--- two terms that are to be the same, or different
+-- the condition that two terms stand for the same object, or for different ones
 abbrev pub equality : Bool → Option (List Term) → List Condition
 equality positive None = []
 equality positive (Some []) = []
@@ -36,13 +36,13 @@ negated_condition scope t f Atom = option_to_list (option_map Negative (lifted s
 negated_condition scope t f Equality = equality false (terms scope f)
 negated_condition scope t f other = []
 
--- what stands in a list, negated
+-- the condition that is the negation of a list's content
 abbrev pub negated_inside : Setting → Scope → Forms → List Condition
 negated_inside setting scope none = []
 negated_inside setting scope (word s e t f) = negated_condition scope t f (beginning setting t)
 negated_inside setting scope (group s e i f) = []
 
--- what stands behind `not`, negated
+-- the condition that is the negation of the expression behind `not`
 abbrev pub negated_conditions : Setting → Scope → Forms → List Condition
 negated_conditions setting scope none = []
 negated_conditions setting scope (word s e t f) = []
@@ -65,35 +65,35 @@ conditions scope (group s e (word hs he t i) f) = group_conditions scope t i (be
 
 -- ---- the faults
 
--- the second, with nothing behind it
+-- the faults of a second term that must end the list at `home`
 abbrev pub second_term_faults : Scope → ℕ → Forms → List Fault
 second_term_faults scope home none = fault Shape home ∷ []
 second_term_faults scope home f = first_term_faults scope f ++ more_faults (behind f)
 
--- two terms in the list at a place
+-- the faults of the two terms in the list at `home`
 abbrev pub two_terms_faults : Scope → ℕ → Forms → List Fault
 two_terms_faults scope home none = fault Shape home ∷ []
 two_terms_faults scope home f = first_term_faults scope f ++ second_term_faults scope home (behind f)
 
--- what may stand behind `not`: an atom, and in a condition an equality
+-- the faults of a list that is negated: it must be an atom or, in a condition, an equality
 abbrev pub negated_group_faults : Scope → ℕ → ℕ → ℕ → List ℕ → Forms → Beginning → List Fault
 negated_group_faults scope not_at home hs t f Atom = lifted_faults scope.predicates scope home hs t f
 negated_group_faults scope not_at home hs t f Equality = two_terms_faults scope home f
 negated_group_faults scope not_at home hs t f other = fault Unsupported not_at ∷ []
 
--- what stands in a list at a place, behind the word `not` at another
+-- the faults of the content of the list at `home`, behind the word `not` at `not_at`
 abbrev pub negated_inside_faults : Setting → Scope → ℕ → ℕ → Forms → List Fault
 negated_inside_faults setting scope not_at home none = fault Unsupported not_at ∷ []
 negated_inside_faults setting scope not_at home (word s e t f) = negated_group_faults scope not_at home s t f (beginning setting t)
 negated_inside_faults setting scope not_at home (group s e i f) = fault Unsupported not_at ∷ []
 
--- the first expression behind the word `not` at a place
+-- the faults of the first expression behind the word `not` at `not_at`
 abbrev pub first_negated_faults : Setting → Scope → ℕ → Forms → List Fault
 first_negated_faults setting scope not_at none = []
 first_negated_faults setting scope not_at (word s e t f) = fault Unsupported not_at ∷ []
 first_negated_faults setting scope not_at (group s e i f) = negated_inside_faults setting scope not_at s i
 
--- behind the word `not` at a place, in the list at another
+-- the faults of the expressions behind the word `not` at `not_at`, in the list at `home`
 abbrev pub negated_faults : Setting → Scope → ℕ → ℕ → Forms → List Fault
 negated_faults setting scope home not_at none = fault Shape home ∷ []
 negated_faults setting scope home not_at f = first_negated_faults setting scope not_at f ++ more_faults (behind f)
@@ -106,7 +106,7 @@ group_faults scope home hs t f Unread parts = fault Unsupported hs ∷ []
 group_faults scope home hs t f Atom parts = lifted_faults scope.predicates scope home hs t f
 group_faults scope home hs t f other parts = fault Shape hs ∷ []
 
--- each of the expressions is to be a condition
+-- the faults of expressions that must all be conditions
 abbrev pub conditions_faults : Scope → Forms → List Fault
 conditions_faults scope none = []
 conditions_faults scope (word s e t f) = fault Shape s ∷ conditions_faults scope f

@@ -1,4 +1,4 @@
--- Effects and increases: what they mean, and their faults.
+-- Effects and increases: their meaning and their faults.
 use Rattle.std.specs.Prelude.{ℕ, ◌&&◌, not, Bool, true, false, if◌then◌else◌, List, [], ◌∷◌, ◌++◌, Option, Some, None, option_to_list}
 use Rattle.std.specs.Option.{option_map}
 use Rattle.sexp.specs.Forms.{Forms, none, word, group}
@@ -41,13 +41,13 @@ abbrev pub negated_effect : Scope → List ℕ → Forms → Beginning → List 
 negated_effect scope t f Atom = option_to_list (option_map (effect_of false) (lifted scope.predicates scope t f))
 negated_effect scope t f other = []
 
--- what stands in a list, negated
+-- the effect that is the negation of a list's content
 abbrev pub negated_inside : Scope → Forms → List Effect
 negated_inside scope none = []
 negated_inside scope (word s e t f) = negated_effect scope t f (beginning InEffect t)
 negated_inside scope (group s e i f) = []
 
--- what stands behind `not`, negated
+-- the effect that is the negation of the expression behind `not`
 abbrev pub negated_effects : Scope → Forms → List Effect
 negated_effects scope none = []
 negated_effects scope (word s e t f) = []
@@ -67,31 +67,31 @@ effects scope (group s e none f) = effects scope f
 effects scope (group s e (group hs he h i) f) = effects scope f
 effects scope (group s e (word hs he t i) f) = group_effects scope t i (beginning InEffect t) (effects scope i) ++ effects scope f
 
--- a function by its word and its terms, of which the total cost is none
+-- the value of a function with these terms; the total cost has none
 abbrev pub function_value : Scope → List ℕ → Forms → WordKind → Option Increase
 function_value scope t f Name = if is_total_cost t then None else option_map Value (lifted scope.functions scope t f)
 function_value scope t f kind = None
 
--- a word as what a cost grows by
+-- a word as an amount
 abbrev pub amount_of_word : Scope → List ℕ → Number → Option Increase
 amount_of_word scope t (Whole n) = Some (Amount n)
 amount_of_word scope t Fraction = None
 amount_of_word scope t OutOfRange = None
 amount_of_word scope t NoNumber = function_value scope t none (word_kind t)
 
--- what stands in a list as what a cost grows by
+-- the content of a list as an amount
 abbrev pub amount_inside : Scope → Forms → Option Increase
 amount_inside scope none = None
 amount_inside scope (word s e t f) = function_value scope t f (word_kind t)
 amount_inside scope (group s e i f) = None
 
--- the first expression as what a cost grows by
+-- the first expression as an amount
 abbrev pub amount_of : Scope → Forms → Option Increase
 amount_of scope none = None
 amount_of scope (word s e t f) = amount_of_word scope t (number_of t)
 amount_of scope (group s e i f) = amount_inside scope i
 
--- what stands behind the word `increase`
+-- the increase of the expressions behind the word `increase`
 abbrev pub increase_of : Scope → Forms → Option Increase
 increase_of scope f = amount_of scope (behind f)
 
@@ -110,7 +110,7 @@ increases scope (group s e (word hs he t i) f) = group_increases scope i (beginn
 
 -- ---- the faults
 
--- a function's word at a place and its terms, in the list at another
+-- the faults of a function's word at the place s with its terms, in the list at `home`
 abbrev pub function_faults : Scope → ℕ → ℕ → List ℕ → Forms → WordKind → List Fault
 function_faults scope home s t f Name =
     if is_total_cost t then fault Unsupported s ∷ [] else lifted_faults scope.functions scope home s t f
@@ -122,45 +122,45 @@ amount_word_faults scope s t Fraction = fault NotWhole s ∷ []
 amount_word_faults scope s t OutOfRange = fault CostRange s ∷ []
 amount_word_faults scope s t NoNumber = function_faults scope s s t none (word_kind t)
 
--- what stands in a list at a place, which is to be what a cost grows by
+-- the faults of the content of the list at `home`, which must be an amount
 abbrev pub amount_inside_faults : Scope → ℕ → Forms → List Fault
 amount_inside_faults scope home none = fault Shape home ∷ []
 amount_inside_faults scope home (word s e t f) = function_faults scope home s t f (word_kind t)
 amount_inside_faults scope home (group s e i f) = fault Shape s ∷ []
 
--- the first expression, which is to be what a cost grows by
+-- the faults of the first expression, which must be an amount
 abbrev pub first_amount_faults : Scope → Forms → List Fault
 first_amount_faults scope none = []
 first_amount_faults scope (word s e t f) = amount_word_faults scope s t (number_of t)
 first_amount_faults scope (group s e i f) = amount_inside_faults scope s i
 
--- what a cost grows by, alone, in the list at a place
+-- the faults of the expressions in the list at `home`, which must be one amount
 abbrev pub amount_faults : Scope → ℕ → Forms → List Fault
 amount_faults scope home none = fault Shape home ∷ []
 amount_faults scope home f = first_amount_faults scope f ++ more_faults (behind f)
 
--- the word of what is increased: nothing but the total cost is
+-- the fault of the word for what is increased, which must be the total cost; inc is the place of the word `increase`
 abbrev pub increased_word_faults : ℕ → ℕ → List ℕ → WordKind → List Fault
 increased_word_faults inc s t Name = faults_if (not (is_total_cost t)) (fault Unsupported inc) []
 increased_word_faults inc s t kind = fault Shape s ∷ []
 
--- the total cost has no terms
+-- the word is `total-cost` and has terms, which is not allowed
 abbrev pub has_terms : List ℕ → Forms → Bool
 has_terms t f = is_total_cost t && not_empty f
 
--- what stands in a list at a place, which is to be what is increased
+-- the faults of the content of the list at `home`, which must be what is increased
 abbrev pub increased_inside_faults : ℕ → ℕ → Forms → List Fault
 increased_inside_faults inc home none = fault Shape home ∷ []
 increased_inside_faults inc home (word s e t f) = increased_word_faults inc s t (word_kind t) ++ faults_if (has_terms t f) (fault Arity home) []
 increased_inside_faults inc home (group s e i f) = fault Shape s ∷ []
 
--- the first expression behind the word `increase` at a place, which is to be what is increased
+-- the faults of the first expression behind the word `increase` at the place inc, which must be what is increased
 abbrev pub increased_faults : ℕ → Forms → List Fault
 increased_faults inc none = []
 increased_faults inc (word s e t f) = increased_word_faults inc s t (word_kind t)
 increased_faults inc (group s e i f) = increased_inside_faults inc s i
 
--- what stands behind the word `increase` at a place, in the list at another
+-- the faults of the expressions behind the word `increase` at the place inc, in the list at `home`
 abbrev pub increase_faults : Scope → ℕ → ℕ → Forms → List Fault
 increase_faults scope home inc none = fault Shape home ∷ []
 increase_faults scope home inc f = increased_faults inc f ++ amount_faults scope home (behind f)
@@ -173,7 +173,7 @@ group_faults scope home hs t f Unread parts = fault Unsupported hs ∷ []
 group_faults scope home hs t f Atom parts = lifted_faults scope.predicates scope home hs t f
 group_faults scope home hs t f other parts = fault Shape hs ∷ []
 
--- each of the expressions is to be an effect
+-- the faults of expressions that must all be effects
 abbrev pub effects_faults : Scope → Forms → List Fault
 effects_faults scope none = []
 effects_faults scope (word s e t f) = fault Shape s ∷ effects_faults scope f

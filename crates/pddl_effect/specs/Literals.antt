@@ -1,4 +1,4 @@
--- Where literals and increases stand, for the limits: each counts, also where it is at fault.
+-- The places of literals and increases, for the limits. Those with a fault count too.
 use Rattle.std.specs.Prelude.{ℕ, List, [], ◌∷◌, ◌++◌}
 use Rattle.sexp.specs.Forms.{Forms, none, word, group}
 use Rattle.pddl_terms.specs.declared.beginning.Beginning.{Beginning}
@@ -6,7 +6,7 @@ use Rattle.pddl_terms.specs.declared.beginning.Beginning.TheVariants.{Conjunctio
 use Rattle.pddl_terms.specs.declared.beginning.Setting.{Setting}
 use Rattle.pddl_terms.specs.Beginnings.{beginning}
 
--- a list at a place, whose parts have those
+-- the places in a list at the place s, given those of its parts
 abbrev pub group_literals : ℕ → Beginning → List ℕ → List ℕ
 group_literals s Conjunction parts = parts
 group_literals s Negation parts = s ∷ []

@@ -12,7 +12,7 @@ use planning::Condition;
 use sexp::Tree;
 use std::alloc::{AllocError, Global};
 
-/// Adds a condition where there is one.
+/// Adds the condition if there is one.
 fn keep(conditions: &mut Vec<Condition>, condition: Option<Condition>) -> Result<(), AllocError>
     ensures { OnOk result (conditions.new.items ≡ conditions.old.items ++ option_to_list condition) }
 {
@@ -22,7 +22,8 @@ fn keep(conditions: &mut Vec<Condition>, condition: Option<Condition>) -> Result
     Ok(())
 }
 
-/// Reads a tree as a condition, adds what it means, and notes its faults. An `Err` is of too little memory.
+/// Reads a tree as a condition, adds its meaning to `conditions` and records its faults in `first`. Fails only if
+/// allocation fails, and then the conditions of a part of the tree may have been added.
 #[cycle(conditions)]
 #[tactic(auto, using(sexp::proofs::Walking::walking, pddl_syntax::proofs::Trees::noting, crate::proofs::Steps::appending), unfolding(pddl_syntax::specs::Faults::first_of))]
 pub fn read_condition(
@@ -45,7 +46,7 @@ pub fn read_condition(
     Ok(())
 }
 
-/// Reads a list with a head, which stands at a place.
+/// Reads the list at `home` with this head.
 #[cycle(conditions)]
 #[tactic(auto, using(sexp::proofs::Walking::walking, pddl_syntax::proofs::Trees::noting, crate::proofs::Steps::appending), unfolding(pddl_syntax::specs::Faults::first_of))]
 fn headed(

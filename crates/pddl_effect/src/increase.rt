@@ -1,4 +1,4 @@
-//! What a cost grows by.
+//! Increases of the total cost.
 
 ghost use Rattle.std.specs.Prelude.{◌≡◌, IfOk, OnOk};
 ghost use Rattle.sexp.specs.Forms.{Forms, before, views};
@@ -15,7 +15,7 @@ use planning::Increase;
 use sexp::Tree;
 use std::alloc::{AllocError, Global};
 
-/// Whether it is the total cost, and has terms.
+/// Whether the word is `total-cost` and has terms.
 #[tactic(auto, using(sexp::proofs::Walking::walking, pddl_terms::proofs::TermSteps::not_empty_before))]
 fn has_terms(word: &str, items: &[Tree]) -> bool
     ensures { result ≡ spec.has_terms word.now (views items.now) }
@@ -26,7 +26,8 @@ fn has_terms(word: &str, items: &[Tree]) -> bool
     }
 }
 
-/// Notes that a word, in a list that begins with the word `increase` at a place, is not the total cost.
+/// Records the fault of the word at `at` if it is not `total-cost`: F11 at the word `increase`, which is at
+/// `increase_at`, for another name, and F10 for a word that is not a name.
 #[tactic(auto, unfolding(pddl_syntax::specs::Faults::first_of))]
 fn blame_increased_word(word: &str, at: usize, increase_at: usize, first: &mut Option<Fault>)
     ensures { first.new ≡ first_of first.old (spec.increased_word_faults increase_at at word.now (word_kind word.now)) }
@@ -44,7 +45,7 @@ fn blame_increased_word(word: &str, at: usize, increase_at: usize, first: &mut O
     }
 }
 
-/// What is increased, a list with a head at a place.
+/// Records the faults of what is increased, the list at `home` with this head.
 #[tactic(auto, using(sexp::proofs::Walking::walking, pddl_syntax::proofs::Trees::noting), unfolding(pddl_syntax::specs::Faults::first_of))]
 fn blame_increased_list(
     home: usize,
@@ -69,7 +70,7 @@ fn blame_increased_list(
     }
 }
 
-/// What is increased, behind the word `increase` at a place.
+/// Records the faults of what is increased, behind the word `increase` at `increase_at`.
 #[tactic(auto, using(sexp::proofs::Walking::walking, pddl_syntax::proofs::Trees::noting), unfolding(pddl_syntax::specs::Faults::first_of))]
 fn blame_increased(tree: &Tree, increase_at: usize, first: &mut Option<Fault>)
     ensures { (rest : Forms) → first.new ≡ first_of first.old (spec.increased_faults increase_at (before tree.now rest)) }
@@ -85,7 +86,7 @@ fn blame_increased(tree: &Tree, increase_at: usize, first: &mut Option<Fault>)
     }
 }
 
-/// The value of a function of this name with terms, in the list at a place.
+/// The value of the function with this name and these terms, in the list at `home`, or `None` if it has a fault.
 #[tactic(auto, unfolding(pddl_syntax::specs::Faults::first_of))]
 fn function_value(
     alloc: Global,
@@ -120,7 +121,7 @@ fn function_value(
     Ok(function.map(Increase::Value))
 }
 
-/// A word at a place as what a cost grows by: a number, or a function without terms.
+/// The word at `at` as an amount: a number, or a function without terms.
 #[tactic(auto, using(sexp::proofs::Walking::walking), unfolding(pddl_syntax::specs::Faults::first_of))]
 fn amount_of_word(
     alloc: Global,
@@ -146,7 +147,7 @@ fn amount_of_word(
     }
 }
 
-/// A list with a head as what a cost grows by.
+/// The list at `home` with this head as an amount: a function with terms.
 #[tactic(auto, using(sexp::proofs::Walking::walking, pddl_syntax::proofs::Trees::noting), unfolding(pddl_syntax::specs::Faults::first_of))]
 fn amount_of_list(
     alloc: Global,
@@ -176,7 +177,7 @@ fn amount_of_list(
     }
 }
 
-/// A tree as what a cost grows by.
+/// A tree as an amount.
 #[tactic(auto, using(sexp::proofs::Walking::walking, pddl_syntax::proofs::Trees::noting), unfolding(pddl_syntax::specs::Faults::first_of))]
 fn amount_of(
     alloc: Global,
@@ -199,7 +200,7 @@ fn amount_of(
     }
 }
 
-/// What a cost grows by, alone, in the list at a place.
+/// The amount in the list at `home`, whose `items` must be that amount alone.
 #[tactic(auto, using(sexp::proofs::Walking::walking, pddl_syntax::proofs::Trees::noting, crate::proofs::Steps::steps), unfolding(pddl_syntax::specs::Faults::first_of))]
 fn amount(
     alloc: Global,
@@ -224,7 +225,8 @@ fn amount(
     }
 }
 
-/// What stands behind the word `increase` at a place, in the list at another.
+/// Reads the items behind the word `increase` at `increase_at`, in the list at `home`, and records their faults in
+/// `first`. The result is `None` if the amount has a fault. Fails only if allocation fails.
 #[tactic(auto, using(sexp::proofs::Walking::walking, pddl_syntax::proofs::Trees::noting, crate::proofs::Steps::steps), unfolding(pddl_syntax::specs::Faults::first_of))]
 pub fn read_increase(
     alloc: Global,

@@ -1,5 +1,6 @@
-//! Conditions and effects of actions: what they mean and their faults (McDermott and others 1998; Fox and Long 2003). A
-//! reader notes each fault with its place and goes on, so what is at fault means nothing, and the first fault is kept.
+//! Conditions and effects of actions: their meaning and their faults (McDermott and others 1998; Fox and Long 2003). A
+//! reader records each fault with its place and goes on. What has a fault adds nothing to the meaning, and the first
+//! fault is kept.
 #![tactic(auto)]
 
 mod condition;

@@ -1,4 +1,4 @@
-//! Equalities, and what stands behind `not`.
+//! Equality conditions, and negations.
 
 ghost use Rattle.std.specs.Prelude.{◌≡◌, IfOk, OnOk, option_to_list};
 ghost use Rattle.sexp.specs.Forms.{Forms, before, views};
@@ -12,7 +12,7 @@ use planning::{Condition, Term};
 use sexp::Tree;
 use std::alloc::{AllocError, Global};
 
-/// That two terms are the same object, or different ones.
+/// The condition that two terms stand for the same object or, where `positive` is not set, for different objects.
 fn equality_of(positive: bool, one: Option<Term>, two: Option<Term>) -> Option<Condition>
     ensures { option_to_list result ≡ spec.equality_of positive one two }
 {
@@ -23,7 +23,8 @@ fn equality_of(positive: bool, one: Option<Term>, two: Option<Term>) -> Option<C
     }
 }
 
-/// An equality, or an inequality, whose two terms stand in the list at a place.
+/// The equality condition, or the negated one, of the two terms in the list at `home`. Faults are recorded in `first`,
+/// and then the result is `None`.
 #[tactic(auto, using(sexp::proofs::Walking::walking, pddl_syntax::proofs::Trees::noting, crate::proofs::Steps::steps), unfolding(pddl_syntax::specs::Faults::first_of))]
 pub fn equality(
     scope: &Scope,
@@ -59,7 +60,7 @@ pub fn equality(
     }
 }
 
-/// The negation of a list with a head, which stands at a place, behind the word `not` at another.
+/// The negation of the list at `home` with this head, behind the word `not` at `not_at`.
 #[tactic(auto, using(sexp::proofs::Walking::walking, pddl_syntax::proofs::Trees::noting), unfolding(pddl_syntax::specs::Faults::first_of))]
 fn negated_list(
     alloc: Global,
@@ -102,7 +103,7 @@ fn negated_list(
     }
 }
 
-/// The negation of a tree, behind the word `not` at a place.
+/// The negation of a tree, behind the word `not` at `not_at`.
 #[tactic(auto, using(sexp::proofs::Walking::walking, pddl_syntax::proofs::Trees::noting), unfolding(pddl_syntax::specs::Faults::first_of))]
 fn negated_tree(
     alloc: Global,
@@ -132,7 +133,8 @@ fn negated_tree(
     }
 }
 
-/// What stands behind the word `not` at a place, in the list at another: an atom, or in a condition an equality.
+/// Reads the items behind the word `not` at `not_at`, in the list at `home`: an atom or, in a condition, an equality.
+/// Faults are recorded in `first`. Fails only if allocation fails.
 #[tactic(auto, using(sexp::proofs::Walking::walking, pddl_syntax::proofs::Trees::noting, crate::proofs::Steps::steps), unfolding(pddl_syntax::specs::Faults::first_of))]
 pub fn negated(
     alloc: Global,

@@ -1,4 +1,4 @@
--- The goal and the metric: what they mean, and their faults.
+-- The goal and the metric: their meaning and their faults.
 use Rattle.std.specs.Prelude.{ℕ, ◌&&◌, ◌||◌, not, Bool, true, false, if◌then◌else◌, List, [], ◌∷◌, ◌++◌, Option, Some, None, option_to_list, codes}
 use Rattle.std.specs.Option.{option_map, option_map_or}
 use Rattle.sexp.specs.Forms.{Forms, none, word, group, behind}
@@ -19,16 +19,16 @@ use Rattle.pddl_problem.specs.Initial.{atom_of}
 
 -- ---- the goal
 
--- a literal and where its list begins
+-- a literal, and the place at which its list begins
 pub record Placed : Type 0 where
   pub at : ℕ
   pub literal : Literal
 
--- an atom of the list at a place, where there is one, or its negation
+-- the literal of the list at this place, if it has one: its atom or the negation of it
 abbrev pub placed : ℕ → Bool → Option Atom → List Placed
 placed at positive a = option_to_list (option_map (λ p. record { at = at; literal = record { atom = p; positive = positive } }) a)
 
--- the atom in a list, behind the word `not`
+-- the atom of a list that is negated
 abbrev pub negated_goal : Scope → List ℕ → Forms → Beginning → Option Lifted
 negated_goal scope t i PredicateHead = lifted scope.predicates scope t i
 negated_goal scope t i other = None
@@ -38,13 +38,13 @@ negated_inside scope none = None
 negated_inside scope (word hs he t i) = negated_goal scope t i (beginning InCondition t)
 negated_inside scope (group hs he h i) = None
 
--- the atom that stands first, behind the word `not`
+-- the atom of the first expression, which is negated
 abbrev pub first_negated : Scope → Forms → Option Lifted
 first_negated scope none = None
 first_negated scope (word s e t f) = None
 first_negated scope (group s e i f) = negated_inside scope i
 
--- what a list at a place says, by what its head begins
+-- the literals of a list at this place, by the construct of its head
 abbrev pub group_goals : Scope → ℕ → List ℕ → Forms → Beginning → List Placed → List Placed
 group_goals scope at t i Conjunction parts = parts
 group_goals scope at t i Negation parts = placed at false (atom_of (first_negated scope i))
@@ -59,41 +59,41 @@ goals scope (group s e none f) = goals scope f
 goals scope (group s e (group hs he h i) f) = goals scope f
 goals scope (group s e (word hs he t i) f) = group_goals scope s t i (beginning InCondition t) (goals scope i) ++ goals scope f
 
--- the section's first expression alone
+-- the first expression of the section alone
 abbrev pub first_alone : Forms → Forms
 first_alone none = none
 first_alone (word s e t f) = word s e t none
 first_alone (group s e i f) = group s e i none
 
--- what the section says
+-- the literals of the section
 abbrev pub goal_literals : Scope → Forms → List Placed
 goal_literals scope f = goals scope (first_alone f)
 
--- a list behind the word `not` at a place, by what its head begins
+-- the faults of a list that is negated, behind the word `not` at `not_at`, by the construct of its head
 abbrev pub negated_goal_faults : Scope → ℕ → ℕ → ℕ → List ℕ → Forms → Beginning → List Fault
 negated_goal_faults scope not_at home hs t i PredicateHead = lifted_faults scope.predicates scope home hs t i
 negated_goal_faults scope not_at home hs t i Equality = fault Unsupported hs ∷ []
 negated_goal_faults scope not_at home hs t i other = fault Unsupported not_at ∷ []
 
--- what stands in a list at a place, which is to be an atom, behind the word `not` at another
+-- the faults of the content of the list at `home`, which must be an atom, behind the word `not` at `not_at`
 abbrev pub negated_inside_faults : Scope → ℕ → ℕ → Forms → List Fault
 negated_inside_faults scope not_at home none = fault Unsupported not_at ∷ []
 negated_inside_faults scope not_at home (word hs he t i) = negated_goal_faults scope not_at home hs t i (beginning InCondition t)
 negated_inside_faults scope not_at home (group hs he h i) = fault Unsupported not_at ∷ []
 
--- the first expression, which is to be an atom, behind the word `not` at a place
+-- the faults of the first expression, which must be an atom, behind the word `not` at `not_at`
 abbrev pub first_negated_faults : Scope → ℕ → Forms → List Fault
 first_negated_faults scope not_at none = []
 first_negated_faults scope not_at (word s e t f) = fault Unsupported not_at ∷ []
 first_negated_faults scope not_at (group s e i f) = negated_inside_faults scope not_at s i
 
--- behind the word `not` at a place, in the list at another
+-- the faults of the expressions behind the word `not` at `not_at`, in the list at `home`
 abbrev pub negated_goals_faults : Scope → ℕ → ℕ → Forms → List Fault
 negated_goals_faults scope home not_at none = fault Shape home ∷ []
 negated_goals_faults scope home not_at (word s e t f) = first_negated_faults scope not_at (word s e t f) ++ more_faults f
 negated_goals_faults scope home not_at (group s e i f) = first_negated_faults scope not_at (group s e i f) ++ more_faults f
 
--- a list at a place, by what its head begins
+-- the faults of the list at `home`, by the construct of its head
 abbrev pub group_goals_faults : Scope → ℕ → ℕ → List ℕ → Forms → Beginning → List Fault → List Fault
 group_goals_faults scope home hs t i Conjunction parts = parts
 group_goals_faults scope home hs t i Negation parts = negated_goals_faults scope home hs i
@@ -101,7 +101,7 @@ group_goals_faults scope home hs t i PredicateHead parts = lifted_faults scope.p
 group_goals_faults scope home hs t i NoName parts = fault Shape hs ∷ []
 group_goals_faults scope home hs t i other parts = fault Unsupported hs ∷ []
 
--- each of the expressions is to be a goal
+-- the faults of expressions that must all be goals
 abbrev pub goals_faults : Scope → Forms → List Fault
 goals_faults scope none = []
 goals_faults scope (word s e t f) = fault Shape s ∷ goals_faults scope f
@@ -109,36 +109,36 @@ goals_faults scope (group s e none f) = goals_faults scope f
 goals_faults scope (group s e (group hs he h i) f) = fault Shape hs ∷ goals_faults scope f
 goals_faults scope (group s e (word hs he t i) f) = group_goals_faults scope s hs t i (beginning InCondition t) (goals_faults scope i) ++ goals_faults scope f
 
--- the opposite of a literal is among these
+-- the negation of the literal is among these
 abbrev pub has_opposite : List Literal → Literal → Bool
 has_opposite literals l = if l.positive then excludes literals l.atom else wants literals l.atom
 
--- literals behind others, whose opposites did not stand there
+-- the faults of literals that follow others: those whose negation stands before them
 abbrev pub opposite_faults : List Literal → List Placed → List Fault
 opposite_faults before [] = []
 opposite_faults before (l ∷ ls) = faults_if (has_opposite before l.literal) (fault GoalBothWays l.at) (opposite_faults (before ++ l.literal ∷ []) ls)
 
--- one goal, in the section at a place
+-- the faults of the section at `home`, which must be one goal
 abbrev pub goal_faults : Scope → ℕ → Forms → List Fault
 goal_faults scope home none = fault Shape home ∷ []
 goal_faults scope home (word s e t f) = fault Shape s ∷ more_faults f
 goal_faults scope home (group s e i f) =
     goals_faults scope (group s e i none) ++ opposite_faults [] (goals scope (group s e i none)) ++ more_faults f
 
--- ---- the atoms of the literals so far, as the code holds them
+-- ---- the atoms of the literals so far, as the code stores them
 
--- the atom, or its negation, is among them
+-- the atom is among the positive literals, or its negation among the negative ones
 abbrev pub wanted_in : KnownGoals → State
 wanted_in known p = contains same_atom known.wanted p
 
 abbrev pub excluded_in : KnownGoals → State
 excluded_in known p = contains same_atom known.excluded p
 
--- the opposite of a literal is among them
+-- the negation of the literal is among them
 abbrev pub has_opposite_in : KnownGoals → Literal → Bool
 has_opposite_in known l = if l.positive then excluded_in known l.atom else wanted_in known l.atom
 
--- with one more literal
+-- the set of these atoms after one more literal
 abbrev pub also_wanted : State → Literal → State
 also_wanted state l p = state p || (l.positive && same_atom p l.atom)
 
@@ -147,31 +147,31 @@ also_excluded state l p = state p || (not l.positive && same_atom p l.atom)
 
 -- ---- the metric: `minimize (total-cost)` or `minimize total-cost`
 
--- the first expression is the total cost, with or without parentheses
+-- the first expression is `total-cost`, with or without parentheses
 abbrev pub is_cost : Forms → Bool
 is_cost none = false
 is_cost (word s e t f) = is_total_cost t
 is_cost (group s e i f) = has_head (codes "total-cost") i && not (not_empty (behind i))
 
--- the total cost and nothing else
+-- `total-cost` and nothing else
 abbrev pub is_cost_alone : Forms → Bool
 is_cost_alone f = is_cost f && not (not_empty (behind f))
 
--- `minimize` and the total cost
+-- `minimize` and `total-cost`
 abbrev pub is_metric : Forms → Bool
 is_metric f = has_head (codes "minimize") f && is_cost_alone (behind f)
 
--- the first place there is
+-- the first place that is given
 abbrev pub or_else : Option ℕ → Option ℕ → Option ℕ
 or_else (Some s) later = Some s
 or_else None later = later
 
--- where the first word stands, also within lists
+-- the place of the first word, within lists too
 abbrev pub first_word : Forms → Option ℕ
 first_word none = None
 first_word (word s e t f) = Some s
 first_word (group s e i f) = or_else (first_word i) (first_word f)
 
--- in the section at a place: any other content is at fault at its first word
+-- the fault of the section at `home`: any other content is a fault at its first word
 abbrev pub metric_faults : ℕ → Forms → List Fault
 metric_faults home f = if is_metric f then [] else option_map_or (λ s. fault Unsupported s ∷ []) (first_word f) (fault Shape home ∷ [])

@@ -1,4 +1,4 @@
--- The section of the initial state: atoms, and values of functions. What they mean, and their faults.
+-- The section of the initial state, atoms and values of functions: its meaning and its faults.
 use Rattle.std.specs.Prelude.{ℕ, ◌+◌, ◌==◌, ◌&&◌, not, Bool, true, false, if◌then◌else◌, List, [], ◌∷◌, ◌++◌, map, find, Option, Some, None, is_some, option_to_list, codes}
 use Rattle.std.specs.Option.{option_map, option_map_or}
 use Rattle.sexp.specs.Forms.{Forms, none, word, group, behind}
@@ -27,17 +27,17 @@ use Rattle.pddl_problem.specs.declared.initial.ItemKind.TheVariants.{TrueAtom, V
 
 -- ---- the meaning
 
--- a declared head of this name with objects
+-- the ground atom of a head whose terms are objects
 abbrev pub atom_of : Option Lifted → Option Atom
 atom_of a = option_map (ground_atom []) a
 
--- whether the last expression is a list; where there is none, this answer
+-- whether the last expression is a list, or `otherwise` if there is none
 abbrev pub ends_in_list : Bool → Forms → Bool
 ends_in_list otherwise none = otherwise
 ends_in_list otherwise (word s e t f) = ends_in_list false f
 ends_in_list otherwise (group s e i f) = ends_in_list true f
 
--- the number, where it is whole and in range
+-- the number, if it is whole and in range
 abbrev pub whole : Number → Option ℕ
 whole (Whole n) = Some n
 whole Fraction = None
@@ -50,24 +50,24 @@ first_number none = None
 first_number (word s e t f) = whole (number_of t)
 first_number (group s e i f) = None
 
--- a number, and nothing behind it
+-- a whole number with nothing behind it
 abbrev pub number_alone : Forms → Option ℕ
 number_alone none = None
 number_alone (word s e t f) = if not_empty f then None else first_number (word s e t f)
 number_alone (group s e i f) = None
 
--- a value, where both its parts are there
+-- a value, if both its function and its number can be read
 abbrev pub value_by : Option Atom → Option ℕ → Option FunctionValue
 value_by (Some p) (Some n) = Some (record { function = p; value = n })
 value_by (Some p) None = None
 value_by None n = None
 
--- a function's word with its terms; the total cost has no value of its own
+-- a function with its terms; the total cost has no initial value
 abbrev pub function_by_kind : Scope → List ℕ → Forms → WordKind → Option Atom
 function_by_kind scope t i Name = if is_total_cost t then None else atom_of (lifted scope.functions scope t i)
 function_by_kind scope t i kind = None
 
--- what stands in a list as a function with its terms
+-- the content of a list as a function with its terms
 abbrev pub function_inside : Scope → Forms → Option Atom
 function_inside scope none = None
 function_inside scope (word s e t f) = function_by_kind scope t f (word_kind t)
@@ -79,13 +79,14 @@ first_function scope none = None
 first_function scope (word s e t f) = function_by_kind scope t none (word_kind t)
 first_function scope (group s e i f) = function_inside scope i
 
--- what is stated behind the word `=`: a function's value
+-- the value of a function, from the expressions behind the word `=`
 abbrev pub stated : Scope → Forms → Option FunctionValue
 stated scope f = value_by (first_function scope f) (number_alone (behind f))
 
--- ---- what an item is by its head and the rest
+-- ---- the kind of an item, by its head and the rest
 
--- The heads that are read nowhere are not read here, and `and` is a predicate like others. A timed literal is not read.
+-- The heads that are supported nowhere are not supported here, and `and` is an ordinary predicate. A timed literal is
+-- not supported.
 abbrev pub item_kind_by : List ℕ → Forms → Beginning → ItemKind
 item_kind_by t i Negation = Negated
 item_kind_by t i Unread = NotRead
@@ -94,11 +95,11 @@ item_kind_by t i other =
     if same_text t (codes "=") then Value
     else (if same_text t (codes "at") && ends_in_list false i then NotRead else TrueAtom)
 
--- an item by its head and the rest
+-- the kind of an item, by its head and the rest
 abbrev pub item_kind : List ℕ → Forms → ItemKind
 item_kind t i = item_kind_by t i (beginning InInitial t)
 
--- the atom, and the value, that an item of a kind says
+-- the atom, and below the value, of an item of this kind
 abbrev pub item_atom : Scope → List ℕ → Forms → ItemKind → Option Atom
 item_atom scope t i TrueAtom = atom_of (lifted scope.predicates scope t i)
 item_atom scope t i other = None
@@ -107,7 +108,7 @@ abbrev pub item_value : Scope → Forms → ItemKind → Option FunctionValue
 item_value scope i Value = stated scope i
 item_value scope i other = None
 
--- the atom, and the value, that an item says, by what stands in its list
+-- the atom, and below the value, of an item, by the content of its list
 abbrev pub atom_inside : Scope → Forms → Option Atom
 atom_inside scope none = None
 atom_inside scope (word s e t f) = item_atom scope t f (item_kind t f)
@@ -118,47 +119,47 @@ value_inside scope none = None
 value_inside scope (word s e t f) = item_value scope f (item_kind t f)
 value_inside scope (group s e i f) = None
 
--- the atoms that the items say, in the order of the text
+-- the atoms of the items, in the order of the text
 abbrev pub initial_atoms : Scope → Forms → List Atom
 initial_atoms scope none = []
 initial_atoms scope (word s e t f) = initial_atoms scope f
 initial_atoms scope (group s e i f) = option_to_list (atom_inside scope i) ++ initial_atoms scope f
 
--- the value of a function's term among these
+-- the value of the function at these objects among the values
 abbrev pub value_among : List FunctionValue → Atom → Option FunctionValue
 value_among values p = find (λ v. same_atom p v.function) values
 
--- with one more, unless the term has a value
+-- the values with one more, unless its function has a value at these objects
 abbrev pub with_value : List FunctionValue → Option FunctionValue → List FunctionValue
 with_value values None = values
 with_value values (Some v) = if is_some (value_among values v.function) then values else values ++ v ∷ []
 
--- the values that the items state, behind others: of each term the first
+-- the values that the items state, added to others; the first one for a function and its objects counts
 abbrev pub stated_values : Scope → List FunctionValue → Forms → List FunctionValue
 stated_values scope values none = values
 stated_values scope values (word s e t f) = stated_values scope values f
 stated_values scope values (group s e i f) = stated_values scope (with_value values (value_inside scope i)) f
 
--- the values as a map states them
+-- the values of a map
 abbrev pub values_of : List (Atom × ℕ) → List FunctionValue
 values_of entries = map (λ e. record { function = e.0; value = e.1 }) entries
 
 -- ---- the faults
 
--- a word where a number is wanted
+-- the fault of a word where a number is expected
 abbrev pub number_word_faults : ℕ → Number → List Fault
 number_word_faults s (Whole n) = []
 number_word_faults s Fraction = fault NotWhole s ∷ []
 number_word_faults s OutOfRange = fault CostRange s ∷ []
 number_word_faults s NoNumber = fault Shape s ∷ []
 
--- the first expression, which is to be a number
+-- the fault of the first expression, which must be a number
 abbrev pub first_number_faults : Forms → List Fault
 first_number_faults none = []
 first_number_faults (word s e t f) = number_word_faults s (number_of t)
 first_number_faults (group s e i f) = fault Shape s ∷ []
 
--- a number, alone, in the list at a place
+-- the faults of the expressions in the list at `home`, which must be one number
 abbrev pub number_faults : ℕ → Forms → List Fault
 number_faults home none = fault Shape home ∷ []
 number_faults home (word s e t f) = first_number_faults (word s e t f) ++ more_faults f
@@ -171,61 +172,61 @@ positive Fraction = false
 positive OutOfRange = false
 positive NoNumber = false
 
--- a number above 0 stands first
+-- the first expression is a whole number above 0
 abbrev pub is_positive : Forms → Bool
 is_positive none = false
 is_positive (word s e t f) = positive (number_of t)
 is_positive (group s e i f) = false
 
--- a function's word at a place with its terms, in the list at another, and what stands behind it
+-- the faults of a function's word at the place s with its terms, in the list at `home`, where f follows it
 abbrev pub function_faults : Scope → ℕ → ℕ → List ℕ → Forms → Forms → WordKind → List Fault
 function_faults scope home s t i f Name =
     if is_total_cost t then faults_if (not_empty i) (fault Arity home) (faults_if (is_positive f) (fault Unsupported s) [])
     else lifted_faults scope.functions scope home s t i
 function_faults scope home s t i f kind = fault Shape s ∷ []
 
--- what stands in a list at a place, which is to be a function with its terms, before other expressions
+-- the faults of the content of the list at `home`, which must be a function with its terms, where f follows the list
 abbrev pub function_inside_faults : Scope → ℕ → Forms → Forms → List Fault
 function_inside_faults scope home f none = fault Shape home ∷ []
 function_inside_faults scope home f (word hs he t i) = function_faults scope home hs t i f (word_kind t)
 function_inside_faults scope home f (group hs he h i) = fault Shape hs ∷ []
 
--- the first expression, which is to be a function with its terms, and what stands behind it
+-- the faults of the first expression, which must be a function with its terms; the others follow it
 abbrev pub first_function_faults : Scope → Forms → List Fault
 first_function_faults scope none = []
 first_function_faults scope (word s e t f) = function_faults scope s s t none f (word_kind t)
 first_function_faults scope (group s e i f) = function_inside_faults scope s f i
 
--- `(= function number)`, in the list at a place
+-- the faults of `(= function number)`, in the list at `home`, behind its word `=`
 abbrev pub value_faults : Scope → ℕ → Forms → List Fault
 value_faults scope home none = fault Shape home ∷ []
 value_faults scope home (word s e t f) = first_function_faults scope (word s e t f) ++ number_faults home f
 value_faults scope home (group s e i f) = first_function_faults scope (group s e i f) ++ number_faults home f
 
--- behind the word `not` at a place: an atom, in the list at another
+-- the faults of a list at `home` that is negated, behind the word `not` at `not_at`, which must be an atom
 abbrev pub negated_atom_faults : Scope → ℕ → ℕ → ℕ → List ℕ → Forms → Beginning → List Fault
 negated_atom_faults scope not_at home hs t i PredicateHead = lifted_faults scope.predicates scope home hs t i
 negated_atom_faults scope not_at home hs t i other = fault Unsupported not_at ∷ []
 
--- what stands in a list at a place, which is to be an atom, behind the word `not` at another
+-- the faults of the content of the list at `home`, which must be an atom, behind the word `not` at `not_at`
 abbrev pub negated_inside_faults : Scope → ℕ → ℕ → Forms → List Fault
 negated_inside_faults scope not_at home none = fault Unsupported not_at ∷ []
 negated_inside_faults scope not_at home (word hs he t i) = negated_atom_faults scope not_at home hs t i (beginning InInitial t)
 negated_inside_faults scope not_at home (group hs he h i) = fault Unsupported not_at ∷ []
 
--- the first expression, which is to be an atom, behind the word `not` at a place
+-- the faults of the first expression, which must be an atom, behind the word `not` at `not_at`
 abbrev pub first_negated_faults : Scope → ℕ → Forms → List Fault
 first_negated_faults scope not_at none = []
 first_negated_faults scope not_at (word s e t f) = fault Unsupported not_at ∷ []
 first_negated_faults scope not_at (group s e i f) = negated_inside_faults scope not_at s i
 
--- behind the word `not` at a place, in the list at another
+-- the faults of the expressions behind the word `not` at `not_at`, in the list at `home`
 abbrev pub negated_item_faults : Scope → ℕ → ℕ → Forms → List Fault
 negated_item_faults scope home not_at none = fault Shape home ∷ []
 negated_item_faults scope home not_at (word s e t f) = first_negated_faults scope not_at (word s e t f) ++ more_faults f
 negated_item_faults scope home not_at (group s e i f) = first_negated_faults scope not_at (group s e i f) ++ more_faults f
 
--- an item at a place, of a kind, with its head at another
+-- the faults of an item of this kind at `home`, whose head is at the place hs
 abbrev pub item_faults : Scope → ℕ → ℕ → List ℕ → Forms → ItemKind → List Fault
 item_faults scope home hs t i Negated = negated_item_faults scope home hs i
 item_faults scope home hs t i NotRead = fault Unsupported hs ∷ []
@@ -233,22 +234,22 @@ item_faults scope home hs t i Nothing = fault Shape hs ∷ []
 item_faults scope home hs t i Value = value_faults scope home i
 item_faults scope home hs t i TrueAtom = lifted_faults scope.predicates scope home hs t i
 
--- what stands in the list of an item at a place
+-- the faults of the content of the item at `home`
 abbrev pub inside_faults : Scope → ℕ → Forms → List Fault
 inside_faults scope home none = fault Shape home ∷ []
 inside_faults scope home (word hs he t i) = item_faults scope home hs t i (item_kind t i)
 inside_faults scope home (group hs he h i) = fault Shape hs ∷ []
 
--- the term has another value among these
+-- the function has another value at these objects among the values
 abbrev pub is_restated : List FunctionValue → Option FunctionValue → Bool
 is_restated values None = false
 is_restated values (Some v) = option_map_or (λ w. not (w.value == v.value)) (value_among values v.function) false
 
--- one more than so many items
+-- the fault of the item at the place s if it follows 1,000,000 others, and other faults
 abbrev pub past_limit : ℕ → ℕ → List Fault → List Fault
 past_limit n s fs = faults_if (n == 1000000) (fault (Limit Init) s) fs
 
--- items behind so many others, which stated these values
+-- the faults of items that follow n others, which stated these values
 abbrev pub initial_faults : Scope → ℕ → List FunctionValue → Forms → List Fault
 initial_faults scope n values none = []
 initial_faults scope n values (word s e t f) = fault Shape s ∷ past_limit n s (initial_faults scope (n + 1) values f)

@@ -31,7 +31,7 @@ impl Model for PlacedLiteral {
     ghost view = { λ l. record { at = l.at; literal = l.literal } };
 }
 
-/// Adds an atom of the list at a place, where there is one, or its negation.
+/// Adds the literal of the list at `at`, if it has one: its atom or the negation of it.
 fn keep(
     alloc: Global,
     literals: &mut Vec<PlacedLiteral>,
@@ -48,7 +48,7 @@ fn keep(
     Ok(())
 }
 
-/// The negation of a list with a head, which stands at a place, behind the word `not` at another.
+/// The atom that is negated by the list at `home` with this head, behind the word `not` at `not_at`.
 #[tactic(auto, using(sexp::proofs::Walking::walking, pddl_syntax::proofs::Trees::noting), unfolding(pddl_syntax::specs::Faults::first_of))]
 fn negated_list(
     alloc: Global,
@@ -90,7 +90,7 @@ fn negated_list(
     }
 }
 
-/// The negation of a tree, behind the word `not` at a place.
+/// The atom that is negated by a tree, behind the word `not` at `not_at`.
 #[tactic(auto, using(sexp::proofs::Walking::walking, pddl_syntax::proofs::Trees::noting), unfolding(pddl_syntax::specs::Faults::first_of))]
 fn negated_tree(
     alloc: Global,
@@ -119,7 +119,7 @@ fn negated_tree(
     }
 }
 
-/// What stands behind the word `not` at a place, in the list at another: an atom.
+/// The atom that is negated by the items behind the word `not` at `not_at`, in the list at `home`.
 #[tactic(auto, using(sexp::proofs::Walking::walking, pddl_syntax::proofs::Trees::noting, crate::proofs::Steps::negated_goal_step), unfolding(pddl_syntax::specs::Faults::first_of))]
 fn negated(
     alloc: Global,
@@ -145,7 +145,8 @@ fn negated(
     }
 }
 
-/// Reads a tree as a goal, adds what it means to the literals, and notes its faults. An `Err` is of too little memory.
+/// Reads a tree as a goal, adds its literals to `literals` and records its faults in `first`. Fails only if allocation
+/// fails.
 #[cycle(goals)]
 #[tactic(auto, using(sexp::proofs::Walking::walking, pddl_syntax::proofs::Trees::noting, crate::proofs::Steps::appending), unfolding(pddl_syntax::specs::Faults::first_of))]
 fn read_goal(
@@ -168,7 +169,7 @@ fn read_goal(
     Ok(())
 }
 
-/// Reads a list with a head, which stands at a place.
+/// Reads the list at `home` with this head.
 #[cycle(goals)]
 #[tactic(auto, using(sexp::proofs::Walking::walking, pddl_syntax::proofs::Trees::noting, crate::proofs::Steps::appending), unfolding(pddl_syntax::specs::Faults::first_of))]
 fn headed(
@@ -233,7 +234,7 @@ fn read_goals(
     Ok(())
 }
 
-/// The atoms of some literals: those that are wanted, and those whose negations are.
+/// The atoms of literals: those of the positive ones, and those of the negative ones.
 #[derive(Drop)]
 pub struct KnownGoals {
     pub wanted: HashSet<GroundAtom>,
@@ -275,7 +276,7 @@ impl KnownGoals {
     }
 }
 
-/// Notes each literal whose opposite stands before it.
+/// Records each literal whose negation stands before it.
 #[tactic(auto, unfolding(pddl_syntax::specs::Faults::first_of))]
 fn blame_opposites(
     alloc: Global,
@@ -309,12 +310,13 @@ fn without_places(
         .collect(alloc)
 }
 
-/// Reads the section `:goal` behind its head, which stands in the list at the byte `home`, counted from 0: one goal, made of
-/// atoms, negated atoms and conjunctions (McDermott and others 1998). What cannot be read means nothing.
+/// Reads the section `:goal` in the list at the byte `home`, counted from 0, whose items without its head are `items`:
+/// one goal of atoms, negated atoms and conjunctions (McDermott and others 1998). Faults are recorded in `first`, and
+/// what has a fault is left out.
 ///
-/// F10 is no goal, a second one, or one of another form; F11 a form of PDDL that is not read, as an equality; F12 a name that is
-/// not declared; F13 a predicate with another number of objects; F19 a literal whose opposite stands before it. An `Err` is
-/// of too little memory.
+/// F10 for a missing goal, for a second one and for one of another form; F11 for a construct of PDDL that is not
+/// supported, such as an equality; F12 for a name that is not declared; F13 for a predicate with another number of
+/// objects; F19 for a literal whose negation stands before it. Fails only if allocation fails.
 #[tactic(auto, using(sexp::proofs::Walking::walking, pddl_syntax::proofs::Trees::noting, crate::proofs::Steps::goal_steps), unfolding(pddl_syntax::specs::Faults::first_of))]
 pub fn goal_section(
     alloc: Global,

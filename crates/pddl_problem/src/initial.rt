@@ -16,30 +16,30 @@ use planning::{GroundAtom, LiftedAtom};
 use sexp::Tree;
 use std::alloc::{AllocError, Global};
 
-// The section may have so many items.
+/// The largest number of items of the section.
 const MOST_ITEMS: usize = 1_000_000;
 
-/// What an item of the section is by its head and the rest.
+/// The kind of an item of the section, by its head and the rest of it.
 #[derive(Clone, Copy, Debug, PartialEq, Eq)]
 pub enum ItemKind {
     /// An atom that is true.
     TrueAtom,
     /// The value of a function.
     Value,
-    /// An atom that is not true, which says nothing new.
+    /// The negation of an atom. It adds nothing, since an atom is false unless it is stated.
     Negated,
-    /// A form of PDDL that is not read here, as a timed literal.
+    /// A construct of PDDL that is not supported, such as a timed literal.
     NotRead,
-    /// A list whose head is no name.
+    /// A list whose head is not a name.
     Nothing,
 }
 
-/// What is true at first, and the values of functions.
+/// The initial state, and the initial values of functions.
 #[derive(Drop)]
 pub struct Initial {
     /// The atoms that are true, in the order of the text.
     pub atoms: Vec<GroundAtom>,
-    /// The value of each function at objects that is stated.
+    /// The stated values of functions at objects. Of two values for the same function and objects the first counts.
     pub values: IndexMap<GroundAtom, u64>,
 }
 
@@ -75,7 +75,7 @@ fn is_list(tree: &Tree, otherwise: bool) -> bool
     }
 }
 
-/// Whether the last of the items is a list.
+/// Whether the last of the items that are given is a list.
 #[tactic(auto, using(sexp::proofs::Walking::walking))]
 fn ends_in_list(items: &[Tree]) -> bool
     ensures { result ≡ spec.ends_in_list false (views items.now) }
@@ -100,7 +100,7 @@ fn item_kind(head: &str, items: &[Tree]) -> ItemKind
     }
 }
 
-/// The negation of a list with a head, which stands at a place, behind the word `not` at another.
+/// Records the faults of the negation of the list at `home` with this head, behind the word `not` at `not_at`.
 #[tactic(auto, using(sexp::proofs::Walking::walking, pddl_syntax::proofs::Trees::noting), unfolding(pddl_syntax::specs::Faults::first_of))]
 fn blame_negated_list(
     alloc: Global,
@@ -134,7 +134,7 @@ fn blame_negated_list(
     Ok(())
 }
 
-/// The negation of a tree, behind the word `not` at a place.
+/// Records the faults of the negation of a tree, behind the word `not` at `not_at`.
 #[tactic(auto, using(sexp::proofs::Walking::walking, pddl_syntax::proofs::Trees::noting), unfolding(pddl_syntax::specs::Faults::first_of))]
 fn blame_negated_tree(
     alloc: Global,
@@ -157,7 +157,7 @@ fn blame_negated_tree(
     Ok(())
 }
 
-/// Notes the faults behind the word `not` at a place, in the list at another.
+/// Records the faults of the items behind the word `not` at `not_at`, in the list at `home`.
 #[tactic(auto, using(sexp::proofs::Walking::walking, pddl_syntax::proofs::Trees::noting, crate::proofs::Steps::negated_step), unfolding(pddl_syntax::specs::Faults::first_of))]
 fn blame_negated(
     alloc: Global,
@@ -179,7 +179,7 @@ fn blame_negated(
     Ok(())
 }
 
-/// Reads a list with a head, which stands at a place.
+/// Reads the item at `home` that is a list with this head.
 #[tactic(auto, using(sexp::proofs::Walking::walking, pddl_syntax::proofs::Trees::noting, crate::proofs::Steps::appending), unfolding(pddl_syntax::specs::Faults::first_of))]
 fn headed(
     alloc: Global,
@@ -226,7 +226,7 @@ fn headed(
     Ok(())
 }
 
-/// Reads a tree as an item, adds what it means, and notes its faults.
+/// Reads a tree as an item, adds its meaning to `state` and records its faults in `first`.
 #[tactic(auto, using(sexp::proofs::Walking::walking, pddl_syntax::proofs::Trees::noting, crate::proofs::Steps::appending), unfolding(pddl_syntax::specs::Faults::first_of))]
 fn read_item(
     alloc: Global,
@@ -254,14 +254,43 @@ fn read_item(
     Ok(())
 }
 
-/// Reads the items of the section `:init` behind its head, and notes their faults. What cannot be read means nothing.
-///
-/// An item is an atom, the negation of one, which means nothing, or `(= function number)`, of which the first for a term
-/// counts (McDermott and others 1998; Fox and Long 2003). F10 is an item of another form; F11 a form of PDDL that is not
-/// read, as a timed literal, or a total cost above 0; F12 a name that is not declared; F13 one with another number of
-/// objects; F14 a second value for a term; F16 and F17 a number with a fraction, or out of range; F18 the item
-/// 1,000,001. An `Err` is of too little memory.
+/// Reads the items in their order, adds their meaning to `state` and records their faults in `first`.
 #[tactic(auto, using(sexp::proofs::Walking::walking), unfolding(pddl_syntax::specs::Faults::first_of))]
+fn read_items(
+    alloc: Global,
+    scope: &Scope,
+    items: &[Tree],
+    state: &mut Initial,
+    first: &mut Option<Fault>,
+) -> Result<(), AllocError>
+    ensures atoms { OnOk result (state.new.atoms.items ≡ state.old.atoms.items ++ spec.initial_atoms scope.now (views items.now)) }
+    ensures values { OnOk result (
+        spec.values_of state.new.values.entries ≡ spec.stated_values scope.now (spec.values_of state.old.values.entries) (views items.now)) }
+    ensures faults { OnOk result (
+        first.new ≡ first_of first.old (spec.initial_faults scope.now 0 (spec.values_of state.old.values.entries) (views items.now))) }
+{
+    for (count, item) in items.iter().enumerate() {
+        read_item(alloc, scope, item, state, first)?;
+        blame_if(
+            count == MOST_ITEMS,
+            first,
+            item.span().start,
+            FaultKind::Limit(LimitedTable::Init),
+        );
+    }
+    Ok(())
+}
+
+/// Reads the section `:init`, whose items without its head are `items`, and records its faults in `first`. What has a
+/// fault is left out.
+///
+/// An item is an atom, the negation of one, which adds nothing, or `(= function number)`. Of two values for the same
+/// function and objects the first counts (McDermott and others 1998; Fox and Long 2003).
+///
+/// F10 for an item of another form; F11 for a construct of PDDL that is not supported, such as a timed literal, and for
+/// a total cost above 0; F12 for a name that is not declared; F13 for a predicate or a function with another number of
+/// objects; F14 for a second and different value for the same function and objects; F16 and F17 for a number with a
+/// fraction or out of range; F18 for the item 1,000,001. Fails only if allocation fails.
 pub fn initial_section(
     alloc: Global,
     scope: &Scope,
@@ -273,14 +302,6 @@ pub fn initial_section(
     ensures faults { OnOk result (first.new ≡ first_of first.old (spec.initial_faults scope.now 0 [] (views items.now))) }
 {
     let mut state = Initial::new(alloc);
-    for (count, item) in items.iter().enumerate() {
-        read_item(alloc, scope, item, &mut state, first)?;
-        blame_if(
-            count == MOST_ITEMS,
-            first,
-            item.span().start,
-            FaultKind::Limit(LimitedTable::Init),
-        );
-    }
+    read_items(alloc, scope, items, &mut state, first)?;
     Ok(state)
 }

@@ -1,4 +1,4 @@
-//! The sections of a PDDL problem that say what is true at first, what is wanted, and what a plan costs.
+//! The sections of a PDDL problem that state the initial state, the goal and the cost of a plan.
 #![tactic(auto)]
 
 mod goals;

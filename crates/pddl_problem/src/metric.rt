@@ -21,7 +21,7 @@ fn is_word(tree: &Tree, word: &str) -> bool
     }
 }
 
-/// Whether a tree is the total cost, with or without parentheses.
+/// Whether a tree is `total-cost`, with or without parentheses.
 #[tactic(auto, using(sexp::proofs::Walking::walking))]
 fn is_cost(tree: &Tree) -> bool
     ensures { (rest : Forms) → result ≡ spec.is_cost (before tree.now rest) }
@@ -35,7 +35,7 @@ fn is_cost(tree: &Tree) -> bool
     }
 }
 
-/// Whether there is the total cost, and nothing else.
+/// Whether the only item is `total-cost`, with or without parentheses.
 #[tactic(auto, using(sexp::proofs::Walking::walking))]
 fn is_cost_alone(items: &[Tree]) -> bool
     ensures { result ≡ spec.is_cost_alone (views items.now) }
@@ -56,7 +56,7 @@ fn is_metric(items: &[Tree]) -> bool
     }
 }
 
-/// Where the first word of a tree stands.
+/// The place of the first word in a tree.
 #[cycle(words)]
 #[tactic(auto, using(sexp::proofs::Walking::walking))]
 fn first_word_in(tree: &Tree) -> Option<usize>
@@ -68,7 +68,7 @@ fn first_word_in(tree: &Tree) -> Option<usize>
     }
 }
 
-/// Where the first word of the trees stands.
+/// The place of the first word in the trees.
 #[cycle(words)]
 fn first_word(items: &[Tree]) -> Option<usize>
     ensures { result ≡ spec.first_word (views items.now) }
@@ -81,10 +81,11 @@ fn first_word(items: &[Tree]) -> Option<usize>
     None
 }
 
-/// Notes what is wrong with the section `:metric`, which stands in the list at the byte `home`, counted from 0. Behind its
-/// head it is to have `minimize (total-cost)` or `minimize total-cost`, which PDDL takes as one (Fox and Long 2003).
+/// Records the fault of the section `:metric` in the list at the byte `home`, counted from 0, whose items without its
+/// head are `items`. These must be `minimize (total-cost)` or `minimize total-cost`, which mean the same (Fox and Long
+/// 2003).
 ///
-/// Any other content is F11 at its first word, also within lists, and where it has no word F10 at the section.
+/// Any other content is F11 at its first word, within lists too, or F10 at the section if it has no word.
 #[tactic(auto, unfolding(pddl_syntax::specs::Faults::first_of))]
 pub fn metric_section(items: &[Tree], home: usize, first: &mut Option<Fault>)
     ensures { first.new ≡ first_of first.old (spec.metric_faults home (views items.now)) }

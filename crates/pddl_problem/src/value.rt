@@ -36,7 +36,7 @@ impl Model for StatedValue {
     ghost view = { λ v. record { function = v.function; value = v.value } };
 }
 
-/// A word at a place where a number is wanted.
+/// The word at `at`, where a whole number is expected, as that number. Its fault is recorded in `first`.
 #[tactic(auto, unfolding(pddl_syntax::specs::Faults::first_of))]
 fn number_word(word: &str, at: usize, first: &mut Option<Fault>) -> Option<u64>
     ensures meaning { result ≡ spec.whole (number_of word.now) }
@@ -59,7 +59,7 @@ fn number_word(word: &str, at: usize, first: &mut Option<Fault>) -> Option<u64>
     }
 }
 
-/// A tree as a whole number.
+/// A tree as a whole number. Its fault is recorded in `first`.
 #[tactic(auto, using(sexp::proofs::Walking::walking, pddl_syntax::proofs::Trees::noting), unfolding(pddl_syntax::specs::Faults::first_of))]
 fn number(tree: &Tree, first: &mut Option<Fault>) -> Option<u64>
     ensures meaning { (rest : Forms) → result ≡ spec.first_number (before tree.now rest) }
@@ -74,7 +74,8 @@ fn number(tree: &Tree, first: &mut Option<Fault>) -> Option<u64>
     }
 }
 
-/// A whole number, alone, in the list at a place.
+/// The whole number in the list at `home`, whose `items` must be that number alone. Their faults are recorded in
+/// `first`.
 #[tactic(auto, using(sexp::proofs::Walking::walking, pddl_syntax::proofs::Trees::noting, crate::proofs::Steps::numbers), unfolding(pddl_syntax::specs::Faults::first_of))]
 fn number_alone(home: usize, items: &[Tree], first: &mut Option<Fault>) -> Option<u64>
     ensures meaning { result ≡ spec.number_alone (views items.now) }
@@ -108,7 +109,7 @@ fn is_positive_number(tree: &Tree) -> bool
     }
 }
 
-/// Whether a whole number above 0 stands first.
+/// Whether the first of the items is a whole number above 0.
 #[tactic(auto, using(sexp::proofs::Walking::walking))]
 fn is_positive(items: &[Tree]) -> bool
     ensures { result ≡ spec.is_positive (views items.now) }
@@ -119,7 +120,7 @@ fn is_positive(items: &[Tree]) -> bool
     }
 }
 
-/// Whether there is nothing in the list.
+/// Whether there are no items.
 #[tactic(auto, using(sexp::proofs::Walking::walking, pddl_terms::proofs::TermSteps::not_empty_before))]
 pub fn is_nothing(items: &[Tree]) -> bool
     ensures { result ≡ not (not_empty (views items.now)) }
@@ -130,8 +131,8 @@ pub fn is_nothing(items: &[Tree]) -> bool
     }
 }
 
-/// A function's word at a place with its terms, in the list at another, and what stands behind it. The total cost has no
-/// value of its own: it may be stated as 0.
+/// The function named by the word at `at` with these terms, in the list at `home`, where the items `behind` follow it.
+/// The total cost has no initial value: it is `None` here, and may be stated as 0 only.
 #[tactic(auto, using(pddl_syntax::proofs::Trees::noting), unfolding(pddl_syntax::specs::Faults::first_of))]
 fn function_term(
     alloc: Global,
@@ -159,7 +160,7 @@ fn function_term(
     ground(alloc, function)
 }
 
-/// A list with a head, at a place, as a function with its terms.
+/// The list at `home` with this head as a function with its terms. The items `behind` follow it.
 #[tactic(auto, using(sexp::proofs::Walking::walking, pddl_syntax::proofs::Trees::noting), unfolding(pddl_syntax::specs::Faults::first_of))]
 fn function_list(
     alloc: Global,
@@ -191,7 +192,7 @@ fn function_list(
     }
 }
 
-/// A tree as a function with its terms, and what stands behind it.
+/// A tree as a function with its terms. The items `behind` follow it.
 #[tactic(auto, using(sexp::proofs::Walking::walking, pddl_syntax::proofs::Trees::noting), unfolding(pddl_syntax::specs::Faults::first_of))]
 fn function(
     alloc: Global,
@@ -235,7 +236,9 @@ fn value_by(function: Option<GroundAtom>, number: Option<u64>) -> Option<StatedV
     }
 }
 
-/// Reads `(= function number)`, where the word `=` stands before the items, in the list at a place.
+/// Reads `(= function number)` in the list at `home`, whose items without its head `=` are `items`. Faults are recorded
+/// in `first`. The result is `None` if the function or the number cannot be read, and for the total cost. Fails only if
+/// allocation fails.
 #[tactic(auto, using(sexp::proofs::Walking::walking, pddl_syntax::proofs::Trees::noting, crate::proofs::Steps::values), unfolding(pddl_syntax::specs::Faults::first_of))]
 pub fn read_value(
     alloc: Global,
@@ -260,7 +263,8 @@ pub fn read_value(
     }
 }
 
-/// Adds a value, where there is one, unless the term has a value; notes one that differs, stated in the list at a place.
+/// Adds a value, if there is one, unless the function has a value at these objects. Records it in `first` as F14 at
+/// `home`, the list that states it, if it differs from that value. Fails only if allocation fails.
 #[tactic(auto, using(crate::proofs::Values::kept_values), unfolding(pddl_syntax::specs::Faults::first_of))]
 pub fn keep_value(
     values: &mut IndexMap<GroundAtom, u64>,

@@ -1,4 +1,4 @@
--- Faults with their places, and which of them goes first.
+-- Faults with their places, and their order.
 use Rattle.std.specs.Prelude.{◌≡◌, ℕ, ◌⊎◌, ◌==◌, nat_lt, ◌||◌, ◌&&◌, Bool, true, false, if◌then◌else◌, List, [], ◌∷◌, Option, Some, None}
 use Rattle.pddl_syntax.specs.declared.fault.Fault.{Fault}
 use Rattle.pddl_syntax.specs.declared.fault.FaultKind.{FaultKind}
@@ -16,16 +16,16 @@ number CostRange = 17
 number (Limit table) = 18
 number GoalBothWays = 19
 
--- a lesser place, and at one place a lesser number
+-- a lower place, or the same place and a lower number
 abbrev pub precedes : Fault → Fault → Bool
 precedes e f = nat_lt e.at f.at || (e.at == f.at && nat_lt (number e.kind) (number f.kind))
 
--- the earlier of what is known and one more
+-- the earlier of the fault that is known, if there is one, and another
 abbrev pub earlier : Option Fault → Fault → Option Fault
 earlier None f = Some f
 earlier (Some e) f = if precedes f e then Some f else Some e
 
--- the earliest of what is known and some more
+-- the earliest of the fault that is known, if there is one, and others
 unfoldable pub first_of : Option Fault → List Fault → Option Fault
 first_of known [] = known
 first_of known (f ∷ fs) = first_of (earlier known f) fs
@@ -33,7 +33,7 @@ first_of known (f ∷ fs) = first_of (earlier known f) fs
 abbrev pub fault : FaultKind → ℕ → Fault
 fault kind at = record { at = at; kind = kind }
 
--- a fault, where there is one, and others
+-- the fault, if the condition holds, and others
 abbrev pub faults_if : Bool → Fault → List Fault → List Fault
 faults_if true f fs = f ∷ fs
 faults_if false f fs = fs
@@ -43,7 +43,7 @@ abbrev pub IsOneOf : List Fault → Fault → Type 0
 IsOneOf [] e = ⊥
 IsOneOf (f ∷ fs) e = (e ≡ f) ⊎ IsOneOf fs e
 
--- of these faults it is one, and none goes before it
+-- one of these faults, and none of them precedes it
 pub record IsFirst (fs : List Fault) (e : Fault) : Type 0 where
   pub there : IsOneOf fs e
   pub least : (f : Fault) → IsOneOf fs f → precedes f e ≡ false

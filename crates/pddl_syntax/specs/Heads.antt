@@ -1,8 +1,8 @@
--- Predicates and functions as they are declared: a name, and how many parameters it has.
+-- Declared predicates and functions: a name and a number of parameters.
 use Rattle.std.specs.Prelude.{ℕ, ◌++◌, List, [], ◌∷◌, Option, slice_get, option_and_then, if◌then◌else◌}
 use Rattle.names.specs.Names.{place_of, is_there, with_name}
 
--- the names in the order of their first declarations, and the number of parameters that each has there
+-- the names in the order of their first declarations, and the number of parameters of each in that declaration
 pub record Heads : Type 0 where
   pub names : List (List ℕ)
   pub arities : List ℕ
@@ -10,11 +10,11 @@ pub record Heads : Type 0 where
 abbrev pub no_heads : Heads
 no_heads = record { names = []; arities = [] }
 
--- how many parameters the head of this name has, if it is declared
+-- the number of parameters of the head with this name, if it is declared
 abbrev pub arity_of : Heads → List ℕ → Option ℕ
 arity_of heads t = option_and_then (slice_get heads.arities) (place_of heads.names t)
 
--- the heads with one more, unless one of this name is there
+-- the heads with one more, unless one with this name is declared
 abbrev pub with_head : Heads → List ℕ → ℕ → Heads
 with_head heads t arity =
     if is_there heads.names t then heads

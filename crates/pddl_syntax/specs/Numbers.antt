@@ -1,4 +1,4 @@
--- Words in the place of a number.
+-- Words where a number is expected.
 use Rattle.std.specs.Prelude.{ℕ, ◌+◌, ◌*◌, ◌-◌, ◌==◌, ◌&&◌, nat_le, Bool, true, false, if◌then◌else◌, List, [], ◌∷◌}
 use Rattle.std.specs.List.{list_all}
 use Rattle.pddl_syntax.specs.declared.number.Number.{Number}
@@ -15,19 +15,19 @@ by_zeros true digits n = in_range n
 by_zeros false true n = Fraction
 by_zeros false false n = NoNumber
 
--- behind the point: one or more digits, which are all zeros where the number is whole
+-- after the point: one or more digits; the number is whole if they are all zeros
 abbrev pub after_point : ℕ → List ℕ → Number
 after_point n [] = NoNumber
 after_point n (b ∷ bs) = by_zeros (list_all (λ c. c == 48) (b ∷ bs)) (list_all is_digit (b ∷ bs)) n
 
--- behind digits, which stand for a number
+-- after the first digits, which have the value n
 abbrev pub after_digits : ℕ → List ℕ → Number
 after_digits n [] = in_range n
 after_digits n (b ∷ bs) =
     if is_digit b then after_digits (n * 10 + (b - 48)) bs
     else (if b == 46 then after_point n bs else NoNumber)
 
--- one digit or more, and then nothing, or a point and digits
+-- one or more digits, and then nothing, or a point and digits
 abbrev pub unsigned : List ℕ → Number
 unsigned [] = NoNumber
 unsigned (b ∷ bs) = if is_digit b then after_digits (b - 48) bs else NoNumber

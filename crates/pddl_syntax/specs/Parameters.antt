@@ -10,27 +10,27 @@ use Rattle.pddl_syntax.specs.Faults.{fault, faults_if}
 use Rattle.pddl_syntax.specs.declared.typed.Run.{Run}
 use Rattle.pddl_syntax.specs.Typed.{Declared, declared, typed_faults, parent_text}
 
--- the names with those of declarations
+-- the names, with those of the declarations added
 abbrev pub names_with : List (List ℕ) → List Declared → List (List ℕ)
 names_with names [] = names
 names_with names (d ∷ ds) = names_with (with_name names d.name) ds
 
--- the number of a declaration's type, and that of `object` where none can be read
+-- the number of a declaration's type, or that of `object` if the type cannot be read
 abbrev pub type_number : List (List ℕ) → Declared → ℕ
 type_number types d = option_map_or (number_of types) d.parent 0
 
--- variables behind so many of the same list, which had those names
+-- the faults of declarations that follow `count` others of the same list, which declared `names`
 abbrev pub variable_faults : List (List ℕ) → ℕ → List Declared → List Fault
 variable_faults names count [] = []
 variable_faults names count (d ∷ ds) =
     faults_if (is_there names d.name) (fault TwiceDeclared d.at)
     (faults_if (nat_le 16 count) (fault (Limit Arguments) d.at) (variable_faults (with_name names d.name) (count + 1) ds))
 
--- typed variables in the list at a place
+-- the faults of typed variables in the list at `home`
 abbrev pub parameters_faults : (List ℕ → Bool) → ℕ → Forms → List Fault
 parameters_faults known home f = typed_faults true known home true f ++ variable_faults [] 0 (declared true f)
 
--- the names of the parameters, each once, and the type of each declaration
+-- the names of the parameters, without repetitions
 abbrev pub parameter_names : Forms → List (List ℕ)
 parameter_names f = names_with [] (declared true f)
 

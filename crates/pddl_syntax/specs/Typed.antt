@@ -1,4 +1,4 @@
--- Typed lists: names, or variables, in runs, each with the type behind it.
+-- Typed lists: names or variables in runs, each followed by a type.
 use Rattle.std.specs.Prelude.{ℕ, Bool, true, false, ◌||◌, if◌then◌else◌, List, [], ◌∷◌, ◌++◌, map, Option, Some, None, codes}
 use Rattle.std.specs.List.{flat_map}
 use Rattle.std.specs.Option.{option_map}
@@ -18,13 +18,13 @@ use Rattle.pddl_syntax.specs.Faults.{fault}
 use Rattle.names.specs.Names.{same_text, is_there}
 use Rattle.pddl_syntax.specs.Words.{word_kind}
 
--- a name with its place and its type, where one can be read
+-- a name with its place, and its type if that can be read
 pub record Declared : Type 0 where
   pub name : List ℕ
   pub at : ℕ
   pub parent : Option (List ℕ)
 
--- ---- what the words are
+-- ---- the words
 
 abbrev pub item_of_kind : Bool → WordKind → Item
 item_of_kind variables Dash = Hyphen
@@ -44,13 +44,13 @@ abbrev pub type_of_word : List ℕ → WordKind → Option (List ℕ)
 type_of_word t Name = if is_either t then None else Some t
 type_of_word t kind = None
 
--- the type that stands first
+-- the type that comes first, if it can be read
 abbrev pub type_at : Forms → Option (List ℕ)
 type_at none = None
 type_at (word s e t f) = type_of_word t (word_kind t)
 type_at (group s e i f) = None
 
--- the type behind the next hyphen; `object` where there is none
+-- the type behind the next hyphen, or `object` if there is none
 abbrev pub type_after_item : Item → Option (List ℕ) → Option (List ℕ) → Option (List ℕ)
 type_after_item Hyphen here later = here
 type_after_item Entry here later = later
@@ -66,7 +66,7 @@ declared_item Hyphen d behind later = behind
 declared_item Entry d behind later = d ∷ later
 declared_item Wrong d behind later = later
 
--- what the list declares, from a name's place or from a type's place on
+-- what the list declares, where a name comes next, and where a type comes next
 abbrev mutual
   pub declared : Bool → Forms → List Declared
   declared v none = []
@@ -85,7 +85,7 @@ type_word_faults known t s Name =
     if is_either t then fault Unsupported s ∷ [] else (if known t then [] else fault UnknownName s ∷ [])
 type_word_faults known t s kind = fault Shape s ∷ []
 
--- where `either` stands, if it is the first word
+-- the place of `either`, if it is the first expression
 abbrev pub either_at : Forms → Option ℕ
 either_at none = None
 either_at (word s e t f) = if is_either t then Some s else None
@@ -95,7 +95,7 @@ abbrev pub either_faults : ℕ → Option ℕ → List Fault
 either_faults at None = fault Shape at ∷ []
 either_faults at (Some s) = fault Unsupported s ∷ []
 
--- a list in a type's place
+-- the fault of a list where a type is expected
 abbrev pub type_group_faults : ℕ → Forms → List Fault
 type_group_faults at inner = either_faults at (either_at inner)
 
@@ -104,8 +104,8 @@ item_faults Hyphen empty s behind later same = (if empty then fault Shape s ∷ 
 item_faults Entry empty s behind later same = later
 item_faults Wrong empty s behind later same = fault Shape s ∷ same
 
--- from a name's place on, in a run that is empty so far or not, and from a type's place on. A type that is missing
--- is missing in the list around
+-- The faults where a name comes next, in a run that is empty so far or not, and where a type comes next. A type that is
+-- missing is a fault at the list, which is at `home`.
 abbrev mutual
   pub typed_faults : Bool → (List ℕ → Bool) → ℕ → Bool → Forms → List Fault
   typed_faults v known home empty none = []
@@ -132,7 +132,7 @@ spread_run r = map (with_type (parent_text r)) r.names.items
 abbrev pub spread : List Run → List Declared
 spread rs = flat_map spread_run rs
 
--- what was read, and what is still to be read behind it
+-- what was read, and what is still to be read after it
 abbrev pub reading : Bool → List Run → List Named → Bool → Forms → List Declared
 reading v runs names false f = spread runs ++ (map (with_type (type_after v f)) names ++ declared v f)
 reading v runs names true f = spread runs ++ (map (with_type (type_at f)) names ++ declared_behind v f)
@@ -151,6 +151,6 @@ reading_of v r f = reading v r.runs.items r.names.items r.wants_type f
 abbrev pub complaints_of : Bool → (List ℕ → Bool) → ℕ → Typed → Forms → List Fault
 complaints_of v known home r f = complaints v known home r.names.items r.wants_type f
 
--- a type that is there, or any type
+-- the type is declared, or any type is allowed
 abbrev pub is_known : Bool → Types → List ℕ → Bool
 is_known any types t = any || is_there types.names t

@@ -1,11 +1,12 @@
--- What each word is.
+-- The kinds of words.
 use Rattle.std.specs.Prelude.{ℕ, ◌==◌, ◌||◌, Bool, true, false, if◌then◌else◌, List, [], ◌∷◌}
 use Rattle.std.specs.List.{list_any}
 use Rattle.names.specs.Names.{same_text}
 use Rattle.pddl_syntax.specs.declared.word.WordKind.{WordKind}
 use Rattle.pddl_syntax.specs.declared.word.WordKind.TheVariants.{Dash, Name, Variable, Other}
 
--- A lone minus; a name begins with neither a colon nor a question mark, and a variable is a question mark and more.
+-- A lone hyphen, a name, which begins with neither a colon nor a question mark, a variable, which is a question mark
+-- and more, or none of these.
 abbrev pub word_kind : List ℕ → WordKind
 word_kind [] = Other
 word_kind (b ∷ []) = if b == 45 then Dash else (if b == 58 || b == 63 then Other else Name)

@@ -1,24 +1,24 @@
-//! What is wrong with a planning text.
+//! Faults of a planning task's texts.
 
 ghost use Rattle.std.specs.Prelude.{◌≡◌, ◌↔◌, IsTrue, List, Some, None, []};
 ghost use Rattle.pddl_syntax.specs.declared.fault.Fault.{Fault};
 ghost use Rattle.pddl_syntax.specs.Faults.{number, precedes, earlier, first_of, faults_if, IsFirst};
 
-/// Which of the two texts of a planning task a fault stands in.
+/// Which of the two texts of a planning task a fault is in.
 #[derive(Clone, Copy, Debug, PartialEq, Eq)]
 pub enum PlanningFile {
     Domain,
     Problem,
 }
 
-/// What a task may have only so many of.
+/// What a task may have only a limited number of.
 #[derive(Clone, Copy, Debug, PartialEq, Eq)]
 pub enum LimitedTable {
     /// 4,096 objects, constants among them.
     Objects,
     /// 512 predicates.
     Predicates,
-    /// 512 functions, `total-cost` only where it is declared.
+    /// 512 functions. `total-cost` counts only where it is declared.
     Functions,
     /// 512 action schemas.
     Schemas,
@@ -32,40 +32,40 @@ pub enum LimitedTable {
     Init,
 }
 
-/// What is wrong at a place.
+/// The kind of a fault.
 #[derive(Clone, Copy, Debug, PartialEq, Eq)]
 pub enum FaultKind {
-    /// F10: a list or a word that is not of the form that stands here, or something that is missing.
+    /// F10: a list or a word of another form than is allowed at its place, or something that is missing.
     Shape,
-    /// F11: a word of PDDL that is not read; it is the word at the place.
+    /// F11: a word of PDDL that is not supported. It is the word at the place.
     Unsupported,
     /// F12: a predicate, function, object, type or variable that is not declared.
     UnknownName,
-    /// F13: a predicate or function with another number of arguments.
+    /// F13: a predicate or function with a number of arguments other than that of its parameters.
     Arity,
-    /// F14: declared, or stated, a second time and differently.
+    /// F14: declared or stated a second time where that is not allowed.
     TwiceDeclared,
     /// F15: a type that lies on a cycle of supertypes.
     TypeCycle,
     /// F16: a number with a fraction.
     NotWhole,
-    /// F17: a cost below 0 or past 2147483647.
+    /// F17: a cost below 0 or past 2147483647, or a schema whose increases may sum up to more.
     CostRange,
     /// F18: the first item past a limit.
     Limit(LimitedTable),
-    /// F19: a goal literal whose opposite stood before it.
+    /// F19: a goal literal whose negation stands before it.
     GoalBothWays,
 }
 
-/// A fault and its place: the byte, counted from 0, at which the word or list at fault begins; for
-/// something missing, that of the list that lacks it.
+/// A fault and its place: the byte, counted from 0, at which the word or list at fault begins. For something missing it
+/// is the place of the list that lacks it.
 #[derive(Clone, Copy, Debug, PartialEq, Eq)]
 pub struct Fault {
     pub at: usize,
     pub kind: FaultKind,
 }
 
-/// The number under which a fault is known.
+/// The number of a fault as it is reported.
 pub fn number(kind: FaultKind) -> u32
     ensures { result ≡ number kind }
 {
@@ -83,14 +83,14 @@ pub fn number(kind: FaultKind) -> u32
     }
 }
 
-/// Whether the first goes before the second.
+/// Whether the first fault precedes the second: it is at an earlier place, or at the same place with a lower number.
 fn precedes(first: Fault, second: Fault) -> bool
     ensures { result ≡ precedes first second }
 {
     first.at < second.at || first.at == second.at && number(first.kind) < number(second.kind)
 }
 
-/// Notes a fault, of which the earliest is kept.
+/// Records a fault: `first` becomes the earlier of the fault that it holds and this one.
 pub fn blame(first: &mut Option<Fault>, at: usize, kind: FaultKind)
     ensures { first.new ≡ earlier first.old (record { at = at; kind = kind }) }
 {
@@ -105,7 +105,7 @@ pub fn blame(first: &mut Option<Fault>, at: usize, kind: FaultKind)
     }
 }
 
-/// Notes a fault where there is one.
+/// Records a fault in `first` if `is_fault` is set.
 #[tactic(auto, unfolding(crate::specs::Faults::first_of))]
 pub fn blame_if(is_fault: bool, first: &mut Option<Fault>, at: usize, kind: FaultKind)
     ensures { (fs : List Fault) → first_of first.old (faults_if is_fault (record { at = at; kind = kind }) fs) ≡ first_of first.new fs }
@@ -115,12 +115,12 @@ pub fn blame_if(is_fault: bool, first: &mut Option<Fault>, at: usize, kind: Faul
     }
 }
 
-/// A law: of faults that are noted one by one the first is kept.
+/// A law: the fault that is kept, when faults are recorded one by one, is the first of them.
 pub fn kept_is_first()
     ensures { (fs : List Fault) (e : Fault) → first_of None fs ≡ Some e → IsFirst fs e }
 {}
 
-/// A law: where no fault is kept there is none.
+/// A law: if no fault is kept, none was recorded.
 #[tactic(auto, using(crate::proofs::Firsts::none_kept))]
 pub fn none_kept()
     ensures { (fs : List Fault) → first_of None fs ≡ None → fs ≡ [] }

@@ -1,4 +1,4 @@
-//! Predicates and functions as they are declared.
+//! Declared predicates and functions.
 
 ghost use Rattle.std.specs.Prelude.{◌≡◌, OnOk};
 ghost use Rattle.pddl_syntax.specs.Heads.{no_heads, arity_of, with_head};
@@ -7,7 +7,7 @@ use names::Names;
 use std::alloc::{AllocError, Global};
 use std::marker::Model;
 
-/// Names of predicates or of functions, each with the number of its parameters.
+/// The names of predicates or of functions, each with the number of its parameters.
 #[derive(Debug, Drop)]
 pub struct Heads {
     names: Names,
@@ -23,6 +23,7 @@ impl Model for Heads {
 }
 
 impl Heads {
+    /// No heads.
     pub fn new(alloc: Global) -> Heads
         ensures { result ≡ no_heads }
     {
@@ -39,14 +40,14 @@ impl Heads {
         &self.names
     }
 
-    /// The number of parameters of each, in the order of the names.
+    /// The number of parameters of each head, in the order of the names.
     pub fn arities(&self) -> &[usize]
         ensures { result.now ≡ self.now.arities }
     {
         &self.arities
     }
 
-    /// How many parameters the head of a name has, or `None` where it is not declared.
+    /// The number of parameters of the head with this name, or `None` if it is not declared.
     pub fn arity_of(&self, name: &str) -> Option<usize>
         ensures { result ≡ arity_of self.now name.now }
     {
@@ -54,8 +55,8 @@ impl Heads {
         self.arities.get(number).copied()
     }
 
-    /// Adds a head; one whose name is there already changes nothing. An `Err` is of too little memory,
-    /// and leaves the heads as they were.
+    /// Adds a head. One whose name is declared already changes nothing. Fails only if allocation fails, and then leaves
+    /// the heads as they were.
     pub fn add(&mut self, alloc: Global, name: &str, arity: usize) -> Result<(), AllocError>
         ensures ok { OnOk result (self.new ≡ with_head self.old name.now arity) }
     {
@@ -67,7 +68,7 @@ impl Heads {
         Ok(())
     }
 
-    /// The names and the numbers of parameters, where no more heads come.
+    /// The names and the numbers of parameters.
     pub fn into_parts(self) -> (Names, Vec<usize>)
         ensures names { result.0 ≡ self.names }
         ensures arities { result.1.items ≡ self.arities }

@@ -1,5 +1,5 @@
-//! What the texts of a planning task are made of: words, numbers, typed lists, parameters and sections, with the
-//! faults of each. A reader notes each fault with its place and goes on; the first of them is kept.
+//! The parts that the texts of a planning task are made of: words, numbers, typed lists, parameters and sections, with
+//! the faults of each. A reader records each fault with its place and goes on; the first fault is kept.
 #![tactic(auto)]
 
 mod fault;

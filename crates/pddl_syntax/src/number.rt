@@ -1,4 +1,4 @@
-//! Words in the place of a number.
+//! Words where a number is expected.
 
 ghost use Rattle.std.specs.Prelude.{◌≡◌, ◌==◌, ◌≤◌};
 ghost use Rattle.std.specs.List.{list_all};
@@ -6,12 +6,16 @@ ghost use Rattle.pddl_syntax.specs.Numbers.{is_digit, in_range, after_point, aft
 
 const MAX: u64 = 2_147_483_647;
 
-/// What a word says in the place of a number.
+/// What a word means where a number is expected.
 #[derive(Clone, Copy, Debug, PartialEq, Eq)]
 pub enum Number {
+    /// A whole number from 0 to 2,147,483,647. It may be written with a point and zeros.
     Whole(u64),
+    /// A number without a sign whose digits behind the point are not all zeros.
     Fraction,
+    /// A whole number past 2,147,483,647, or any whole number with a minus sign.
     OutOfRange,
+    /// Any other word, a fraction with a minus sign among them.
     NoNumber,
 }
 
@@ -62,7 +66,7 @@ fn after_digits(digits: u64, bytes: &[u8]) -> Number
     for (i, b) in bytes.iter().enumerate() {
         let b = *b;
         if is_digit(b) {
-            // past the limit one number is as good as another
+            // Past the limit every number has the same answer.
             if n <= MAX {
                 n = n * 10 + u64::from(b - b'0');
             }
@@ -84,6 +88,7 @@ fn unsigned(bytes: &[u8]) -> Number
     }
 }
 
+/// The meaning of a word where a number is expected. Takes time linear in its length.
 pub fn number_of(word: &str) -> Number
     ensures { result ≡ number_of word.now }
 {

@@ -1,4 +1,4 @@
-//! Typed variables.
+//! Lists of typed variables.
 
 ghost use Rattle.std.specs.Prelude.{◌≡◌, ◌++◌, ◌∷◌, [], ℕ, List, Option, map, length, IfOk, OnOk, false};
 ghost use Rattle.std.specs.String.{string_bytes};
@@ -19,13 +19,13 @@ const MAX_ARGUMENTS: usize = 16;
 /// The parameters of an action, a predicate or a function.
 #[derive(Debug, Drop)]
 pub struct Parameters {
-    /// The variables, each once.
+    /// The variables, without repetitions.
     pub names: Names,
-    /// The number of the type of each variable that the text declares.
+    /// The type of each variable that the text declares, by its number, repeated variables included.
     pub types: Vec<usize>,
 }
 
-/// The number of a run's type, and that of `object` where none can be read.
+/// The number of a run's type, or that of `object` if the type cannot be read.
 fn run_type(run: &Run, types: &Types) -> usize
     ensures { result ≡ run_type types.now.names run.now }
 {
@@ -36,7 +36,8 @@ fn run_type(run: &Run, types: &Types) -> usize
 }
 
 impl Parameters {
-    /// Adds a variable, and notes whether it is there already, or one too many.
+    /// Adds a variable and its type, and records it as a fault if it is declared already or is past the limit. Fails
+    /// only if allocation fails.
     #[tactic(auto, unfolding(crate::specs::Faults::first_of))]
     fn declare(
         &mut self,
@@ -69,7 +70,7 @@ impl Parameters {
         Ok(())
     }
 
-    /// Adds the variables of a run.
+    /// Adds the variables of a run, which all have the type `type_number`.
     fn declare_run(
         &mut self,
         alloc: Global,
@@ -90,7 +91,7 @@ impl Parameters {
     }
 }
 
-/// The parameters that runs declare.
+/// The parameters that the runs declare. Their faults are recorded in `first`.
 #[tactic(auto, unfolding(crate::specs::Faults::first_of))]
 fn declared(
     alloc: Global,
@@ -112,7 +113,7 @@ fn declared(
     Ok(parameters)
 }
 
-/// Reads typed variables, which stand in the list at a place, and notes their faults.
+/// Reads the typed variables of the list at `home` and records their faults in `first`. Fails only if allocation fails.
 pub fn parameters_list(
     alloc: Global,
     items: &[Tree],

@@ -1,4 +1,4 @@
-//! The section of the requirements, of which none is refused.
+//! The section of the requirements. No requirement is refused.
 
 ghost use Rattle.std.specs.Prelude.{◌≡◌, not};
 ghost use Rattle.sexp.specs.Forms.{Forms, before, views};
@@ -32,7 +32,8 @@ fn requirement(tree: &Tree, first: &mut Option<Fault>)
     }
 }
 
-/// Reads the section of the requirements, what stands behind its head, and notes its faults.
+/// Reads the section of the requirements, whose items without its head are `items`, and records its faults in `first`:
+/// F10 for each item that is not a word that begins with a colon.
 #[tactic(auto, unfolding(crate::specs::Faults::first_of))]
 pub fn requirements_section(items: &[Tree], first: &mut Option<Fault>)
     ensures { first.new ≡ first_of first.old (requirement_faults (views items.now)) }

@@ -1,4 +1,4 @@
-//! The heads of a text, `(define (domain NAME) SECTION ..)`, and where its sections stand.
+//! The heads of a text, `(define (domain NAME) SECTION ..)`, and its sections.
 
 ghost use Rattle.std.specs.Prelude.{◌≡◌, ◌++◌, ◌∷◌, [], ℕ, List, Option, map, not, IfOk, OnOk, option_to_list, codes, is_some};
 ghost use Rattle.std.specs.Option.{option_map};
@@ -15,7 +15,7 @@ use names::Names;
 use sexp::Tree;
 use std::alloc::{AllocError, Global};
 
-/// A section: the byte at which it begins, and what stands in it behind its head.
+/// A section: the byte at which it begins, counted from 0, and its items without its head.
 #[derive(Clone, Copy)]
 pub struct Section<'a> {
     pub at: usize,
@@ -40,14 +40,14 @@ fn has_head(items: &[Tree], wanted: &str) -> bool
     }
 }
 
-/// All items but the first.
+/// All items but the first, or none if there is none.
 pub fn without_first(items: &[Tree]) -> &[Tree]
     ensures { views result.now ≡ spec.behind (views items.now) }
 {
     if items.is_empty() { &[] } else { &items[1..] }
 }
 
-/// The sections of a text, which stand behind `define` and the title.
+/// The sections of a text: the items of its root behind `define` and the title.
 pub fn sections_of(root: &Tree) -> &[Tree]
     ensures { views result.now ≡ spec.sections (alone root.now) }
 {
@@ -60,7 +60,7 @@ pub fn sections_of(root: &Tree) -> &[Tree]
     }
 }
 
-/// The tree as a section of a name.
+/// The tree as a section with this name, or `None` if it is none.
 fn as_section<'a>(tree: &'a Tree, name: &str) -> Option<Section<'a>>
     ensures one { (rest : Forms) → spec.or_else (option_map part_of result) (spec.section name.now rest) ≡ spec.section name.now (before tree.now rest) }
     ensures all { (rest : Forms) → option_to_list (option_map part_of result) ++ spec.all_sections name.now rest ≡ spec.all_sections name.now (before tree.now rest) }
@@ -80,7 +80,7 @@ fn as_section<'a>(tree: &'a Tree, name: &str) -> Option<Section<'a>>
     }
 }
 
-/// The first section of a name.
+/// The first section with this name, or `None` if there is none.
 pub fn find_section<'a>(sections: &'a [Tree], name: &str) -> Option<Section<'a>>
     ensures { option_map part_of result ≡ spec.section name.now (views sections.now) }
 {
@@ -92,7 +92,7 @@ pub fn find_section<'a>(sections: &'a [Tree], name: &str) -> Option<Section<'a>>
     None
 }
 
-/// Each section of a name, in the order of the text.
+/// All sections with this name, in the order of the text. Fails only if allocation fails.
 pub fn all_sections<'a>(
     alloc: Global,
     sections: &'a [Tree],
@@ -126,7 +126,7 @@ fn is_name(tree: &Tree) -> bool
     }
 }
 
-/// Notes the first thing of the list, which is one too many.
+/// Records the first of the items, if there is one, as F10: it is one too many.
 #[tactic(auto, unfolding(crate::specs::Faults::first_of))]
 pub fn blame_more(items: &[Tree], first: &mut Option<Fault>)
     ensures { first.new ≡ first_of first.old (spec.more_faults (views items.now)) }
@@ -137,7 +137,7 @@ pub fn blame_more(items: &[Tree], first: &mut Option<Fault>)
     }
 }
 
-/// A name, alone, in the list at a place.
+/// Records the faults of items, in the list at `home`, that must be one name.
 fn blame_name(items: &[Tree], home: usize, first: &mut Option<Fault>)
     ensures { first.new ≡ first_of first.old (spec.name_faults home (views items.now)) }
 {
@@ -159,7 +159,7 @@ fn title_word(file: PlanningFile) -> &'static str
     }
 }
 
-/// The title, what stands in the list at a place.
+/// Records the faults of a title whose items are `items`, in the list at `home`.
 fn blame_title(file: PlanningFile, items: &[Tree], home: usize, first: &mut Option<Fault>)
     ensures { first.new ≡ first_of first.old (spec.title_faults file home (views items.now)) }
 {
@@ -177,7 +177,7 @@ fn blame_title(file: PlanningFile, items: &[Tree], home: usize, first: &mut Opti
     }
 }
 
-/// The second part of a text, which is to be its title.
+/// Records the faults of the second item of a text, which must be its title.
 fn blame_second(file: PlanningFile, tree: &Tree, first: &mut Option<Fault>)
     ensures { (home : ℕ) (rest : Forms) → first.new ≡ first_of first.old (spec.second_faults file home (before tree.now rest)) }
 {
@@ -219,7 +219,8 @@ fn is_section_word(file: PlanningFile, word: &str) -> bool
     }
 }
 
-/// A section's head, behind sections of those heads.
+/// Records the faults of a section's head at `at`, and adds it to the heads seen before. Only `:action` may occur
+/// twice.
 #[tactic(auto, unfolding(crate::specs::Faults::first_of))]
 fn blame_head(
     alloc: Global,
@@ -242,7 +243,7 @@ fn blame_head(
     Ok(())
 }
 
-/// A section, by its first part.
+/// Records the faults of a section whose first item is `head`.
 fn blame_section_head(
     alloc: Global,
     file: PlanningFile,
@@ -289,7 +290,7 @@ fn blame_section(
     Ok(())
 }
 
-/// Notes the faults of the sections' heads.
+/// Records the faults of the sections' heads.
 #[tactic(auto, unfolding(crate::specs::Faults::first_of))]
 fn blame_sections(
     alloc: Global,
@@ -306,7 +307,7 @@ fn blame_sections(
     Ok(())
 }
 
-/// A problem is to have a goal.
+/// Records that a problem, whose root is at `home`, has no goal.
 #[tactic(auto, unfolding(crate::specs::Faults::first_of))]
 fn blame_missing_goal(file: PlanningFile, home: usize, sections: &[Tree], first: &mut Option<Fault>)
     ensures { first.new ≡ first_of first.old (spec.goal_missing_faults file home (views sections.now)) }
@@ -322,7 +323,7 @@ fn blame_missing_goal(file: PlanningFile, home: usize, sections: &[Tree], first:
     }
 }
 
-/// The second part of a text, what is first behind `define`, in the root, which stands at a place.
+/// Records the faults of the title, the first of the items behind `define` in the root at `home`.
 fn blame_title_part(file: PlanningFile, items: &[Tree], home: usize, first: &mut Option<Fault>)
     ensures { first.new ≡ first_of first.old (spec.second_faults file home (views items.now)) }
 {
@@ -332,7 +333,7 @@ fn blame_title_part(file: PlanningFile, items: &[Tree], home: usize, first: &mut
     }
 }
 
-/// What stands behind `define` in the root, which stands at a place.
+/// Records the faults of the items behind `define` in the root at `home`.
 fn blame_behind_define(
     alloc: Global,
     file: PlanningFile,
@@ -349,7 +350,7 @@ fn blame_behind_define(
     Ok(())
 }
 
-/// What stands in the root, which stands at a place.
+/// Records the faults of the heads in the root at `home`, whose items are `items`.
 #[tactic(auto, unfolding(crate::specs::Faults::first_of))]
 fn blame_root(
     alloc: Global,
@@ -377,8 +378,8 @@ fn blame_root(
     }
 }
 
-/// Notes the faults of a text's heads: `define`, the title, the heads of the sections, and a goal that a problem
-/// lacks. An `Err` is of too little memory.
+/// Records the faults of a text's heads in `first`: those of `define`, of the title and of the sections' heads, and the
+/// goal that a problem lacks. Fails only if allocation fails.
 pub fn read_heads(
     alloc: Global,
     file: PlanningFile,

@@ -22,29 +22,33 @@ pub struct Types {
     pub supertypes: Vec<usize>,
 }
 
-/// What a word is in a typed list.
+/// The role of a word in a typed list.
 #[derive(Clone, Copy, Debug, PartialEq, Eq)]
 pub enum Item {
+    /// A name or a variable, whichever the list declares.
     Entry,
+    /// A lone hyphen. A type follows it.
     Hyphen,
+    /// Any other word.
     Wrong,
 }
 
-/// A name and its place.
+/// A name, and the byte at which it begins, counted from 0.
 #[derive(Debug, Drop)]
 pub struct Named {
     pub name: String,
     pub at: usize,
 }
 
-/// Names, and the type behind them, where one can be read.
+/// Names, and the type that follows them, which is `object` if the list ends without one, and `None` if it cannot be
+/// read.
 #[derive(Debug, Drop)]
 pub struct Run {
     pub names: Vec<Named>,
     pub parent: Option<String>,
 }
 
-/// The part of a typed list that was read.
+/// The state of reading a typed list: what was read so far.
 #[derive(Debug, Drop)]
 pub struct Typed {
     alloc: Global,
@@ -69,14 +73,14 @@ fn is_either(text: &str) -> bool
     text == "either"
 }
 
-/// Whether the type is there, or any type will do.
+/// Whether the type is declared, or `any` type is allowed.
 fn is_known(any: bool, types: &Types, text: &str) -> bool
     ensures { result ≡ is_known any types.now text.now }
 {
     any || types.names.contains(text)
 }
 
-/// The type that a word names.
+/// The type that a word at `at` names, or `None` if it names none. Faults are recorded in `first`.
 #[tactic(auto, unfolding(crate::specs::Faults::first_of))]
 fn read_type_word(
     alloc: Global,
@@ -103,7 +107,7 @@ fn read_type_word(
     Ok(Some(String::from_str(alloc, text)?))
 }
 
-/// Where the word `either` stands, if it is this tree.
+/// The place of the tree if it is the word `either`.
 fn either_at(tree: &Tree) -> Option<usize>
     ensures { (rest : Forms) → result ≡ either_at (before tree.now rest) }
 {
@@ -128,7 +132,7 @@ fn head_either_at(items: &[Tree]) -> Option<usize>
     }
 }
 
-/// A list where a type is wanted.
+/// Records the fault of a list where a type is expected: F11 at the word `either` if that is its head, otherwise F10.
 #[tactic(auto, unfolding(crate::specs::Faults::first_of))]
 fn blame_type_list(items: &[Tree], at: usize, first: &mut Option<Fault>)
     ensures { first.new ≡ first_of first.old (type_group_faults at (views items.now)) }
@@ -139,7 +143,7 @@ fn blame_type_list(items: &[Tree], at: usize, first: &mut Option<Fault>)
     }
 }
 
-/// The type that a tree names.
+/// The type that a tree names, or `None` if it names none. Faults are recorded in `first`.
 fn read_type(
     alloc: Global,
     any: bool,
@@ -179,7 +183,7 @@ impl Typed {
         }
     }
 
-    /// Reads a word where a name is wanted.
+    /// Reads a word where a name is expected.
     #[tactic(auto, unfolding(crate::specs::Faults::first_of))]
     fn read_word(
         &mut self,
@@ -208,7 +212,7 @@ impl Typed {
         Ok(())
     }
 
-    /// Ends the run of names that was begun.
+    /// Ends the current run of names, with its type.
     fn end_run(&mut self, parent: Option<String>) -> Result<(), AllocError>
         ensures runs { OnOk result (spread self.new.runs.items ≡ spread self.old.runs.items ++ map (with_type (option_map string_bytes parent)) self.old.names.items) }
         ensures names { OnOk result (self.new.names.items ≡ []) }
@@ -250,7 +254,7 @@ impl Typed {
         }
     }
 
-    /// Ends the list, which stands at a place.
+    /// Ends the list at `home`, and returns its runs.
     #[tactic(auto, unfolding(crate::specs::Faults::first_of))]
     fn finish(mut self, home: usize, first: &mut Option<Fault>) -> Result<Vec<Run>, AllocError>
         ensures meaning { IfOk result (λ runs. (v : Bool) → spread runs.items ≡ reading_of v self none) }
@@ -267,8 +271,8 @@ impl Typed {
     }
 }
 
-/// Reads a typed list of names or variables, which stands at a place, and notes its faults. Each
-/// type is known where any will do.
+/// Reads the typed list of names or variables at `home` and records its faults in `first`. Where `any` is set every
+/// type counts as declared. Fails only if allocation fails.
 pub fn typed_list(
     alloc: Global,
     items: &[Tree],

@@ -1,4 +1,4 @@
--- What the head of a list begins.
+-- The construct that the head of a list names.
 use Rattle.std.specs.Prelude.{ℕ, if◌then◌else◌, List, [], ◌∷◌, codes}
 use Rattle.names.specs.Names.{same_text}
 use Rattle.pddl_syntax.specs.declared.word.WordKind.{WordKind}
@@ -9,7 +9,7 @@ use Rattle.pddl_terms.specs.declared.beginning.Beginning.TheVariants.{Conjunctio
 use Rattle.pddl_terms.specs.declared.beginning.Setting.{Setting}
 use Rattle.pddl_terms.specs.declared.beginning.Setting.TheVariants.{InCondition, InEffect, InInitial}
 
--- the heads that are read nowhere
+-- the heads that are supported nowhere
 abbrev pub unsupported_heads : List (List ℕ)
 unsupported_heads =
     codes "or" ∷ codes "imply" ∷ codes "forall" ∷ codes "exists" ∷ codes "when" ∷ codes "preference" ∷ codes "<" ∷ codes ">" ∷ codes "<="
@@ -20,14 +20,14 @@ abbrev pub by_kind : WordKind → Beginning
 by_kind Name = Atom
 by_kind kind = NoName
 
--- what the settings have in common
+-- the constructs that all settings have
 abbrev pub other_beginning : List ℕ → Beginning
 other_beginning t =
     if same_text t (codes "not") then Negation
     else (if is_one_of unsupported_heads t then Unread else by_kind (word_kind t))
 
--- A condition or a goal, an effect, or an item of the initial state. Only a condition has equality, only an effect an
--- increase, and in the initial state `and` is a predicate like others.
+-- The construct in a condition or a goal, in an effect, or in an item of the initial state. Only a condition has
+-- equality, only an effect has increases, and in the initial state `and` is an ordinary predicate.
 abbrev pub beginning : Setting → List ℕ → Beginning
 beginning InCondition t =
     if same_text t (codes "and") then Conjunction

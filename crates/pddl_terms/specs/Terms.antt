@@ -1,4 +1,4 @@
--- Terms, and predicates and functions with their terms: what they mean, and their faults.
+-- Terms, and predicates and functions with their terms: their meaning and their faults.
 use Rattle.std.specs.Prelude.{ℕ, ◌+◌, ◌==◌, not, Bool, true, false, codes, if◌then◌else◌, List, [], ◌∷◌, ◌++◌, length, Option, Some, None}
 use Rattle.std.specs.Option.{option_map}
 use Rattle.sexp.specs.Forms.{Forms, none, word, group}
@@ -14,7 +14,7 @@ use Rattle.pddl_syntax.specs.Faults.{fault, faults_if}
 use Rattle.pddl_syntax.specs.Words.{word_kind}
 use Rattle.pddl_syntax.specs.Heads.{Heads, arity_of}
 
--- what is declared where an expression stands
+-- the declarations that are visible to an expression
 pub record Scope : Type 0 where
   pub predicates : Heads
   pub functions : Heads
@@ -28,7 +28,7 @@ term_by_kind scope t Variable = option_map Parameter (place_of scope.variables t
 term_by_kind scope t Name = option_map Object (place_of scope.objects t)
 term_by_kind scope t kind = None
 
--- a word as a term, if it is a declared variable or object
+-- the word as a term, if it is a declared variable or a declared object
 abbrev pub term_of : Scope → List ℕ → Option Term
 term_of scope t = term_by_kind scope t (word_kind t)
 
@@ -54,17 +54,17 @@ term_faults_by_kind scope s t Variable = faults_if (not (is_there scope.variable
 term_faults_by_kind scope s t Name = faults_if (not (is_there scope.objects t)) (fault UnknownName s) []
 term_faults_by_kind scope s t kind = fault Shape s ∷ []
 
--- a word at a place where a term is wanted
+-- the fault of a word where a term is expected
 abbrev pub term_faults : Scope → ℕ → List ℕ → List Fault
 term_faults scope s t = term_faults_by_kind scope s t (word_kind t)
 
--- the first expression, which is to be a term
+-- the fault of the first expression, if there is one, which must be a term
 abbrev pub first_term_faults : Scope → Forms → List Fault
 first_term_faults scope none = []
 first_term_faults scope (word s e t f) = term_faults scope s t
 first_term_faults scope (group s e i f) = fault Shape s ∷ []
 
--- each of the expressions is to be a term
+-- the faults of expressions that must all be terms
 abbrev pub terms_faults : Scope → Forms → List Fault
 terms_faults scope none = []
 terms_faults scope (word s e t f) = term_faults scope s t ++ terms_faults scope f
@@ -72,35 +72,36 @@ terms_faults scope (group s e i f) = fault Shape s ∷ terms_faults scope f
 
 -- ---- heads with terms
 
--- how many expressions there are
+-- the number of expressions
 abbrev pub count : Forms → ℕ
 count none = 0
 count (word s e t f) = count f + 1
 count (group s e i f) = count f + 1
 
--- a head by its number, with as many terms as it has parameters
+-- the head with this number and these terms, if there are as many as its parameters
 abbrev pub lifted_of : Option ℕ → Option ℕ → Option (List Term) → Option Lifted
 lifted_of (Some number) (Some arity) (Some ts) = if arity == length ts then Some (record { predicate = number; terms = ts }) else None
 lifted_of (Some number) (Some arity) None = None
 lifted_of (Some number) None ts = None
 lifted_of None arity ts = None
 
--- a declared head of this name, with these expressions as its terms
+-- the declared head with this name and these expressions as its terms
 abbrev pub lifted : Heads → Scope → List ℕ → Forms → Option Lifted
 lifted heads scope t f = lifted_of (place_of heads.names t) (arity_of heads t) (terms scope f)
 
--- a head at a place, in the list at another, that has so many parameters if it is known, and is given so many terms
+-- the fault of a head at the place hs, in the list at `home`, that has this arity, if it is declared, and is given this
+-- many terms
 abbrev pub arity_faults : Option ℕ → ℕ → ℕ → ℕ → List Fault
 arity_faults None home hs given = fault UnknownName hs ∷ []
 arity_faults (Some n) home hs given = faults_if (not (n == given)) (fault Arity home) []
 
--- a head at a place with its terms, in the list at another place
+-- the faults of a head at the place hs with its terms, in the list at `home`
 abbrev pub lifted_faults : Heads → Scope → ℕ → ℕ → List ℕ → Forms → List Fault
 lifted_faults heads scope home hs t f = arity_faults (arity_of heads t) home hs (count f) ++ terms_faults scope f
 
--- ---- words on costs, and on whether anything stands there
+-- ---- the total cost, and whether there are expressions
 
--- the function that is always there
+-- the predefined function `total-cost`
 abbrev pub is_total_cost : List ℕ → Bool
 is_total_cost t = same_text t (codes "total-cost")
 

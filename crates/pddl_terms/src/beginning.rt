@@ -1,4 +1,4 @@
-//! What the head of a list begins.
+//! The construct that the head of a list names.
 
 ghost use Rattle.std.specs.Prelude.{◌≡◌};
 ghost use Rattle.pddl_syntax.specs.Words.{is_one_of};
@@ -15,7 +15,7 @@ pub enum Setting {
     InInitial,
 }
 
-/// What a list is by its head.
+/// The construct of a list, by its head.
 #[derive(Clone, Copy, Debug, PartialEq, Eq)]
 pub enum Beginning {
     /// `and`
@@ -26,11 +26,11 @@ pub enum Beginning {
     Equality,
     /// `increase`
     Increasing,
-    /// A word of PDDL that is not read here, as `forall`.
+    /// A construct of PDDL that is not supported, such as `forall`.
     Unread,
     /// Any other name: a predicate.
     Atom,
-    /// A word that is no name.
+    /// A word that is not a name.
     NoName,
 }
 
@@ -68,7 +68,7 @@ fn other_beginning(head: &str) -> Beginning
     }
 }
 
-/// What a list with this head is, in a setting. `and` and `=` are predicates like others in the initial state.
+/// The construct of a list with this head in a setting. `and` and `=` are ordinary predicates in the initial state.
 pub fn beginning_of(setting: Setting, head: &str) -> Beginning
     ensures { result ≡ beginning setting head.now }
 {
@@ -81,7 +81,7 @@ pub fn beginning_of(setting: Setting, head: &str) -> Beginning
     }
 }
 
-/// Whether the word is the name of the total cost.
+/// Whether the word is `total-cost`.
 pub fn is_total_cost(word: &str) -> bool
     ensures { result ≡ is_total_cost word.now }
 {

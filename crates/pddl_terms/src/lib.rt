@@ -1,5 +1,5 @@
-//! What every expression of a PDDL text is made of: terms, predicates and functions with their terms, and what the head
-//! of a list begins.
+//! The parts common to the expressions of a PDDL text: terms, predicates and functions with their terms, and the
+//! constructs that the heads of lists name.
 #![tactic(auto)]
 
 mod beginning;

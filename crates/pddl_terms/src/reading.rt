@@ -12,7 +12,7 @@ use planning::{LiftedAtom, Term};
 use sexp::Tree;
 use std::alloc::{AllocError, Global};
 
-/// A word as a term, if it is a declared variable or object.
+/// A word as a term, if it is a declared variable or a declared object.
 fn term_of(scope: &Scope, word: &str) -> Option<Term>
     ensures { result ≡ spec.term_of scope.now word.now }
 {
@@ -23,7 +23,7 @@ fn term_of(scope: &Scope, word: &str) -> Option<Term>
     }
 }
 
-/// Notes the fault of a word where a term is wanted.
+/// Records the fault of a word where a term is expected.
 #[tactic(auto, unfolding(pddl_syntax::specs::Faults::first_of))]
 fn blame_term(scope: &Scope, word: &str, at: usize, first: &mut Option<Fault>)
     ensures { first.new ≡ first_of first.old (spec.term_faults scope.now at word.now) }
@@ -45,7 +45,8 @@ fn blame_term(scope: &Scope, word: &str, at: usize, first: &mut Option<Fault>)
     }
 }
 
-/// A tree as a term.
+/// A tree as a term. Its fault is recorded in `first`, and then the result is `None`: F10 for a list or for a word that
+/// is no name and no variable, F12 for one that is not declared.
 #[tactic(auto, using(sexp::proofs::Walking::walking, pddl_syntax::proofs::Trees::noting), unfolding(pddl_syntax::specs::Faults::first_of))]
 pub fn term(scope: &Scope, tree: &Tree, first: &mut Option<Fault>) -> Option<Term>
     ensures meaning { (rest : Forms) → result ≡ spec.first_term scope.now (before tree.now rest) }
@@ -63,7 +64,8 @@ pub fn term(scope: &Scope, tree: &Tree, first: &mut Option<Fault>) -> Option<Ter
     }
 }
 
-/// Reads terms and notes their faults. Where one is at fault there are none. An `Err` is of too little memory.
+/// Reads terms and records their faults in `first`. The result is `None` if one of them has a fault. Fails only if
+/// allocation fails.
 #[tactic(auto, using(sexp::proofs::Walking::walking, pddl_syntax::proofs::Trees::noting, crate::proofs::TermSteps::steps, crate::proofs::TermSteps::reading), unfolding(pddl_syntax::specs::Faults::first_of))]
 pub fn terms(
     alloc: Global,
@@ -85,7 +87,8 @@ pub fn terms(
     Ok(if are_read { Some(terms) } else { None })
 }
 
-/// A head by its number, with as many terms as it has parameters.
+/// The predicate or function with this number and these terms, if all are known and there are as many terms as
+/// parameters.
 fn lifted_of(
     number: Option<usize>,
     arity: Option<usize>,
@@ -101,7 +104,7 @@ fn lifted_of(
     }
 }
 
-/// Notes that a head is not known, or has another number of parameters than it is given terms.
+/// Records in `first` that a head is not declared, or that its number of parameters is not the number of terms given.
 #[tactic(auto, unfolding(pddl_syntax::specs::Faults::first_of))]
 fn blame_arity(
     arity: Option<usize>,
@@ -118,11 +121,11 @@ fn blame_arity(
     }
 }
 
-/// Reads a predicate or a function, one of the heads, with its terms, and notes their faults. The list around stands at
-/// the byte `home`, and the head at the byte `head_at`, both counted from 0.
+/// Reads a predicate or a function of `heads` with its terms, and records the faults in `first`. The list begins at the
+/// byte `home` and the head at the byte `head_at`, both counted from 0. The result is `None` if there is a fault.
 ///
-/// F12 where a head or a term is not declared, F13 at the list where the head has another number of parameters, F10 where a
-/// term is of another form. An `Err` is of too little memory.
+/// F12 at the head or at a term that is not declared, F13 at the list if the head has another number of parameters, F10
+/// at a term of another form. Fails only if allocation fails.
 #[tactic(auto, using(crate::proofs::TermSteps::count_views, pddl_syntax::proofs::Trees::noting), unfolding(pddl_syntax::specs::Faults::first_of))]
 pub fn lifted(
     alloc: Global,

@@ -1,15 +1,15 @@
-//! What is declared where an expression stands.
+//! The declarations that are visible to an expression.
 
 use names::Names;
 use pddl_syntax::Heads;
 use std::marker::Model;
 
-/// What an expression may name.
+/// The declarations that are visible to an expression.
 #[derive(Drop)]
 pub struct Scope<'a> {
     pub predicates: &'a Heads,
     pub functions: &'a Heads,
-    /// The parameters of the action; none where no action is around.
+    /// The parameters of the action. It is empty outside actions.
     pub variables: &'a Names,
     pub objects: &'a Names,
 }

@@ -1,4 +1,4 @@
--- What is answered for the texts of a planning task.
+-- The answer for the texts of a planning task.
 use Rattle.std.specs.Prelude.{◌≡◌, ◌≢◌, ℕ, ◌≤◌, ◌^◌, List, length, map, Vec}
 use Rattle.std.specs.Global.{Global}
 use Rattle.std.specs.String.{string_bytes}
@@ -24,17 +24,18 @@ use Rattle.planner.specs.declared.solving.PlanningSolution.{PlanningSolution}
 use Rattle.planner.specs.declared.solving.PlanningAnswer.{PlanningAnswer}
 use Rattle.planner.specs.declared.solving.PlanningAnswer.TheVariants.{Solved, Unsolvable, Limit}
 
--- a valid plan at its cost, and every valid plan costs at least that
+-- a valid plan of that cost, and every valid plan costs at least that
 pub record IsCheapestPlan (task : PlanningTask) (plan : List Action) (cost : ℕ) : Type 0 where
   pub valid : IsValidPlan task plan
   pub costs : total_cost plan ≡ cost
   pub least : ValidPlansCostAtLeast task (Finite cost)
 
--- the checker, which knows the texts alone, accepts the certificate for the bound, if its text is not longer than it may be
+-- the checker, which reads only the texts, accepts the certificate for the bound, if the certificate's text has at most
+-- 2^30 bytes
 abbrev pub IsAccepted : List ℕ → List ℕ → List ℕ → Distance → Type 0
 IsAccepted domain problem cert bound = length cert ≤ 2 ^ 30 → IsAnswer domain problem cert (Accepted bound)
 
--- a cheapest plan of the task by its steps and as a text, with the text of a certificate
+-- a cheapest plan of the task, by its steps and as a text, with the text of a certificate
 pub record IsPlanningSolution (domain problem : List ℕ) (task : PlanningTask) (s : PlanningSolution) : Type 0 where
   pub actions : List Action
   pub cheapest : IsCheapestPlan task actions s.cost
@@ -42,20 +43,21 @@ pub record IsPlanningSolution (domain problem : List ℕ) (task : PlanningTask) 
   pub written : string_bytes s.plan_text ≡ text_of_plan task actions s.cost
   pub accepted : IsAccepted domain problem s.cert.items (Finite s.cost)
 
--- the answer for a task, by a search that ends in such ways: a cheapest plan, or that there is none, or neither
+-- the answer for a task by a search that ends settled at a bound, or short of that: a cheapest plan, that there is none,
+-- or neither
 abbrev pub IsAnswerFor : List ℕ → List ℕ → PlanningTask → (Distance → Type 0) → Type 0 → PlanningAnswer → Type 0
 IsAnswerFor domain problem task settled short (Solved s) = IsPlanningSolution domain problem task s × settled (Finite s.cost)
 IsAnswerFor domain problem task settled short (Unsolvable cert) = HasNoValidPlan task × IsAccepted domain problem cert.items Infinite × settled Infinite
 IsAnswerFor domain problem task settled short Limit = short
 
--- the texts spell a task, and this is the answer for it, by a search for a translation of the task
+-- the texts spell a task, and this is the answer for it, by a search of a translation of the task
 abbrev pub IsPlanningAnswer : List ℕ → List ℕ → (FiniteDomainTask → Distance → Type 0) → (FiniteDomainTask → Type 0) → PlanningAnswer → Type 0
 IsPlanningAnswer domain problem settled short answer =
     (task : PlanningTask) × SpellTask domain problem task
     × ((t : TranslatedTask) × IsTranslation task t × IsAnswerFor domain problem task (settled t.task) (short t.task) answer)
 
--- the texts are refused, for the fault that goes first; or they spell a task, and there are too many atoms or actions, or its translation is
--- too large, or a path becomes too dear in a way that is told
+-- the texts are refused for the fault that comes first; or they spell a task that has too many atoms or actions, whose
+-- translation is too large, or for which a path's total is too large in the specified way
 abbrev pub IsPlanningRefusal : List ℕ → List ℕ → (FiniteDomainTask → SearchFault → Type 0) → PlanningFault → Type 0
 IsPlanningRefusal domain problem refused OutOfMemory = Unit {0}
 IsPlanningRefusal domain problem refused (Task e) = (e ≢ pddl_fault.OutOfMemory) × IsTaskRefusal domain problem e
@@ -66,9 +68,9 @@ IsPlanningRefusal domain problem refused TotalTooLarge =
     (task : PlanningTask) × SpellTask domain problem task
     × ((t : TranslatedTask) × IsTranslation task t × refused t.task search.TotalTooLarge)
 
--- ---- the texts of what is found
+-- ---- the texts of a finding
 
--- the answer has the texts of what was found
+-- the answer has the texts of the finding
 abbrev pub HasTextsOf : List ℕ → List ℕ → PlanningTask → Found → PlanningAnswer → Type 0
 HasTextsOf domain problem task (found.Solved s) answer =
     (p : PlanningSolution) × (answer ≡ Solved p) × IsPlanningSolution domain problem task p × (p.cost ≡ s.cost)

@@ -1,4 +1,4 @@
--- Faults of what is below as faults of what asked for it.
+-- Faults of reading and of a search as faults of the planner.
 use Rattle.pddl.specs.declared.fault.PddlFault.{PddlFault}
 use Rattle.pddl.specs.declared.fault.PddlFault.TheVariants as reading
 use Rattle.solver.specs.declared.fault.SearchFault.{SearchFault}

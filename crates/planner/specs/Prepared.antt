@@ -1,4 +1,4 @@
--- A planning task that is ready for a search.
+-- A planning task that is prepared for a search.
 use Rattle.std.specs.Prelude.{◌≡◌, ℕ, List}
 use Rattle.planning.specs.Planning.{PlanningTask}
 use Rattle.pddl.specs.Texts.{SpellTask}
@@ -7,7 +7,7 @@ use Rattle.translate.specs.Translated.{IsTranslation, HasSamePlans}
 use Rattle.planning_kind.specs.Kinds.{translation_kind}
 use Rattle.planner.specs.declared.preparing.Prepared.{Prepared}
 
--- the texts spell a task, of which this is a translation with the same plans and what certificates for it count on
+-- the texts spell a task, of which this is a translation with the same plans, with the kind of certificates for it
 pub record IsPrepared (domain problem : List ℕ) (p : Prepared) : Type 0 where
   pub task : PlanningTask
   pub spelled : SpellTask domain problem task

@@ -1,4 +1,4 @@
-//! Why there is no answer.
+//! Why the planner gives no answer.
 
 ghost use Rattle.std.specs.Prelude.{◌≡◌};
 ghost use Rattle.planner.specs.declared.fault.PlanningFault.TheVariants.{OutOfMemory};
@@ -12,15 +12,15 @@ use std::alloc::AllocError;
 /// Why a planning task is not solved.
 #[derive(Debug, Drop)]
 pub enum PlanningFault {
-    /// Memory ran out. It says nothing of the texts.
+    /// Memory ran out. This says nothing about the texts.
     OutOfMemory,
     /// The domain's or the problem's text is refused.
     Task(PddlFault),
-    /// F20: the task has more atoms or actions than may be listed.
+    /// F20: the task has more relaxed reachable atoms, or more ground actions over them, than the limits allow.
     GroundLimit,
-    /// F18: its translation has more variables, values of a variable or operators than it may have.
+    /// F18: the task's translation has more variables, values of a variable or operators than the limits allow.
     TaskTooLarge(TaskLimit),
-    /// F60: a path would cost more, or have more actions, than 2^62.
+    /// F60: a path would have a cost, or a number of actions, above 2^62.
     TotalTooLarge,
 }
 

@@ -1,5 +1,5 @@
-//! Planning: from the texts of a domain and a problem, and a schedule of owners' steps, to a cheapest plan, or that there is none, with a
-//! certificate that the checker accepts.
+//! Planning: from the texts of a domain and a problem, and a schedule of the owners' steps, to a cheapest plan, or that
+//! there is none, with a certificate that the checker accepts if its text has at most 2^30 bytes.
 #![tactic(auto)]
 
 mod fault;

@@ -1,4 +1,4 @@
-//! Planning tasks from their texts, made ready for a search.
+//! Preparing a planning task for a search, from its texts.
 
 ghost use Rattle.std.specs.Prelude.{◌≡◌, ◌≤◌, ℕ, List, All, IsTrue, IfOk, IfErr};
 ghost use Rattle.planning.specs.Planning.{IsPlanningTask, IsActionOf, IsAtomOf, has_small_costs, Action};
@@ -17,14 +17,14 @@ use std::alloc::Global;
 use translate::{Translated, translate};
 use translate_vars::TranslateFault;
 
-/// A task's translation, with what certificates for it count on.
+/// A task's translation, with the kind of certificates for it.
 #[derive(Drop)]
 pub(crate) struct Prepared {
     pub(crate) translated: Translated,
     pub(crate) kind: CertificateKind,
 }
 
-/// The task's translation.
+/// The task's translation. Fails if the task or its translation exceeds a limit, or if allocation fails.
 fn translation_of(alloc: Global, task: &Task) -> Result<Translated, PlanningFault>
     requires small { IsTrue (has_small_costs task.now) }
     requires costs { (a : Action) → IsActionOf task.now a → a.cost ≤ 2147483647 }
@@ -44,7 +44,8 @@ fn translation_of(alloc: Global, task: &Task) -> Result<Translated, PlanningFaul
     }
 }
 
-/// The task's translation, with what certificates for it count on.
+/// The task's translation, with the kind of certificates for it. Fails if the task or its translation exceeds a limit, or
+/// if allocation fails.
 fn prepare_task(alloc: Global, task: &Task) -> Result<Prepared, PlanningFault>
     requires small { IsTrue (has_small_costs task.now) }
     requires costs { (a : Action) → IsActionOf task.now a → a.cost ≤ 2147483647 }
@@ -60,7 +61,8 @@ fn prepare_task(alloc: Global, task: &Task) -> Result<Prepared, PlanningFault>
     Ok(Prepared { translated, kind })
 }
 
-/// The translation of the task that the texts spell, with what certificates for it count on.
+/// The translation of the task that the texts spell, with the kind of certificates for it. Fails with the first fault of
+/// the texts, if the task or its translation exceeds a limit, or if allocation fails.
 pub(crate) fn prepare(
     alloc: Global,
     domain: &[u8],

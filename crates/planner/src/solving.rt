@@ -1,4 +1,4 @@
-//! Planning tasks from their texts.
+//! Solving a planning task, from texts to texts.
 
 ghost use Rattle.std.specs.Prelude.{◌≡◌, ℕ, List, IfOk, IfErr};
 ghost use Rattle.fdr.specs.Tasks.{IsPlan};
@@ -21,31 +21,32 @@ use std::alloc::{AllocError, Global};
 use translate::Translated;
 use validate::Step;
 
-/// A cheapest plan of a planning task.
+/// A cheapest plan of a planning task, with its text and that of a certificate.
 #[derive(Drop)]
 pub struct PlanningSolution {
-    /// What it costs.
+    /// The cost of the plan.
     pub cost: u64,
-    /// Its steps.
+    /// Its steps, by their words.
     pub plan: Vec<Step>,
-    /// The plan as a text.
+    /// The text of the plan.
     pub plan_text: String,
-    /// The text of a certificate that no valid plan costs less.
+    /// The text of a certificate that every valid plan costs at least `cost`.
     pub cert: Vec<u8>,
 }
 
-/// What is answered for a planning task.
+/// The answer for a planning task.
 #[derive(Drop)]
 pub enum PlanningAnswer {
     /// A cheapest plan.
     Solved(PlanningSolution),
     /// There is no valid plan; the text of a certificate of that.
     Unsolvable(Vec<u8>),
-    /// The search was stopped before it found the one or the other.
+    /// The search ended before it found either.
     Limit,
 }
 
-/// The texts of a plan of the translation and of its certificate.
+/// The solution with the texts of its plan and its certificate, from a solution of the translation. Fails only if
+/// allocation fails.
 fn solution_texts(
     alloc: Global,
     translated: &Translated,
@@ -68,7 +69,7 @@ fn solution_texts(
     })
 }
 
-/// The texts of what a search for the translation has found.
+/// The answer with the texts of what a search of the translation has found. Fails only if allocation fails.
 fn answer_texts(
     alloc: Global,
     translated: &Translated,
@@ -90,10 +91,13 @@ fn answer_texts(
     }
 }
 
-/// The answer for the task of two texts, after these steps of a world of owners: a cheapest plan, or that there is none, with a
-/// certificate that the checker accepts, or `Limit` where the owners are not settled by then or one is to expand more nodes than it may.
+/// The answer for the task that the texts spell, after these steps of a world of owners: a cheapest plan, or that there
+/// is none, with a certificate that the checker accepts if its text has at most 2^30 bytes; `Limit` if the owners are not
+/// settled after the steps, or a step requests an owner to expand more nodes than its limit allows.
 ///
-/// A fault is the one of the texts that goes first, or a limit that is passed; or `TotalTooLarge`, of a step; or of too little memory.
+/// Fails with the fault of the texts that comes first, with `GroundLimit` or `TaskTooLarge` if the task or its
+/// translation exceeds a limit, with `TotalTooLarge` if a path would have a cost or a number of actions above 2^62, or if
+/// allocation fails.
 pub fn solve_steps<R: AllocGlobal>(
     rt: &R,
     domain: &[u8],
@@ -110,8 +114,10 @@ pub fn solve_steps<R: AllocGlobal>(
     Ok(answer_texts(alloc, &translated, found)?)
 }
 
-/// The answer for the task of two texts, after the steps that the seed draws, as many as the options allow: each is the next word of
-/// Xoshiro256++ modulo the number of steps that would change something. What is promised is what `solve_steps` promises of these steps.
+/// The answer for the task that the texts spell, after steps drawn from the seed, at most as many as the options allow:
+/// each is the step whose number is the next word of Xoshiro256++ modulo the number of steps that would change something.
+/// The guarantees are those of `solve_steps` for these steps, but `Limit` is answered if there is work left after the
+/// last one.
 pub fn simulate<R: AllocGlobal>(
     rt: &R,
     domain: &[u8],

@@ -1,4 +1,4 @@
--- Worked tasks: a road from town to town, with and without lengths, and a door that may be locked.
+-- Worked tasks: roads between towns, with and without lengths, and a door that may be locked.
 use Rattle.std.specs.Prelude.{ℕ, true, false, List, [], ◌∷◌, map}
 use Rattle.std.specs.List.{filter_map}
 use Rattle.planning.specs.declared.schema.Term.TheVariants.{Parameter}
@@ -15,7 +15,7 @@ atom predicate objects = record { predicate = predicate; objects = objects }
 abbrev pub goal_atom : Atom → Literal
 goal_atom p = record { atom = p; positive = true }
 
--- a predicate, or a function, at parameters of the schema
+-- a predicate or a function, with parameters of the schema as its terms
 abbrev pub at_parameters : ℕ → List ℕ → Lifted
 at_parameters predicate parameters = record { predicate = predicate; terms = map Parameter parameters }
 
@@ -28,11 +28,12 @@ deleting p = record { atom = p; positive = false }
 abbrev pub no_names : Vocabulary
 no_names = record { objects = []; predicates = []; functions = []; schemas = [] }
 
--- the actions of schema 0 for these lists of objects, as far as they exist
+-- the actions of schema 0 for these lists of objects, where they exist
 abbrev pub actions_for : PlanningTask → List (List ℕ) → List Action
 actions_for task bindings = filter_map (action_of task 0) bindings
 
--- predicates: 0 at, 1 road; type 1 is town, and a, b, c are 0, 1, 2; schema 0 goes from town to town
+-- Predicates: 0 at, 1 road. Type 1 is town, and the towns a, b, c are 0, 1, 2. Schema 0 goes by a road from town to
+-- town.
 abbrev pub road : List Increase → List FunctionValue → List Atom → Atom → PlanningTask
 road increases values initial goal =
     record {
@@ -52,27 +53,27 @@ road increases values initial goal =
       vocabulary = no_names;
     }
 
--- at a, with roads from a to b and from b to c
+-- initially at a, with roads from a to b and from b to c
 abbrev pub roads_to_c : List Atom
 roads_to_c = atom 0 (0 ∷ []) ∷ atom 1 (0 ∷ 1 ∷ []) ∷ atom 1 (1 ∷ 2 ∷ []) ∷ []
 
--- from a by b to c, where each action costs 1
+-- the goal is c, by way of b, and each action costs 1
 abbrev pub road_to_c : PlanningTask
 road_to_c = record (road [] [] roads_to_c (atom 0 (2 ∷ []))) { metric = false }
 
--- a road that leads back to a
+-- the goal is a, and a road leads from a back to a
 abbrev pub road_to_a : PlanningTask
 road_to_a = record (road [] [] (atom 0 (0 ∷ []) ∷ atom 1 (0 ∷ 0 ∷ []) ∷ []) (atom 0 (0 ∷ []))) { metric = false }
 
--- function 0 is the length of a road
+-- the value of function 0, the length of a road
 abbrev pub length_of : ℕ → ℕ → ℕ → FunctionValue
 length_of from to n = record { function = atom 0 (from ∷ to ∷ []); value = n }
 
--- from a by b to c, where an action costs the length of its road
+-- the goal is c, by way of b, and an action costs the length of its road
 abbrev pub long_road : List FunctionValue → PlanningTask
 long_road lengths = road (Value (at_parameters 0 (0 ∷ 1 ∷ [])) ∷ []) lengths roads_to_c (atom 0 (2 ∷ []))
 
--- predicates: 0 in, 1 locked; object 0 is a door; schema 0 enters by a door that is not locked
+-- Predicates: 0 in, 1 locked. Object 0 is a door. Schema 0 enters by a door that is not locked.
 abbrev pub door : List Atom → PlanningTask
 door initial =
     record {

@@ -1,4 +1,4 @@
--- Atoms of a schema, whose terms are parameters of the schema or objects.
+-- Lifted atoms: their terms are parameters of a schema, or objects.
 use Rattle.std.specs.Prelude.{ℕ, List}
 use Rattle.planning.specs.declared.schema.Term.{Term}
 

@@ -3,18 +3,19 @@ use crate::atom::{GroundAtom, GroundLiteral};
 use smallvec::SmallVec;
 use std::marker::Model;
 
-/// An action: a schema by its number, one object for each of its parameters, and what follows from them in a task.
+/// A ground action: a schema by its number, one object for each of its parameters, and the precondition, the effects
+/// and the cost that follow from them in a task.
 #[derive(Debug, Drop)]
 pub struct GroundAction {
     /// The number of the schema.
     pub schema: usize,
-    /// The number of the object for each parameter.
+    /// The number of the object for each parameter, in the order of the parameters.
     pub objects: SmallVec<usize, 4>,
-    /// What has to hold before the action.
+    /// The literals that must hold before the action.
     pub precondition: Vec<GroundLiteral>,
-    /// The atoms that are true after it.
+    /// The add effects: the atoms that are true after the action.
     pub adds: Vec<GroundAtom>,
-    /// The atoms that are not true after it, unless it adds them.
+    /// The delete effects: the atoms that are false after the action, unless it also adds them.
     pub deletes: Vec<GroundAtom>,
     pub cost: u64,
 }

@@ -10,10 +10,10 @@ use std::alloc::{AllocError, Global};
 use std::hash::{Hash, Hasher};
 use std::marker::Model;
 
-/// A predicate, or a function, by its number, and objects by theirs. Numbers count from 0.
+/// A ground atom: a predicate or a function by its number, and objects by theirs. Numbers count from 0.
 #[derive(Debug, Drop)]
 pub struct GroundAtom {
-    /// The number of the predicate, or of the function.
+    /// The number of the predicate or of the function.
     pub predicate: usize,
     /// The numbers of the objects.
     pub objects: SmallVec<usize, 4>,
@@ -28,14 +28,14 @@ impl Model for GroundAtom {
 }
 
 impl GroundAtom {
-    /// The atom of a predicate, or a function, at these objects.
+    /// The atom of a predicate or a function at these objects.
     pub fn new(predicate: usize, objects: SmallVec<usize, 4>) -> GroundAtom
         ensures { result ≡ record { predicate = predicate; objects = objects.items } }
     {
         GroundAtom { predicate, objects }
     }
 
-    /// A copy of the atom. More than four objects take an allocation; an `Err` is of too little memory.
+    /// A copy of the atom. Allocates only for more than four objects, and fails only if that allocation fails.
     pub fn try_clone(&self, alloc: Global) -> Result<GroundAtom, AllocError>
         ensures { IfOk result (λ p. p ≡ self.now) }
     {
@@ -71,11 +71,11 @@ impl Hash for GroundAtom {
     }
 }
 
-/// An atom, or its negation.
+/// A ground literal: an atom or its negation.
 #[derive(Debug, Drop)]
 pub struct GroundLiteral {
     pub atom: GroundAtom,
-    /// Whether it is the atom itself.
+    /// Whether the literal is the atom itself, and not its negation.
     pub positive: bool,
 }
 
@@ -88,7 +88,7 @@ impl Model for GroundLiteral {
 }
 
 impl GroundLiteral {
-    /// A copy of the literal. More than four objects take an allocation; an `Err` is of too little memory.
+    /// A copy of the literal. Allocates only for more than four objects, and fails only if that allocation fails.
     pub fn try_clone(&self, alloc: Global) -> Result<GroundLiteral, AllocError>
         ensures { IfOk result (λ l. l ≡ self.now) }
     {

@@ -1,4 +1,5 @@
-//! Action schemas, and their atoms, conditions, effects and costs, with the ground ones that they stand for.
+//! Action schemas with their lifted atoms, conditions, effects and increases, and the ground atoms, literals and
+//! amounts that these stand for.
 ghost use Rattle.std.specs.Prelude.{◌≡◌, IfOk};
 ghost use Rattle.std.specs.List.{filter_map, list_all};
 ghost use Rattle.planning.specs.Planning.{object_of, ground_atom, literal_of, equality_holds, atoms_of, is_small_increase, has_small_increases};
@@ -7,7 +8,8 @@ use crate::atom::{GroundAtom, GroundLiteral};
 use std::alloc::{AllocError, Global};
 use std::marker::Model;
 
-/// What stands in an atom of a schema: a parameter of the schema by its place, or an object by its number. Both count from 0.
+/// A term in an atom of a schema: a parameter by its place among the schema's parameters, or an object by its number.
+/// Both count from 0.
 #[derive(Debug, Clone, Copy, PartialEq, Eq)]
 pub enum Term {
     /// The place of a parameter of the schema.
@@ -17,7 +19,8 @@ pub enum Term {
 }
 
 impl Term {
-    /// The object that stands at the parameter, or the object itself. A parameter past the end of the objects is object 0.
+    /// The object that the term stands for, with `objects` for the parameters. A parameter whose place is past the end
+    /// of `objects` stands for object 0.
     pub fn object(self, objects: &[usize]) -> usize
         ensures { result ≡ object_of objects.now self }
     {
@@ -28,10 +31,10 @@ impl Term {
     }
 }
 
-/// A predicate, or a function, by its number, and its terms.
+/// A lifted atom: a predicate or a function by its number, and its terms.
 #[derive(Debug, Drop)]
 pub struct LiftedAtom {
-    /// The number of the predicate, or of the function.
+    /// The number of the predicate or of the function.
     pub predicate: usize,
     pub terms: Vec<Term>,
 }
@@ -45,7 +48,7 @@ impl Model for LiftedAtom {
 }
 
 impl LiftedAtom {
-    /// The atom with these objects for the parameters.
+    /// The ground atom with `objects` for the parameters. Fails only if allocation fails.
     pub fn instance(&self, alloc: Global, objects: &[usize]) -> Result<GroundAtom, AllocError>
         ensures { IfOk result (λ p. p ≡ ground_atom objects.now self.now) }
     {
@@ -58,21 +61,22 @@ impl LiftedAtom {
     }
 }
 
-/// One condition of a schema's precondition: an atom, a negated atom, or that two terms are or are not the same object.
+/// One condition of a precondition: an atom, a negated atom, or that two terms are or are not the same object.
 #[derive(Debug, Drop)]
 pub enum Condition {
     /// The atom is true.
     Positive(LiftedAtom),
-    /// The atom is not true.
+    /// The atom is false.
     Negative(LiftedAtom),
-    /// Both terms are one object.
+    /// Both terms stand for the same object.
     Equal(Term, Term),
-    /// The terms are two objects.
+    /// The terms stand for different objects.
     Different(Term, Term),
 }
 
 impl Condition {
-    /// The literal of the condition, with these objects for the parameters. A condition of equality has none.
+    /// The ground literal of the condition, with `objects` for the parameters, or `None` for an equality condition
+    /// (`Equal` or `Different`). Fails only if allocation fails.
     pub fn literal(
         &self,
         alloc: Global,
@@ -91,7 +95,8 @@ impl Condition {
         }))
     }
 
-    /// Whether the condition, if it is one of equality, holds of these objects. Of a literal it is true.
+    /// Whether an equality condition holds with `objects` for the parameters. Returns `true` for a condition on an
+    /// atom.
     pub fn equality_holds(&self, objects: &[usize]) -> bool
         ensures { result ≡ equality_holds objects.now self.now }
     {
@@ -103,11 +108,11 @@ impl Condition {
     }
 }
 
-/// One effect of a schema: the atom becomes true, or false.
+/// One effect of a schema: an atom becomes true or false.
 #[derive(Debug, Drop)]
 pub struct LiftedEffect {
     pub atom: LiftedAtom,
-    /// Whether the atom becomes true.
+    /// Whether the atom becomes true and not false.
     pub positive: bool,
 }
 
@@ -119,23 +124,23 @@ impl Model for LiftedEffect {
     ghost view = { λ e. record { atom = e.atom; positive = e.positive } };
 }
 
-/// By what an action's cost grows: a number, or the initial value of a function.
+/// The amount by which an action increases the total cost: a number, or the initial value of a function.
 #[derive(Debug, Drop)]
 pub enum Increase {
-    /// The number itself.
+    /// A number.
     Amount(u64),
-    /// The value of the function at the objects that the terms stand for.
+    /// The initial value of the function at the objects that the terms stand for.
     Value(LiftedAtom),
 }
 
-// Numbers that add to an action's cost are below this, where costs are small.
+/// Where costs are small, each amount and each initial value is below this bound.
 pub(crate) const SMALL: u64 = 1 << 32;
 
-// A schema has fewer increases than this, where costs are small.
+/// Where costs are small, each schema has fewer increases than this bound.
 const MANY: usize = 1 << 31;
 
 impl Increase {
-    // Whether the cost grows at once by a number below 2^32.
+    /// Whether the increase is a number below 2^32, or the value of a function.
     fn is_small(&self) -> bool
         ensures { result ≡ is_small_increase self.now }
     {
@@ -146,14 +151,14 @@ impl Increase {
     }
 }
 
-/// An action schema: the types of its parameters, and its conditions, effects and costs in the order of the text.
+/// An action schema: the types of its parameters, and its conditions, effects and increases in the order of the text.
 #[derive(Debug, Drop)]
 pub struct ActionSchema {
     /// The type of each parameter.
     pub parameters: Vec<usize>,
     pub precondition: Vec<Condition>,
     pub effect: Vec<LiftedEffect>,
-    /// What the action's cost is the sum of, under the metric.
+    /// The increases of the total cost. Under the metric, the action's cost is their sum.
     pub increases: Vec<Increase>,
 }
 
@@ -171,14 +176,14 @@ impl Model for ActionSchema {
 }
 
 impl ActionSchema {
-    // Whether there are fewer than 2^31 increases, each small.
+    /// Whether there are fewer than 2^31 increases, and each is small.
     fn has_small_increases(&self) -> bool
         ensures { result ≡ has_small_increases self.now }
     {
         self.increases.len() < MANY && are_small(&self.increases)
     }
 
-    // Whether each condition of equality in the precondition holds of these objects.
+    /// Whether each equality condition of the precondition holds with `objects` for the parameters.
     pub(crate) fn equalities_hold(&self, objects: &[usize]) -> bool
         ensures { result ≡ list_all (equality_holds objects.now) self.now.precondition }
     {
@@ -188,21 +193,22 @@ impl ActionSchema {
     }
 }
 
-// Whether each of the increases is small.
+/// Whether each increase is small.
 fn are_small(increases: &[Increase]) -> bool
     ensures { result ≡ list_all is_small_increase increases.now }
 {
     increases.iter().all(|increase| increase.is_small())
 }
 
-// Whether each of the schemas has small increases.
+/// Whether each schema has small increases.
 pub(crate) fn have_small_increases(schemas: &[ActionSchema]) -> bool
     ensures { result ≡ list_all has_small_increases schemas.now }
 {
     schemas.iter().all(|schema| schema.has_small_increases())
 }
 
-// The literals of the conditions, with these objects for the parameters.
+/// The ground literals of the conditions in their order, with `objects` for the parameters. An equality condition has
+/// none.
 pub(crate) fn literals_of(
     alloc: Global,
     objects: &[usize],
@@ -219,7 +225,7 @@ pub(crate) fn literals_of(
     Ok(literals)
 }
 
-// The atoms that the effects of one sign name, with these objects for the parameters.
+/// The ground atoms of the effects with the given sign in their order, with `objects` for the parameters.
 pub(crate) fn atoms_of(
     alloc: Global,
     objects: &[usize],

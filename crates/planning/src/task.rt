@@ -1,4 +1,4 @@
-//! Planning tasks, and their ground actions.
+//! Planning tasks and their ground actions.
 ghost use Rattle.std.specs.Prelude.{◌≡◌, ◌<◌, ◌^◌, IfOk, IsTrue, length, nat_lt, slice_get, slice_index};
 ghost use Rattle.std.specs.List.{list_all};
 ghost use Rattle.std.specs.Option.{SomeIff, option_copied};
@@ -14,26 +14,28 @@ use smallvec::SmallVec;
 use std::alloc::{AllocError, Global};
 use std::marker::Model;
 
-/// A planning task. Types, objects, predicates, functions and schemas are numbers from 0: their places in these lists.
+/// A planning task. Types, objects, predicates and schemas are numbered by their places in the lists below, functions
+/// by their places in the vocabulary. All numbers count from 0.
 #[derive(Debug, Drop)]
 pub struct Task {
     /// The supertype of each type. Type 0 is `object`, its own supertype.
     pub supertypes: Vec<usize>,
     /// The type of each object.
     pub object_types: Vec<usize>,
-    /// How many objects each predicate takes.
+    /// The number of objects that each predicate takes.
     pub arities: Vec<usize>,
     /// The action schemas.
     pub schemas: Vec<ActionSchema>,
     /// The atoms that are true initially.
     pub initial: Vec<GroundAtom>,
-    /// What has to hold at the end of a plan.
+    /// The literals that must hold at the end of a plan.
     pub goal: Vec<GroundLiteral>,
     /// The initial values of the functions.
     pub values: IndexMap<GroundAtom, u64>,
-    /// Whether actions cost what they increase the total cost by. Otherwise each costs 1.
+    /// Whether the metric is the total cost. Then an action costs the sum of its increases; otherwise each action costs
+    /// 1.
     pub metric: bool,
-    /// The names of what the numbers stand for.
+    /// The names of the objects, predicates, functions and schemas.
     pub vocabulary: Vocabulary,
 }
 
@@ -57,14 +59,15 @@ impl Model for Task {
 }
 
 impl Task {
-    /// The schema with the number, or `None` where there is none.
+    /// The schema with this number, or `None` if there is none.
     pub fn schema(&self, number: usize) -> Option<&ActionSchema>
         ensures { option_copied result ≡ slice_get self.now.schemas number }
     {
         self.schemas.get(number)
     }
 
-    /// Whether the object exists and is of the type. The steps are at most the depth of the object's type below `object`.
+    /// Whether the object exists and is of the type. Takes time linear in the depth of the object's type below
+    /// `object`.
     pub fn is_of_type(&self, type_number: usize, object: usize) -> bool
         ensures { result ≡ is_of_type self.now type_number object }
     {
@@ -74,7 +77,7 @@ impl Task {
         }
     }
 
-    /// Whether there is one object for each of the types, and is of it.
+    /// Whether there are as many objects as types, and each object is of the type at its place.
     pub fn fits(&self, types: &[usize], objects: &[usize]) -> bool
         ensures { result ≡ fits self.now types.now objects.now }
     {
@@ -89,7 +92,8 @@ impl Task {
         true
     }
 
-    /// The number, or the initial value of the function at these objects if it has one.
+    /// The amount of an increase: its number, or the initial value of its function with `objects` for the parameters,
+    /// which is `None` if the function has none there. Fails only if allocation fails.
     pub fn value_of(
         &self,
         alloc: Global,
@@ -107,7 +111,7 @@ impl Task {
         }
     }
 
-    // Whether each of the increases has a value at these objects.
+    /// Whether each increase has an amount with `objects` for the parameters.
     fn has_values(
         &self,
         alloc: Global,
@@ -124,8 +128,8 @@ impl Task {
         Ok(true)
     }
 
-    /// Whether the schema has an action for these objects: they fit its parameters, its conditions of equality hold and,
-    /// under the metric, its increases have values.
+    /// Whether the schema has a ground action for `objects`: they fit its parameters, its equality conditions hold and,
+    /// under the metric, each of its increases has an amount. Fails only if allocation fails.
     pub fn has_instance(
         &self,
         alloc: Global,
@@ -146,8 +150,9 @@ impl Task {
         self.has_values(alloc, objects, &schema.increases)
     }
 
-    /// What the schema's action for these objects costs: under the metric the sum of the increases, where one with no value
-    /// counts as 0, and 1 without it. It is `None` exactly where the cost is 2^64 or more.
+    /// The cost of the schema's ground action for `objects`: under the metric the sum of the increases, where one
+    /// without an amount counts as 0, and 1 otherwise. Returns `None` exactly if the cost is 2^64 or more. Fails only
+    /// if allocation fails.
     pub fn cost_of(
         &self,
         alloc: Global,
@@ -163,7 +168,7 @@ impl Task {
         self.sum_of(alloc, objects, &schema.increases)
     }
 
-    // The sum of the increases, where one with no value counts as 0; `None` exactly where it is 2^64 or more.
+    /// The sum of the increases, where one without an amount counts as 0, or `None` exactly if it is 2^64 or more.
     fn sum_of(
         &self,
         alloc: Global,
@@ -184,22 +189,22 @@ impl Task {
         Ok(Some(sum))
     }
 
-    /// Whether every initial value and every amount is below 2^32, and every schema has fewer than 2^31 increases. Then each
-    /// action costs less than 2^63.
+    /// Whether each initial value and each amount is below 2^32, and each schema has fewer than 2^31 increases. Then
+    /// each action costs less than 2^63.
     pub fn has_small_costs(&self) -> bool
         ensures { result ≡ has_small_costs self.now }
     {
         self.has_small_values() && have_small_increases(&self.schemas)
     }
 
-    // Whether every initial value is below 2^32.
+    /// Whether each initial value is below 2^32.
     fn has_small_values(&self) -> bool
         ensures { result ≡ has_small_values self.now }
     {
         are_small(&self.values)
     }
 
-    // What the schema's action for these objects costs, where that is below 2^64.
+    /// The cost of the schema's ground action for `objects`, which must be below 2^64.
     fn exact_cost_of(
         &self,
         alloc: Global,
@@ -212,7 +217,8 @@ impl Task {
         Ok(self.cost_of(alloc, schema, objects)?.unwrap())
     }
 
-    /// The action of a schema, given by its number, for these objects; `None` where there is no such schema or action.
+    /// The ground action of the schema with this number for `objects`, or `None` if there is no such schema or action.
+    /// Fails only if allocation fails.
     pub fn action_of(
         &self,
         alloc: Global,
@@ -239,7 +245,7 @@ impl Task {
     }
 }
 
-// Whether the type is the other one, or leads to it by supertypes. A type that is its own supertype ends the way.
+/// Whether a type is `other`, or is below it by supertypes. The way up ends at a type that is its own supertype.
 fn is_below(supertypes: &[usize], type_number: usize, other: usize) -> bool
     ensures { result ≡ is_below supertypes.now type_number other (length supertypes.now) }
 {
@@ -257,14 +263,14 @@ fn is_below(supertypes: &[usize], type_number: usize, other: usize) -> bool
     current == other
 }
 
-// The supertype of a type. One past the end of the list has type 0.
+/// The supertype of a type, or 0 for a number past the end of the list.
 fn supertype_of(supertypes: &[usize], type_number: usize) -> usize
     ensures { result ≡ slice_index supertypes.now type_number }
 {
     supertypes.get(type_number).copied().unwrap_or(0)
 }
 
-// Whether every value of the map is below 2^32.
+/// Whether each value of the map is below 2^32.
 fn are_small(stated: &IndexMap<GroundAtom, u64>) -> bool
     ensures { result ≡ list_all (λ v. nat_lt v (2 ^ 32)) (values stated.now) }
 {

@@ -1,4 +1,4 @@
--- What a certificate of a translated planning task counts on: its atoms by their names, and its variables.
+-- The kind of certificates for a translated planning task: its atoms, by their names, and its variables.
 use Rattle.std.specs.Prelude.{map}
 use Rattle.planning.specs.Planning.{PlanningTask}
 use Rattle.variables.specs.Variables.{PlacedVariable}
@@ -6,10 +6,10 @@ use Rattle.translate.specs.Translated.{TranslatedTask}
 use Rattle.certificates.specs.Certificates.{Kind, Planning, Variable}
 use Rattle.pddl_checker.specs.Naming.{words_of}
 
--- a certificate's variable
+-- a variable as a certificate lists it
 abbrev pub listing : PlacedVariable → Variable
 listing v = record { has_none_value = v.has_none; atoms = v.places }
 
--- the kind of a certificate for the translation of a task: its atoms by their names, and its variables
+-- the kind of certificates for the translation of a task: its atoms, by their names, and its variables
 abbrev pub translation_kind : PlanningTask → TranslatedTask → Kind
 translation_kind task t = Planning (map (words_of task.vocabulary) t.atoms) (map listing t.variables)

@@ -1,4 +1,4 @@
-//! What a certificate of a translated planning task counts on.
+//! The kind of certificates for a translated planning task.
 
 ghost use Rattle.std.specs.Prelude.{◌≡◌, ◌<◌, ◌^◌, [], map, slice_index_or, All, IfOk};
 ghost use Rattle.names.specs.Names.{texts_of};
@@ -14,14 +14,14 @@ use std::alloc::{AllocError, Global};
 use translate::Translated;
 use variables::ListedVariable;
 
-// The name of a number, and nothing where there is none.
+/// The name of a number, empty if there is none.
 fn name_of(names: &Names, number: usize) -> &str
     ensures { result.now ≡ slice_index_or names.now number [] }
 {
     names.name(number).unwrap_or("")
 }
 
-// An atom's words: its predicate's name, and the names of its objects.
+/// The words of an atom: its predicate's name, and the names of its objects. Fails only if allocation fails.
 fn words_of(alloc: Global, names: &Vocabulary, atom: &GroundAtom) -> Result<Vec<String>, AllocError>
     ensures { IfOk result (λ words. texts_of words.items ≡ words_of names.now atom.now) }
 {
@@ -33,7 +33,7 @@ fn words_of(alloc: Global, names: &Vocabulary, atom: &GroundAtom) -> Result<Vec<
     Ok(words)
 }
 
-// The words of each atom.
+/// The words of each atom. Fails only if allocation fails.
 fn words_of_all(
     alloc: Global,
     names: &Vocabulary,
@@ -48,7 +48,7 @@ fn words_of_all(
     Ok(words)
 }
 
-// Places as they are kept in a certificate.
+/// Places of atoms as they are stored in a certificate. Fails only if allocation fails.
 fn short_places(alloc: Global, places: &[usize]) -> Result<Vec<u32>, AllocError>
     requires { All (λ p. p < 2 ^ 32) places.now }
     ensures { IfOk result (λ numbers. numbers.items ≡ places.now) }
@@ -60,7 +60,7 @@ fn short_places(alloc: Global, places: &[usize]) -> Result<Vec<u32>, AllocError>
     Ok(numbers)
 }
 
-// Variables as they are kept in a certificate.
+/// Variables as they are stored in a certificate. Fails only if allocation fails.
 fn certificate_variables(
     alloc: Global,
     variables: &[ListedVariable],
@@ -78,7 +78,8 @@ fn certificate_variables(
     Ok(kept)
 }
 
-/// What a certificate of a translated task counts on. An `Err` is of too little memory.
+/// The kind of certificates for a translated task: its atoms, by their names, and its variables. Fails only if allocation
+/// fails.
 pub fn translation_kind(
     alloc: Global,
     task: &Task,

@@ -1,5 +1,6 @@
-//! What a certificate of a translated planning task counts on: the atoms by their names, and the variables. A certificate of that kind
-//! which holds for the translation is accepted by its text, by the checker, which knows the task's texts alone.
+//! The kind of certificates for a translated planning task: the task's atoms, by their names, and its variables. A
+//! certificate of that kind that holds for the translation is accepted by the checker, which reads only the texts of the
+//! task and the certificate.
 #![tactic(auto)]
 
 mod kind;

@@ -5,11 +5,11 @@ use Rattle.std.specs.Option.{option_map_or}
 use Rattle.fdr.specs.Tasks.{FiniteDomainTask}
 use Rattle.validate.specs.Steps.{Step}
 
--- the words of a text, with single blanks between them
+-- the words of a text that are separated by single blanks
 abbrev pub words_of : List ℕ → List (List ℕ)
 words_of text = slice_split (λ b. b == 32) text
 
--- the first of the words names the schema, and the others the objects
+-- the step of which the first word names the schema, and the others name the objects
 abbrev pub step_of_words : List (List ℕ) → Step
 step_of_words [] = record { name = []; arguments = [] }
 step_of_words (w ∷ ws) = record { name = w; arguments = ws }

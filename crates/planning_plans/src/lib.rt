@@ -1,4 +1,4 @@
-//! A planning task's plan, by its words, from the operators of the task's translation.
+//! A planning task's plan, by its steps' words, from the operators of the task's translation.
 #![tactic(auto)]
 
 mod laws;

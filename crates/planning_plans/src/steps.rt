@@ -1,4 +1,4 @@
-//! The steps of a plan, by the names of its operators.
+//! The steps of a plan, from the names of its operators.
 
 ghost use Rattle.std.specs.Prelude.{◌≡◌, ◌<◌, ℕ, List, All, IfOk, length, map};
 ghost use Rattle.fdr.specs.Tasks as spec;
@@ -13,7 +13,7 @@ use fdr::FdrTask;
 use std::alloc::{AllocError, Global};
 use validate::Step;
 
-// The words of a text, with single blanks between them.
+/// The words of a text that are separated by single blanks. Fails only if allocation fails.
 fn words(alloc: Global, text: &str) -> Result<Vec<String>, AllocError>
     ensures { IfOk result (λ words. texts_of words.items ≡ words_of text.now) }
 {
@@ -24,7 +24,7 @@ fn words(alloc: Global, text: &str) -> Result<Vec<String>, AllocError>
     Ok(words)
 }
 
-// The step whose words the name of an operator is.
+/// The step whose words, separated by single blanks, are the name of an operator. Fails only if allocation fails.
 fn named_step(alloc: Global, name: &str) -> Result<Step, AllocError>
     ensures { IfOk result (λ step. step ≡ step_of_words (words_of name.now)) }
 {
@@ -40,8 +40,8 @@ fn named_step(alloc: Global, name: &str) -> Result<Step, AllocError>
     }
 }
 
-/// The steps that name the actions of these operators: each operator's name is that of its schema and its objects, with single blanks
-/// between them. An `Err` is of too little memory.
+/// The steps that name the actions of these operators: each operator's name is that of its schema and those of its
+/// objects, separated by single blanks. Fails only if allocation fails.
 pub fn named_steps(
     alloc: Global,
     translated: &FdrTask,

@@ -1,4 +1,4 @@
-//! A device that answers one call with a fault.
+//! A device of which one call fails.
 
 ghost use Rattle.std.specs.Prelude.{◌≡◌, ◌+◌, None, OnOk, IfErr};
 ghost use Rattle.device.specs.Events.{failure_of};
@@ -7,8 +7,8 @@ use crate::runs::CALLS_OF_A_RUN;
 use device::{Device, DeviceFault, MemoryDevice, Recorded};
 use std::alloc::Global;
 
-/// Files in memory, and the fault of one call; the calls before it and behind it go as they would. It tells nothing
-/// of what passes.
+/// Files in memory, and the fault of one call; the calls before and after it are those of the files. It specifies no
+/// history.
 #[derive(Drop)]
 pub struct FaultyDevice<'a> {
     device: MemoryDevice<'a>,
@@ -18,7 +18,7 @@ pub struct FaultyDevice<'a> {
 }
 
 impl<'a> FaultyDevice<'a> {
-    /// A device that answers the fault once so many calls were made.
+    /// A device whose call after the first `calls_before` ones fails with this fault.
     pub fn new(
         alloc: Global,
         files: &'a [(&'a str, &'a [u8])],
@@ -33,12 +33,13 @@ impl<'a> FaultyDevice<'a> {
         }
     }
 
-    /// What passed so far.
+    /// The reads and writes so far, in order.
     pub fn events(&self) -> &[Recorded] {
         self.device.events()
     }
 
-    /// Counts a failure, unless the count is full.
+    /// The fault that is returned: `Memory` if it is that or the count of failures is full, else `Failed`, which is
+    /// counted.
     fn counted(&mut self, fault: DeviceFault) -> DeviceFault
         ensures { self.new.failures ≡ self.old.failures + failure_of result }
     {
@@ -49,7 +50,7 @@ impl<'a> FaultyDevice<'a> {
         DeviceFault::Failed
     }
 
-    /// Answers the fault if it is this call's.
+    /// Fails if this is the call that is to fail.
     fn turn(&mut self) -> Result<(), DeviceFault>
         ensures counted { IfErr result (λ e. self.new.failures ≡ self.old.failures + failure_of e) }
         ensures same { OnOk result (self.new.failures ≡ self.old.failures) }

@@ -1,4 +1,5 @@
-//! Runs of the program over files in memory, for the tests: what a row of texts gives, beside what it is to give.
+//! Runs of the program over files in memory, for the tests: the outcome of a row of texts beside the one that is
+//! expected.
 #![tactic(auto)]
 
 mod faulty_device;

@@ -1,4 +1,4 @@
-//! What a run puts out and reports, and its exit status.
+//! What a run prints and reports, and its exit status.
 
 ghost use Rattle.std.specs.Prelude.{◌≡◌, IfOk, OnOk, map, ◌++◌, string_bytes};
 ghost use Rattle.device.specs.Memory.{event_of};
@@ -10,7 +10,7 @@ use std::alloc::{AllocError, AllocFailed, Global};
 use std::str::Utf8Error;
 use thiserror::Error;
 
-/// What went to standard output and to standard error, and the exit status.
+/// What a run wrote to standard output and to standard error, and its exit status.
 #[derive(Debug, PartialEq, Eq, Drop)]
 pub struct Outcome {
     pub out: String,
@@ -18,13 +18,13 @@ pub struct Outcome {
     pub status: u8,
 }
 
-/// Why no outcome is told.
+/// Why there is no outcome.
 #[derive(Clone, Copy, Debug, PartialEq, Eq, Error)]
 pub enum RunFault {
     /// Memory ran out.
     #[error("out of memory")]
     OutOfMemory,
-    /// What was put out or reported is no text in UTF-8.
+    /// What was printed or reported is not UTF-8.
     #[error("what was written is not UTF-8")]
     NotUtf8,
 }
@@ -53,7 +53,7 @@ impl From<Utf8Error> for RunFault {
     }
 }
 
-/// Appends what one event put out or reported.
+/// Appends what one event printed or reported. Fails if that is not UTF-8, or if allocation fails.
 fn note_event(outcome: &mut Outcome, event: &Recorded) -> Result<(), RunFault>
     ensures out { OnOk result (string_bytes outcome.new.out ≡ string_bytes outcome.old.out ++ put_by (event_of event.now)) }
     ensures err { OnOk result (string_bytes outcome.new.err ≡ string_bytes outcome.old.err ++ reported_by (event_of event.now)) }
@@ -67,7 +67,8 @@ fn note_event(outcome: &mut Outcome, event: &Recorded) -> Result<(), RunFault>
     Ok(())
 }
 
-/// What a run put out and reported, by what a device in memory recorded.
+/// The outcome of a run, from the events that a device in memory recorded. Fails if what was printed or reported is not
+/// UTF-8, or if allocation fails.
 pub fn recorded(alloc: Global, events: &[Recorded], status: u8) -> Result<Outcome, RunFault>
     ensures out { IfOk result (λ o. string_bytes o.out ≡ put_of (map event_of events.now)) }
     ensures err { IfOk result (λ o. string_bytes o.err ≡ reported_of (map event_of events.now)) }
@@ -84,7 +85,7 @@ pub fn recorded(alloc: Global, events: &[Recorded], status: u8) -> Result<Outcom
     Ok(outcome)
 }
 
-/// Three texts in one.
+/// Three texts joined. Fails only if allocation fails.
 fn joined(alloc: Global, before: &str, text: &str, after: &str) -> Result<String, AllocError>
     ensures { IfOk result (λ s. string_bytes s ≡ before.now ++ text.now ++ after.now) }
 {
@@ -94,7 +95,7 @@ fn joined(alloc: Global, before: &str, text: &str, after: &str) -> Result<String
     Ok(all)
 }
 
-/// The exit status of a verdict: 0 where a plan is valid or a certificate is accepted.
+/// The exit status of a verdict: 0 if a plan is valid or a certificate is accepted, else 3.
 fn status_of_verdict(answer: &str) -> u8
     ensures { result ≡ status_of_verdict answer.now }
 {
@@ -107,8 +108,8 @@ fn status_of_verdict(answer: &str) -> u8
     3
 }
 
-/// What an answer is to give: a verdict its line on standard output, a fault one with the program's name on standard
-/// error, and nothing else. A fault's begins with `F`.
+/// The outcome that is expected for an answer: a verdict's line on standard output, or a fault's line, with the program's
+/// name, on standard error, and nothing else. A fault's answer starts with `F`. Fails only if allocation fails.
 pub fn wanted(alloc: Global, answer: &str) -> Result<Outcome, AllocError>
     ensures out { IfOk result (λ o. string_bytes o.out ≡ wanted_out answer.now) }
     ensures err { IfOk result (λ o. string_bytes o.err ≡ wanted_err answer.now) }

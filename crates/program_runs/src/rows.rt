@@ -1,9 +1,9 @@
-//! Rows of texts and answers, and those whose runs give something else.
+//! Rows of texts and answers, and the rows whose runs have another outcome.
 
 use crate::outcome::{Outcome, RunFault, wanted};
 use crate::runs::validated;
 
-/// A row whose run gives something else than it is to give.
+/// A row whose run has another outcome than expected.
 #[derive(Debug, Drop)]
 pub struct Mismatch<'a> {
     pub given: Outcome,
@@ -13,8 +13,8 @@ pub struct Mismatch<'a> {
     pub plan: &'a str,
 }
 
-/// The mismatch of a domain, a problem and a plan, unless their run gives this answer: a verdict's line or a fault's, without
-/// the program's name and the line's end.
+/// The mismatch of a domain, a problem and a plan, unless their run has this answer: a verdict's line or a fault's,
+/// without the program's name and the line feed.
 pub fn answer_mismatch<'a, R: AllocGlobal>(
     rt: &R,
     domain: &'a str,
@@ -36,7 +36,7 @@ pub fn answer_mismatch<'a, R: AllocGlobal>(
     }))
 }
 
-/// The mismatches of rows of domains and answers, with a problem without goal and an empty plan.
+/// The mismatches of rows (domain, answer), with a problem without a goal and an empty plan.
 pub fn domain_mismatches<'a, R: AllocGlobal>(
     rt: &R,
     rows: &[(&'a str, &'a str)],
@@ -56,7 +56,7 @@ pub fn domain_mismatches<'a, R: AllocGlobal>(
     Ok(mismatches)
 }
 
-/// The mismatches of rows of domains, problems and answers, with an empty plan.
+/// The mismatches of rows (domain, problem, answer), with an empty plan.
 pub fn problem_mismatches<'a, R: AllocGlobal>(
     rt: &R,
     rows: &[(&'a str, &'a str, &'a str)],
@@ -70,7 +70,7 @@ pub fn problem_mismatches<'a, R: AllocGlobal>(
     Ok(mismatches)
 }
 
-/// The mismatches of rows of problems, plans and answers in one domain.
+/// The mismatches of rows (problem, plan, answer) in one domain.
 pub fn plan_mismatches<'a, R: AllocGlobal>(
     rt: &R,
     domain: &'a str,

@@ -8,7 +8,7 @@ use command::run;
 use device::MemoryDevice;
 use std::alloc::{AllocError, Global};
 
-/// At least as many calls as any run makes of its device.
+/// A number of calls that no run of the program exceeds.
 pub const CALLS_OF_A_RUN: u64 = 100;
 
 /// The program's words, its own name first.
@@ -22,7 +22,7 @@ pub fn program_words(alloc: Global, words: &[&str]) -> Result<Vec<String>, Alloc
     Ok(all)
 }
 
-/// What the program does over these files.
+/// The outcome of the program over these files, each a name and bytes.
 pub fn run_over<R: AllocGlobal>(
     rt: &R,
     words: &[&str],
@@ -34,7 +34,7 @@ pub fn run_over<R: AllocGlobal>(
     recorded(rt.alloc(), device.events(), status)
 }
 
-/// What a plan's validation gives over these texts.
+/// The outcome of a plan's validation over these texts.
 pub fn validated<R: AllocGlobal>(
     rt: &R,
     domain: &[u8],
@@ -45,7 +45,7 @@ pub fn validated<R: AllocGlobal>(
     run_over(rt, &["validate", "d", "p", "l"], &files)
 }
 
-/// What a certificate's check gives over these texts.
+/// The outcome of a certificate's check for a finite-domain task over these texts.
 pub fn checked<R: AllocGlobal>(rt: &R, sas: &[u8], cert: &[u8]) -> Result<Outcome, RunFault> {
     let files = [("s", sas), ("c", cert)];
     run_over(rt, &["check-sas", "s", "c"], &files)

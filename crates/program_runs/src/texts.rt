@@ -1,8 +1,8 @@
-//! Tasks that several rows share.
+//! Tasks that several rows use.
 
 use std::alloc::{AllocError, Global};
 
-/// Goes along roads; each step costs 1.
+/// A step goes along a road, at cost 1.
 pub const ROAD_DOMAIN: &str = "(define (domain road)
  (:requirements :typing)
  (:types loc)
@@ -19,21 +19,21 @@ pub const ROAD_PROBLEM: &str = "(define (problem r1) (:domain road)
  (:goal (at c)))
 ";
 
-/// The roads of `ROAD_PROBLEM`, with the goal where one begins.
+/// The roads of `ROAD_PROBLEM`, with the start as the goal.
 pub const ROAD_PROBLEM_AT_ITS_GOAL: &str = "(define (problem r1) (:domain road)
  (:objects a b c - loc)
  (:init (at a) (road a b) (road b c))
  (:goal (at a)))
 ";
 
-/// A road from each of two places to the third, and the goal at one that no road leads to.
+/// A road from each of two places to the third, with a goal that no road leads to.
 pub const ROAD_PROBLEM_WITHOUT_WAY: &str = "(define (problem r1) (:domain road)
  (:objects a b c - loc)
  (:init (at a) (road a b) (road c b))
  (:goal (at c)))
 ";
 
-/// Goes along roads; a step costs the road's length.
+/// A step goes along a road, at the cost of the road's length.
 pub const DRIVE_DOMAIN: &str = "(define (domain drive)
  (:requirements :typing)
  (:types loc)
@@ -44,7 +44,7 @@ pub const DRIVE_DOMAIN: &str = "(define (domain drive)
   :effect (and (not (at ?x)) (at ?y) (increase (total-cost) (len ?x ?y)))))
 ";
 
-/// From a to c, over b or straight.
+/// From a to c, over b or directly.
 pub const DRIVE_PROBLEM: &str = "(define (problem d1) (:domain drive)
  (:objects a b c - loc)
  (:init (at a) (road a b) (road b c) (road a c)
@@ -60,14 +60,14 @@ pub const DRIVE_PROBLEM_WITHOUT_A_LENGTH: &str = "(define (problem d1) (:domain 
  (:goal (at c)) (:metric minimize (total-cost)))
 ";
 
-/// Enters by a door that is not locked.
+/// A door is entered if it is not locked.
 pub const DOOR_DOMAIN: &str = "(define (domain door)
  (:predicates (in) (locked ?d))
  (:action enter :parameters (?d)
   :precondition (not (locked ?d)) :effect (in)))
 ";
 
-/// Picks balls up and drops them in two rooms.
+/// Balls are picked up and dropped in two rooms.
 pub const GRIP_DOMAIN: &str = "(define (domain grip)
  (:predicates (room ?r) (ball ?b) (here ?r) (in ?b ?r) (free) (held ?b))
  (:action move :parameters (?f ?t)
@@ -87,8 +87,8 @@ pub const GRIP_PROBLEM: &str = "(define (problem g1) (:domain grip) (:objects p 
  (:goal (and (in x q) (in y q))))
 ";
 
-/// A domain in upper case, whose one action adds (p) and has these increases. Its name stands at byte 72, and the
-/// first number at byte 132.
+/// A domain in upper case, whose one action adds (p) and has these increases. Its name is at byte 72, and the first
+/// number at byte 132, counted from 0.
 pub fn noop_domain(alloc: Global, increases: &str) -> Result<String, AllocError> {
     format!(in alloc;
         "(DEFINE (DOMAIN N) (:PREDICATES (P)) (:FUNCTIONS (TOTAL-COST)) \
@@ -96,7 +96,7 @@ pub fn noop_domain(alloc: Global, increases: &str) -> Result<String, AllocError>
     )
 }
 
-/// Wants (p) at the least total cost.
+/// The goal is (p), at the least total cost.
 pub const NOOP_PROBLEM: &str =
     "(define (problem n1) (:domain other) (:init) (:goal (P)) (:metric minimize (total-cost))) ; end";
 

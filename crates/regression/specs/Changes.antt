@@ -1,4 +1,4 @@
--- What an operator does to the values of a pattern's variables, told digit by digit.
+-- The changes that an operator makes to the values of a pattern's variables, digit by digit.
 use Rattle.std.specs.Prelude.{◌≡◌, ℕ, ◌*◌, ◌/◌, ◌%◌, ◌^◌, ◌<◌, Bool, true, ◌==◌, if◌then◌else◌, List, [], ◌∷◌, Option, Some, None}
 use Rattle.fdr.specs.declared.fact.Fact.{Fact}
 use Rattle.fdr.specs.Tasks.{Operator}
@@ -8,7 +8,7 @@ use Rattle.regression.specs.declared.change.Change.{Change}
 use Rattle.regression.specs.declared.change.Change.TheVariants.{Kept, Required, Moved, Assigned}
 use Rattle.regression.specs.declared.change.DigitChange.{DigitChange}
 
--- the value that the first fact on the variable gives
+-- the value of the first fact on the variable, if there is one
 abbrev pub value_in : List Fact → ℕ → Option ℕ
 value_in [] v = None
 value_in (f ∷ fs) v = if f.variable == v then Some f.value else value_in fs v
@@ -23,25 +23,26 @@ change_by None (Some e) = Assigned e
 abbrev pub change_of : Operator → ℕ → Change
 change_of op v = change_by (value_in op.precondition v) (value_in op.effect v)
 
--- the changes of a pattern's values, whose digits these are
+-- the changes of the values of a pattern, which has these digits
 abbrev pub changes_of : Operator → List Digit → List ℕ → List DigitChange
 changes_of op [] ps = []
 changes_of op (d ∷ ds) [] = []
 changes_of op (d ∷ ds) (p ∷ ps) = record { digit = d; change = change_of op p } ∷ changes_of op ds ps
 
--- the change leads from the one value to the other
+-- the change leads from the first value to the second
 abbrev pub LeadsAt : Change → ℕ → ℕ → Type 0
 LeadsAt Kept x y = x ≡ y
 LeadsAt (Required c) x y = (x ≡ c) × (y ≡ c)
 LeadsAt (Moved from to) x y = (x ≡ from) × (y ≡ to)
 LeadsAt (Assigned e) x y = y ≡ e
 
--- each change leads from the first number's value at its place, the lowest first, to the abstract state's at its digit
+-- each change leads from the value at its place of the first number, the lowest first, to the value of the abstract
+-- state at its digit
 abbrev pub LeadsBy : List DigitChange → ℕ → ℕ → Type 0
 LeadsBy [] i j = i ≡ 0
 LeadsBy (c ∷ cs) i j = LeadsAt c.change (i % c.digit.range) (value_of c.digit j) × LeadsBy cs (i / c.digit.range) j
 
--- the change leads to the value from some value
+-- whether the change leads to the value from some value
 abbrev pub enters_at : Change → ℕ → Bool
 enters_at Kept y = true
 enters_at (Required c) y = y == c
@@ -51,14 +52,14 @@ enters_at (Assigned e) y = y == e
 abbrev pub enters_digit : ℕ → DigitChange → Bool
 enters_digit j c = enters_at c.change (value_of c.digit j)
 
--- the value that the effect gives, if there is one
+-- the value that the effect sets, if there is one
 abbrev pub target : Change → Option ℕ
 target Kept = None
 target (Required c) = None
 target (Moved from to) = Some to
 target (Assigned e) = Some e
 
--- the values are below the range
+-- the values of the effect, and the one before it, are below the range
 abbrev pub FitsIn : ℕ → Change → Type 0
 FitsIn r Kept = Unit {0}
 FitsIn r (Required c) = Unit {0}

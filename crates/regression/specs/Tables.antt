@@ -1,4 +1,4 @@
--- The tables from which the ways into an abstract state are read.
+-- The tables that answer which transitions lead into an abstract state.
 use Rattle.std.specs.Prelude.{◌≡◌, ℕ, ◌^◌, ◌<◌, ◌≤◌, Bool, true, false, if◌then◌else◌, List, [], ◌∷◌, length, map, Some, None, All, Contains, slice_get, slice_index_or, ◌⊎◌}
 use Rattle.std.specs.List.{list_all}
 use Rattle.std.specs.Option.{option_map_or}
@@ -12,11 +12,11 @@ use Rattle.regression.specs.Changes.{changes_of, enters_digit, target, IsFit, si
 
 -- ---- the changes by each operator
 
--- an operator that touches the pattern has its changes; the others have none
+-- the changes of an operator that touches the pattern, and none for the others
 abbrev pub changes_in : Projection → Operator → List DigitChange
 changes_in p op = if touches_pattern p.pattern op then changes_of op (digits_from (ranges p.task) 1 p.pattern) p.pattern else []
 
--- there are changes, and all lead to the abstract state from some values
+-- whether there are changes, and each leads from some value to the value of the abstract state
 abbrev pub enters_by : List DigitChange → ℕ → Bool
 enters_by [] j = false
 enters_by (c ∷ cs) j = list_all (enters_digit j) (c ∷ cs)
@@ -24,17 +24,17 @@ enters_by (c ∷ cs) j = list_all (enters_digit j) (c ∷ cs)
 abbrev pub enters : List (List DigitChange) → ℕ → ℕ → Bool
 enters rows j o = option_map_or (λ changes. enters_by changes j) (slice_get rows o) false
 
--- the changes by an operator with an effect on the pattern, or none
+-- the changes of an operator with an effect on the pattern, or none
 pub record IsRow (changes : List DigitChange) : Type 0 where
   pub fit : All IsFit changes
   pub small : size_by changes ≤ 2 ^ 24
   pub effect : All (λ c. target c.change ≡ None) changes → changes ≡ []
 
--- no change at all
+-- a default where there is no change at a place
 abbrev pub no_change : DigitChange
 no_change = record { digit = record { weight = 0; range = 0 }; change = Kept }
 
--- an effect among the changes gives this value at this place
+-- the change at this place has an effect that sets this value
 pub record IsKey (changes : List DigitChange) (place value : ℕ) : Type 0 where
   pub within : place < length changes
   pub target : target (slice_index_or changes place no_change).change ≡ Some value
@@ -42,36 +42,36 @@ pub record IsKey (changes : List DigitChange) (place value : ℕ) : Type 0 where
 
 -- ---- the operators by their first effects
 
--- a digit of the pattern, and for each of its values the operators whose first effect gives it
+-- a digit of the pattern, and for each of its values the operators whose first effect on the pattern sets it
 pub record Place : Type 0 where
   pub digit : Digit
   pub lists : List (List ℕ)
 
--- the operators under the value that the abstract state has at the place
+-- the operators listed under the value of the abstract state at the place
 abbrev pub list_at : ℕ → Place → List ℕ
 list_at j p = slice_index_or p.lists (value_of p.digit j) []
 
--- the place has an operator more, under the value
+-- the operator has been added to the place under the value
 pub record IsAdded (old new : Place) (value o : ℕ) : Type 0 where
   pub digit : new.digit ≡ old.digit
   pub kept : (j p : ℕ) → Contains (list_at j old) p → Contains (list_at j new) p
   pub added : (j : ℕ) → value_of old.digit j ≡ value → Contains (list_at j new) o
 
--- no place at all
+-- a default where there is no place
 abbrev pub no_place : Place
 no_place = record { digit = record { weight = 0; range = 0 }; lists = [] }
 
--- the operator is under the abstract state's value at one of the first n places
+-- at one of the first n places the operator is listed under the value of the abstract state
 abbrev pub IsUnder : List Place → ℕ → ℕ → ℕ → Type 0
 IsUnder places n j o = (k : ℕ) × (k < n) × Contains (list_at j (slice_index_or places k no_place)) o
 
--- each of the first n operators is found at each abstract state that it enters
+-- each of the first n operators is listed under each abstract state to which it leads
 abbrev pub AreIndexed : List Place → List (List DigitChange) → ℕ → Type 0
 AreIndexed places rows n = (o j : ℕ) → o < n → enters rows j o ≡ true → IsUnder places (length places) j o
 
 abbrev pub digits_of : List Place → List Digit
 digits_of places = map (λ p. p.digit) places
 
--- the changes are at these digits, in turn, if there are any
+-- the changes are at these digits, in their order, if there are any
 abbrev pub IsAlong : List Digit → List DigitChange → Type 0
 IsAlong digits changes = (changes ≡ []) ⊎ (map (λ c. c.digit) changes ≡ digits)

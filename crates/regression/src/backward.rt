@@ -1,4 +1,4 @@
-//! Projections followed backwards.
+//! Projections whose transitions can be followed backwards.
 
 ghost use Rattle.std.specs.Prelude.{◌≡◌, ◌<◌, ◌↔◌, ◌++◌, ℕ, true, Contains, length};
 ghost use Rattle.std.specs.Prelude.{[], IfSome, IfNone, IfOk, OnOk, filter, slice_get};
@@ -13,11 +13,11 @@ use std::alloc::{AllocError, Global};
 use std::marker::Model;
 use walks::BackwardAbstraction;
 
-/// A projection of which the transitions can be followed backwards (regression). A contract sees the projection.
+/// A projection whose transitions can be followed backwards (regression). In contracts its value is the projection.
 ///
-/// For each operator with an effect on the pattern it keeps what the operator does to each value of the pattern, and lists
-/// the operator under its first effect on the pattern. So `entering` looks at one list for each variable of the pattern, and
-/// `sources` at the values of one operator.
+/// For each operator with an effect on the pattern it stores the change of each value of the pattern, and lists the
+/// operator under its first effect on the pattern. So `entering` searches one list for each variable of the pattern,
+/// and `sources` reads the changes of one operator.
 #[derive(Drop)]
 pub struct BackwardProjection<'a> {
     projection: &'a Projection<'a>,
@@ -49,7 +49,7 @@ fn enters(rows: &[Row], abstract_state: usize, operator: usize) -> bool
     }
 }
 
-/// Adds those of the operators that enter the abstract state.
+/// Appends those of the operators that lead to the abstract state.
 fn add_entering(
     rows: &[Row],
     candidates: &[u32],
@@ -67,7 +67,7 @@ fn add_entering(
     Ok(())
 }
 
-/// Leaves the operators that enter the abstract state.
+/// Replaces the content of the list by the operators that lead to the abstract state.
 fn entering(
     places: &[Place],
     rows: &[Row],
@@ -89,7 +89,7 @@ fn entering(
     Ok(())
 }
 
-/// The changes by an operator, if it touches the pattern.
+/// The changes of an operator, if it touches the pattern.
 fn row_of(rows: &[Row], operator: usize) -> Option<&Row>
     ensures row { IfSome result (λ row. (slice_get rows.now operator ≡ Some row.now) × (row.now ≡ [] → ⊥)) }
     ensures absent { IfNone result (IfSome (slice_get rows.now operator) (λ changes. changes ≡ [])) }
@@ -100,7 +100,8 @@ fn row_of(rows: &[Row], operator: usize) -> Option<&Row>
     }
 }
 
-/// Leaves the abstract state if the operator leads from it to itself, and else none.
+/// Replaces the content of the list by the abstract state, if the operator leads from it to itself, and else by
+/// nothing.
 fn own_source(
     projection: &Projection<'_>,
     abstract_state: usize,
@@ -120,8 +121,8 @@ fn own_source(
 }
 
 impl<'a> BackwardProjection<'a> {
-    /// Prepares the projection. An operator with an effect on the pattern takes time and memory for each of the pattern's
-    /// variables, and each value of these takes a list. An `Err` is of too little memory.
+    /// Prepares a projection. Time and memory are linear in the number of the pattern's variables for each operator
+    /// with an effect on the pattern; each value of these variables takes a list. Fails only if allocation fails.
     pub fn new(
         alloc: Global,
         projection: &'a Projection<'a>,

@@ -1,4 +1,4 @@
-//! What an operator does to the value of one variable.
+//! The change that an operator makes to the value of one variable.
 
 ghost use Rattle.std.specs.Prelude.{◌≡◌, ◌<◌, Some, IfSome};
 ghost use Rattle.regression.specs.Changes as spec;
@@ -7,12 +7,12 @@ ghost use Rattle.regression.specs.Changes.{IsFit};
 use abstraction::Digit;
 use fdr::{Fact, Operator};
 
-/// What an operator asks of the value of one variable, and what it makes of it.
+/// The values of one variable to which an operator applies, and the value that it sets.
 #[derive(Clone, Copy)]
 pub(crate) enum Change {
-    /// The operator has no condition and no effect on the variable.
+    /// The operator has neither a condition nor an effect on the variable.
     Kept,
-    /// A prevail condition: the variable has this value, before and after.
+    /// A prevail condition: the variable has this value before and after.
     Required(u32),
     /// A precondition and an effect.
     Moved { from: u32, to: u32 },
@@ -20,14 +20,14 @@ pub(crate) enum Change {
     Assigned(u32),
 }
 
-/// What an operator does to the value at one digit of an abstract state.
+/// The change that an operator makes to the value at one digit of an abstract state.
 #[derive(Clone, Copy)]
 pub(crate) struct DigitChange {
     pub(crate) digit: Digit,
     pub(crate) change: Change,
 }
 
-/// The value that the first fact on the variable gives.
+/// The value of the first fact on the variable, if there is one.
 fn value_in(facts: &[Fact], variable: usize) -> Option<u32>
     ensures { result ≡ spec.value_in facts.now variable }
 {
@@ -39,7 +39,7 @@ fn value_in(facts: &[Fact], variable: usize) -> Option<u32>
     None
 }
 
-/// What the operator does to the variable's value.
+/// The change that the operator makes to the value of the variable.
 pub(crate) fn change_of(operator: &Operator, variable: usize) -> Change
     ensures { result ≡ spec.change_of operator.now variable }
 {
@@ -54,7 +54,7 @@ pub(crate) fn change_of(operator: &Operator, variable: usize) -> Change
 }
 
 impl Change {
-    /// The value that the effect gives, if there is one.
+    /// Returns the value of the effect, if there is one.
     pub(crate) fn target(self) -> Option<u32>
         ensures { result ≡ spec.target self }
     {
@@ -66,7 +66,7 @@ impl Change {
 }
 
 impl DigitChange {
-    /// Whether it leads to the abstract state's value from some value.
+    /// Whether the change leads from some value to the value of the abstract state.
     pub(crate) fn enters(self, abstract_state: usize) -> bool
         requires { IsFit self }
         ensures { result ≡ spec.enters_digit abstract_state self }

@@ -1,4 +1,5 @@
-//! Abstractions followed backwards: which operators lead into an abstract state, and from which abstract states (regression).
+//! Projections followed backwards: which operators lead into an abstract state, and from which abstract states
+//! (regression).
 #![tactic(auto)]
 
 mod backward;

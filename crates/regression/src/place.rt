@@ -1,4 +1,4 @@
-//! The operators by their first effects.
+//! The operators, indexed by their first effects.
 
 ghost use Rattle.std.specs.Prelude.{◌≡◌, ◌<◌, ◌≤◌, ◌^◌, ℕ, All, IfOk, OnOk, length, map};
 ghost use Rattle.abstraction.specs.Digits.{IsDigitBelow};
@@ -10,7 +10,7 @@ use abstraction::Digit;
 use std::alloc::{AllocError, Global};
 use std::marker::Model;
 
-/// Operators, by their numbers.
+/// A list of operators, by their numbers.
 #[derive(Drop)]
 struct OperatorList {
     numbers: Vec<u32>,
@@ -24,7 +24,7 @@ impl Model for OperatorList {
     ghost view = { λ l. l.numbers.items };
 }
 
-/// A digit of the pattern, and for each of its values the operators whose first effect gives it.
+/// A digit of the pattern, and for each of its values the operators whose first effect on the pattern sets it.
 #[derive(Drop)]
 pub(crate) struct Place {
     digit: Digit,
@@ -44,7 +44,7 @@ impl Model for Place {
 }
 
 impl Place {
-    /// The place of a digit, with no operators. An `Err` is of too little memory.
+    /// Makes the place of a digit, without operators. Fails only if allocation fails.
     fn new(alloc: Global, digit: Digit) -> Result<Place, AllocError>
         requires { IsDigitBelow (2 ^ 24) digit }
         ensures { IfOk result (λ p. p.digit ≡ digit) }
@@ -58,14 +58,14 @@ impl Place {
         Ok(Place { digit, lists })
     }
 
-    /// The operators under the value that the abstract state has here.
+    /// Returns the operators listed under the value of the abstract state at this digit.
     pub(crate) fn operators(&self, abstract_state: usize) -> &[u32]
         ensures { result.now ≡ list_at abstract_state self.now }
     {
         &self.lists[self.digit.value(abstract_state)].numbers
     }
 
-    /// Adds an operator under a value.
+    /// Adds an operator under a value. Fails only if allocation fails.
     fn add(&mut self, value: usize, operator: u32) -> Result<(), AllocError>
         requires { value < self.old.digit.range }
         ensures digit { self.new.digit ≡ self.old.digit }
@@ -76,7 +76,7 @@ impl Place {
     }
 }
 
-/// The places of the digits, with no operators.
+/// The places of the digits, without operators. Fails only if allocation fails.
 pub(crate) fn places_of(alloc: Global, digits: &[Digit]) -> Result<Vec<Place>, AllocError>
     requires { All (IsDigitBelow (2 ^ 24)) digits.now }
     ensures { IfOk result (λ v. digits_of v.items ≡ digits.now) }
@@ -88,7 +88,7 @@ pub(crate) fn places_of(alloc: Global, digits: &[Digit]) -> Result<Vec<Place>, A
     Ok(places)
 }
 
-/// Adds each operator under its first effect. An `Err` is of too little memory.
+/// Adds each operator under its first effect on the pattern. Fails only if allocation fails.
 pub(crate) fn add_operators(places: &mut [Place], rows: &[Row]) -> Result<(), AllocError>
     requires along { All (IsAlong (digits_of places.old)) rows.now }
     requires few { length rows.now ≤ 4294967295 }

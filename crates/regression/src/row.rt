@@ -1,4 +1,4 @@
-//! The changes by one operator.
+//! The changes of one operator.
 
 ghost use Rattle.std.specs.Prelude.{◌≡◌, ◌↔◌, ℕ, [], All, Contains, IfSome, IfNone, IfOk, OnOk, map, IsTrue};
 ghost use Rattle.std.specs.List.{list_all};
@@ -16,7 +16,8 @@ use fdr::Operator;
 use std::alloc::{AllocError, Global};
 use std::marker::Model;
 
-/// What an operator does to each value of the pattern, in the pattern's order; none for an operator without an effect on it.
+/// The change that an operator makes to each value of the pattern, in the order of the pattern. It is empty for an
+/// operator without an effect on the pattern.
 #[derive(Drop)]
 pub(crate) struct Row {
     changes: Vec<DigitChange>,
@@ -34,14 +35,14 @@ impl Model for Row {
     ghost invariant = { λ r. IsRow r.changes.items };
 }
 
-/// A value at a place of the pattern.
+/// A place of the pattern and a value there.
 #[derive(Clone, Copy)]
 pub(crate) struct Key {
     pub(crate) place: usize,
     pub(crate) value: usize,
 }
 
-/// The first effect.
+/// The place and the value of the first effect.
 fn first_effect(changes: &[DigitChange]) -> Option<Key>
     requires { All IsFit changes.now }
     ensures effect { IfSome result (λ k. IsKey changes.now k.place k.value) }
@@ -58,7 +59,7 @@ fn first_effect(changes: &[DigitChange]) -> Option<Key>
     None
 }
 
-/// Whether all changes lead to the abstract state from some values.
+/// Whether each change leads from some value to the value of the abstract state.
 fn all_enter(changes: &[DigitChange], abstract_state: usize) -> bool
     requires { All IsFit changes.now }
     ensures { result ≡ list_all (enters_digit abstract_state) changes.now }
@@ -66,7 +67,7 @@ fn all_enter(changes: &[DigitChange], abstract_state: usize) -> bool
     changes.iter().all(|change| change.enters(abstract_state))
 }
 
-/// The changes at each digit of the pattern.
+/// The change at each digit of the pattern.
 fn changes_of(
     alloc: Global,
     projection: &Projection<'_>,
@@ -89,7 +90,8 @@ fn changes_of(
 }
 
 impl Row {
-    /// The row of the operator of this number.
+    /// Makes the row of an operator. `touches` says whether it has an effect on the pattern. Fails only if allocation
+    /// fails.
     fn new(
         alloc: Global,
         projection: &Projection<'_>,
@@ -108,7 +110,7 @@ impl Row {
         Ok(Row { changes })
     }
 
-    /// The first effect on the pattern; `None` where the row has no changes.
+    /// Returns the first effect on the pattern, or `None` if the row is empty.
     pub(crate) fn key(&self) -> Option<Key>
         ensures key { IfSome result (λ k. IsKey self.now k.place k.value) }
         ensures absent { IfNone result (self.now ≡ []) }
@@ -116,21 +118,22 @@ impl Row {
         first_effect(&self.changes)
     }
 
-    /// Whether there are changes, and all lead to the abstract state from some values.
+    /// Whether the row is not empty, and each change leads from some value to the value of the abstract state.
     pub(crate) fn enters(&self, abstract_state: usize) -> bool
         ensures { result ≡ spec.enters_by self.now abstract_state }
     {
         !self.changes.is_empty() && all_enter(&self.changes, abstract_state)
     }
 
-    /// Whether there are no changes.
+    /// Whether the row is empty.
     pub(crate) fn is_empty(&self) -> bool
         ensures { IsTrue result ↔ (self.now ≡ []) }
     {
         self.changes.is_empty()
     }
 
-    /// Leaves the abstract states from which the changes lead to this one.
+    /// Replaces the content of the list by the abstract states from which the changes lead to this one. Fails only if
+    /// allocation fails.
     pub(crate) fn sources(
         &self,
         abstract_state: usize,
@@ -142,7 +145,7 @@ impl Row {
     }
 }
 
-/// The rows of the operators, by their numbers.
+/// The rows of the operators, in the order of their numbers. Fails only if allocation fails.
 pub(crate) fn rows_of(alloc: Global, projection: &Projection<'_>) -> Result<Vec<Row>, AllocError>
     ensures { IfOk result (λ v. v.items ≡ map (spec.changes_in projection.now) projection.now.task.operators) }
 {

@@ -1,4 +1,4 @@
-//! The numbers from which changes lead to an abstract state.
+//! The abstract states from which changes lead to an abstract state.
 
 ghost use Rattle.std.specs.Prelude.{◌≡◌, ◌+◌, ◌*◌, ◌/◌, ◌%◌, ◌^◌, ◌<◌, ◌≤◌, ◌↔◌, ◌++◌};
 ghost use Rattle.std.specs.Prelude.{ℕ, All, Contains, length, map, take, OnOk, vec_len};
@@ -8,7 +8,7 @@ ghost use Rattle.regression.specs.Changes.{IsFit, LeadsAt, LeadsBy, size_by};
 use crate::change::{Change, DigitChange};
 use std::alloc::AllocError;
 
-/// Puts the value below each number, at a digit of the range.
+/// Prepends the value to each number, as its lowest digit.
 fn put_value(states: &mut Vec<u32>, range: usize, value: usize)
     requires value { value < range }
     requires states { All (λ s. range * (s + 1) ≤ 2 ^ 24) states.old.items }
@@ -19,7 +19,7 @@ fn put_value(states: &mut Vec<u32>, range: usize, value: usize)
     }
 }
 
-/// Adds the first numbers once more, each greater by the value.
+/// Appends copies of the first `count` numbers, each increased by the value.
 fn add_greater(states: &mut Vec<u32>, count: usize, value: usize) -> Result<(), AllocError>
     requires count { count ≤ vec_len states.old }
     requires states { All (λ s. s + value ≤ 2 ^ 24) (take count states.old.items) }
@@ -32,7 +32,7 @@ fn add_greater(states: &mut Vec<u32>, count: usize, value: usize) -> Result<(), 
     Ok(())
 }
 
-/// Puts each value of the range below each number.
+/// Prepends each value of the range to each number, as its lowest digit.
 fn put_all_values(states: &mut Vec<u32>, range: usize) -> Result<(), AllocError>
     requires range { 0 < range }
     requires states { All (λ s. range * (s + 1) ≤ 2 ^ 24) states.old.items }
@@ -46,7 +46,8 @@ fn put_all_values(states: &mut Vec<u32>, range: usize) -> Result<(), AllocError>
     Ok(())
 }
 
-/// Puts below each number the values from which the change leads to the abstract state's value.
+/// Prepends to each number the values from which the change leads to the value of the abstract state, as its lowest
+/// digit.
 fn put_sources(
     change: DigitChange,
     abstract_state: usize,
@@ -74,7 +75,8 @@ fn put_sources(
     Ok(())
 }
 
-/// Leaves the numbers from which the changes lead to the abstract state.
+/// Replaces the content of the list by the abstract states from which the changes lead to this one. Fails only if
+/// allocation fails.
 pub(crate) fn sources_by(
     changes: &[DigitChange],
     abstract_state: usize,

@@ -1,4 +1,4 @@
--- The faults that a command ends with.
+-- Faults and their exit statuses.
 use Rattle.std.specs.Prelude.{ℕ}
 use Rattle.sasfile.specs.declared.fault.SasFault.{SasFault}
 use Rattle.sasfile.specs.declared.fault.SasFault.TheVariants as sas
@@ -22,7 +22,7 @@ fault_status GroundLimit = 1
 fault_status (TaskTooLarge table) = 1
 fault_status TotalTooLarge = 1
 
--- a fault of the text of a finite-domain task
+-- a fault of the text of a finite-domain task as the program's
 abbrev pub fault_of_sas : SasFault → Fault
 fault_of_sas sas.OutOfMemory = OutOfMemory
 fault_of_sas (sas.Limit table) = Sas (sas.Limit table)
@@ -34,7 +34,7 @@ fault_of_sas (sas.ConditionalEffect line) = Sas (sas.ConditionalEffect line)
 fault_of_sas sas.Truncated = Sas sas.Truncated
 fault_of_sas (sas.Trailing line) = Sas (sas.Trailing line)
 
--- a fault of the text of a certificate
+-- a fault of the text of a certificate as the program's
 abbrev pub fault_of_cert : CertFault → Fault
 fault_of_cert cert.OutOfMemory = OutOfMemory
 fault_of_cert cert.Header = Cert cert.Header
@@ -45,7 +45,7 @@ fault_of_cert (cert.Trailing line) = Cert (cert.Trailing line)
 fault_of_cert (cert.Order line) = Cert (cert.Order line)
 fault_of_cert cert.TooLong = Cert cert.TooLong
 
--- a fault of the texts of a finite-domain task and of a certificate for it
+-- a fault of the texts of a finite-domain task and of a certificate for it as the program's
 abbrev pub fault_of_check : CheckFault → Fault
 fault_of_check check.OutOfMemory = OutOfMemory
 fault_of_check (check.Sas e) = fault_of_sas e

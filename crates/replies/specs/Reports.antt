@@ -1,4 +1,4 @@
--- What is reported of the texts of a planning task that are refused.
+-- What is reported of refused texts of a planning task.
 use Rattle.std.specs.Prelude.{◌≡◌, ◌≢◌, ℕ, List, string_bytes}
 use Rattle.std.specs.Option.{option_map}
 use Rattle.pddl.specs.Texts.{IsTaskRefusal}
@@ -7,7 +7,8 @@ use Rattle.replies.specs.Words.{word_of_fault}
 use Rattle.replies.specs.declared.fault.Fault.{Fault}
 use Rattle.replies.specs.declared.fault.Fault.TheVariants.{OutOfMemory, CannotRead, CannotWrite, Task, Plan, Sas, Cert, GroundLimit, TaskTooLarge, TotalTooLarge}
 
--- The texts of a domain and a problem are refused for their first fault, with the word that it names, or memory ran out.
+-- the texts of a domain and a problem are refused for their first fault, with the word that the fault prints, or memory
+-- ran out
 abbrev pub IsTaskReport : List ℕ → List ℕ → Fault → Type 0
 IsTaskReport domain problem OutOfMemory = Unit {0}
 IsTaskReport domain problem (CannotRead file) = ⊥

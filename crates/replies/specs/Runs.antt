@@ -1,16 +1,16 @@
--- What every command does to its device, and the status that it ends with.
+-- What every command does to its device, and its exit status.
 use Rattle.std.specs.Prelude.{◌≡◌, ℕ, ◌+◌, ◌⊎◌, ◌==◌, not, Bool, true, List, [], ◌∷◌}
 use Rattle.device.specs.Events.{Event, HasRead, HasWritten, HasPut, HasReported}
 use Rattle.replies.specs.declared.fault.Fault.{Fault}
 use Rattle.replies.specs.declared.fault.Fault.TheVariants.{OutOfMemory, CannotRead, CannotWrite, Task, Plan, Sas, Cert, GroundLimit, TaskTooLarge, TotalTooLarge}
 use Rattle.replies.specs.Faults.{fault_status}
 
--- a word that no option begins with
+-- whether a word is not an option: it does not start with a hyphen
 abbrev pub is_operand : List ℕ → Bool
 is_operand [] = true
 is_operand (b ∷ bs) = not (b == 45)
 
--- nothing went to standard output, and at most one report to standard error
+-- nothing was written to standard output, and at most one report to standard error
 abbrev pub IsQuiet : List Event → Type 0
 IsQuiet [] = Unit {0}
 IsQuiet (HasReported bytes ∷ []) = Unit {0}
@@ -23,14 +23,14 @@ IsQuiet (HasPut bytes ∷ events) = ⊥
 abbrev pub task_reads : List ℕ → List ℕ → List ℕ → List ℕ → List Event
 task_reads domain d problem p = HasRead domain d ∷ HasRead problem p ∷ []
 
--- What follows the reading of a command's files, and the status: the line that answers their texts goes to standard output, or a
--- text is refused.
+-- what follows the reading of a command's files, and the exit status: the line that answers the texts is written to
+-- standard output, or a text is refused
 abbrev pub Follows : (List ℕ → ℕ → Type 0) → (Fault → Type 0) → List Event → ℕ → Type 0
 Follows IsAnswer IsRefusal events status =
     ((line : List ℕ) × IsAnswer line status × (events ≡ HasPut line ∷ []))
     ⊎ ((e : Fault) × IsRefusal e × (status ≡ fault_status e) × IsQuiet events)
 
--- a fault of a device: memory, or a failure that is counted
+-- the fault of a device that changes the count of failures in this way: memory, or a failure that is counted
 abbrev pub IsDeviceFault : Fault → ℕ → ℕ → Type 0
 IsDeviceFault OutOfMemory old new = new ≡ old
 IsDeviceFault (CannotRead file) old new = new ≡ old + 1

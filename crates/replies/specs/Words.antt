@@ -1,4 +1,4 @@
--- The words of a text that faults are printed with.
+-- The words of a text that faults print.
 use Rattle.std.specs.Prelude.{ℕ, ◌==◌, ◌||◌, ◌&&◌, nat_le, Bool, false, if◌then◌else◌, List, [], ◌∷◌, drop, Option, Some, None, codes}
 use Rattle.std.specs.Char.{to_ascii_lowercase}
 use Rattle.pddl_syntax.specs.declared.fault.FaultKind.{FaultKind}
@@ -14,7 +14,7 @@ use Rattle.pddl.specs.declared.fault.PddlFault.TheVariants.{OutOfMemory, Tree, S
 use Rattle.replies.specs.declared.fault.FileWord.{FileWord}
 use Rattle.replies.specs.declared.fault.FileWord.TheVariants.{Domain, Problem, Plan, Sas, Cert, Output}
 
--- the word that a fault names a file by
+-- the word by which a fault names a file
 abbrev pub file_text : FileWord → List ℕ
 file_text Domain = codes "domain"
 file_text Problem = codes "problem"
@@ -23,7 +23,7 @@ file_text Sas = codes "sas"
 file_text Cert = codes "cert"
 file_text Output = codes "output"
 
--- the word that F18 names a table of a planning task by
+-- the word by which F18 names a table of a planning task
 abbrev pub table_text : LimitedTable → List ℕ
 table_text Objects = codes "objects"
 table_text Predicates = codes "predicates"
@@ -34,7 +34,7 @@ table_text Literals = codes "literals"
 table_text Increases = codes "increases"
 table_text Init = codes "init"
 
--- the word that F18 names a table of a finite-domain task by
+-- the word by which F18 names a table of a finite-domain task
 abbrev pub task_table_text : TaskLimit → List ℕ
 task_table_text task_limit.Variables = codes "variables"
 task_table_text task_limit.Values = codes "values"
@@ -44,12 +44,12 @@ task_table_text task_limit.Operators = codes "operators"
 abbrev pub is_letter : ℕ → Bool
 is_letter b = if b == 40 || b == 41 || b == 59 then false else (nat_le 33 b && nat_le b 126)
 
--- the word that a text begins with, in lower case
+-- the word at the start of a text, in lower case
 abbrev pub first_word : List ℕ → List ℕ
 first_word [] = []
 first_word (b ∷ bs) = if is_letter b then to_ascii_lowercase b ∷ first_word bs else []
 
--- the word that begins at a byte of a text, in lower case
+-- the word that starts at a byte of a text, in lower case
 abbrev pub word_at : List ℕ → ℕ → List ℕ
 word_at text at = first_word (drop at text)
 
@@ -58,7 +58,7 @@ abbrev pub text_of : PlanningFile → List ℕ → List ℕ → List ℕ
 text_of planning_file.Domain domain problem = domain
 text_of planning_file.Problem domain problem = problem
 
--- the word that a fault of this kind at this place names, if it names one
+-- the word that a fault of this kind at this place prints, if it prints one
 abbrev pub named_word : List ℕ → FaultKind → ℕ → Option (List ℕ)
 named_word text Unsupported at = Some (word_at text at)
 named_word text Shape at = None
@@ -71,7 +71,7 @@ named_word text CostRange at = None
 named_word text (Limit table) at = None
 named_word text GoalBothWays at = None
 
--- the word that a fault of the texts of a domain and a problem names, if it names one
+-- the word that a fault of the texts of a domain and a problem prints, if it prints one
 abbrev pub word_of_fault : List ℕ → List ℕ → PddlFault → Option (List ℕ)
 word_of_fault domain problem OutOfMemory = None
 word_of_fault domain problem (Tree file e) = None

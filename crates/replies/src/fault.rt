@@ -1,4 +1,4 @@
-//! What can go wrong, as it is printed.
+//! Faults as they are printed.
 
 ghost use Rattle.std.specs.Prelude.{◌≡◌};
 ghost use Rattle.replies.specs.declared.fault.Fault.TheVariants.{OutOfMemory};
@@ -16,7 +16,7 @@ use std::alloc::{AllocError, AllocFailed};
 use std::fmt;
 use validate::PlanFault;
 
-/// A file by the word that its fault is printed with.
+/// A file, named as a printed fault names it.
 #[derive(Clone, Copy, Debug, PartialEq, Eq)]
 pub enum FileWord {
     Domain,
@@ -27,16 +27,16 @@ pub enum FileWord {
     Output,
 }
 
-/// Why the program does not answer.
+/// Why the program gives no answer.
 #[derive(Debug, Drop)]
 pub enum Fault {
-    /// Memory was refused.
+    /// Memory ran out.
     OutOfMemory,
     /// F70: the file cannot be read.
     CannotRead(FileWord),
     /// F71: the file, or standard output, cannot be written.
     CannotWrite(FileWord),
-    /// F1 to F19: the domain's or the problem's text is refused. The word is that of F11.
+    /// F1 to F19: the text of the domain or of the problem is refused, with the word that F11 prints.
     Task(PddlFault, Option<String>),
     /// F1 to F5, F25, F26: the plan's text is refused.
     Plan(PlanFault),
@@ -44,11 +44,11 @@ pub enum Fault {
     Sas(SasFault),
     /// F50 to F56: the text of a certificate is refused.
     Cert(CertFault),
-    /// F20: a planning task has more atoms or actions than may be listed.
+    /// F20: a planning task has more atoms or ground actions than the limits allow.
     GroundLimit,
-    /// F18: a planning task's translation has more variables, values of a variable or operators than it may have.
+    /// F18: a planning task's translation has more variables, values of a variable or operators than the limits allow.
     TaskTooLarge(TaskLimit),
-    /// F60: a path would cost more, or have more steps, than 2^62.
+    /// F60: a path would have a cost, or a number of steps, above 2^62.
     TotalTooLarge,
 }
 
@@ -116,7 +116,8 @@ impl From<CheckFault> for Fault {
 }
 
 impl Fault {
-    /// The exit status.
+    /// The exit status: 6 if memory ran out, 7 for a file that cannot be read or written, and 1 for a text or a task that
+    /// is refused.
     pub fn status(&self) -> u8
         ensures { result ≡ fault_status self.now }
     {
@@ -145,7 +146,7 @@ impl FileWord {
     }
 }
 
-/// The word of a file of a planning task.
+/// The name of a file of a planning task.
 fn file_word(file: PlanningFile) -> FileWord
     ensures domain { file ≡ PlanningFile.Domain → result ≡ FileWord.Domain }
     ensures problem { file ≡ PlanningFile.Problem → result ≡ FileWord.Problem }
@@ -181,7 +182,7 @@ fn task_table_word(table: TaskLimit) -> &'static str
     }
 }
 
-/// Number, name, file and place of what is wrong with a tree.
+/// Writes the number, name, file and place (in bytes, counted from 0) of a fault of a tree.
 fn write_tree_fault<W: fmt::Write>(
     f: &mut fmt::Formatter<W>,
     fault: SexpFault,
@@ -200,7 +201,7 @@ fn write_tree_fault<W: fmt::Write>(
     }
 }
 
-/// Number, name, word, file and place of what is wrong with a planning text.
+/// Writes the number, name, word, file and place (in bytes, counted from 0) of a fault of a planning text.
 fn write_text_fault<W: fmt::Write>(
     f: &mut fmt::Formatter<W>,
     fault: TextFault,
@@ -226,7 +227,7 @@ fn write_text_fault<W: fmt::Write>(
     }
 }
 
-/// Number, name, file and line of what is wrong with the text of a finite-domain task. A table that is too long has neither
+/// Writes the number, name, file and line of a fault of a finite-domain task's text. A table that is too long has neither
 /// file nor line.
 fn write_sas_fault<W: fmt::Write>(f: &mut fmt::Formatter<W>, fault: SasFault) -> fmt::Result {
     match fault {
@@ -245,7 +246,7 @@ fn write_sas_fault<W: fmt::Write>(f: &mut fmt::Formatter<W>, fault: SasFault) ->
     }
 }
 
-/// Number, name, file and line of what is wrong with the text of a certificate.
+/// Writes the number, name, file and line of a fault of a certificate's text.
 fn write_cert_fault<W: fmt::Write>(f: &mut fmt::Formatter<W>, fault: CertFault) -> fmt::Result {
     match fault {
         CertFault::OutOfMemory => write!(f, "out of memory"),
@@ -259,7 +260,7 @@ fn write_cert_fault<W: fmt::Write>(f: &mut fmt::Formatter<W>, fault: CertFault) 
     }
 }
 
-/// The fault's line without the program's name and the line's end.
+/// The fault's line, without the program's name and the line feed.
 impl fmt::Display for Fault {
     fn fmt<W: fmt::Write>(&self, f: &mut fmt::Formatter<W>) -> fmt::Result {
         match self {

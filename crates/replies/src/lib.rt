@@ -1,4 +1,4 @@
-//! What every command does with its device: it reads files, replies with an answer, and reports a fault as it is printed.
+//! What every command does with its device: it reads files, prints an answer, and reports a fault.
 #![tactic(auto)]
 
 mod fault;

@@ -1,4 +1,4 @@
-//! Faults of planning texts, with the words that they are printed with.
+//! Faults of planning texts, with the word that they print.
 
 ghost use Rattle.std.specs.Prelude.{◌≡◌, IfOk, string_bytes};
 ghost use Rattle.pddl.specs.Texts.{IsTaskRefusal};
@@ -10,7 +10,7 @@ use pddl::PddlFault;
 use pddl_syntax::{Fault as TextFault, FaultKind, PlanningFile};
 use std::alloc::{AllocError, Global};
 
-/// Whether a word has this byte.
+/// Whether a byte may be part of a word.
 fn is_letter(byte: u8) -> bool
     ensures { result ≡ is_letter byte }
 {
@@ -21,7 +21,8 @@ fn is_letter(byte: u8) -> bool
     }
 }
 
-/// The word that a text begins with, in lower case; empty where it begins with no letter.
+/// The word at the start of a text, in lower case; empty if the text does not start with one. Fails only if allocation
+/// fails.
 fn first_word(alloc: Global, text: &[u8]) -> Result<String, AllocError>
     ensures { IfOk result (λ word. string_bytes word ≡ first_word text.now) }
 {
@@ -36,7 +37,7 @@ fn first_word(alloc: Global, text: &[u8]) -> Result<String, AllocError>
     Ok(word)
 }
 
-/// The word that stands at a byte of a text, in lower case.
+/// The word at a byte of a text, counted from 0, in lower case; empty if there is none. Fails only if allocation fails.
 fn word_at(alloc: Global, text: &[u8], at: usize) -> Result<String, AllocError>
     ensures { IfOk result (λ word. string_bytes word ≡ word_at text.now at) }
 {
@@ -56,7 +57,8 @@ fn text_of<'a>(file: PlanningFile, domain: &'a [u8], problem: &'a [u8]) -> &'a [
     }
 }
 
-/// The fault with the word that it is printed with, if it has one.
+/// The fault of the texts as the program's, with the word that it prints, if it has one; `OutOfMemory` if allocation
+/// fails.
 pub fn task_fault(alloc: Global, fault: PddlFault, domain: &[u8], problem: &[u8]) -> Fault
     ensures { IsTaskRefusal domain.now problem.now fault → IsTaskReport domain.now problem.now result }
 {

@@ -1,4 +1,4 @@
-//! What every command does with its device: it reads files, replies with an answer, and reports a fault.
+//! What every command does with its device: it reads files, prints an answer, and reports a fault.
 
 ghost use Rattle.std.specs.Prelude.{◌≡◌, ◌≢◌, ◌≤◌, ◌+◌, ◌∷◌, [], ◌++◌, ◌⊎◌, List, Some, IfOk, IfErr, OnOk, OnErr, string_bytes};
 ghost use Rattle.device.specs.Events.{Event, HasRead, HasPut, Adds};
@@ -10,7 +10,7 @@ use crate::fault::{Fault, FileWord};
 use device::{Device, DeviceFault};
 use std::alloc::{AllocError, Global};
 
-/// The bytes of a file.
+/// The bytes of a file. Fails with `CannotRead(file)` if the device fails, or with `OutOfMemory`.
 pub fn read_file<D: Device>(
     alloc: Global,
     device: &mut D,
@@ -30,7 +30,7 @@ pub fn read_file<D: Device>(
     }
 }
 
-/// The bytes of the two files of a planning task, which are read in this order.
+/// The bytes of the two files of a planning task, read in this order. Fails as `read_file` does.
 pub fn read_task_files<D: Device>(
     alloc: Global,
     device: &mut D,
@@ -47,7 +47,7 @@ pub fn read_task_files<D: Device>(
     Ok((domain, problem))
 }
 
-/// Puts a text out.
+/// Writes a text to standard output. Fails if the device fails, or if memory runs out.
 fn put<D: Device>(device: &mut D, text: &[u8]) -> Result<(), Fault>
     ensures told { OnOk result (Adds (D.history device.old) (D.history device.new) (HasPut text.now)) }
     ensures word { IfErr result (λ e. (e ≡ OutOfMemory) ⊎ (e ≡ CannotWrite FileWord.Output)) }
@@ -62,12 +62,12 @@ fn put<D: Device>(device: &mut D, text: &[u8]) -> Result<(), Fault>
     }
 }
 
-/// The line of a fault.
+/// The line of a fault, with its line feed. Fails only if allocation fails.
 fn fault_line(alloc: Global, fault: &Fault) -> Result<String, AllocError> {
     format!(in alloc; "optplan: {fault}\n")
 }
 
-/// Reports a fault on standard error, if that and memory allow it. Gives the fault's exit status.
+/// Reports a fault on standard error, unless that fails or memory runs out, and returns the fault's exit status.
 pub fn report<D: Device>(alloc: Global, device: &mut D, fault: &Fault) -> u8
     ensures told { (h : List Event) → D.history device.old ≡ Some h →
         (later : List Event) × (D.history device.new ≡ Some (h ++ later)) × IsQuiet later }
@@ -80,7 +80,8 @@ pub fn report<D: Device>(alloc: Global, device: &mut D, fault: &Fault) -> u8
     fault.status()
 }
 
-/// Puts a text out. Gives this exit status, or where the text cannot be put out that of the fault, which is reported.
+/// Writes a text to standard output, and returns this exit status; if that fails, reports the fault, and returns the
+/// fault's status.
 pub fn put_text<D: Device>(alloc: Global, device: &mut D, text: &[u8], status: u8) -> u8
     ensures told { result ≢ 6 → result ≢ 7 → Adds (D.history device.old) (D.history device.new) (HasPut text.now) }
     ensures status { result ≢ 6 → result ≢ 7 → result ≡ status }
@@ -92,7 +93,7 @@ pub fn put_text<D: Device>(alloc: Global, device: &mut D, text: &[u8], status: u
     }
 }
 
-/// Replies to the texts of a command's files: puts the line of their answer out, or reports their fault. Gives the exit status.
+/// Prints the answer for the texts of a command's files, or reports their fault, and returns the exit status.
 pub fn reply<D: Device>(alloc: Global, device: &mut D, answer: &Result<(String, u8), Fault>) -> u8
     ensures answered { result ≢ 6 → result ≢ 7 → IfOk answer.now (λ r. Adds (D.history device.old) (D.history device.new) (HasPut (string_bytes r.0))) }
     ensures status { result ≢ 6 → result ≢ 7 → IfOk answer.now (λ r. result ≡ r.1) }

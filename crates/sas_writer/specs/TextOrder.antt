@@ -1,4 +1,4 @@
--- The task that a written text spells: preconditions stand in another order, prevail conditions before those of effects.
+-- The task that a written text spells: its preconditions have another order, prevail conditions before the others.
 use Rattle.std.specs.Prelude.{◌≡◌, ℕ, ◌≤◌, true, List, ◌++◌, map, length, slice_get, Some, All}
 use Rattle.std.specs.List.{list_all, filter_map}
 use Rattle.std.specs.Option.{option_map}
@@ -7,7 +7,7 @@ use Rattle.fdr.specs.Tasks.{FiniteDomainTask, Operator, IsTask, IsWithinLimits}
 use Rattle.sasfile.specs.Lines.{is_text_byte, trimmed}
 use Rattle.sas_writer.specs.Written.{prevail, value_of}
 
--- the conditions on the variables of the effect, in its order
+-- the facts of the precondition on variables of the effect, in the order of the effect
 abbrev pub changed : Operator → List Fact
 changed op = filter_map (λ f. option_map (λ x. record { variable = f.variable; value = x }) (value_of op.precondition f.variable)) op.effect
 
@@ -17,12 +17,12 @@ reordered op = record op { precondition = prevail op ++ changed op }
 abbrev pub in_text_order : FiniteDomainTask → FiniteDomainTask
 in_text_order task = record task { operators = map reordered task.operators }
 
--- printed, and with no blank at its end
+-- a name of printable bytes with no blank at its end
 pub record IsName (name : List ℕ) : Type 0 where
   pub printed : list_all is_text_byte name ≡ true
   pub whole : trimmed name ≡ name
 
--- a task with names that can stand in a text, and costs as they can
+-- a well-formed task with names and costs that the format can express
 pub record CanBeWritten (task : FiniteDomainTask) (sizes : List ℕ) : Type 0 where
   pub task_ok : IsTask task
   pub within : IsWithinLimits task

@@ -1,4 +1,4 @@
--- A worked text: along a road from a by b to c, with one variable for where one is.
+-- An example: a road from a by b to c, with one variable for the location.
 use Rattle.std.specs.Prelude.{ℕ, false, List, [], ◌∷◌, codes}
 use Rattle.fdr.specs.declared.fact.Fact.{Fact}
 use Rattle.fdr.specs.Tasks.{FiniteDomainTask, Operator}
@@ -6,7 +6,7 @@ use Rattle.fdr.specs.Tasks.{FiniteDomainTask, Operator}
 abbrev pub fact : ℕ → ℕ → Fact
 fact v x = record { variable = v; value = x }
 
--- of cost 1
+-- an operator of cost 1
 abbrev pub operator : List ℕ → List Fact → List Fact → Operator
 operator name precondition effect = record { name = name; precondition = precondition; effect = effect; cost = 1 }
 

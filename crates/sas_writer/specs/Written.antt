@@ -1,4 +1,4 @@
--- The one text that is written of a finite-domain task (output.sas, version 3; Helmert 2006), line by line.
+-- The text that is written of a finite-domain task (output.sas, version 3; Helmert 2006), line by line.
 use Rattle.std.specs.Prelude.{ℕ, Bool, ◌==◌, not, nat_le, if◌then◌else◌, List, [], ◌∷◌, ◌++◌, length, map, filter, find, Option, codes, decimal}
 use Rattle.std.specs.List.{flat_map, enumerate_from, range_with_len}
 use Rattle.std.specs.Option.{option_map, option_map_or}
@@ -9,14 +9,14 @@ use Rattle.fdr.specs.Tasks.{FiniteDomainTask, Operator, names_variable}
 abbrev pub text_of_lines : List (List ℕ) → List ℕ
 text_of_lines lines = flat_map (λ l. l ++ 10 ∷ []) lines
 
--- two numbers with a blank between them
+-- two numbers separated by a blank
 abbrev pub pair_line : ℕ → ℕ → List ℕ
 pair_line m n = decimal m ++ codes " " ++ decimal n
 
 abbrev pub fact_line : Fact → List ℕ
 fact_line f = pair_line f.variable f.value
 
--- a line with the number of the facts, and one for each
+-- a line with the number of facts, and one line for each of them
 abbrev pub fact_lines : List Fact → List (List ℕ)
 fact_lines facts = decimal (length facts) ∷ map fact_line facts
 
@@ -26,31 +26,31 @@ version_lines = codes "begin_version" ∷ codes "3" ∷ codes "end_version" ∷ 
 abbrev pub metric_lines : Bool → List (List ℕ)
 metric_lines metric = codes "begin_metric" ∷ (if metric then codes "1" else codes "0") ∷ codes "end_metric" ∷ []
 
--- the variable of this number, whose values have these names
+-- the variable with this number, whose values have these names
 abbrev pub variable_lines : ℕ → List (List ℕ) → List (List ℕ)
 variable_lines number names =
     codes "begin_variable" ∷ (codes "var" ++ decimal number) ∷ codes "-1" ∷ decimal (length names) ∷ (names ++ codes "end_variable" ∷ [])
 
--- the first so many values of the variable
+-- a mutex group of the first `size` values of the variable
 abbrev pub group_lines : ℕ → ℕ → List (List ℕ)
 group_lines number size =
     codes "begin_mutex_group" ∷ decimal size ∷ (map (pair_line number) (range_with_len 0 size) ++ codes "end_mutex_group" ∷ [])
 
--- variables of several atoms, of which each has so many, with their numbers
+-- the variables with at least two atoms, by their numbers, each with its number of atoms
 abbrev pub groups_of : List ℕ → List (ℕ × ℕ)
 groups_of sizes = filter (λ e. nat_le 2 e.1) (enumerate_from 0 sizes)
 
--- the value that the facts give the variable
+-- the value of the fact on the variable, if there is one
 abbrev pub value_of : List Fact → ℕ → Option ℕ
 value_of facts v = option_map (λ f. f.value) (find (λ f. f.variable == v) facts)
 
--- an effect with the value before it, which is -1 for any
+-- an effect, with the value before it, or -1 for any value
 abbrev pub effect_line : List Fact → Fact → List ℕ
 effect_line precondition f =
     codes "0 " ++ decimal f.variable ++ codes " " ++ option_map_or decimal (value_of precondition f.variable) (codes "-1")
     ++ codes " " ++ decimal f.value
 
--- the conditions on variables that the effect leaves alone
+-- the prevail conditions: facts of the precondition on variables that the effect does not name
 abbrev pub prevail : Operator → List Fact
 prevail op = filter (λ f. not (names_variable op.effect f.variable)) op.precondition
 
@@ -60,7 +60,7 @@ operator_lines op =
     ++ (decimal (length op.effect) ∷ map (effect_line op.precondition) op.effect)
     ++ decimal op.cost ∷ codes "end_operator" ∷ [])
 
--- Of a task, and of the numbers of its variables' atoms: the first so many values of a variable are its atoms.
+-- The lines of a task. `sizes` has for each variable the number of its atoms, which are its first values.
 abbrev pub written_lines : FiniteDomainTask → List ℕ → List (List ℕ)
 written_lines task sizes =
     version_lines ++ metric_lines task.metric

@@ -1,4 +1,4 @@
-//! Values of variables: conditions, the initial state and the goal.
+//! Writing facts: conditions, the initial state and the goal.
 #![tactic(auto, using(crate::proofs::Appends::appending))]
 
 ghost use Rattle.std.specs.Prelude.{◌≡◌, ◌++◌, ◌∷◌, [], OnOk, codes, decimal, map};
@@ -23,7 +23,7 @@ fn push_facts(out: &mut Vec<u8>, facts: &[Fact]) -> Result<(), AllocError>
     Ok(())
 }
 
-/// A line for each value.
+/// Appends a line for each value.
 fn push_values(out: &mut Vec<u8>, values: &[u32]) -> Result<(), AllocError>
     ensures { OnOk result (out.new.items ≡ out.old.items ++ text_of_lines (map decimal values.now)) }
 {
@@ -33,7 +33,7 @@ fn push_values(out: &mut Vec<u8>, values: &[u32]) -> Result<(), AllocError>
     Ok(())
 }
 
-/// The initial state.
+/// Appends the initial state.
 pub(crate) fn push_state(out: &mut Vec<u8>, state: &[u32]) -> Result<(), AllocError>
     ensures { OnOk result (out.new.items ≡ out.old.items
         ++ text_of_lines (codes "begin_state" ∷ (map decimal state.now ++ codes "end_state" ∷ []))) }
@@ -43,7 +43,7 @@ pub(crate) fn push_state(out: &mut Vec<u8>, state: &[u32]) -> Result<(), AllocEr
     push_line(out, b"end_state")
 }
 
-/// The goal: the number of its facts, and each of them.
+/// Appends the goal: the number of its facts, and each of them.
 pub(crate) fn push_goal(out: &mut Vec<u8>, goal: &[Fact]) -> Result<(), AllocError>
     ensures { OnOk result (out.new.items ≡ out.old.items
         ++ text_of_lines (codes "begin_goal" ∷ (fact_lines goal.now ++ codes "end_goal" ∷ []))) }

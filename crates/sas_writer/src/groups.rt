@@ -1,4 +1,4 @@
-//! Mutex groups: the atoms of a variable, where they are several.
+//! Writing mutex groups: the atoms of a variable, if there are at least two.
 #![tactic(auto, using(crate::proofs::Appends::appending))]
 
 ghost use Rattle.std.specs.Prelude.{◌≡◌, ◌++◌, ◌∷◌, OnOk, count_by, decimal, length, map, nat_le};
@@ -8,7 +8,7 @@ ghost use Rattle.sas_writer.specs.Written.{text_of_lines, pair_line, group_lines
 use crate::lines::{push_line, push_number_line, push_pair_line};
 use std::alloc::AllocError;
 
-/// A line for each of the first so many values of a variable.
+/// Appends a line for each of the first `size` values of a variable.
 fn push_atoms(out: &mut Vec<u8>, variable: usize, size: usize) -> Result<(), AllocError>
     ensures { OnOk result (out.new.items ≡ out.old.items ++ text_of_lines (map (pair_line variable) (range_with_len 0 size))) }
 {
@@ -27,7 +27,7 @@ fn push_group(out: &mut Vec<u8>, variable: usize, size: usize) -> Result<(), All
     push_line(out, b"end_mutex_group")
 }
 
-/// Whether so many atoms are written as a group.
+/// Whether a variable with this number of atoms is written as a mutex group.
 fn are_several(size: usize) -> bool
     ensures { result ≡ nat_le 2 size }
 {
@@ -46,14 +46,14 @@ fn push_groups(out: &mut Vec<u8>, sizes: &[usize]) -> Result<(), AllocError>
     Ok(())
 }
 
-/// How many variables have several atoms.
+/// The number of variables that have at least two atoms.
 fn group_count(sizes: &[usize]) -> usize
     ensures { result ≡ count_by (nat_le 2) sizes.now }
 {
     sizes.iter().filter(|size| are_several(**size)).count()
 }
 
-/// The number of the groups, and each of them.
+/// Appends the number of mutex groups, and each of them.
 pub(crate) fn push_group_list(out: &mut Vec<u8>, sizes: &[usize]) -> Result<(), AllocError>
     ensures { OnOk result (out.new.items ≡ out.old.items
         ++ text_of_lines (decimal (length (groups_of sizes.now))

@@ -1,4 +1,4 @@
-//! The text of a finite-domain task that is a translation: `output.sas`, version 3, as it is written.
+//! Writes the text of a finite-domain task that is a translation: `output.sas`, version 3.
 #![tactic(auto)]
 
 mod facts;

@@ -1,4 +1,4 @@
-//! Lines that are written, each with its line feed.
+//! Writing lines, each with its line feed.
 #![tactic(auto, using(crate::proofs::Appends::appending))]
 
 ghost use Rattle.std.specs.Prelude.{◌≡◌, ◌++◌, ◌∷◌, [], OnOk, decimal};
@@ -7,7 +7,7 @@ ghost use Rattle.sas_writer.specs.Written.{text_of_lines, pair_line};
 use itoa::Buffer;
 use std::alloc::AllocError;
 
-/// A number.
+/// Appends a number in decimal.
 pub(crate) fn push_number(out: &mut Vec<u8>, number: u64) -> Result<(), AllocError>
     ensures { OnOk result (out.new.items ≡ out.old.items ++ decimal number) }
 {
@@ -15,7 +15,7 @@ pub(crate) fn push_number(out: &mut Vec<u8>, number: u64) -> Result<(), AllocErr
     out.extend_from_slice(buffer.format(number).as_bytes())
 }
 
-/// A line of these bytes.
+/// Appends a line of these bytes.
 pub(crate) fn push_line(out: &mut Vec<u8>, line: &[u8]) -> Result<(), AllocError>
     ensures { OnOk result (out.new.items ≡ out.old.items ++ text_of_lines (line.now ∷ [])) }
 {
@@ -24,7 +24,7 @@ pub(crate) fn push_line(out: &mut Vec<u8>, line: &[u8]) -> Result<(), AllocError
     Ok(())
 }
 
-/// A line of one number.
+/// Appends a line of one number.
 pub(crate) fn push_number_line(out: &mut Vec<u8>, number: u64) -> Result<(), AllocError>
     ensures { OnOk result (out.new.items ≡ out.old.items ++ text_of_lines (decimal number ∷ [])) }
 {
@@ -33,7 +33,7 @@ pub(crate) fn push_number_line(out: &mut Vec<u8>, number: u64) -> Result<(), All
     Ok(())
 }
 
-/// A line of two numbers.
+/// Appends a line of two numbers.
 pub(crate) fn push_pair_line(out: &mut Vec<u8>, first: u64, second: u64) -> Result<(), AllocError>
     ensures { OnOk result (out.new.items ≡ out.old.items ++ text_of_lines (pair_line first second ∷ [])) }
 {

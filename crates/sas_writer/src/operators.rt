@@ -1,4 +1,4 @@
-//! Operators.
+//! Writing operators.
 #![tactic(auto, using(crate::proofs::Appends::appending))]
 
 ghost use Rattle.std.specs.Prelude.{◌≡◌, ◌++◌, ◌∷◌, [], OnOk, codes, decimal, filter, length, map, not};
@@ -21,7 +21,7 @@ fn names_variable(facts: &[Fact], variable: usize) -> bool
     facts.iter().any(|fact| fact.variable == variable)
 }
 
-/// The value that the facts give the variable.
+/// The value of the fact on the variable, if there is one.
 fn value_of(facts: &[Fact], variable: usize) -> Option<u32>
     ensures { result ≡ spec.value_of facts.now variable }
 {
@@ -29,7 +29,7 @@ fn value_of(facts: &[Fact], variable: usize) -> Option<u32>
     Some(fact.value)
 }
 
-/// How many conditions are on variables that the effect leaves alone.
+/// The number of prevail conditions: facts of the precondition on variables that the effect does not name.
 fn prevail_count(precondition: &[Fact], effect: &[Fact]) -> usize
     ensures { result ≡ length (filter (λ f. not (names_variable effect.now f.variable)) precondition.now) }
 {
@@ -39,7 +39,7 @@ fn prevail_count(precondition: &[Fact], effect: &[Fact]) -> usize
         .count()
 }
 
-/// The conditions on variables that the effect leaves alone.
+/// Appends the prevail conditions.
 fn push_prevail(out: &mut Vec<u8>, precondition: &[Fact], effect: &[Fact]) -> Result<(), AllocError>
     ensures { OnOk result (out.new.items ≡ out.old.items
         ++ text_of_lines (map fact_line (filter (λ f. not (names_variable effect.now f.variable)) precondition.now))) }
@@ -52,7 +52,7 @@ fn push_prevail(out: &mut Vec<u8>, precondition: &[Fact], effect: &[Fact]) -> Re
     Ok(())
 }
 
-/// The number of the conditions on variables that the effect leaves alone, and each of them.
+/// Appends the number of prevail conditions, and each of them.
 fn push_prevail_list(
     out: &mut Vec<u8>,
     precondition: &[Fact],
@@ -65,7 +65,7 @@ fn push_prevail_list(
     push_prevail(out, precondition, effect)
 }
 
-/// The value before an effect, or any.
+/// Appends the value that a variable must have before an effect, or -1 for any value.
 fn push_before(out: &mut Vec<u8>, before: Option<u32>) -> Result<(), AllocError>
     ensures { OnOk result (out.new.items ≡ out.old.items ++ option_map_or decimal before (codes "-1")) }
 {
@@ -75,7 +75,7 @@ fn push_before(out: &mut Vec<u8>, before: Option<u32>) -> Result<(), AllocError>
     }
 }
 
-/// An effect with no conditions of its own.
+/// Appends an effect with no conditions of its own.
 fn push_effect(out: &mut Vec<u8>, precondition: &[Fact], effect: Fact) -> Result<(), AllocError>
     ensures { OnOk result (out.new.items ≡ out.old.items ++ text_of_lines (effect_line precondition.now effect ∷ [])) }
 {
@@ -100,7 +100,7 @@ fn push_effects(
     Ok(())
 }
 
-/// The number of the effects, and each of them.
+/// Appends the number of effects, and each of them.
 fn push_effect_list(
     out: &mut Vec<u8>,
     precondition: &[Fact],
@@ -113,7 +113,7 @@ fn push_effect_list(
     push_effects(out, precondition, effects)
 }
 
-/// What an operator costs, whatever the metric.
+/// Appends the cost of an operator, whatever the metric.
 fn push_cost(out: &mut Vec<u8>, cost: Cost) -> Result<(), AllocError>
     ensures { OnOk result (out.new.items ≡ out.old.items ++ text_of_lines (decimal cost ∷ [])) }
 {
@@ -142,7 +142,7 @@ fn push_operators(out: &mut Vec<u8>, operators: &[Operator]) -> Result<(), Alloc
     Ok(())
 }
 
-/// The number of the operators, and each of them.
+/// Appends the number of operators, and each of them.
 pub(crate) fn push_operator_list(
     out: &mut Vec<u8>,
     operators: &[Operator],

@@ -1,4 +1,4 @@
-//! The text of a plan.
+//! Writing the text of a plan.
 #![tactic(auto, using(crate::proofs::Appends::appending))]
 
 ghost use Rattle.std.specs.Prelude.{◌≡◌, ◌++◌, ◌<◌, All, length, flat_map, decimal, string_bytes, IfOk, OnOk};
@@ -8,7 +8,7 @@ use fdr::FdrTask;
 use itoa::Buffer;
 use std::alloc::{AllocError, Global};
 
-/// The line of the operator of that number.
+/// Appends the line of the operator with this number.
 fn push_operator(text: &mut String, task: &FdrTask, operator: usize) -> Result<(), AllocError>
     requires { operator < length task.now.operators }
     ensures { OnOk result (string_bytes text.new ≡ string_bytes text.old ++ operator_line task.now operator) }
@@ -20,7 +20,7 @@ fn push_operator(text: &mut String, task: &FdrTask, operator: usize) -> Result<(
     Ok(())
 }
 
-/// The lines of the operators.
+/// Appends the line of each operator.
 fn push_operators(text: &mut String, task: &FdrTask, plan: &[usize]) -> Result<(), AllocError>
     requires { All (λ o. o < length task.now.operators) plan.now }
     ensures { OnOk result (string_bytes text.new ≡ string_bytes text.old ++ flat_map (operator_line task.now) plan.now) }
@@ -31,7 +31,7 @@ fn push_operators(text: &mut String, task: &FdrTask, plan: &[usize]) -> Result<(
     Ok(())
 }
 
-/// The last words of the line that tells the cost.
+/// Appends the end of the line that states the cost.
 fn push_cost_kind(text: &mut String, metric: bool) -> Result<(), AllocError>
     ensures { OnOk result (string_bytes text.new ≡ string_bytes text.old ++ cost_kind metric) }
 {
@@ -42,8 +42,9 @@ fn push_cost_kind(text: &mut String, metric: bool) -> Result<(), AllocError>
     })
 }
 
-/// A plan as a text: for each operator, given by its number, its name in parentheses on a line, and a last line that tells the cost,
-/// as `; cost = 2 (unit cost)`, or `(general cost)` where the task has the metric. An `Err` is of too little memory.
+/// Returns the text of a plan, as Fast Downward writes it: for each operator, given by its number, a line with its name
+/// in parentheses, and a last line that states `cost`, such as `; cost = 2 (unit cost)`, or `(general cost)` if the task
+/// has the metric. The operators must exist. Fails only if allocation fails.
 pub fn sas_plan_text(
     alloc: Global,
     task: &FdrTask,

@@ -1,4 +1,4 @@
-//! Variables, with the names of their values.
+//! Writing variables, with the names of their values.
 #![tactic(auto, using(crate::proofs::Appends::appending))]
 
 ghost use Rattle.std.specs.Prelude.{◌≡◌, ◌++◌, ◌∷◌, OnOk, decimal, length, map};
@@ -10,7 +10,7 @@ ghost use Rattle.sas_writer.specs.Written.{text_of_lines, variable_lines};
 use crate::lines::{push_line, push_number_line};
 use std::alloc::AllocError;
 
-/// A line for each name.
+/// Appends a line for each name.
 fn push_names(out: &mut Vec<u8>, names: &[String]) -> Result<(), AllocError>
     ensures { OnOk result (out.new.items ≡ out.old.items ++ text_of_lines (map string_bytes names.now)) }
 {
@@ -20,7 +20,7 @@ fn push_names(out: &mut Vec<u8>, names: &[String]) -> Result<(), AllocError>
     Ok(())
 }
 
-/// A variable of no axiom layer, called `var` and its number.
+/// Appends a variable with the axiom layer -1, whose name is `var` and its number.
 fn push_variable(out: &mut Vec<u8>, number: usize, names: &[String]) -> Result<(), AllocError>
     ensures { OnOk result (out.new.items ≡ out.old.items
         ++ text_of_lines (variable_lines number (map string_bytes names.now))) }
@@ -43,7 +43,7 @@ fn push_variables(out: &mut Vec<u8>, value_names: &[Vec<String>]) -> Result<(), 
     Ok(())
 }
 
-/// The number of the variables, and each of them.
+/// Appends the number of variables, and each of them.
 pub(crate) fn push_variable_list(
     out: &mut Vec<u8>,
     value_names: &[Vec<String>],

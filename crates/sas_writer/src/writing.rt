@@ -11,7 +11,7 @@ use crate::variables::push_variable_list;
 use fdr::FdrTask;
 use std::alloc::{AllocError, Global};
 
-/// Whether operators cost what they say.
+/// Appends whether operators have costs of their own.
 fn push_metric(out: &mut Vec<u8>, metric: bool) -> Result<(), AllocError>
     ensures { OnOk result (out.new.items ≡ out.old.items ++ text_of_lines (metric_lines metric)) }
 {
@@ -22,11 +22,11 @@ fn push_metric(out: &mut Vec<u8>, metric: bool) -> Result<(), AllocError>
     }
 }
 
-/// The text of the task: `output.sas`, version 3, each line with its line feed (Helmert 2006). Of variable `v` the first
-/// `sizes[v]` values are atoms of which at most one is true; where these are several they are written as a mutex group. An
-/// `Err` is of too little memory.
+/// Returns the text of the task: `output.sas`, version 3, each line with its line feed (Helmert 2006). The first `sizes[v]`
+/// values of the variable `v` are its atoms, of which at most one is true; if there are at least two, they are written
+/// as a mutex group. Fails only if allocation fails.
 ///
-/// The text is written once, in one buffer that grows.
+/// The text is written in one pass, into one buffer that grows.
 pub fn write_sas(alloc: Global, task: &FdrTask, sizes: &[usize]) -> Result<Vec<u8>, AllocError>
     ensures { IfOk result (λ text. text.items ≡ written task.now sizes.now) }
 {

@@ -1,4 +1,4 @@
--- Reading line by line, as a function on lists, with the first fault that is met.
+-- Reading line by line, as a function on lists, with the first fault that is found.
 use Rattle.std.specs.Prelude.{◌≡◌, ℕ, zero, suc, ◌+◌, ◌*◌, ◌-◌, ◌^◌, Bool, true, false, ◌==◌, ◌&&◌, ◌||◌, min, nat_lt, if◌then◌else◌, List, [], ◌∷◌, ◌++◌, length, map, slice_index, Option, Some, None, option_map, Result, Ok, Err, codes}
 use Rattle.std.specs.Str.{bytes_eq}
 use Rattle.std.specs.List.{list_all}
@@ -13,30 +13,30 @@ use Rattle.sasfile.specs.declared.effects.Change.{Change}
 use Rattle.sasfile.specs.declared.effects.Quadruple.{Quadruple}
 use Rattle.sasfile.specs.Lines.{lines, words, is_text_byte, is_digit, minus}
 
--- reading fails with this error, unless memory ran out
+-- reading fails with this error, unless allocation fails
 abbrev pub Fails : {Y : Type 0} → SasFault → Result Y SasFault → Type 0
 Fails fault.OutOfMemory read = Unit {0}
 Fails e read = read ≡ Err e
 
--- what a function returned, seen by a view, is what reading gives, unless memory ran out
+-- the result of a function, under a view, is that of reading, unless allocation fails
 abbrev pub Gives : {X Y : Type 0} → (X → Y) → Result X SasFault → Result Y SasFault → Type 0
 Gives view (Ok x) read = read ≡ Ok (view x)
 Gives view (Err e) read = Fails e read
 
 infixl 10 ◌>>=◌
--- a result, and what is made of it
+-- the result of the second step applied to that of the first, or the first error
 abbrev pub ◌>>=◌ : {A B : Type 0} → Result A SasFault → (A → Result B SasFault) → Result B SasFault
 (Ok x) >>= f = f x
 (Err e) >>= f = Err e
 
--- the lines that are still to be read, and the number of the first of them, counted from 1
+-- the lines that remain to be read, and the number of the first of them, counted from 1
 pub record Remaining : Type 0 where
   pub number : ℕ
   pub lines : List (List ℕ)
 
 -- ---- numbers
 
--- A number that is past every limit, and past the number of lines of every text, is as good as this one.
+-- A number past every limit, and past the number of lines of every text, may be replaced by 2^64 - 1.
 abbrev pub capped : ℕ → ℕ
 capped n = min n (2 ^ 64 - 1)
 
@@ -64,12 +64,12 @@ is_minus m (Negative n) = n == m
 
 -- ---- one line
 
--- what a line of the wanted form gives
+-- the value of a line that has the required form
 abbrev pub formed : {X : Type 0} → ℕ → Option X → Result X SasFault
 formed line (Some x) = Ok x
 formed line None = Err (fault.Expected line)
 
--- what is in its range
+-- the value, if it is in range
 abbrev pub ranged : {X : Type 0} → ℕ → Option X → Result X SasFault
 ranged line (Some x) = Ok x
 ranged line None = Err (fault.Range line)
@@ -81,19 +81,19 @@ first_of line (l ∷ ls) = Ok (l, record { number = line + 1; lines = ls })
 unfoldable pub line_at : Remaining → Result (List ℕ × Remaining) SasFault
 line_at r = first_of r.number r.lines
 
--- a line that is this word
+-- a line that is exactly this word
 unfoldable pub keyword_at : List ℕ → Remaining → Result Remaining SasFault
 keyword_at word r = do
   l ← line_at r
   if bytes_eq l.0 word then Ok l.1 else Err (fault.Expected r.number)
 
--- a name, or the text of a value
+-- a line with a name, or the name of a value
 unfoldable pub text_at : Remaining → Result (List ℕ × Remaining) SasFault
 text_at r = do
   l ← line_at r
   if list_all is_text_byte l.0 then Ok l else Err (fault.Expected r.number)
 
--- the number of a line of one
+-- the number of a line that has exactly one word
 abbrev pub alone : List (List ℕ) → Option Number
 alone [] = None
 alone (w ∷ []) = number w
@@ -109,14 +109,14 @@ abbrev pub natural : Number → Option ℕ
 natural (Natural n) = Some n
 natural (Negative n) = None
 
--- a number from 0 on
+-- a line with a number that is not negative
 unfoldable pub count_at : Remaining → Result (ℕ × Remaining) SasFault
 count_at r = do
   n ← number_at r
   c ← ranged r.number (natural n.0)
   Ok (c, n.1)
 
--- a step of reading, so many times
+-- a step of reading, repeated the given number of times
 unfoldable pub repeated : {S : Type 0} → (S → Remaining → Result (S × Remaining) SasFault) → ℕ → S → Remaining → Result (S × Remaining) SasFault
 repeated step zero s r = Ok (s, r)
 repeated step (suc n) s r = step s r >>= λ x. repeated step n x.0 x.1
@@ -176,13 +176,13 @@ variables_at r = do
 
 -- ---- values of variables
 
--- two numbers, where both are there
+-- two numbers, if both exist
 abbrev pub both : Option Number → Option Number → Option (Number × Number)
 both None x = None
 both (Some v) None = None
 both (Some v) (Some x) = Some (v, x)
 
--- the numbers of a line of two
+-- the numbers of a line that has exactly two words
 abbrev pub pair : List (List ℕ) → Option (Number × Number)
 pair [] = None
 pair (v ∷ []) = None
@@ -192,7 +192,7 @@ pair (v ∷ x ∷ w ∷ ws) = None
 abbrev pub is_in_range : List ℕ → ℕ → ℕ → Bool
 is_in_range ranges v x = nat_lt v (length ranges) && nat_lt x (slice_index ranges v)
 
--- a value of a variable, if both are there
+-- the fact of two numbers, if the variable and its value exist
 abbrev pub fact_of : List ℕ → Number → Number → Option Fact
 fact_of ranges (Natural v) (Natural x) = if is_in_range ranges v x then Some (record { variable = v; value = x }) else None
 fact_of ranges (Natural v) (Negative x) = None
@@ -205,7 +205,7 @@ fact_at ranges r = do
   fact ← ranged r.number (fact_of ranges numbers.0 numbers.1)
   Ok (fact, l.1)
 
--- one more fact, on a variable of its own
+-- one more fact, on a variable that no earlier fact of the list names
 unfoldable pub fact_step : List ℕ → List Fact → Remaining → Result (List Fact × Remaining) SasFault
 fact_step ranges facts r = do
   fact ← fact_at ranges r
@@ -218,7 +218,7 @@ facts_at ranges r = do
 
 -- ---- mutex groups
 
--- a fact that is not kept
+-- a fact that is read and dropped
 unfoldable pub skip_step : List ℕ → Unit {0} → Remaining → Result (Unit {0} × Remaining) SasFault
 skip_step ranges u r = do
   fact ← fact_at ranges r
@@ -240,13 +240,13 @@ groups_at ranges r = do
 
 -- ---- initial state and goal
 
--- one more value, below that range
+-- one more value, which must be below the range
 unfoldable pub value_step : ℕ → List ℕ → Remaining → Result (List ℕ × Remaining) SasFault
 value_step range values r = do
   value ← count_at r
   if nat_lt value.0 range then Ok (values ++ value.0 ∷ [], value.1) else Err (fault.Range r.number)
 
--- a value of each variable
+-- one value for each variable
 unfoldable pub values_at : List ℕ → List ℕ → Remaining → Result (List ℕ × Remaining) SasFault
 values_at [] values r = Ok (values, r)
 values_at (range ∷ ranges) values r = value_step range values r >>= λ x. values_at ranges x.0 x.1
@@ -267,7 +267,7 @@ goal_at ranges r = do
 
 -- ---- operators
 
--- the precondition and the effect as far as they are read
+-- the facts of the precondition and of the effect that have been read so far
 pub record Halves : Type 0 where
   pub precondition : List Fact
   pub effect : List Fact
@@ -277,12 +277,12 @@ is_positive None = false
 is_positive (Some (Natural n)) = nat_lt 0 n
 is_positive (Some (Negative n)) = false
 
--- whether the first word spells a number above 0
+-- whether the first word spells a number greater than 0
 abbrev pub is_conditional : List (List ℕ) → Bool
 is_conditional [] = false
 is_conditional (w ∷ ws) = is_positive (number w)
 
--- four numbers, where all are there
+-- four numbers, if all of them exist
 abbrev pub four : Option Number → Option Number → Option Number → Option Number → Option Quadruple
 four None v b a = None
 four (Some c) None b a = None
@@ -290,7 +290,7 @@ four (Some c) (Some v) None a = None
 four (Some c) (Some v) (Some b) None = None
 four (Some c) (Some v) (Some b) (Some a) = Some (record { conditions = c; variable = v; before = b; after = a })
 
--- the numbers of a line of four
+-- the numbers of a line that has exactly four words
 abbrev pub quadruple : List (List ℕ) → Option Quadruple
 quadruple [] = None
 quadruple (c ∷ []) = None
@@ -299,7 +299,7 @@ quadruple (c ∷ v ∷ b ∷ []) = None
 quadruple (c ∷ v ∷ b ∷ a ∷ []) = four (number c) (number v) (number b) (number a)
 quadruple (c ∷ v ∷ b ∷ a ∷ w ∷ ws) = None
 
--- the value before an effect, or any
+-- the value that a variable must have before an effect, or any value
 abbrev pub before_of : ℕ → Number → Option (Option ℕ)
 before_of range (Natural x) = if nat_lt x range then Some (Some x) else None
 before_of range (Negative x) = if x == 1 then Some None else None
@@ -326,7 +326,7 @@ change_at ranges r = do
   change ← change_in r.number ranges (words l.0)
   Ok (change, l.1)
 
--- the value before an effect is one more condition
+-- the precondition with the value before an effect, if one is required
 abbrev pub conditions_with : List Fact → ℕ → Option ℕ → List Fact
 conditions_with facts v None = facts
 conditions_with facts v (Some x) = facts ++ record { variable = v; value = x } ∷ []
@@ -334,11 +334,11 @@ conditions_with facts v (Some x) = facts ++ record { variable = v; value = x } �
 abbrev pub with_change : Halves → Change → Halves
 with_change h c = record { precondition = conditions_with h.precondition c.after.variable c.before; effect = h.effect ++ c.after ∷ [] }
 
--- whether a condition or an effect is on the variable
+-- whether a fact of the precondition or of the effect is on the variable
 abbrev pub is_named : Halves → ℕ → Bool
 is_named h v = names_variable h.precondition v || names_variable h.effect v
 
--- one more effect, on a variable that neither a condition nor an effect names
+-- one more effect, on a variable that neither the precondition nor an earlier effect names
 unfoldable pub change_step : List ℕ → Halves → Remaining → Result (Halves × Remaining) SasFault
 change_step ranges h r = do
   change ← change_at ranges r
@@ -349,7 +349,7 @@ cost_at r = do
   cost ← count_at r
   if nat_lt 2147483647 cost.0 then Err (fault.Range r.number) else Ok cost
 
--- precondition and effect
+-- precondition and effect of an operator
 unfoldable pub halves_at : List ℕ → Remaining → Result (Halves × Remaining) SasFault
 halves_at ranges r = do
   prevail ← facts_at ranges r
@@ -380,13 +380,13 @@ axioms_at r = do
   count ← number_at r
   if is_natural 0 count.0 then Ok count.1 else Err (fault.Axioms r.number)
 
--- nothing but empty lines
+-- the remaining lines are empty
 unfoldable pub empty_from : ℕ → List (List ℕ) → Result (Unit {0}) SasFault
 empty_from line [] = Ok tt
 empty_from line ([] ∷ ls) = empty_from (line + 1) ls
 empty_from line ((b ∷ bs) ∷ ls) = Err (fault.Trailing line)
 
--- what stands before the variables are used
+-- the parts before those that name variables
 pub record Head : Type 0 where
   pub metric : Bool
   pub variables : List (List (List ℕ))
@@ -398,7 +398,7 @@ head_at r = do
   variables ← variables_at metric.1
   Ok (record { metric = metric.0; variables = variables.0 }, variables.1)
 
--- what stands behind the variables
+-- the parts after the variables
 pub record Body : Type 0 where
   pub initial : List ℕ
   pub goal : List Fact
@@ -423,6 +423,6 @@ task_at r = do
   body ← body_at (map length head.0.variables) head.1
   Ok (joined head.0 body)
 
--- the whole of a text
+-- the task of a whole text, or its first fault
 abbrev pub task_in : List ℕ → Result FiniteDomainTask SasFault
 task_in text = task_at (record { number = 1; lines = lines text })

@@ -1,4 +1,4 @@
--- What values of the code stand for.
+-- The values of the definitions that values of the code represent.
 use Rattle.std.specs.Prelude.{ℕ, List}
 use Rattle.sasfile.specs.declared.variables.Variables.{Variables}
 use Rattle.sasfile.specs.declared.lines.Lines.{Lines}
@@ -15,11 +15,11 @@ remaining l = record { number = l.number; lines = lines l.rest.now }
 abbrev pub halves : KeptHalves → Halves
 halves h = record { precondition = h.precondition.items; effect = h.effect.items }
 
--- the names of the variables' values
+-- the names of the values of each variable
 abbrev pub names_of : Variables → List (List (List ℕ))
 names_of v = names_in v.value_names.items
 
--- how many values each variable has, as it is kept
+-- the number of values of each variable, as it is stored
 abbrev pub ranges_of : Variables → List ℕ
 ranges_of v = v.ranges.items
 

@@ -14,15 +14,15 @@ use Rattle.sasfile.specs.Lines.{lines, words, number, is_text_byte}
 abbrev pub SpellsNumbers : List ℕ → List Number → Type 0
 SpellsNumbers line numbers = map number (words line) ≡ map Some numbers
 
--- a line of one number from 0 on
+-- a line of one number that is not negative
 abbrev pub SpellsCount : List ℕ → ℕ → Type 0
 SpellsCount line n = SpellsNumbers line (Natural n ∷ [])
 
--- a name, or the text of a value, stands for itself
+-- a line that is a name, or the name of a value
 abbrev pub IsText : List ℕ → Type 0
 IsText line = list_all is_text_byte line ≡ true
 
--- a value of a variable
+-- a line with a fact
 abbrev pub SpellsFact : List ℕ → List ℕ → Fact → Type 0
 SpellsFact ranges line f = SpellsNumbers line (Natural f.variable ∷ Natural f.value ∷ []) × IsInRange ranges f
 
@@ -35,12 +35,12 @@ SpellsEach P [] (x ∷ xs) = ⊥
 SpellsEach P (l ∷ ls) [] = ⊥
 SpellsEach P (l ∷ ls) (x ∷ xs) = P l x × SpellsEach P ls xs
 
--- one item after another, of several lines each
+-- the items one after another, each of several lines
 abbrev pub SpellsParts : {X : Type 0} → (List (List ℕ) → X → Type 0) → List (List ℕ) → List X → Type 0
 SpellsParts P ls [] = ls ≡ []
 SpellsParts P ls (x ∷ xs) = (part : List (List ℕ)) × (rest : List (List ℕ)) × (ls ≡ part ++ rest) × P part x × SpellsParts P rest xs
 
--- a line with the number of the items, and one line for each
+-- a line with the number of items, and one line for each item
 pub record SpellsLines {X : Type 0} (P : List ℕ → X → Type 0) (ls : List (List ℕ)) (xs : List X) : Type 0 where
   pub count : List ℕ
   pub others : List (List ℕ)
@@ -48,7 +48,7 @@ pub record SpellsLines {X : Type 0} (P : List ℕ → X → Type 0) (ls : List (
   pub count_is : SpellsCount count (length xs)
   pub items : SpellsEach P others xs
 
--- a line with the number of the items, and several lines for each
+-- a line with the number of items, and several lines for each item
 pub record SpellsList {X : Type 0} (P : List (List ℕ) → X → Type 0) (ls : List (List ℕ)) (xs : List X) : Type 0 where
   pub count : List ℕ
   pub others : List (List ℕ)
@@ -74,7 +74,7 @@ pub record SpellsMetric (ls : List (List ℕ)) (metric : Bool) : Type 0 where
 
 -- ---- variables
 
--- a name that is not kept, the axiom layer -1, the range, and a text for each value
+-- a name that is not kept, the axiom layer -1, the range, and the name of each value
 pub record SpellsVariable (ls : List (List ℕ)) (texts : List (List ℕ)) : Type 0 where
   pub name : List ℕ
   pub layer : List ℕ
@@ -89,13 +89,13 @@ pub record SpellsVariable (ls : List (List ℕ)) (texts : List (List ℕ)) : Typ
 
 -- ---- mutex groups, initial state and goal
 
--- a mutex group, of any values of variables
+-- a mutex group, of any facts in range
 pub record SpellsGroup (ranges : List ℕ) (ls : List (List ℕ)) (facts : List Fact) : Type 0 where
   pub inner : List (List ℕ)
   pub lines_are : ls ≡ codes "begin_mutex_group" ∷ (inner ++ codes "end_mutex_group" ∷ [])
   pub facts_are : SpellsLines (SpellsFact ranges) inner facts
 
--- a value below its range for each variable
+-- for each variable a value below its range
 abbrev pub SpellsValues : List ℕ → List (List ℕ) → List ℕ → Type 0
 SpellsValues [] [] [] = Unit {0}
 SpellsValues [] [] (x ∷ xs) = ⊥
@@ -117,7 +117,7 @@ pub record SpellsGoal (ranges : List ℕ) (ls : List (List ℕ)) (goal : List Fa
 
 -- ---- operators
 
--- what the third number of an effect line says: the value before the effect, or -1 for any
+-- the third number of an effect line: the value before the effect, or -1 for any value
 abbrev pub before_number : Option ℕ → Number
 before_number None = Negative 1
 before_number (Some x) = Natural x
@@ -126,18 +126,18 @@ abbrev pub IsBefore : ℕ → Option ℕ → Type 0
 IsBefore range None = Unit {0}
 IsBefore range (Some x) = x < range
 
--- An effect line: no conditions of its own, the variable, its value before and its value after.
+-- An effect line: 0 for no conditions of its own, the variable, its value before and its value after the effect.
 pub record SpellsChange (ranges line : List ℕ) (c : Change) : Type 0 where
   pub numbers : SpellsNumbers line (Natural 0 ∷ Natural c.after.variable ∷ before_number c.before ∷ Natural c.after.value ∷ [])
   pub after : IsInRange ranges c.after
   pub before : IsBefore (slice_index ranges c.after.variable) c.before
 
--- the condition that an effect has by its value before, and others
+-- the facts with the condition that the value before an effect makes, if there is one
 abbrev pub condition_before : ℕ → Option ℕ → List Fact → List Fact
 condition_before v None others = others
 condition_before v (Some x) others = record { variable = v; value = x } ∷ others
 
--- the conditions that effects have by their values before
+-- the conditions that the values before the effects make
 abbrev pub conditions_of : List Change → List Fact
 conditions_of [] = []
 conditions_of (c ∷ cs) = condition_before c.after.variable c.before (conditions_of cs)
@@ -164,7 +164,7 @@ pub record SpellsOperator (ranges : List ℕ) (ls : List (List ℕ)) (op : Opera
 
 -- ---- the whole text
 
--- The parts in their order. Without the metric the costs are read too, and then every operator costs 1.
+-- The parts in their order. Without the metric the costs are read as well, but every operator costs 1.
 pub record Spells (ls : List (List ℕ)) (task : FiniteDomainTask) : Type 0 where
   pub version_lines : List (List ℕ)
   pub metric_lines : List (List ℕ)

@@ -24,7 +24,7 @@ pub struct Quadruple {
     pub after: Number,
 }
 
-/// An effect, and the value that its variable must have before it, if it must have one.
+/// An effect, and the value that its variable must have before it: `None` for any value.
 #[derive(Clone, Copy, Debug, PartialEq, Eq)]
 pub struct Change {
     pub before: Option<u32>,
@@ -44,7 +44,7 @@ fn is_conditional(line: &[u8]) -> bool
     }
 }
 
-/// The numbers of a line of four.
+/// The four numbers of an effect line, or `None` if the line is not of that form.
 fn four_numbers(line: &[u8]) -> Option<Quadruple>
     ensures { result ≡ quadruple (words line.now) }
 {
@@ -63,7 +63,7 @@ fn four_numbers(line: &[u8]) -> Option<Quadruple>
     }
 }
 
-/// The value before an effect, where it is in range, or any.
+/// The value that a variable must have before an effect, or `Some(None)` for any value. `None` if it is out of range.
 fn before_of(range: u32, before: Number) -> Option<Option<u32>>
     ensures { result ≡ before_of range before }
 {
@@ -74,7 +74,7 @@ fn before_of(range: u32, before: Number) -> Option<Option<u32>>
     }
 }
 
-/// The effect of four numbers that are in range.
+/// The effect of four numbers, or `None` if one of them is out of range.
 fn change_of(ranges: &[u32], numbers: Quadruple) -> Option<Change>
     ensures variable { IfSome result (λ c. c.after.variable < length ranges.now) }
     ensures change { result ≡ change_of ranges.now numbers }
@@ -89,7 +89,7 @@ fn change_of(ranges: &[u32], numbers: Quadruple) -> Option<Change>
     }
 }
 
-/// The effect of a line.
+/// Reads an effect line.
 #[tactic(auto, unfolding(crate::specs::Reading::change_at))]
 fn change_line<'a>(ranges: &[u32], lines: Lines<'a>) -> Result<(Change, Lines<'a>), SasFault>
     ensures next { IfOk result (λ x. x.1.number ≡ lines.entry.number + 1) }
@@ -116,7 +116,7 @@ pub(crate) struct Halves {
     pub effect: Vec<Fact>,
 }
 
-/// One more effect, on a variable that was not named since that line.
+/// Reads one more effect and adds it. Its variable must not have been named since the line `since`.
 #[tactic(auto, unfolding(crate::specs::Reading::change_step))]
 fn push_change<'a>(
     kept: &mut Halves,
@@ -166,7 +166,8 @@ fn counted_changes<'a>(
     Ok((kept, rest))
 }
 
-/// The precondition and the effect of an operator: its prevail conditions, and then its effects.
+/// Reads the precondition and the effect of an operator: its prevail conditions, and then its effects. `named` has for
+/// each variable the last line that named it.
 #[tactic(auto, unfolding(crate::specs::Reading::halves_at))]
 pub(crate) fn precondition_and_effect<'a>(
     alloc: Global,

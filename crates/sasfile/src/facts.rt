@@ -1,4 +1,4 @@
-//! Values of variables: mutex groups, the initial state, and lists of conditions.
+//! Facts: mutex groups, the initial state, the goal and lists of conditions.
 
 ghost use Rattle.std.specs.Prelude.{◌≡◌, ◌<◌, ◌≤◌, ◌+◌, [], length, IfOk, IfSome};
 ghost use Rattle.fdr.specs.Tasks.{names_variable};
@@ -13,7 +13,7 @@ use crate::number::Number;
 use fdr::Fact;
 use std::alloc::Global;
 
-/// A value of a variable, if both are there.
+/// The fact of these two numbers, if the variable and its value exist.
 pub(crate) fn fact_of(ranges: &[u32], variable: Number, value: Number) -> Option<Fact>
     ensures variable { IfSome result (λ f. f.variable < length ranges.now) }
     ensures fact { result ≡ fact_of ranges.now variable value }
@@ -31,7 +31,7 @@ pub(crate) fn fact_of(ranges: &[u32], variable: Number, value: Number) -> Option
     }
 }
 
-/// A value of a variable.
+/// Reads a line with a fact.
 #[tactic(auto, unfolding(crate::specs::Reading::fact_at))]
 fn fact_line<'a>(ranges: &[u32], lines: Lines<'a>) -> Result<(Fact, Lines<'a>), SasFault>
     ensures next { IfOk result (λ x. x.1.number ≡ lines.entry.number + 1) }
@@ -48,7 +48,7 @@ fn fact_line<'a>(ranges: &[u32], lines: Lines<'a>) -> Result<(Fact, Lines<'a>), 
     }
 }
 
-/// A fact that is not kept.
+/// Reads a fact and drops it.
 #[tactic(auto, unfolding(crate::specs::Reading::skip_step))]
 fn skip_fact<'a>(ranges: &[u32], lines: Lines<'a>) -> Result<Lines<'a>, SasFault>
     ensures { Gives (λ x. (tt, remaining x)) result (skip_step ranges.now tt (remaining lines.entry)) }
@@ -67,7 +67,7 @@ fn skip_facts<'a>(ranges: &[u32], count: u64, lines: Lines<'a>) -> Result<Lines<
     Ok(rest)
 }
 
-/// A mutex group. Its facts are tested for their range alone.
+/// Reads a mutex group. Its facts are only checked to be in range.
 #[tactic(auto, unfolding(crate::specs::Reading::group_step))]
 fn group<'a>(ranges: &[u32], lines: Lines<'a>) -> Result<Lines<'a>, SasFault>
     ensures { Gives (λ x. (tt, remaining x)) result (group_step ranges.now tt (remaining lines.entry)) }
@@ -89,7 +89,7 @@ fn counted_groups<'a>(ranges: &[u32], count: u64, lines: Lines<'a>) -> Result<Li
     Ok(rest)
 }
 
-/// The mutex groups, with their number before them.
+/// Reads the number of mutex groups, and then each of them.
 #[tactic(auto, unfolding(crate::specs::Reading::groups_at))]
 pub(crate) fn groups<'a>(ranges: &[u32], lines: Lines<'a>) -> Result<Lines<'a>, SasFault>
     ensures { Gives (λ x. (tt, remaining x)) result (groups_at ranges.now (remaining lines.entry)) }
@@ -98,7 +98,7 @@ pub(crate) fn groups<'a>(ranges: &[u32], lines: Lines<'a>) -> Result<Lines<'a>, 
     counted_groups(ranges, count, lines)
 }
 
-/// One more value of the initial state.
+/// Reads one more value of the initial state.
 #[tactic(auto, unfolding(crate::specs::Reading::value_step))]
 fn push_value<'a>(
     values: &mut Vec<u32>,
@@ -130,7 +130,7 @@ fn values<'a>(
     Ok((values, rest))
 }
 
-/// The initial state.
+/// Reads the initial state.
 #[tactic(auto, unfolding(crate::specs::Reading::state_at))]
 pub(crate) fn state<'a>(
     alloc: Global,
@@ -145,7 +145,7 @@ pub(crate) fn state<'a>(
     Ok((values, lines))
 }
 
-/// One more fact, on a variable that was not named since that line.
+/// Reads one more fact and adds it. Its variable must not have been named since the line `since`.
 #[tactic(auto, unfolding(crate::specs::Reading::fact_step))]
 fn push_fact<'a>(
     facts: &mut Vec<Fact>,
@@ -193,7 +193,8 @@ fn counted_facts<'a>(
     Ok((facts, rest))
 }
 
-/// Facts on different variables, with their number before them. Variables count as named since the line of that number.
+/// Reads the number of facts, and then each of them, on distinct variables. `named` has for each variable the last line
+/// that named it; a variable counts as named from the line of the number on.
 #[tactic(auto, unfolding(crate::specs::Reading::facts_at))]
 pub(crate) fn facts<'a>(
     alloc: Global,
@@ -212,7 +213,7 @@ pub(crate) fn facts<'a>(
     counted_facts(alloc, count, ranges, named, since, lines)
 }
 
-/// The goal.
+/// Reads the goal.
 #[tactic(auto, unfolding(crate::specs::Reading::goal_at))]
 pub(crate) fn goal<'a>(
     alloc: Global,

@@ -1,4 +1,4 @@
-//! Why a text is not read.
+//! Faults of texts.
 
 ghost use Rattle.std.specs.Prelude.{◌≡◌};
 ghost use Rattle.sasfile.specs.declared.fault.SasFault.TheVariants.{OutOfMemory};
@@ -7,21 +7,22 @@ use fdr::TaskLimit;
 use std::alloc::{AllocError, AllocFailed};
 use thiserror::Error;
 
-/// Why a text was not read. Lines are counted from 1.
+/// The first fault of a text, or a failed allocation. Lines are counted from 1.
 ///
-/// The first fault is named: the one on the earliest line, and on one line F44 before F41, and F41 before all others.
+/// The first fault is the one on the earliest line. On the same line F44 comes before F41, and F41 before all others.
+/// The codes are those of `docs/FAULTS.md`.
 #[derive(Clone, Copy, Debug, PartialEq, Eq, Error)]
 pub enum SasFault {
-    /// Memory ran out. It says nothing of the text.
+    /// Memory ran out. This does not depend on the text.
     #[error("out of memory")]
     OutOfMemory,
     /// F18: more variables, values of a variable or operators than a task may have.
     #[error("a table is too long")]
     Limit(TaskLimit),
-    /// F40: another version than 3.
+    /// F40: a version other than 3.
     #[error("line {0} is another version")]
     Version(usize),
-    /// F41: a line that is not of the form that is wanted there.
+    /// F41: a line that does not have the required form.
     #[error("line {0} is not of the wanted form")]
     Expected(usize),
     /// F42: a number that is out of its range, or a variable that a list of conditions or effects names a second time.
@@ -30,13 +31,13 @@ pub enum SasFault {
     /// F43: an axiom layer other than -1, or a number of axioms other than 0.
     #[error("line {0} asks for axioms")]
     Axioms(usize),
-    /// F44: an effect with conditions of its own.
+    /// F44: a conditional effect, which has conditions of its own.
     #[error("line {0} is a conditional effect")]
     ConditionalEffect(usize),
-    /// F45: a line is missing at the end.
+    /// F45: the text ends before its last line.
     #[error("the text ends too early")]
     Truncated,
-    /// F46: a line behind the end that is not empty.
+    /// F46: a line that is not empty after the end of the task.
     #[error("line {0} follows the end")]
     Trailing(usize),
 }

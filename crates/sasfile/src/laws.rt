@@ -1,4 +1,5 @@
-//! What holds of every text that lies in memory, whoever reads it.
+//! Laws of the format, for every text of fewer than 2^64 - 1 bytes. Each function states one in its contract; its body
+//! is empty.
 
 ghost use Rattle.std.specs.Prelude.{◌≡◌, ◌<◌, ◌-◌, ◌^◌, ◌⊎◌, ℕ, List, length, Err};
 ghost use Rattle.fdr.specs.Tasks.{FiniteDomainTask};
@@ -6,17 +7,17 @@ ghost use Rattle.sasfile.specs.SasTexts.{SpellsTask};
 ghost use Rattle.sasfile.specs.Reading.{task_in};
 ghost use Rattle.sasfile.specs.declared.fault.SasFault.{SasFault};
 
-/// A law: no text spells two tasks.
+/// Proves that no text spells two different tasks.
 pub fn one_reading()
     ensures { (text : List ℕ) (s t : FiniteDomainTask) → length text < 2 ^ 64 - 1 → SpellsTask text s → SpellsTask text t → s ≡ t }
 {}
 
-/// A law: what spells a task has no fault.
+/// Proves that a text that spells a task has no fault.
 pub fn no_fault()
     ensures { (text : List ℕ) (task : FiniteDomainTask) (e : SasFault) → length text < 2 ^ 64 - 1 → SpellsTask text task → task_in text ≡ Err e → ⊥ }
 {}
 
-/// A law: a text spells a task, or has a first fault.
+/// Proves that each text either spells a task or has a first fault.
 pub fn spelled_or_not()
     ensures { (text : List ℕ) → length text < 2 ^ 64 - 1 → ((task : FiniteDomainTask) × SpellsTask text task) ⊎ ((e : SasFault) × (task_in text ≡ Err e)) }
 {}

@@ -1,6 +1,8 @@
-//! Texts of finite-domain tasks: `output.sas`, version 3, as Fast Downward's translator writes it (Helmert 2009).
+//! Reads the texts of finite-domain tasks: `output.sas`, version 3, as Fast Downward's translator writes it (Helmert
+//! 2009).
 //!
-//! What is read is what the text spells, and what is not read has a first fault, whose kind and line are told.
+//! A text is read exactly if it spells a task. Otherwise reading fails with its first fault, whose kind and line are
+//! given.
 #![tactic(auto)]
 
 mod effects;

@@ -1,4 +1,4 @@
-//! Lines of one form.
+//! Lines of a given form.
 
 ghost use Rattle.std.specs.Prelude.{◌≡◌, ◌+◌, IfOk};
 ghost use Rattle.sasfile.specs.Lines.{words, is_text_byte};
@@ -11,7 +11,7 @@ use crate::lines::Lines;
 use crate::number::{Number, number_of};
 use crate::pieces::next_word;
 
-/// A line that is this word.
+/// Reads a line that is exactly this word.
 #[tactic(auto, unfolding(crate::specs::Reading::keyword_at))]
 pub(crate) fn keyword<'a>(lines: Lines<'a>, word: &[u8]) -> Result<Lines<'a>, SasFault>
     ensures next { IfOk result (λ x. x.number ≡ lines.entry.number + 1) }
@@ -32,7 +32,7 @@ fn is_text(line: &[u8]) -> bool
         .all(|byte| *byte == 9 || (32 <= *byte && *byte <= 126))
 }
 
-/// A name, or the text of a value.
+/// Reads a line with a name, or the name of a value.
 #[tactic(auto, unfolding(crate::specs::Reading::text_at))]
 pub(crate) fn text_line(lines: Lines<'_>) -> Result<(&str, Lines<'_>), SasFault>
     ensures next { IfOk result (λ x. x.1.number ≡ lines.entry.number + 1) }
@@ -48,7 +48,7 @@ pub(crate) fn text_line(lines: Lines<'_>) -> Result<(&str, Lines<'_>), SasFault>
     }
 }
 
-/// The number of a line of one.
+/// The number of a line that has exactly one word.
 fn only_number(line: &[u8]) -> Option<Number>
     ensures { result ≡ alone (words line.now) }
 {
@@ -59,7 +59,7 @@ fn only_number(line: &[u8]) -> Option<Number>
     }
 }
 
-/// A line of one number.
+/// Reads a line of one number.
 #[tactic(auto, unfolding(crate::specs::Reading::number_at))]
 pub(crate) fn number_line(lines: Lines<'_>) -> Result<(Number, Lines<'_>), SasFault>
     ensures next { IfOk result (λ x. x.1.number ≡ lines.entry.number + 1) }
@@ -72,7 +72,7 @@ pub(crate) fn number_line(lines: Lines<'_>) -> Result<(Number, Lines<'_>), SasFa
     }
 }
 
-/// A line of one number from 0 on.
+/// Reads a line of one number that is not negative.
 #[tactic(auto, unfolding(crate::specs::Reading::count_at))]
 pub(crate) fn count_line(lines: Lines<'_>) -> Result<(u64, Lines<'_>), SasFault>
     ensures next { IfOk result (λ x. x.1.number ≡ lines.entry.number + 1) }
@@ -85,7 +85,7 @@ pub(crate) fn count_line(lines: Lines<'_>) -> Result<(u64, Lines<'_>), SasFault>
     }
 }
 
-/// The numbers of a line of two.
+/// The numbers of a line that has exactly two words.
 pub(crate) fn two_numbers(line: &[u8]) -> Option<(Number, Number)>
     ensures { result ≡ pair (words line.now) }
 {

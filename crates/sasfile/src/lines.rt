@@ -1,16 +1,16 @@
-//! A text line by line.
+//! The lines of a text.
 
 ghost use Rattle.std.specs.Prelude.{◌+◌, ◌<◌, ◌^◌, length};
 
 use crate::fault::SasFault;
 use crate::pieces::{first_piece, trimmed};
 
-/// The lines of a text that are still to be read.
+/// The lines of a text that remain to be read.
 #[derive(Clone, Copy)]
 pub(crate) struct Lines<'a> {
     /// The number of the next line, counted from 1.
     pub number: usize,
-    /// The bytes from that line on.
+    /// The bytes from that line to the end of the text.
     pub rest: &'a [u8],
     ghost from_one: { 0 < number },
     ghost room: { number + length rest.now < 2 ^ 64 },
@@ -22,7 +22,7 @@ impl<'a> Lines<'a> {
     ghost use Rattle.sasfile.specs.Reading.{Gives, line_at};
     ghost use Rattle.sasfile.specs.Remains.{remaining};
 
-    /// All lines of a text.
+    /// Returns all lines of a text.
     pub fn new(text: &'a [u8]) -> Lines<'a>
         ensures { remaining result ≡ record { number = 1; lines = spec.lines text.now } }
     {
@@ -32,7 +32,8 @@ impl<'a> Lines<'a> {
         }
     }
 
-    /// The next line without the blanks and carriage returns at its end, and the lines behind it.
+    /// Returns the next line, without the blanks and carriage returns at its end, and the lines after it. Fails with
+    /// `Truncated` if no line remains.
     pub fn first(self) -> Result<(&'a [u8], Lines<'a>), SasFault>
         ensures next { IfOk result (λ x. x.1.number ≡ self.entry.number + 1) }
         ensures shorter { IfOk result (λ x. length x.1.rest.now < length self.entry.rest.now) }

@@ -4,12 +4,12 @@ ghost use Rattle.std.specs.Prelude.{◌≡◌, option_map};
 ghost use Rattle.sasfile.specs.Reading as reading;
 ghost use Rattle.sasfile.specs.Lines.{is_digit, minus};
 
-/// A whole number. One that is past 2^64 - 1 on either side is kept as that number, which is past every limit, and past
-/// the number of lines of every text.
+/// A whole number. A magnitude greater than 2^64 - 1 is stored as 2^64 - 1, which is past every limit and past the
+/// number of lines of every text.
 #[derive(Clone, Copy, Debug, PartialEq, Eq)]
 pub enum Number {
     Natural(u64),
-    /// Minus this, which is not 0.
+    /// Minus this number, which is not 0.
     Negative(u64),
 }
 
@@ -19,7 +19,7 @@ fn is_digit(byte: u8) -> bool
     b'0' <= byte && byte <= b'9'
 }
 
-/// The number of one or more digits.
+/// The number of one or more digits, at most 2^64 - 1.
 fn digits_of(digits: &[u8]) -> Option<u64>
     ensures { result ≡ reading.digits digits.now }
 {
@@ -38,7 +38,7 @@ fn digits_of(digits: &[u8]) -> Option<u64>
     Some(value)
 }
 
-/// Minus that number.
+/// Minus the number.
 fn negated(value: u64) -> Number
     ensures { result ≡ minus value }
 {
@@ -49,7 +49,7 @@ fn negated(value: u64) -> Number
     }
 }
 
-/// The number that a word spells.
+/// The number that a word spells, or `None` if it spells none.
 #[tactic(auto, unfolding(crate::specs::Reading::number))]
 pub(crate) fn number_of(word: &[u8]) -> Option<Number>
     ensures { result ≡ reading.number word.now }

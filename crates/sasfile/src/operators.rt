@@ -1,4 +1,4 @@
-//! Operators.
+//! Reading operators.
 
 ghost use Rattle.std.specs.Prelude.{◌≡◌, ◌+◌, [], length, IfOk};
 ghost use Rattle.sasfile.specs.Reading.{Gives, repeated, cost_at, operator_at, operator_step, operators_at};
@@ -14,10 +14,10 @@ use cost::Cost;
 use fdr::{Operator, TaskLimit};
 use std::alloc::Global;
 
-/// How many operators a task may have.
+/// The greatest number of operators of a task.
 const MAX_OPERATORS: u64 = 4_294_967_295;
 
-/// What an operator costs.
+/// Reads the cost of an operator.
 #[tactic(auto, unfolding(crate::specs::Reading::cost_at))]
 fn cost_line(lines: Lines<'_>) -> Result<(Cost, Lines<'_>), SasFault>
     ensures next { IfOk result (λ x. x.1.number ≡ lines.entry.number + 1) }
@@ -63,7 +63,7 @@ fn operator<'a>(
     Ok((operator, lines))
 }
 
-/// One more operator.
+/// Reads one more operator and adds it.
 fn push_operator<'a>(
     alloc: Global,
     operators: &mut Vec<Operator>,
@@ -100,7 +100,7 @@ fn counted_operators<'a>(
     Ok((operators, rest))
 }
 
-/// The operators, with their number before them.
+/// Reads the number of operators, and then each of them.
 #[tactic(auto, unfolding(crate::specs::Reading::operators_at))]
 pub(crate) fn operators<'a>(
     alloc: Global,

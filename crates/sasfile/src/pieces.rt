@@ -1,9 +1,9 @@
-//! Pieces of a text, and the words of a line.
+//! Pieces of a text between separators, and the words of a line.
 
 ghost use Rattle.std.specs.Prelude.{◌≡◌, ◌≢◌, ◌<◌, ◌≤◌, ℕ, [], ◌∷◌, length, slice_index, MatchOption};
 ghost use Rattle.sasfile.specs.Lines.{pieces, is_end_byte, trimmed, words};
 
-/// How long the first piece is.
+/// The length of the first piece, in bytes.
 fn piece_length(bytes: &[u8], separator: u8) -> usize
     ensures within { result ≤ length bytes.now }
     ensures before { (k : ℕ) → k < result → slice_index bytes.now k ≢ separator }
@@ -17,7 +17,7 @@ fn piece_length(bytes: &[u8], separator: u8) -> usize
     bytes.len()
 }
 
-/// The first piece, and the bytes behind its separator.
+/// The first piece, and the bytes after its separator.
 pub(crate) fn first_piece(bytes: &[u8], separator: u8) -> (&[u8], &[u8])
     requires { bytes.now ≢ [] }
     ensures pieces { pieces separator bytes.now ≡ result.0.now ∷ pieces separator result.1.now }
@@ -31,7 +31,7 @@ pub(crate) fn first_piece(bytes: &[u8], separator: u8) -> (&[u8], &[u8])
     }
 }
 
-/// Whether a byte is dropped at a line's end.
+/// Whether a byte is dropped at the end of a line.
 fn is_end_byte(byte: u8) -> bool
     ensures { result ≡ is_end_byte byte }
 {
@@ -49,7 +49,7 @@ pub(crate) fn trimmed(line: &[u8]) -> &[u8]
     &line[..end]
 }
 
-/// The first word of a line, and what stands behind it.
+/// The first word of a line, and the bytes after it, or `None` if the line has no word.
 pub(crate) fn next_word(line: &[u8]) -> Option<(&[u8], &[u8])>
     ensures { MatchOption result (words line.now ≡ []) (λ x. words line.now ≡ x.0.now ∷ words x.1.now) }
 {

@@ -16,7 +16,7 @@ use crate::variables::{Variables, variable_list};
 use fdr::{Fact, FdrTask, Operator};
 use std::alloc::Global;
 
-/// The version, which is 3.
+/// Reads the version, which must be 3.
 #[tactic(auto, unfolding(crate::specs::Reading::version_at))]
 fn version(lines: Lines<'_>) -> Result<Lines<'_>, SasFault>
     ensures { Gives remaining result (version_at (remaining lines.entry)) }
@@ -29,7 +29,7 @@ fn version(lines: Lines<'_>) -> Result<Lines<'_>, SasFault>
     }
 }
 
-/// The flag of a number that is 0 or 1.
+/// The flag that a number stands for: 0 or 1.
 fn flag_of(number: Number) -> Option<bool>
     ensures { result ≡ flag number }
 {
@@ -40,7 +40,7 @@ fn flag_of(number: Number) -> Option<bool>
     }
 }
 
-/// Whether operators cost what they say.
+/// Reads whether operators have costs of their own.
 #[tactic(auto, unfolding(crate::specs::Reading::metric_at))]
 fn metric(lines: Lines<'_>) -> Result<(bool, Lines<'_>), SasFault>
     ensures { Gives (λ x. (x.0, remaining x.1)) result (metric_at (remaining lines.entry)) }
@@ -54,7 +54,7 @@ fn metric(lines: Lines<'_>) -> Result<(bool, Lines<'_>), SasFault>
     Ok((metric, rest))
 }
 
-/// What stands before the parts that name variables.
+/// The parts before those that name variables: the metric and the variables.
 #[derive(Drop)]
 pub(crate) struct Head {
     pub metric: bool,
@@ -72,7 +72,7 @@ fn head_of(alloc: Global, lines: Lines<'_>) -> Result<(Head, Lines<'_>), SasFaul
     Ok((Head { metric, variables }, lines))
 }
 
-/// The number of axioms, which is 0.
+/// Reads the number of axioms, which must be 0.
 #[tactic(auto, unfolding(crate::specs::Reading::axioms_at))]
 fn axioms(lines: Lines<'_>) -> Result<Lines<'_>, SasFault>
     ensures { Gives remaining result (axioms_at (remaining lines.entry)) }
@@ -84,7 +84,7 @@ fn axioms(lines: Lines<'_>) -> Result<Lines<'_>, SasFault>
     }
 }
 
-/// Nothing but empty lines.
+/// Checks that the remaining lines are empty.
 fn end(lines: Lines<'_>) -> Result<(), SasFault>
     ensures { Gives (λ x. x) result (empty_from lines.entry.number (remaining lines.entry).lines) }
 {
@@ -98,7 +98,7 @@ fn end(lines: Lines<'_>) -> Result<(), SasFault>
     Ok(())
 }
 
-/// What stands behind the variables.
+/// The parts after the variables.
 #[derive(Drop)]
 pub(crate) struct Body {
     pub initial: Vec<u32>,
@@ -124,7 +124,7 @@ fn body_of(alloc: Global, ranges: &[u32], lines: Lines<'_>) -> Result<Body, SasF
     })
 }
 
-/// The task of a whole text.
+/// Reads the task of a whole text.
 fn whole(alloc: Global, bytes: &[u8]) -> Result<FdrTask, SasFault>
     ensures { Gives (λ x. x) result (task_in bytes.now) }
 {
@@ -146,17 +146,19 @@ fn whole(alloc: Global, bytes: &[u8]) -> Result<FdrTask, SasFault>
     }
 }
 
-/// Reads a task from a text in the form of `output.sas`, version 3 (Helmert 2009).
+/// Reads a task from a text in the format `output.sas`, version 3 (Helmert 2009).
 ///
-/// Lines end with a line feed, which the last may lack; blanks and carriage returns at their ends say nothing. Operators keep
-/// their costs as they are written, whatever the metric. Mutex groups are tested for the range of their values, and not
-/// kept; nor are the names of variables. An `Err` is the text's first fault, or says that memory ran out.
+/// Lines end with a line feed, which the last line may lack; blanks and carriage returns at the end of a line are
+/// ignored. Operators keep the costs that are written, whatever the metric. The facts of mutex groups are checked to be
+/// in range; mutex groups and the names of variables are not kept.
+///
+/// Fails with the first fault of the text, or if allocation fails.
 pub fn read_sas(alloc: Global, bytes: &[u8]) -> Result<FdrTask, SasFault>
-    // What is read is spelled so.
+    // The text spells the task that is returned.
     ensures found { IfOk result (λ task. SpellsTask bytes.now task) }
-    // What is spelled so is read, unless memory runs out.
+    // If the text spells a task, that task is returned, unless allocation fails.
     ensures only { (task : FiniteDomainTask) → SpellsTask bytes.now task → Gives (λ x. x) result (Ok task) }
-    // Which fault it is: the first, as the lines are read one after another.
+    // The error is the first fault of the text, where its lines are read in order.
     ensures fault { Gives (λ x. x) result (task_in bytes.now) }
 {
     whole(alloc, bytes)

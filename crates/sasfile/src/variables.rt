@@ -1,4 +1,4 @@
-//! Variables.
+//! Reading variables.
 
 ghost use Rattle.std.specs.Prelude.{◌≡◌, ◌+◌, ◌≤◌, [], length, map, IfOk, OnOk, vec_len, string_bytes};
 ghost use Rattle.sasfile.specs.Reading.{Gives, repeated, text_at, text_step, layer_at, range_at, variable_at, variable_step, variables_at};
@@ -11,21 +11,21 @@ use crate::number::Number;
 use fdr::TaskLimit;
 use std::alloc::Global;
 
-/// How many variables a task may have.
+/// The greatest number of variables of a task.
 const MAX_VARIABLES: u64 = 65_536;
 
-/// How many values a variable may have.
+/// The greatest number of values of a variable.
 const MAX_VALUES: u64 = 65_536;
 
-/// The variables of a task.
+/// The variables of a task that have been read.
 #[derive(Drop)]
 pub(crate) struct Variables {
     pub value_names: Vec<Vec<String>>,
-    /// How many values each has.
+    /// The number of values of each variable.
     pub ranges: Vec<u32>,
 }
 
-/// A name, or the text of a value.
+/// Reads a line with a name, or the name of a value, as a string.
 pub(crate) fn string_line(alloc: Global, lines: Lines<'_>) -> Result<(String, Lines<'_>), SasFault>
     ensures next { IfOk result (λ x. x.1.number ≡ lines.entry.number + 1) }
     ensures text { Gives (λ x. (string_bytes x.0, remaining x.1)) result (text_at (remaining lines.entry)) }
@@ -34,7 +34,7 @@ pub(crate) fn string_line(alloc: Global, lines: Lines<'_>) -> Result<(String, Li
     Ok((String::from_str(alloc, text)?, rest))
 }
 
-/// One more text.
+/// Reads one more name and adds it.
 fn push_text<'a>(
     alloc: Global,
     texts: &mut Vec<String>,
@@ -64,7 +64,7 @@ fn counted_texts(
     Ok((texts, rest))
 }
 
-/// The axiom layer, which is -1.
+/// Reads the axiom layer, which must be -1.
 #[tactic(auto, unfolding(crate::specs::Reading::layer_at))]
 fn layer_line(lines: Lines<'_>) -> Result<Lines<'_>, SasFault>
     ensures { Gives remaining result (layer_at (remaining lines.entry)) }
@@ -76,7 +76,7 @@ fn layer_line(lines: Lines<'_>) -> Result<Lines<'_>, SasFault>
     }
 }
 
-/// How many values a variable has.
+/// Reads the number of values of a variable.
 #[tactic(auto, unfolding(crate::specs::Reading::range_at))]
 fn range_line(lines: Lines<'_>) -> Result<(u64, Lines<'_>), SasFault>
     ensures range { Gives (λ x. (x.0, remaining x.1)) result (range_at (remaining lines.entry)) }
@@ -92,7 +92,7 @@ fn range_line(lines: Lines<'_>) -> Result<(u64, Lines<'_>), SasFault>
     Ok((range, rest))
 }
 
-/// The names of a variable's values.
+/// Reads a variable and returns the names of its values.
 #[tactic(auto, unfolding(crate::specs::Reading::variable_at))]
 fn variable(alloc: Global, lines: Lines<'_>) -> Result<(Vec<String>, Lines<'_>), SasFault>
     ensures names { Gives (λ x. (map string_bytes x.0.items, remaining x.1)) result (variable_at (remaining lines.entry)) }
@@ -107,7 +107,7 @@ fn variable(alloc: Global, lines: Lines<'_>) -> Result<(Vec<String>, Lines<'_>),
     Ok((names, lines))
 }
 
-/// One more variable.
+/// Reads one more variable and adds it.
 fn push_variable<'a>(
     alloc: Global,
     variables: &mut Variables,
@@ -142,7 +142,7 @@ fn counted_variables(
     Ok((variables, rest))
 }
 
-/// The variables, with their number before them.
+/// Reads the number of variables, and then each of them.
 #[tactic(auto, unfolding(crate::specs::Reading::variables_at))]
 pub(crate) fn variable_list(
     alloc: Global,

@@ -1,4 +1,4 @@
--- The tables of columns.
+-- Tables of columns.
 use Rattle.std.specs.Prelude.{◌≡◌, true, List, map, Vec}
 use Rattle.std.specs.Global.{Global}
 use Rattle.fdr.specs.Tasks.{FiniteDomainTask}
@@ -7,7 +7,7 @@ use Rattle.certificates.specs.Certificates.{Table}
 use Rattle.checker_clauses.specs.Clauses.{has_form, table_of}
 use Rattle.cert_text.specs.Lawful.{IsTable}
 
--- a table that has its form for the task and a text
+-- a table that has the form required for the task and that has a text in a certificate
 pub record ColumnTable : Type 0 where
   pub task : FiniteDomainTask
   pub table : Table
@@ -18,6 +18,6 @@ pub record ColumnTable : Type 0 where
 abbrev pub on_projection : ColumnTable → abstraction.Table
 on_projection t = table_of t.task t.table
 
--- a column's tables, as it lies in memory
+-- the tables of a column, from their representation in memory
 abbrev pub tables_of : Vec ColumnTable Global → List Table
 tables_of column = map (λ (t : ColumnTable). t.table) column.items

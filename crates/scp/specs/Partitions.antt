@@ -1,5 +1,5 @@
--- Columns of tables that are made in turn from what is left of the operators' costs (Seipp, Keller and Helmert 2020,
--- saturated cost partitioning).
+-- Columns of tables that are made in turn from the remaining costs of the operators (saturated cost partitioning,
+-- Seipp, Keller and Helmert 2020).
 use Rattle.std.specs.Prelude.{◌≡◌, ℕ, ◌-◌, true, List, [], ◌∷◌, map, All, Vec}
 use Rattle.fdr.specs.Tasks.{FiniteDomainTask, cost_of}
 use Rattle.abstraction.specs.Abstractions as abstraction
@@ -9,33 +9,35 @@ use Rattle.checker_clauses.specs.Clauses.{table_of, has_form}
 use Rattle.cert_text.specs.Lawful.{AreColumns}
 use Rattle.walks.specs.Walks.{HasDistances, IsSaturated, IsPartition}
 
--- the column has a table for each of the patterns, made in turn from what is left of the costs
+-- the column has a table for each of the given patterns, made in turn from the remaining costs
 pub record IsMadeFrom (task : FiniteDomainTask) (given : List (List ℕ)) (column : List Table) : Type 0 where
   pub patterns : map (λ t. t.pattern) column ≡ given
   pub partition : IsPartition (cost_of task) (map (table_of task) column)
 
--- columns that have a text in a certificate, of tables that have their form and divide the operators' costs among them
+-- columns that have a text in a certificate, whose tables have the required form and partition the costs of the
+-- operators
 pub record AreCostPartitioned (task : FiniteDomainTask) (columns : List (List Table)) : Type 0 where
   pub lawful : AreColumns columns
   pub formed : All (All (λ t. has_form task t ≡ true)) columns
   pub each : All (λ column. IsColumn task (map (table_of task) column)) columns
 
--- the columns of tables and the task that they are for
+-- the columns of a task
 pub record ColumnsOf : Type 0 where
   pub task : FiniteDomainTask
   pub columns : List (List Table)
 
--- what is left of the costs after the tables
+-- the remaining costs after the tables
 abbrev pub left_after : (ℕ → ℕ) → List abstraction.Table → ℕ → ℕ
 left_after left [] o = left o
 left_after left (t ∷ ts) o = left_after (λ q. left q - t.share q) ts o
 
--- the table has the distances under what is left, takes saturated shares of it, and is on the pattern
+-- the table is on the pattern, has the distances under the remaining costs, and its shares are the saturated cost
+-- function
 pub record IsNextTable (task : FiniteDomainTask) (given : List ℕ) (left : ℕ → ℕ) (t : Table) : Type 0 where
   pub pattern : t.pattern ≡ given
   pub distances : HasDistances (table_of task t) left
   pub saturated : IsSaturated (table_of task t)
 
--- an order of patterns, as it lies in memory
+-- the patterns of an order, from their representation in memory
 abbrev pub patterns_of : {Y Z : Type 0} → Vec (Vec ℕ Y) Z → List (List ℕ)
 patterns_of order = map (λ p. p.items) order.items

@@ -1,4 +1,4 @@
--- That a table has a text is told in one way, and so is that columns have one.
+-- A table has at most one proof that it has a text, and so have columns.
 use Rattle.std.specs.Prelude.{ℕ, ◌≤◌, ◌^◌, List, [], ◌∷◌}
 use Rattle.std.specs.List.{AllByRecursion}
 use native.Mathlib.Bridge.{le_prop}

@@ -8,10 +8,10 @@ use fdr::FdrTask;
 use patterns::choose_patterns;
 use std::alloc::{AllocError, Global};
 
-/// As many columns as are made.
+/// The greatest number of columns that `choose_columns` makes.
 pub const MOST_COLUMNS: usize = 8;
 
-/// All of the patterns, from that one on and then the ones before it.
+/// All patterns, from the place `first` to the end, followed by those before it.
 fn cyclic_order(
     alloc: Global,
     task: &FdrTask,
@@ -38,7 +38,8 @@ fn cyclic_order(
     Ok(order)
 }
 
-/// The orders of the columns: one that begins with each of the first patterns, as many as there are columns.
+/// The orders of patterns, one for each column: the k-th starts with the k-th pattern. There are at most
+/// `MOST_COLUMNS`.
 fn orders_of(
     alloc: Global,
     task: &FdrTask,
@@ -60,9 +61,10 @@ fn orders_of(
     Ok(orders)
 }
 
-/// Columns of the task for a search: of the patterns with at most `limit` abstract states that `choose_patterns` chooses, at
-/// most 64, each column has all, and the first 8 columns begin with one pattern after the other. The contract says nothing of
-/// which patterns they are. An `Err` is of too little memory.
+/// Makes the cost-partitioned columns of the task for a search, from the patterns that `choose_patterns` chooses: at
+/// most 64, with at most `limit` abstract states each. The limit must be from 1 to 2^24. There is a column for each of
+/// the first 8 patterns: it starts with that pattern and has all patterns in cyclic order. The contract does not specify
+/// which patterns are chosen. Fails only if allocation fails.
 pub fn choose_columns<'a>(
     alloc: Global,
     task: &'a FdrTask,

@@ -1,4 +1,4 @@
-//! Columns, made table by table.
+//! Columns, made table by table (saturated cost partitioning).
 
 ghost use Rattle.std.specs.Prelude.{◌≡◌, ◌≢◌, ℕ, ◌<◌, ◌≤◌, ◌-◌, ◌^◌, [], length, map, slice_index, All, IfOk, OnOk};
 ghost use Rattle.fdr.specs.Tasks.{cost_of};
@@ -19,7 +19,7 @@ use pdb::{distances, saturate};
 use regression::BackwardProjection;
 use std::alloc::{AllocError, Global};
 
-/// The projection of the task to a pattern.
+/// The projection of the task to a pattern. Fails only if allocation fails.
 fn projection_to<'a>(
     alloc: Global,
     task: &'a FdrTask,
@@ -47,7 +47,7 @@ fn short_pattern(alloc: Global, pattern: &[usize]) -> Result<Vec<u32>, AllocErro
     Ok(short)
 }
 
-/// Takes the shares from what is left of the costs.
+/// Subtracts the shares from the remaining costs.
 fn take_shares(left: &mut [u32], needed: &[u32])
     requires { length needed.now ≡ length left.old }
     ensures len { length left.new ≡ length left.old }
@@ -58,7 +58,7 @@ fn take_shares(left: &mut [u32], needed: &[u32])
     }
 }
 
-/// The distances of a projection under what is left of the costs, and the least shares that keep them.
+/// The distances of a projection under the remaining costs, and the saturated cost function.
 fn saturated_distances(
     alloc: Global,
     projection: &Projection<'_>,
@@ -79,8 +79,8 @@ fn saturated_distances(
     Ok((values, needed))
 }
 
-/// The table of a pattern with the distances under what is left of the costs, which takes the least shares that keep them and
-/// leaves the rest. An `Err` is of too little memory, and leaves any of it.
+/// The table of a pattern with the distances under the remaining costs. Its shares are the saturated cost function, and
+/// they are subtracted from the remaining costs. Fails only if allocation fails, and then `left` is not specified.
 fn next_table<'a>(
     alloc: Global,
     task: &'a FdrTask,
@@ -110,7 +110,7 @@ fn next_table<'a>(
     Ok(ColumnTable::new(projection, table))
 }
 
-/// What each operator costs.
+/// The cost of each operator.
 fn costs_of(alloc: Global, task: &FdrTask) -> Result<Vec<u32>, AllocError>
     ensures len { IfOk result (λ costs. length costs.items ≡ length task.now.operators) }
     ensures costs { IfOk result (λ costs. (o : ℕ) → o < length task.now.operators →
@@ -123,9 +123,10 @@ fn costs_of(alloc: Global, task: &FdrTask) -> Result<Vec<u32>, AllocError>
     Ok(costs)
 }
 
-/// A column with a table for each of the patterns: each has the distances under what those before it have left of the
-/// operators' costs, and takes the least shares that keep them (Seipp, Keller and Helmert 2020, algorithm for saturated cost
-/// partitioning). An `Err` is of too little memory.
+/// Makes a column with a table for each pattern, in order, by saturated cost partitioning (Seipp, Keller and Helmert
+/// 2020): a table has the distances under the remaining costs of the operators, and its shares are the least that
+/// preserve these distances. Each pattern must be a nonempty list of strictly increasing variables of the task, with at
+/// most 2^24 abstract states. Fails only if allocation fails.
 pub fn make_column<'a>(
     alloc: Global,
     task: &'a FdrTask,

@@ -1,4 +1,4 @@
-//! Columns, and the lower bound that they give.
+//! Cost-partitioned columns, and the heuristic that they define.
 
 ghost use Rattle.std.specs.Prelude.{◌≡◌, ◌≢◌, ◌≤◌, ◌^◌, ℕ, List, [], length, map, All, IfOk};
 ghost use Rattle.std.specs.List.{AllZip};
@@ -17,7 +17,7 @@ use fdr::FdrTask;
 use std::alloc::{AllocError, Global};
 use std::marker::Model;
 
-/// The sum of the tables' values at the state.
+/// The sum of the values of the column's tables at the state.
 fn column_value(column: &[ColumnTable<'_>], state: &[u32]) -> Dist
     requires states { All (λ t. IsState (ranges t.task) state.now) column.now }
     requires few { length column.now ≤ 64 }
@@ -30,7 +30,8 @@ fn column_value(column: &[ColumnTable<'_>], state: &[u32]) -> Dist
     sum
 }
 
-/// Columns of tables, each of which divides the operators' costs among its tables. A contract sees the task and the tables.
+/// Columns of tables. The tables of each column partition the costs of the operators. In contracts its value is the
+/// task and the tables.
 #[derive(Drop)]
 pub struct Columns<'a> {
     task: &'a FdrTask,
@@ -55,15 +56,16 @@ impl<'a> Model for Columns<'a> {
 impl<'a> Columns<'a> {
     ghost use Rattle.scp.specs.ColumnTables.{tables_of};
 
-    /// The task.
+    /// Returns the task.
     pub fn task(&self) -> &'a FdrTask
         ensures { result.now ≡ self.now.task }
     {
         self.task
     }
 
-    /// Recalls what holds of all columns: their tables divide the operators' costs, so that their values bound what every plan
-    /// costs, and each value is infinite or at most 2^61.
+    /// Proves the invariant of the type: the tables of each column partition the costs of the operators, so that the
+    /// heuristic is at most the cost of every plan from a state, and it is infinite or at most 2^61. It does nothing at
+    /// run time.
     pub fn recall(&self)
         ensures partitioned { ∥ AreCostPartitioned self.now.task self.now.columns ∥₁ }
         ensures bound { (plan state : List ℕ) → IsState (ranges self.now.task) state → LeadsToGoal self.now.task state plan →
@@ -71,20 +73,21 @@ impl<'a> Columns<'a> {
         ensures small { (state : List ℕ) → IsState (ranges self.now.task) state →
             IsWithin (2 ^ 61) (heuristic_of self.now.task self.now.columns state) }
     {
-        // the type's invariant is told where a field is read
+        // reading a field brings the type's invariant into the proof
         let _ = self.columns.len();
         self.task.recall();
     }
 
-    /// The tables of each column.
+    /// Returns the tables of each column.
     pub fn tables(&self) -> &[Vec<ColumnTable<'a>>]
         ensures { map tables_of result.now ≡ self.now.columns }
     {
         &self.columns
     }
 
-    /// The lower bound on the cost from the state to a goal: the greatest of the sums of the columns' values, and 0 without a
-    /// column. It is infinite only where there is no way to a goal. No memory is taken.
+    /// Returns an admissible estimate of the cost from the state to a goal: the greatest value of a column, which is
+    /// the sum of the values of its tables, and 0 if there is no column. It is infinite only if no goal can be reached
+    /// from the state. No memory is allocated.
     pub fn h(&self, state: &[u32]) -> Dist
         requires { IsState (ranges self.now.task) state.now }
         ensures value { result ≡ heuristic_of self.now.task self.now.columns state.now }
@@ -101,7 +104,8 @@ impl<'a> Columns<'a> {
     }
 }
 
-/// The columns of these orders of patterns, one for each, as `make_column` makes it. An `Err` is of too little memory.
+/// Makes a column for each of these orders of patterns, as `make_column` does. There must be at most 64 orders, each of
+/// 1 to 64 patterns. Fails only if allocation fails.
 pub fn make_columns<'a>(
     alloc: Global,
     task: &'a FdrTask,

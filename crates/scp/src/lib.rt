@@ -1,5 +1,5 @@
-//! Saturated cost partitioning: columns of tables that divide the operators' costs among them, and the lower bound on the cost
-//! from a state on that they give (Seipp, Keller and Helmert 2020).
+//! Saturated cost partitioning: columns of tables that partition the costs of the operators, and the admissible
+//! heuristic that they define (Seipp, Keller and Helmert 2020).
 #![tactic(auto)]
 
 mod choice;

@@ -14,7 +14,7 @@ use certificates::PatternTable;
 use cost::Dist;
 use std::marker::Model;
 
-/// A table with the projection that it is on. It has a text in a certificate.
+/// A table together with its projection. A certificate can contain it.
 #[derive(Drop)]
 pub struct ColumnTable<'a> {
     projection: Projection<'a>,
@@ -34,7 +34,7 @@ impl<'a> Model for ColumnTable<'a> {
 }
 
 impl<'a> ColumnTable<'a> {
-    /// The table with its projection.
+    /// Joins a table and its projection.
     pub(crate) fn new(projection: Projection<'a>, table: PatternTable) -> ColumnTable<'a>
         requires pattern { projection.pattern ≡ table.pattern.items }
         requires form { has_form projection.task (kept.table_of table) ≡ true }
@@ -45,7 +45,7 @@ impl<'a> ColumnTable<'a> {
         ColumnTable { projection, table }
     }
 
-    /// The table, as a certificate has it.
+    /// Returns the table, in the form in which certificates contain it.
     pub fn table(&self) -> &PatternTable
         ensures table { kept.table_of result.now ≡ self.now.table }
         ensures lawful { IsTable self.now.table }
@@ -53,7 +53,7 @@ impl<'a> ColumnTable<'a> {
         &self.table
     }
 
-    /// The table's value at a state.
+    /// Returns the value of the table at a state.
     pub(crate) fn value_at(&self, state: &[u32]) -> Dist
         requires { IsState (ranges self.now.task) state.now }
         ensures value { result ≡ value_at state.now (table_of self.now.task self.now.table) }

@@ -1,14 +1,14 @@
-//! What each byte is.
+//! The kinds of bytes.
 
 ghost use Rattle.std.specs.Prelude.{◌≡◌};
 ghost use Rattle.sexp.specs.Bytes.{kind};
 
-/// What a byte is outside comments.
+/// The kind of a byte outside comments.
 #[derive(Clone, Copy, Debug, PartialEq, Eq)]
 pub enum ByteKind {
     /// Tab, line feed, carriage return or space.
     Blank,
-    /// A comment begins, and goes on to the next line feed or to the end of the text.
+    /// `;`. A comment begins, and goes on to the next line feed or to the end of the text.
     Semicolon,
     /// `(`.
     Open,
@@ -16,7 +16,7 @@ pub enum ByteKind {
     Close,
     /// Any other byte from 33 to 126.
     Letter,
-    /// No byte of a text.
+    /// A byte that may not stand outside comments.
     Strange,
 }
 

@@ -1,4 +1,4 @@
-//! Small finite-domain tasks for tests: what is written there is found to be a task before it is one.
+//! Small finite-domain tasks for tests, each of which is checked to be a task before it is returned.
 #![tactic(auto)]
 
 ghost use Rattle.std.specs.Prelude.{◌≡◌, ◌<◌, ◌↔◌, All, [], map, replicate, length, string_bytes, slice_index, IsTrue, IfOk, IfSome, IfNone};
@@ -18,7 +18,7 @@ pub fn fact(variable: usize, value: u32) -> Fact
     Fact { variable, value }
 }
 
-/// An operator with no name at that cost. An `Err` is of too little memory.
+/// An operator without a name, at that cost. Fails only if allocation fails.
 fn priced(
     alloc: Global,
     precondition: &[Fact],
@@ -35,7 +35,7 @@ fn priced(
     })
 }
 
-/// An operator with no name that costs 1. An `Err` is of too little memory.
+/// An operator without a name, at cost 1. Fails only if allocation fails.
 pub fn operator(
     alloc: Global,
     precondition: &[Fact],
@@ -53,7 +53,7 @@ fn names_variable(facts: &[Fact], variable: usize) -> bool
     facts.iter().any(|fact| fact.variable == variable)
 }
 
-/// Whether the facts are in range, at most one a variable.
+/// Whether the facts are in range, with at most one for each variable.
 fn is_assignment(ranges: &[usize], facts: &[Fact]) -> bool
     ensures { IsTrue result ↔ IsAssignment ranges.now facts.now }
 {
@@ -83,7 +83,7 @@ fn are_operators(ranges: &[usize], operators: &[Operator]) -> bool
     true
 }
 
-/// Whether it is a state.
+/// Whether the values are a state.
 fn is_state(ranges: &[usize], state: &[u32]) -> bool
     ensures { IsTrue result ↔ IsState ranges.now state.now }
 {
@@ -98,7 +98,7 @@ fn is_state(ranges: &[usize], state: &[u32]) -> bool
     true
 }
 
-/// So many empty names.
+/// `count` empty names. Fails only if allocation fails.
 fn blank(alloc: Global, count: usize) -> Result<Vec<String>, AllocError>
     ensures { IfOk result (λ names. map string_bytes names.items ≡ replicate count []) }
 {
@@ -109,7 +109,7 @@ fn blank(alloc: Global, count: usize) -> Result<Vec<String>, AllocError>
     Ok(names)
 }
 
-/// As many empty names as each range says.
+/// For each range, that number of empty names. Fails only if allocation fails.
 fn names_of(alloc: Global, ranges: &[usize]) -> Result<Vec<Vec<String>>, AllocError>
     ensures { IfOk result (λ names. names_in names.items ≡ blank_names ranges.now) }
 {
@@ -120,7 +120,7 @@ fn names_of(alloc: Global, ranges: &[usize]) -> Result<Vec<Vec<String>>, AllocEr
     Ok(names)
 }
 
-/// How many values each variable has.
+/// The number of values of each variable. Fails only if allocation fails.
 fn ranges_of(alloc: Global, names: &[Vec<String>]) -> Result<Vec<usize>, AllocError>
     ensures { IfOk result (λ ranges. ranges.items ≡ map length (names_in names.now)) }
 {
@@ -131,7 +131,8 @@ fn ranges_of(alloc: Global, names: &[Vec<String>]) -> Result<Vec<usize>, AllocEr
     Ok(ranges)
 }
 
-/// The task of these ranges and parts, with the metric; `None` where that is no task, or past a limit. An `Err` is of too little memory.
+/// The task with these ranges and parts, and with the metric; `None` if that is no task or exceeds a limit. Fails only if
+/// allocation fails.
 pub fn task(
     alloc: Global,
     ranges: &[usize],
@@ -156,7 +157,7 @@ pub fn task(
     Ok(FdrTask::new(true, names, initial, goal, operators).ok())
 }
 
-/// The task of these ranges and this initial state, without goals and operators. As for `task`.
+/// The task with these ranges and this initial state, without goals and operators, as by `task`.
 pub fn states(
     alloc: Global,
     ranges: &[usize],
@@ -169,8 +170,8 @@ pub fn states(
     task(alloc, ranges, initial, &[], Vec::new(alloc))
 }
 
-/// The task of one variable that is 0 and is to have this value, and of operators from a value to another at a cost. As for `task`;
-/// `None` also where a cost is too great.
+/// The task, as by `task`, of one variable that is 0 at first and has this value as its goal; each step (from, to, cost)
+/// is an operator. `None` also if a cost is too large.
 pub fn walk(
     alloc: Global,
     values: usize,
@@ -191,7 +192,7 @@ pub fn walk(
     task(alloc, &[values], &[0], &[fact(0, goal)], operators)
 }
 
-/// Whether it is a state of the task.
+/// Whether the values are a state of the task.
 pub fn is_state_of(task: &FdrTask, state: &[u32]) -> bool
     ensures { IsTrue result ↔ IsState (spec.ranges task.now) state.now }
 {
@@ -206,7 +207,7 @@ pub fn is_state_of(task: &FdrTask, state: &[u32]) -> bool
     true
 }
 
-/// Whether each number is below the next.
+/// Whether the numbers are strictly increasing.
 pub fn is_increasing(numbers: &[usize]) -> bool
     ensures { IsTrue result ↔ IsStrictlyIncreasing numbers.now }
 {

@@ -7,7 +7,7 @@ pub record OutputFiles : Type 0 where
   pub plan : Option (List ℕ)
   pub cert : Option (List ℕ)
 
--- a file, if it has a name
+-- the writing of a file, if it has a name
 abbrev pub writes : Option (List ℕ) → List ℕ → List Event
 writes None bytes = []
 writes (Some name) bytes = HasWritten name bytes ∷ []

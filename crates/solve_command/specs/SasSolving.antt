@@ -1,4 +1,4 @@
--- The command that solves a finite-domain task: what it reads, writes and puts out.
+-- The command that solves a finite-domain task: what it reads, writes and prints.
 use Rattle.std.specs.Prelude.{◌≡◌, ℕ, ◌⊎◌, List, [], ◌∷◌, ◌++◌, codes}
 use Rattle.std.specs.String.{string_bytes}
 use Rattle.device.specs.Events.{Event, HasRead, HasPut}
@@ -14,7 +14,7 @@ use Rattle.replies.specs.declared.fault.Fault.{Fault}
 use Rattle.replies.specs.declared.fault.Fault.TheVariants.{OutOfMemory, CannotRead, CannotWrite, Task, Plan, Sas, Cert, GroundLimit, TaskTooLarge, TotalTooLarge}
 use Rattle.solve_command.specs.Outputs.{OutputFiles, writes}
 
--- the certificate's file is written first, then the plan's, and then a line or the plan is put out
+-- the certificate's file is written first, then the plan's, and then the plan or a line is printed
 abbrev pub sas_outputs : OutputFiles → SasAnswer → List Event
 sas_outputs files (Solved s) = writes files.cert s.cert.items ++ writes files.plan (string_bytes s.plan_text) ++ HasPut (string_bytes s.plan_text) ∷ []
 sas_outputs files (Unsolvable cert) = writes files.cert cert.items ++ HasPut (codes "unsolvable\n") ∷ []
@@ -26,7 +26,7 @@ sas_answer_status (Solved s) = 0
 sas_answer_status (Unsolvable cert) = 4
 sas_answer_status Limit = 5
 
--- a fault of the solver is reported as this
+-- the text is refused as the solver refuses it, with the program's fault
 abbrev pub IsSasSolveRefusal : List ℕ → Choices → ℕ → Fault → Type 0
 IsSasSolveRefusal sas choices seed OutOfMemory = Unit {0}
 IsSasSolveRefusal sas choices seed (CannotRead file) = ⊥
@@ -39,7 +39,7 @@ IsSasSolveRefusal sas choices seed GroundLimit = ⊥
 IsSasSolveRefusal sas choices seed (TaskTooLarge table) = ⊥
 IsSasSolveRefusal sas choices seed TotalTooLarge = IsSasRefusal sas (IsRefusedBySeed choices seed) solve.TotalTooLarge
 
--- The file is read, and then an answer is written and put out, or the text is refused.
+-- the file is read; then an answer is written and printed, or the text is refused
 pub record SolvesSas (old new : List Event) (sas : List ℕ) (choices : Choices) (seed : ℕ) (files : OutputFiles) (status : ℕ) : Type 0 where
   pub sas_text : List ℕ
   pub later : List Event

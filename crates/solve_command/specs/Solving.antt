@@ -1,4 +1,4 @@
--- The command that solves a planning task: what it reads, writes and puts out.
+-- The command that solves a planning task: what it reads, writes and prints.
 use Rattle.std.specs.Prelude.{◌≡◌, ℕ, ◌⊎◌, List, [], ◌∷◌, ◌++◌, codes}
 use Rattle.std.specs.String.{string_bytes}
 use Rattle.device.specs.Events.{Event, HasPut}
@@ -15,7 +15,7 @@ use Rattle.replies.specs.declared.fault.Fault.{Fault}
 use Rattle.replies.specs.declared.fault.Fault.TheVariants.{OutOfMemory, CannotRead, CannotWrite, Task, Plan, Sas, Cert, GroundLimit, TaskTooLarge, TotalTooLarge}
 use Rattle.solve_command.specs.Outputs.{OutputFiles, writes}
 
--- the certificate's file is written first, then the plan's, and then a line or the plan is put out
+-- the certificate's file is written first, then the plan's, and then the plan or a line is printed
 abbrev pub outputs : OutputFiles → PlanningAnswer → List Event
 outputs files (Solved s) = writes files.cert s.cert.items ++ writes files.plan (string_bytes s.plan_text) ++ HasPut (string_bytes s.plan_text) ∷ []
 outputs files (Unsolvable cert) = writes files.cert cert.items ++ HasPut (codes "unsolvable\n") ∷ []
@@ -27,7 +27,7 @@ answer_status (Solved s) = 0
 answer_status (Unsolvable cert) = 4
 answer_status Limit = 5
 
--- a fault of the planner is reported as this
+-- the texts are refused as the planner refuses them, with the program's fault
 abbrev pub IsSolveRefusal : List ℕ → List ℕ → Choices → ℕ → Fault → Type 0
 IsSolveRefusal domain problem choices seed OutOfMemory = Unit {0}
 IsSolveRefusal domain problem choices seed (CannotRead file) = ⊥
@@ -40,7 +40,7 @@ IsSolveRefusal domain problem choices seed GroundLimit = IsPlanningRefusal domai
 IsSolveRefusal domain problem choices seed (TaskTooLarge table) = IsPlanningRefusal domain problem (IsRefusedBySeed choices seed) (planning.TaskTooLarge table)
 IsSolveRefusal domain problem choices seed TotalTooLarge = IsPlanningRefusal domain problem (IsRefusedBySeed choices seed) planning.TotalTooLarge
 
--- The two files are read, in this order, and then an answer is written and put out, or one of the texts is refused.
+-- the two files are read, in this order; then an answer is written and printed, or one of the texts is refused
 pub record Solves (old new : List Event) (domain problem : List ℕ) (choices : Choices) (seed : ℕ) (files : OutputFiles) (status : ℕ) : Type 0 where
   pub domain_text : List ℕ
   pub problem_text : List ℕ

@@ -1,4 +1,4 @@
--- Answers by their texts, whichever task they are for.
+-- Answers by their texts, for both kinds of tasks.
 use Rattle.std.specs.Prelude.{◌≡◌, ℕ, List, [], ◌∷◌, ◌++◌, codes}
 use Rattle.std.specs.Option.{option_map}
 use Rattle.std.specs.String.{string_bytes}
@@ -16,23 +16,23 @@ use Rattle.solve_command.specs.Outputs.{OutputFiles, writes}
 use Rattle.solve_command.specs.Solving.{outputs, answer_status}
 use Rattle.solve_command.specs.SasSolving.{sas_outputs, sas_answer_status}
 
--- the names of the files that settings ask for
+-- the names of the files that the settings request
 abbrev pub files_of : Settings → OutputFiles
 files_of settings = record { plan = option_map (λ n. n.now) settings.plan; cert = option_map (λ n. n.now) settings.cert }
 
--- the files of an answer
+-- the writing of an answer's files
 abbrev pub text_writes : OutputFiles → AnswerTexts → List Event
 text_writes files (Solved plan cert) = writes files.cert cert.items ++ writes files.plan (string_bytes plan)
 text_writes files (Unsolvable cert) = writes files.cert cert.items
 text_writes files Limit = []
 
--- what is put out
+-- what is printed
 abbrev pub text_line : AnswerTexts → List ℕ
 text_line (Solved plan cert) = string_bytes plan
 text_line (Unsolvable cert) = codes "unsolvable\n"
 text_line Limit = codes "limit\n"
 
--- what is written and put out
+-- what is written and printed
 abbrev pub text_outputs : OutputFiles → AnswerTexts → List Event
 text_outputs files texts = text_writes files texts ++ HasPut (text_line texts) ∷ []
 

@@ -1,4 +1,4 @@
-//! The commands that solve a task over any device: what each reads, writes and puts out, and the status that it ends with.
+//! The commands that solve a task, over any device: what each reads, writes and prints, and its exit status.
 #![tactic(auto)]
 
 mod outputs;

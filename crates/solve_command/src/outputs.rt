@@ -1,4 +1,4 @@
-//! What is written and put out for an answer.
+//! What is written and printed for an answer.
 
 ghost use Rattle.std.specs.Prelude.{◌≡◌, ◌≢◌, ◌≤◌, ◌+◌, ◌++◌, List, Some, IfOk, IfErr, OnOk};
 ghost use Rattle.std.specs.Option.{option_map};
@@ -16,16 +16,16 @@ use std::alloc::Global;
 /// The texts of an answer.
 #[derive(Drop)]
 pub(crate) enum AnswerTexts {
-    /// A cheapest plan, and a certificate of its cost.
+    /// The text of a cheapest plan, and that of a certificate of its cost.
     Solved(String, Vec<u8>),
-    /// A certificate that there is no plan.
+    /// The text of a certificate that there is no plan.
     Unsolvable(Vec<u8>),
-    /// Neither was found.
+    /// The search ended before it found either.
     Limit,
 }
 
 impl AnswerTexts {
-    /// What is put out.
+    /// What is printed: the plan, or a line.
     fn line(&self) -> &[u8]
         ensures { result.now ≡ text_line self.now }
     {
@@ -49,7 +49,7 @@ impl AnswerTexts {
     }
 }
 
-/// Writes a file, if it has a name.
+/// Writes a file, if it has a name. Fails with `CannotWrite(file)` if the device fails, or if memory runs out.
 fn write_file<D: Device>(
     device: &mut D,
     name: Option<&str>,
@@ -71,7 +71,8 @@ fn write_file<D: Device>(
     }
 }
 
-/// Writes the files that are asked for, the certificate's first.
+/// Writes the files that are requested, the certificate's first. Fails as `write_file` does; the certificate's file may
+/// then be written.
 fn write_files<D: Device>(
     device: &mut D,
     answer: &AnswerTexts,
@@ -92,7 +93,7 @@ fn write_files<D: Device>(
     }
 }
 
-/// Writes an answer's files and puts its line or plan out. Gives the exit status.
+/// Writes an answer's files and prints its plan or line, and returns the exit status.
 fn put_answer<D: Device>(
     alloc: Global,
     device: &mut D,
@@ -110,7 +111,7 @@ fn put_answer<D: Device>(
     }
 }
 
-/// Replies to the texts of a task: writes and puts out their answer, or reports their fault. Gives the exit status.
+/// Writes and prints the answer for the texts of a task, or reports their fault, and returns the exit status.
 pub(crate) fn reply_answer<D: Device>(
     alloc: Global,
     device: &mut D,

@@ -27,7 +27,7 @@ fn texts_of(answer: SasAnswer) -> AnswerTexts
     }
 }
 
-/// The solver's fault as it is reported.
+/// The solver's fault as the program's.
 fn solve_fault(fault: SasSolveFault) -> Fault
     ensures { (sas : List ℕ) (choices : Choices) (seed : ℕ) → IsSasRefusal sas (IsRefusedBySeed choices seed) fault → IsSasSolveRefusal sas choices seed result }
 {
@@ -38,9 +38,9 @@ fn solve_fault(fault: SasSolveFault) -> Fault
     }
 }
 
-/// The texts of the answer for the task of a text.
+/// The texts of the answer for the task that the text spells.
 ///
-/// A fault is the first of the text, or a path that is too dear, or want of memory.
+/// Fails with the first fault of the text, with `TotalTooLarge` if a path's total is too large, or with `OutOfMemory`.
 fn answer_of<R: AllocGlobal>(
     rt: &R,
     sas: &[u8],
@@ -55,11 +55,11 @@ fn answer_of<R: AllocGlobal>(
     }
 }
 
-/// Solves a finite-domain task by steps that are drawn from the seed: reads the file; then writes the certificate and the plan where that is
-/// asked for, and puts out the plan, `unsolvable` or `limit`; or reports a fault.
+/// Solves a finite-domain task by steps drawn from the seed: reads the file; then writes the certificate and the plan, if
+/// requested, and prints the plan, `unsolvable` or `limit`; or reports a fault.
 ///
-/// Gives the exit status: 0 with a plan, 4 where there is none, 5 at a limit, or the fault's. For `unsolvable` no plan is written, and for
-/// `limit` no file.
+/// Returns the exit status: 0 with a plan, 4 if there is none, 5 at a limit, or the fault's. For `unsolvable` no plan is
+/// written, and for `limit` no file.
 pub fn run_solve_sas<D: Device, R: AllocGlobal>(
     rt: &R,
     device: &mut D,

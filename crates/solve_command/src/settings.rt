@@ -1,16 +1,16 @@
-//! What a command is asked beside its task.
+//! What a solve command is given beside its task.
 
 use solver::Options;
 
-/// What the words of a solve command ask for beside its files.
+/// What the words of a solve command request beside its files.
 #[derive(Drop)]
 pub struct Settings<'a> {
-    /// By how many owners, with how large tables, and within which limits the task is solved.
+    /// The number of owners, the size of tables, and the limits of the search.
     pub options: Options,
-    /// The seed that the owners' steps are drawn from.
+    /// The seed from which the owners' steps are drawn.
     pub seed: u64,
-    /// The name of the file that a plan is written to, if one is asked for.
+    /// The name of the file to which the plan is written, if requested.
     pub plan: Option<&'a str>,
-    /// The name of the file that a certificate is written to, if one is asked for.
+    /// The name of the file to which the certificate is written, if requested.
     pub cert: Option<&'a str>,
 }

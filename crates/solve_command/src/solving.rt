@@ -30,7 +30,7 @@ fn texts_of(answer: PlanningAnswer) -> AnswerTexts
     }
 }
 
-/// The planner's fault as it is reported.
+/// The planner's fault as the program's.
 fn solve_fault(alloc: Global, fault: PlanningFault, domain: &[u8], problem: &[u8]) -> Fault
     ensures { (choices : Choices) (seed : ℕ) → IsPlanningRefusal domain.now problem.now (IsRefusedBySeed choices seed) fault →
         IsSolveRefusal domain.now problem.now choices seed result }
@@ -44,9 +44,10 @@ fn solve_fault(alloc: Global, fault: PlanningFault, domain: &[u8], problem: &[u8
     }
 }
 
-/// The texts of the answer for the task of two texts.
+/// The texts of the answer for the task that the texts spell.
 ///
-/// A fault is the one of the texts that goes first, or a limit that is passed, or want of memory.
+/// Fails with the fault of the texts that comes first, if the task, its translation or a path's total exceeds a limit, or
+/// with `OutOfMemory`.
 fn answer_of<R: AllocGlobal>(
     rt: &R,
     domain: &[u8],
@@ -62,11 +63,11 @@ fn answer_of<R: AllocGlobal>(
     }
 }
 
-/// Solves a planning task by steps that are drawn from the seed: reads the two files; then writes the certificate and the plan where that is
-/// asked for, and puts out the plan, `unsolvable` or `limit`; or reports a fault.
+/// Solves a planning task by steps drawn from the seed: reads the two files; then writes the certificate and the plan, if
+/// requested, and prints the plan, `unsolvable` or `limit`; or reports a fault.
 ///
-/// Gives the exit status: 0 with a plan, 4 where there is none, 5 at a limit, or the fault's. For `unsolvable` no plan is written, and for
-/// `limit` no file.
+/// Returns the exit status: 0 with a plan, 4 if there is none, 5 at a limit, or the fault's. For `unsolvable` no plan is
+/// written, and for `limit` no file.
 pub fn run_solve<D: Device, R: AllocGlobal>(
     rt: &R,
     device: &mut D,

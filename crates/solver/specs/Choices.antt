@@ -1,8 +1,8 @@
--- How a task is to be solved.
+-- Options of the solver.
 use Rattle.std.specs.Prelude.{ℕ, Option}
 
--- by how many owners, with tables of how many abstract states; how many nodes each owner may expand, if there is a limit, and how many
--- steps a simulation may take
+-- the number of owners, the greatest number of abstract states of a table, the greatest number of nodes that each owner
+-- may expand, if there is a limit, and the greatest number of steps of a simulation
 pub record Choices : Type 0 where
   pub workers : ℕ
   pub table : ℕ

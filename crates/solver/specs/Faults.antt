@@ -1,4 +1,4 @@
--- Faults of a search as faults of what asked for it.
+-- Faults of a search as faults of the solver.
 use Rattle.solver.specs.declared.fault.SearchFault.{SearchFault}
 use Rattle.solver.specs.declared.fault.SearchFault.TheVariants.{OutOfMemory, TotalTooLarge}
 use Rattle.solver.specs.declared.fault.SasSolveFault.{SasSolveFault}

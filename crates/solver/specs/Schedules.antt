@@ -14,7 +14,7 @@ use Rattle.netcore.specs.Possible.{possible_steps}
 
 -- ---- words
 
--- the state of Xoshiro256++ (Blackman and Vigna 2021) after so many words from a seed
+-- the state of Xoshiro256++ (Blackman and Vigna 2021) after a number of words from a seed
 abbrev pub state_after : ℕ → ℕ → List ℕ
 state_after seed zero = of_seed (splitmix_seed 32 seed)
 state_after seed (suc count) = (plus_plus (state_after seed count)).1
@@ -23,18 +23,19 @@ state_after seed (suc count) = (plus_plus (state_after seed count)).1
 abbrev pub word_of : ℕ → ℕ → ℕ
 word_of seed number = (plus_plus (state_after seed number)).0
 
--- the generator goes on as after so many words from the seed
+-- the generator continues as after this number of words from the seed
 abbrev pub IsAfterWords : ℕ → ℕ → List ℕ → Type 0
 IsAfterWords seed count generator =
     stream_of (steps_u64_high plus_plus) generator ≡ stream_of (steps_u64_high plus_plus) (state_after seed count)
 
 -- ---- steps
 
--- in this world the word draws the step: the one of its number, modulo how many there are, among those that would change something
+-- in this world the word draws the step: of the steps that would change something, the one whose number is the word
+-- modulo their number
 abbrev pub Draws : {S : Type 0} → (S → List ℕ → ℕ → ℕ) → WorldOf S → ℕ → WorldStep → Type 0
 Draws owner w word step = slice_get (possible_steps owner w) (word % length (possible_steps owner w)) ≡ Some step
 
--- after these steps so many owners of the space have something left to do, and the next word from the seed draws the step
+-- after the steps before, n owners of the space have work left, and the next word from the seed draws the step
 pub record IsNextDrawn {S : Type 0} (owner : S → List ℕ → ℕ → ℕ) (space : SpaceOf S) (n seed : ℕ) (before : List WorldStep) (step : WorldStep)
     : Type 0 where
   pub world : WorldOf S
@@ -44,14 +45,14 @@ pub record IsNextDrawn {S : Type 0} (owner : S → List ℕ → ℕ → ℕ) (sp
   pub left : (shown : machine.World) → Shows owner world shown → 0 < machine.count (space_in owner world) shown
   pub drawn : Draws owner world (word_of seed (length before)) step
 
--- each of the steps is drawn in its turn
+-- each of the steps is drawn after those before it
 abbrev pub AreDrawn : {S : Type 0} → (S → List ℕ → ℕ → ℕ) → SpaceOf S → ℕ → ℕ → List WorldStep → Type 0
 AreDrawn owner space n seed asked = (i : ℕ) (step : WorldStep) → At asked i step → IsNextDrawn owner space n seed (take i asked) step
 
 -- ---- simulations
 
--- the world after steps that are drawn, at most so many, in which nothing is left to do; or there is one after exactly so many in which
--- something is
+-- the world after steps that are drawn, at most `most`, whose count is 0; or some world after exactly `most` steps has a
+-- count above 0
 abbrev pub IsSimulated : {S : Type 0} → (S → List ℕ → ℕ → ℕ) → SpaceOf S → ℕ → ℕ → ℕ → Option (WorldOf S) → Type 0
 IsSimulated owner space n seed most (Some w) =
     (asked : List WorldStep) × AreDrawn owner space n seed asked × (after : IsAfter owner (searched owner space n) asked w)

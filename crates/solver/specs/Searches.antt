@@ -15,12 +15,12 @@ use Rattle.solver.specs.Schedules.{AreDrawn}
 use Rattle.solver.specs.declared.fault.SearchFault.{SearchFault}
 use Rattle.solver.specs.declared.fault.SearchFault.TheVariants.{OutOfMemory, TotalTooLarge}
 
--- a space of the task, with the states spread by a hash and this limit
+-- a space of the task, with this limit and the states spread by a hash
 pub record IsSpaceFor (task : FiniteDomainTask) (choices : Choices) (space : SpaceOf spread.Zobrist) : Type 0 where
   pub task_is : space.task ≡ task
   pub limit_is : space.limit ≡ choices.limit
 
--- the world of so many owners of the space after the steps
+-- the world of the chosen number of owners of the space, after the steps
 pub record IsWorldAfter (space : SpaceOf spread.Zobrist) (choices : Choices) (steps : List WorldStep) (w : WorldOf spread.Zobrist) : Type 0 where
   pub after : IsAfter zobrist_owner (searched zobrist_owner space choices.workers) steps w
   pub space_is : w.space ≡ space
@@ -30,7 +30,7 @@ pub record IsWorldAfter (space : SpaceOf spread.Zobrist) (choices : Choices) (st
 abbrev pub IsSettledWorld : WorldOf spread.Zobrist → Distance → Type 0
 IsSettledWorld w bound = IsSettledAt (space_in zobrist_owner w) w.owners (left_in w) bound
 
--- one of the steps is refused, for this fault
+-- one of the steps is refused with this fault
 abbrev pub IsRefusedRun : SpaceOf spread.Zobrist → Choices → List WorldStep → Rattle.owner.specs.declared.fault.OwnerFault.OwnerFault → Type 0
 IsRefusedRun space choices steps e = IsRunRefusal zobrist_owner (searched zobrist_owner space choices.workers) steps e
 
@@ -42,14 +42,15 @@ IsSettledAfter choices steps task bound =
     (space : SpaceOf spread.Zobrist) × IsSpaceFor task choices space
     × ((w : WorldOf spread.Zobrist) × IsWorldAfter space choices steps w × IsSettledWorld w bound)
 
--- after the steps the owners are not settled, or one of the steps asks an owner to expand more nodes than it may
+-- after the steps the owners are not settled, or one of the steps requests an owner to expand more nodes than its limit
+-- allows
 abbrev pub IsShortAfter : Choices → List WorldStep → FiniteDomainTask → Type 0
 IsShortAfter choices steps task =
     (space : SpaceOf spread.Zobrist) × IsSpaceFor task choices space
     × (IsRefusedRun space choices steps owner_fault.LimitReached
     ⊎ ((w : WorldOf spread.Zobrist) × IsWorldAfter space choices steps w × ((bound : Distance) → IsSettledWorld w bound → ⊥)))
 
--- a step leads past the greatest total, unless memory ran out
+-- a step is refused as its total is too large, or memory ran out
 abbrev pub IsRefusedAfter : Choices → List WorldStep → FiniteDomainTask → SearchFault → Type 0
 IsRefusedAfter choices steps task OutOfMemory = Unit {0}
 IsRefusedAfter choices steps task TotalTooLarge =
@@ -57,15 +58,15 @@ IsRefusedAfter choices steps task TotalTooLarge =
 
 -- ---- by steps that are drawn
 
--- after steps that are drawn from the seed, not more than may be, the owners are settled at the bound
+-- after steps that are drawn from the seed, at most as many as the options allow, the owners are settled at the bound
 abbrev pub IsSettledBySeed : Choices → ℕ → FiniteDomainTask → Distance → Type 0
 IsSettledBySeed choices seed task bound =
     (steps : List WorldStep) × (space : SpaceOf spread.Zobrist) × IsSpaceFor task choices space
     × AreDrawn zobrist_owner space choices.workers seed steps × (length steps ≤ choices.steps)
     × ((w : WorldOf spread.Zobrist) × IsWorldAfter space choices steps w × IsSettledWorld w bound)
 
--- after as many steps drawn from the seed as may be something is left to do, or one of the steps asks an owner to expand more nodes than
--- it may
+-- after the greatest number of steps, drawn from the seed, there is work left, or one of the steps requests an owner to
+-- expand more nodes than its limit allows
 abbrev pub IsShortBySeed : Choices → ℕ → FiniteDomainTask → Type 0
 IsShortBySeed choices seed task =
     (steps : List WorldStep) × (space : SpaceOf spread.Zobrist) × IsSpaceFor task choices space
@@ -74,7 +75,7 @@ IsShortBySeed choices seed task =
     ⊎ ((length steps ≡ choices.steps) × ((w : WorldOf spread.Zobrist) × IsWorldAfter space choices steps w
     × ((world : machine.World) → Shows zobrist_owner w world → 0 < machine.count (space_in zobrist_owner w) world))))
 
--- a step that is drawn from the seed leads past the greatest total, unless memory ran out
+-- a step that is drawn from the seed is refused as its total is too large, or memory ran out
 abbrev pub IsRefusedBySeed : Choices → ℕ → FiniteDomainTask → SearchFault → Type 0
 IsRefusedBySeed choices seed task OutOfMemory = Unit {0}
 IsRefusedBySeed choices seed task TotalTooLarge =

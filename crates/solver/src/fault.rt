@@ -1,4 +1,4 @@
-//! Why there is no answer.
+//! Why a search or a solver gives no answer.
 
 ghost use Rattle.std.specs.Prelude.{◌≡◌};
 ghost use Rattle.solver.specs.declared.fault.SearchFault.TheVariants as search;
@@ -9,13 +9,13 @@ use sasfile::SasFault;
 use std::alloc::AllocError;
 use thiserror::Error;
 
-/// Why a search does not come to its end.
+/// Why a search gives no finding.
 #[derive(Clone, Copy, Debug, PartialEq, Eq, Error)]
 pub enum SearchFault {
-    /// Memory ran out. It says nothing of the task.
+    /// Memory ran out. This says nothing about the task.
     #[error("out of memory")]
     OutOfMemory,
-    /// A path would cost more, or have more operators, than 2^62.
+    /// A path would have a cost, or a number of operators, above 2^62.
     #[error("a path past 2^62")]
     TotalTooLarge,
 }
@@ -23,13 +23,13 @@ pub enum SearchFault {
 /// Why a finite-domain task is not solved.
 #[derive(Clone, Copy, Debug, PartialEq, Eq, Error)]
 pub enum SasSolveFault {
-    /// Memory ran out. It says nothing of the task.
+    /// Memory ran out. This says nothing about the task.
     #[error("out of memory")]
     OutOfMemory,
     /// The text of the task is refused.
     #[error("the task is refused: {0}")]
     Sas(SasFault),
-    /// F60: a path would cost more, or have more operators, than 2^62.
+    /// F60: a path would have a cost, or a number of operators, above 2^62.
     #[error("a path past 2^62")]
     TotalTooLarge,
 }

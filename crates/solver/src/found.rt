@@ -1,4 +1,4 @@
-//! What a search has found.
+//! The finding of a search.
 
 ghost use Rattle.std.specs.Prelude.{◌≡◌, IfOk};
 ghost use Rattle.certificates.specs.Views.{kind_of};
@@ -13,29 +13,29 @@ use joined::Joined;
 use spread::Spread;
 use std::alloc::{AllocError, Global};
 
-/// A cheapest plan.
+/// A cheapest plan, with a certificate of its cost.
 #[derive(Drop)]
 pub struct Solution {
-    /// What it costs.
+    /// The cost of the plan.
     pub cost: u64,
-    /// The numbers of its operators, in their order.
+    /// The numbers of its operators, counted from 0, in the order of the plan.
     pub plan: Vec<usize>,
-    /// A certificate that no plan costs less.
+    /// A certificate that every plan costs at least `cost`.
     pub certificate: Certificate,
 }
 
-/// What a search has found.
+/// The finding of a search.
 #[derive(Drop)]
 pub enum Found {
     /// A cheapest plan.
     Solved(Solution),
-    /// That there is no plan, with a certificate of that.
+    /// There is no plan; a certificate of that.
     Unsolvable(Certificate),
-    /// Nothing yet.
+    /// The search was not settled.
     Unsettled,
 }
 
-/// The plan of a search that is settled at a cost.
+/// The solution of a search that is settled at a cost. Fails only if allocation fails.
 fn solution_of<'a, S: Spread + Drop>(
     alloc: Global,
     joined: &Joined<'a, S>,
@@ -61,8 +61,8 @@ fn solution_of<'a, S: Spread + Drop>(
     }
 }
 
-/// What the search has found: where it is settled, a cheapest plan or that there is none, with a certificate for this kind of task. An
-/// `Err` is of too little memory.
+/// The finding of the search: if it is settled, a cheapest plan, or that there is none, with a certificate of this kind;
+/// else `Unsettled`. Fails only if allocation fails.
 pub fn found_by<'a, S: Spread + Drop>(
     alloc: Global,
     joined: &Joined<'a, S>,

@@ -1,4 +1,5 @@
-//! Solving: from the texts of a task and a schedule of owners' steps to a cheapest plan, or that there is none, with a certificate.
+//! Solving: from the text of a finite-domain task and a schedule of the owners' steps to a cheapest plan, or that there
+//! is none, with a certificate.
 #![tactic(auto)]
 
 mod fault;

@@ -1,16 +1,17 @@
-//! How a task is to be solved.
+//! Options of the solver.
 
 ghost use Rattle.std.specs.Prelude.{◌≡◌, ◌≤◌, ◌^◌, Some, None};
 
 use std::marker::Model;
 
-/// As many owners as there may be.
+/// The greatest number of owners.
 pub const MOST_WORKERS: usize = 64;
 
-/// As many abstract states as a table may have.
+/// The greatest number of abstract states of a table, 2^24.
 pub const MOST_TABLE: usize = 16_777_216;
 
-/// How a task is to be solved: by how many owners, with how large tables, and within which limits.
+/// How a task is solved: the number of owners (1 to 64), the greatest number of abstract states of a table (1 to 2^24),
+/// the limit on the nodes that each owner expands, if there is one, and the greatest number of steps of a simulation.
 #[derive(Debug, Drop)]
 pub struct Options {
     workers: usize,
@@ -31,7 +32,8 @@ impl Model for Options {
 }
 
 impl Options {
-    /// 4 owners, tables of at most 100,000 abstract states, no limit on expansions, and 1,000,000 steps of a simulation.
+    /// The defaults: 4 owners, tables of at most 100,000 abstract states, no limit on expansions, and 1,000,000 steps of
+    /// a simulation.
     pub fn new() -> Options
         ensures { result ≡ record { workers = 4; table = 100000; limit = None; steps = 1000000 } }
     {
@@ -43,7 +45,7 @@ impl Options {
         }
     }
 
-    /// With so many owners.
+    /// These options with this number of owners, 1 to 64.
     pub fn with_workers(self, workers: usize) -> Options
         requires some { 1 ≤ workers }
         requires few { workers ≤ 64 }
@@ -52,7 +54,7 @@ impl Options {
         Options { workers, ..self }
     }
 
-    /// With tables of at most so many abstract states.
+    /// These options with tables of at most this number of abstract states, 1 to 2^24.
     pub fn with_table(self, table: usize) -> Options
         requires some { 1 ≤ table }
         requires few { table ≤ 2 ^ 24 }
@@ -61,7 +63,7 @@ impl Options {
         Options { table, ..self }
     }
 
-    /// With a limit on how many nodes each owner expands.
+    /// These options with this limit on the number of nodes that each owner expands.
     pub fn with_limit(self, limit: u64) -> Options
         ensures { result ≡ record self { limit = Some limit } }
     {
@@ -71,14 +73,14 @@ impl Options {
         }
     }
 
-    /// With so many steps of a simulation.
+    /// These options with this greatest number of steps of a simulation.
     pub fn with_steps(self, steps: u64) -> Options
         ensures { result ≡ record self { steps = steps } }
     {
         Options { steps, ..self }
     }
 
-    /// How many owners there are.
+    /// The number of owners.
     pub fn workers(&self) -> usize
         ensures value { result ≡ self.now.workers }
         ensures some { 1 ≤ result }
@@ -87,7 +89,7 @@ impl Options {
         self.workers
     }
 
-    /// How many abstract states a table may have.
+    /// The greatest number of abstract states of a table.
     pub fn table(&self) -> usize
         ensures value { result ≡ self.now.table }
         ensures some { 1 ≤ result }
@@ -96,14 +98,14 @@ impl Options {
         self.table
     }
 
-    /// How many nodes each owner may expand, if there is a limit.
+    /// The greatest number of nodes that each owner may expand, if there is a limit.
     pub fn limit(&self) -> Option<u64>
         ensures { result ≡ self.now.limit }
     {
         self.limit
     }
 
-    /// How many steps a simulation may take.
+    /// The greatest number of steps of a simulation.
     pub fn steps(&self) -> u64
         ensures { result ≡ self.now.steps }
     {

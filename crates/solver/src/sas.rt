@@ -1,4 +1,4 @@
-//! Finite-domain tasks from their texts.
+//! Solving a finite-domain task, from text to texts.
 
 ghost use Rattle.std.specs.Prelude.{◌≡◌, ℕ, List, IfOk, IfErr};
 ghost use Rattle.certificates.specs.Certificates.{FiniteDomain};
@@ -19,31 +19,31 @@ use sas_writer::sas_plan_text;
 use sasfile::{SasFault, read_sas};
 use std::alloc::{AllocError, Global};
 
-/// A cheapest plan of a finite-domain task.
+/// A cheapest plan of a finite-domain task, with its text and that of a certificate.
 #[derive(Drop)]
 pub struct SasSolution {
-    /// What it costs.
+    /// The cost of the plan.
     pub cost: u64,
-    /// The numbers of its operators, in their order.
+    /// The numbers of its operators, counted from 0, in the order of the plan.
     pub plan: Vec<usize>,
-    /// The plan as a text.
+    /// The text of the plan.
     pub plan_text: String,
-    /// The text of a certificate that no plan costs less.
+    /// The text of a certificate that every plan costs at least `cost`.
     pub cert: Vec<u8>,
 }
 
-/// What is answered for a finite-domain task.
+/// The answer for a finite-domain task.
 #[derive(Drop)]
 pub enum SasAnswer {
     /// A cheapest plan.
     Solved(SasSolution),
     /// There is no plan; the text of a certificate of that.
     Unsolvable(Vec<u8>),
-    /// The search was stopped before it found the one or the other.
+    /// The search ended before it found either.
     Limit,
 }
 
-/// The task that the text spells, or the text's first fault.
+/// The task that the text spells. Fails with the first fault of the text, or if allocation fails.
 fn read_task(alloc: Global, sas: &[u8]) -> Result<FdrTask, SasSolveFault>
     ensures found { IfOk result (λ task. SpellsTask sas.now task) }
     ensures fault { IfErr result (IsSasRefusal sas.now (λ task e. ⊥)) }
@@ -55,7 +55,7 @@ fn read_task(alloc: Global, sas: &[u8]) -> Result<FdrTask, SasSolveFault>
     }
 }
 
-/// The texts of a plan and of its certificate.
+/// The solution with the texts of its plan and its certificate. Fails only if allocation fails.
 fn solution_texts(
     alloc: Global,
     task: &FdrTask,
@@ -75,7 +75,7 @@ fn solution_texts(
     })
 }
 
-/// The texts of what a search has found.
+/// The answer with the texts of what a search has found. Fails only if allocation fails.
 fn answer_texts(alloc: Global, task: &FdrTask, found: Found) -> Result<SasAnswer, AllocError>
     requires { IsTrueOf task.now FiniteDomain found }
     ensures { (sas : List ℕ) → SpellsTask sas task.now → IfOk result (HasTextsOf sas task.now found) }
@@ -90,10 +90,12 @@ fn answer_texts(alloc: Global, task: &FdrTask, found: Found) -> Result<SasAnswer
     }
 }
 
-/// The answer for the task that the text spells, after these steps of a world of owners: a cheapest plan, or that there is none, with a
-/// certificate that the checker accepts, or `Limit` where the owners are not settled by then or one is to expand more nodes than it may.
+/// The answer for the task that the text spells, after these steps of a world of owners: a cheapest plan, or that there
+/// is none, with a certificate that the checker accepts if its text has at most 2^30 bytes; `Limit` if the owners are not
+/// settled after the steps, or a step requests an owner to expand more nodes than its limit allows.
 ///
-/// A fault is the first of the text; or `TotalTooLarge`, of a step; or of too little memory.
+/// Fails with the first fault of the text, with `TotalTooLarge` if a path would have a cost or a number of operators
+/// above 2^62, or if allocation fails.
 pub fn solve_sas_steps<R: AllocGlobal>(
     rt: &R,
     sas: &[u8],
@@ -109,8 +111,10 @@ pub fn solve_sas_steps<R: AllocGlobal>(
     Ok(answer_texts(alloc, &task, found)?)
 }
 
-/// The answer for the task that the text spells, after the steps that the seed draws, as many as the options allow: each is the next word of
-/// Xoshiro256++ modulo the number of steps that would change something. What is promised is what `solve_sas_steps` promises of these steps.
+/// The answer for the task that the text spells, after steps drawn from the seed, at most as many as the options allow:
+/// each is the step whose number is the next word of Xoshiro256++ modulo the number of steps that would change something.
+/// The guarantees are those of `solve_sas_steps` for these steps, but `Limit` is answered if there is work left after the
+/// last one.
 pub fn simulate_sas<R: AllocGlobal>(
     rt: &R,
     sas: &[u8],

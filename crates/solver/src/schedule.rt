@@ -1,4 +1,4 @@
-//! Schedules that are drawn.
+//! Schedules that are drawn from a seed.
 
 ghost use Rattle.std.specs.Prelude.{◌≡◌, ℕ, ◌<◌, ◌+◌, length, IfOk, IfErr};
 ghost use Rattle.netcore.specs.Possible.{possible_steps};
@@ -11,7 +11,8 @@ use rand_xoshiro::Xoshiro256PlusPlus;
 use spread::Spread;
 use std::alloc::Global;
 
-/// The step that the next word draws: the one of its number, modulo how many there are, among those that would change something.
+/// The step that the next word draws: of the steps that would change something, the one whose number is the word modulo
+/// their number.
 fn drawn<'a, S: Spread + Drop>(
     world: &World<'a, S>,
     generator: &mut Xoshiro256PlusPlus,
@@ -24,9 +25,10 @@ fn drawn<'a, S: Spread + Drop>(
     world.possible_step(word % world.possible_count()).unwrap()
 }
 
-/// A world whose steps are drawn one after another: each is the next word of Xoshiro256++ (Blackman and Vigna 2021) from this seed modulo
-/// the number of steps that would change something, in the order in which the world lists them. It ends where nothing is left to do, or
-/// gives `None` after so many steps. A fault is that of a step.
+/// A world after steps drawn one after another: each is, of the steps that would change something, in the world's order,
+/// the one whose number is the next word of Xoshiro256++ (Blackman and Vigna 2021) from this seed modulo their number.
+/// The run ends when the world's count is 0; if it is not 0 after `steps` steps, the result is `None`. A fault is that of
+/// a step, or `OutOfMemory`.
 pub fn simulated<'a, S: Spread + Drop>(
     alloc: Global,
     space: &'a Space<'a, S>,

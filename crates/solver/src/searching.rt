@@ -1,4 +1,4 @@
-//! Searches for a task, by a schedule that is given or drawn.
+//! Searches for a plan of a task, by a schedule that is given or drawn.
 
 ghost use Rattle.std.specs.Prelude.{◌≡◌, IfOk, IfErr};
 ghost use Rattle.certificates.specs.Views.{kind_of};
@@ -17,7 +17,8 @@ use scp::choose_columns;
 use spread::Zobrist;
 use std::alloc::{AllocError, Global};
 
-/// What is searched for a task: columns of tables as large as the options say, and a spread of its states by a hash.
+/// The search space for a task: columns of tables of the size that the options allow, and a spread of the states by a
+/// hash. Fails only if allocation fails.
 fn space_for<'a>(
     alloc: Global,
     task: &'a FdrTask,
@@ -31,10 +32,11 @@ fn space_for<'a>(
     Space::new(alloc, task, columns, spread, options.limit())
 }
 
-/// What is found of the task after these steps of a world of owners: a cheapest plan, or that there is none, with a certificate of that
-/// kind; `Unsettled` where the owners are not settled by then, or one is to expand more nodes than it may.
+/// The finding for the task after these steps of a world of owners: a cheapest plan, or that there is none, with a
+/// certificate of that kind; `Unsettled` if the owners are not settled after the steps, or a step requests an owner to
+/// expand more nodes than its limit allows.
 ///
-/// A fault is that of a step, or of too little memory.
+/// Fails with `TotalTooLarge` if a path would have a cost or a number of operators above 2^62, or if allocation fails.
 pub fn found_after<'a>(
     alloc: Global,
     task: &'a FdrTask,
@@ -54,10 +56,11 @@ pub fn found_after<'a>(
     }
 }
 
-/// What is found of the task after the steps that the seed draws, as many as the options allow: a cheapest plan, or that there is none, with a
-/// certificate of that kind; `Unsettled` where something is left to do by then, or an owner is to expand more nodes than it may.
+/// The finding for the task after steps drawn from the seed, at most as many as the options allow: a cheapest plan, or
+/// that there is none, with a certificate of that kind; `Unsettled` if there is work left after the last step, or an
+/// owner is to expand more nodes than its limit allows.
 ///
-/// A fault is that of a step, or of too little memory.
+/// Fails with `TotalTooLarge` if a path would have a cost or a number of operators above 2^62, or if allocation fails.
 pub fn found_by_seed<'a>(
     alloc: Global,
     task: &'a FdrTask,

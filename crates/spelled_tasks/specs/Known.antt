@@ -1,15 +1,15 @@
--- Tasks that name their own atoms alone, and names that are words.
+-- Tasks that name only their own atoms, and names that are words.
 use Rattle.std.specs.Prelude.{◌≢◌, ℕ, ◌≤◌, List, [], All}
 use Rattle.planning.specs.Atoms.{Literal}
 use Rattle.planning.specs.Planning.{PlanningTask, Vocabulary, Action, IsActionOf, IsAtomOf}
 
--- what is initially true, what is a goal and what an action adds is an atom of the task
+-- the initial atoms, the atoms of the goal and those that actions add are atoms of the task
 pub record KnowsItsAtoms (task : PlanningTask) : Type 0 where
   pub initial : All (IsAtomOf task) task.initial
   pub goals : All (λ (l : Literal). IsAtomOf task l.atom) task.goal
   pub added : (a : Action) → IsActionOf task a → All (IsAtomOf task) a.adds
 
--- printed, and no blank
+-- a printable byte that is no blank
 abbrev pub IsWordByte : ℕ → Type 0
 IsWordByte b = (33 ≤ b) × (b ≤ 126)
 

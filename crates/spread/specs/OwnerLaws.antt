@@ -1,4 +1,4 @@
--- Owners are below their count.
+-- Owners are below the number of owners.
 use Rattle.std.proofs.Common.{ℕ, ◌<◌, ◌%◌, List, [], ◌∷◌, arith}
 use Rattle.spread.specs.Spreads.{Zobrist, value_owner, zobrist_owner, hash, firsts_of}
 use Rattle.fdr.specs.Tasks.{ranges}

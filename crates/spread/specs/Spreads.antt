@@ -1,5 +1,5 @@
--- Which of several owners has a state, as Hash Distributed A* needs it (Kishimoto, Fukunaga and Botea 2013). States are those of
--- finite-domain tasks, and owners are counted from 0.
+-- Which owner a state has in hash distributed A* (Kishimoto, Fukunaga and Botea 2013). States are those of finite-domain
+-- tasks, and owners are counted from 0.
 use Rattle.std.specs.Prelude.{ℕ, ◌+◌, ◌%◌, List, [], ◌∷◌, length, map, take, slice_index, fold, sum, bit_xor}
 use Rattle.std.specs.List.{range_with_len}
 use Rattle.rand_core.specs.Steps.{first_words}
@@ -11,11 +11,12 @@ abbrev pub value_owner : List ℕ → ℕ → ℕ
 value_owner [] owners = 0
 value_owner (value ∷ values) owners = value % owners
 
--- the first words of SplitMix64 (Steele, Lea and Flood 2014) from a seed
+-- the first words, a number of them, of SplitMix64 (Steele, Lea and Flood 2014) from a seed
 abbrev pub splitmix_words : ℕ → ℕ → List ℕ
 splitmix_words seed count = first_words mix_u64 count seed
 
--- where each variable's words begin, which stand one after the other in one list: a word for each of its values
+-- the place of each variable's first word in the list of the words of all variables, which has a word for each value of
+-- each variable
 abbrev pub firsts_of : List ℕ → List ℕ
 firsts_of ranges = map (λ variable. sum (take variable ranges)) (range_with_len 0 (length ranges))
 
@@ -27,7 +28,7 @@ word_of words firsts state variable = slice_index words (slice_index firsts vari
 abbrev pub hash : List ℕ → List ℕ → List ℕ → ℕ
 hash words firsts state = fold bit_xor 0 (map (word_of words firsts state) (range_with_len 0 (length firsts)))
 
--- a task, and a word for each of its variables' values
+-- a task, and a word for each value of its variables
 pub record Zobrist : Type 0 where
   pub task : FiniteDomainTask
   pub words : List ℕ

@@ -1,4 +1,4 @@
-//! Owners by one value.
+//! Owners by the value of one variable.
 
 ghost use Rattle.std.specs.Prelude.{◌≡◌};
 
@@ -6,9 +6,9 @@ use crate::spread::Spread;
 use fdr::FdrTask;
 use std::marker::Model;
 
-/// The spread by which the owner is the value of variable 0 modulo the count of owners, and 0 for a task without a variable.
-/// It sends each state whose variable 0 has the same value to one owner, so at most as many owners have states as that
-/// variable has values. A contract sees the task.
+/// The spread by which the owner of a state is the value of variable 0 modulo the number of owners, and 0 for a task
+/// without variables. All states with the same value of variable 0 have the same owner, so at most as many owners have
+/// states as that variable has values. A contract sees the task.
 #[derive(Drop)]
 pub struct ByValue<'a> {
     task: &'a FdrTask,

@@ -3,8 +3,9 @@
 ghost use Rattle.std.specs.Prelude.{◌≡◌, [], ◌∷◌, ◌%◌};
 ghost use Rattle.spread.specs.Spreads.{splitmix_words, firsts_of, hash, value_owner};
 
-/// The first words of SplitMix64 from seed 1, where the words of variables with 2, 3 and 1 values begin, and hashes of states
-/// by such words: of ranges 2 and 3, and without a variable. The body is empty.
+/// The first words of SplitMix64 from seed 1; the places at which the words of variables with 2, 3 and 1 values begin;
+/// hashes by these words of states with ranges 2 and 3, and of a state without variables; and owners by the value of
+/// variable 0. The body is empty.
 pub fn worked_examples()
     ensures words { splitmix_words 1 5 ≡
         0x910a2dec89025cc1 ∷ 0xbeeb8da1658eec67 ∷ 0xf893a2eefb32555e ∷ 0x71c18690ee42c90b ∷ 0x71bb54d8d101b5b9 ∷ [] }

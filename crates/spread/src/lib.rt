@@ -1,4 +1,4 @@
-//! Owners of states: which of several workers of Hash Distributed A* (Kishimoto, Fukunaga and Botea 2013) has a state of a
+//! Owners of states: which worker of hash distributed A* (Kishimoto, Fukunaga and Botea 2013) owns a state of a
 //! finite-domain task.
 #![tactic(auto)]
 

@@ -1,4 +1,4 @@
-//! A word for each value of each variable.
+//! One word for each value of each variable.
 
 ghost use Rattle.std.specs.Prelude.{◌≡◌, ◌+◌, length, sum, IfOk, OnOk};
 ghost use Rattle.fdr.specs.Tasks.{ranges};
@@ -10,17 +10,17 @@ use rand_core::{Rng, SeedableRng};
 use rand_xoshiro::SplitMix64;
 use std::alloc::{AllocError, Global};
 
-/// The seed of the words.
+/// The seed from which the words are drawn.
 const SEED: u64 = 1;
 
-/// The words of all variables, one after the other, and the place of each variable's first.
+/// The words of all variables, one variable after the other, and the place of each variable's first word, counted from 0.
 #[derive(Drop)]
 pub(crate) struct Words {
     pub(crate) words: Vec<u64>,
     pub(crate) firsts: Vec<usize>,
 }
 
-/// Draws so many words more.
+/// Draws `count` more words. Fails only if allocation fails.
 fn draw(generator: &mut SplitMix64, count: usize, words: &mut Vec<u64>) -> Result<(), AllocError>
     requires { IsDrawn 1 words.old.items generator.old }
     ensures drawn { OnOk result (IsDrawn 1 words.new.items generator.new) }
@@ -32,7 +32,8 @@ fn draw(generator: &mut SplitMix64, count: usize, words: &mut Vec<u64>) -> Resul
     Ok(())
 }
 
-/// Draws the words of a task, variable by variable, and of each by its values.
+/// Draws a word for each value of each variable of a task, in the order of variables and then of values. Fails only if
+/// allocation fails.
 pub(crate) fn words_of(alloc: Global, task: &FdrTask) -> Result<Words, AllocError>
     ensures words { IfOk result (λ made. made.words.items ≡ spec.splitmix_words 1 (sum (ranges task.now))) }
     ensures firsts { IfOk result (λ made. made.firsts.items ≡ spec.firsts_of (ranges task.now)) }

@@ -1,4 +1,4 @@
-//! Owners by a hash.
+//! Owners by a hash of the state.
 
 ghost use Rattle.std.specs.Prelude.{◌≡◌, ℕ, ◌+◌, ◌<◌, length, slice_index, sum, IfOk};
 ghost use Rattle.fdr.specs.Tasks as tasks;
@@ -10,10 +10,10 @@ use fdr::FdrTask;
 use std::alloc::{AllocError, Global};
 use std::marker::Model;
 
-/// The spread by which the owner is the hash of the state modulo the count of owners. The hash (Zobrist 1970) is the exclusive
-/// or of a word for each value that a variable has in the state, and 0 for a task without a variable. The words are those of
-/// SplitMix64 (Steele, Lea and Flood 2014) from seed 1, variable by variable, and in each by value. A contract sees the task
-/// and the words.
+/// The spread by which the owner of a state is the state's hash modulo the number of owners. The hash (Zobrist 1970) is
+/// the exclusive or of one word for each variable's value in the state, and 0 for a task without variables. The words are
+/// those of SplitMix64 (Steele, Lea and Flood 2014) from seed 1, in the order of variables and then of values. A contract
+/// sees the task and the words.
 #[derive(Drop)]
 pub struct Zobrist<'a> {
     task: &'a FdrTask,
@@ -31,7 +31,7 @@ impl<'a> Model for Zobrist<'a> {
         (z.firsts.items ≡ spec.firsts_of (tasks.ranges z.task.now)) };
 }
 
-/// The hash of a state.
+/// The hash of a state, from all words and the place of each variable's first word.
 fn hash_of(words: &[u64], firsts: &[usize], state: &[u32]) -> u64
     requires long { length firsts.now ≡ length state.now }
     requires exist { (v : ℕ) → v < length firsts.now → slice_index firsts.now v + slice_index state.now v < length words.now }
@@ -45,7 +45,7 @@ fn hash_of(words: &[u64], firsts: &[usize], state: &[u32]) -> u64
 }
 
 impl<'a> Zobrist<'a> {
-    /// The spread for the task, which takes a word for each value of each variable. An `Err` is of too little memory.
+    /// The spread for the task, with a word of 8 bytes for each value of each variable. Fails only if allocation fails.
     pub fn new(alloc: Global, task: &'a FdrTask) -> Result<Zobrist<'a>, AllocError>
         ensures task { IfOk result (λ z. z.task ≡ task.now) }
         ensures words { IfOk result (λ z. z.words ≡ spec.splitmix_words 1 (sum (tasks.ranges task.now))) }

@@ -1,5 +1,5 @@
--- A worked task: one variable with the values 0, 1 and 2, operators from 0 to 1 and from 1 to 2, and one back to 0 that has no
--- precondition.
+-- An example: one variable with the values 0, 1 and 2, operators from 0 to 1 and from 1 to 2, and one back to 0 that
+-- has no precondition.
 use Rattle.std.specs.Prelude.{ℕ, List, [], ◌∷◌, false}
 use Rattle.fdr.specs.declared.fact.Fact.{Fact}
 use Rattle.fdr.specs.Tasks.{FiniteDomainTask, Operator}

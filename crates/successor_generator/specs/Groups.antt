@@ -1,5 +1,6 @@
--- How a generator keeps the operators: as candidates, in groups under the values of switches. A candidate's group and its guard
--- each name one condition of the operator, so that an operator that applies in a state is in a group that the state chooses.
+-- The data of a successor generator: candidates, in groups under the values of switches. The group and the guard of a
+-- candidate each stand for one fact of the operator's precondition, so that an operator that applies in a state is in a
+-- group that the state selects.
 use Rattle.std.specs.Prelude.{◌≡◌, ℕ, ◌+◌, ◌<◌, ◌≤◌, Bool, true, ◌==◌, ◌&&◌, if◌then◌else◌, nat_lt, List, [], ◌∷◌, length, map, filter, slice_index, slice_range, All, count_by}
 use Rattle.std.specs.List.{flat_map, range_with_len}
 use Rattle.std.specs.List.Sorted.{IsPermutation}
@@ -8,17 +9,17 @@ use Rattle.fdr.specs.Tasks.{FiniteDomainTask, applies_at, holds}
 use Rattle.successor_generator.specs.declared.candidate.Candidate.{Candidate}
 use Rattle.successor_generator.specs.declared.tables.Switch.{Switch}
 
--- the operator applies only where the fact holds
+-- the operator applies only in states in which the fact holds
 abbrev pub NeedsFact : FiniteDomainTask → ℕ → Fact → Type 0
 NeedsFact task o f = (state : List ℕ) → applies_at task o state ≡ true → holds state f ≡ true
 
--- the candidate's guard is on a variable that exists, and the operator needs it and the value of a variable
+-- the guard is on a variable that exists, and the operator needs the guard and this value of the variable
 pub record IsInGroup (task : FiniteDomainTask) (variable value : ℕ) (c : Candidate) : Type 0 where
   pub exists : c.guard.variable < length task.value_names
   pub guard : NeedsFact task c.operator c.guard
   pub key : NeedsFact task c.operator (record { variable = variable; value = value })
 
--- the starts of the switch's groups lie where the switch says, in increasing order, and none is past the candidates
+-- the starts of the groups are where the switch says, in increasing order, and at most the number of candidates
 pub record IsPlaced (count : ℕ) (starts : List ℕ) (w : Switch) : Type 0 where
   pub within : w.first + w.range < length starts
   pub rising : (k : ℕ) → k < w.range → slice_index starts (w.first + k) ≤ slice_index starts (w.first + (k + 1))
@@ -54,11 +55,11 @@ pub record IsGenerator (task : FiniteDomainTask) (ws : List Switch) (starts : Li
 abbrev pub applies_to : FiniteDomainTask → List ℕ → Candidate → Bool
 applies_to task state c = applies_at task c.operator state
 
--- the guard is tested first
+-- whether the guard holds, and then whether the operator applies
 abbrev pub passes : FiniteDomainTask → List ℕ → Candidate → Bool
 passes task state c = holds state c.guard && applies_to task state c
 
--- the group of the value that the switch's variable has in the state
+-- the group of the value that the variable of the switch has in the state
 abbrev pub chosen : List ℕ → List Candidate → List ℕ → Switch → List Candidate
 chosen starts candidates state w =
     if nat_lt (slice_index state w.variable) w.range then group_of starts candidates w (slice_index state w.variable) else []
@@ -72,6 +73,6 @@ found_in_groups task starts candidates state switches = flat_map (found_under ta
 abbrev pub found_outside : FiniteDomainTask → List ℕ → List Candidate → List ℕ
 found_outside task state candidates = numbers_of (filter (applies_to task state) candidates)
 
--- each number is as often in one list as in the other
+-- each number occurs equally often in both lists
 abbrev pub SameNumbers : List ℕ → List ℕ → Type 0
 SameNumbers xs ys = (x : ℕ) → count_by (λ y. y == x) xs ≡ count_by (λ y. y == x) ys

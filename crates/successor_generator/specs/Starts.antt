@@ -1,4 +1,4 @@
--- How the starts of groups come about from entries, which are candidates under their keys.
+-- How the starts of groups are made from entries, which are candidates with their keys.
 use Rattle.std.specs.Prelude.{◌≡◌, ℕ, ◌+◌, ◌<◌, ◌≤◌, List, length, map, slice_index, slice_range, All}
 use Rattle.fdr.specs.Tasks.{FiniteDomainTask}
 use Rattle.successor_generator.specs.declared.candidate.Candidate.{Candidate}
@@ -6,7 +6,7 @@ use Rattle.successor_generator.specs.declared.order.Entry.{Entry}
 use Rattle.successor_generator.specs.declared.tables.Switch.{Switch}
 use Rattle.successor_generator.specs.Groups.{IsInGroup, IsSwitch, AreLinked}
 
--- where the key is on a variable that exists, the operator is in the key's group
+-- if the key is on a variable that exists, the operator is in the key's group
 abbrev pub IsEntry : FiniteDomainTask → Entry → Type 0
 IsEntry task e = e.key.variable < length task.value_names → IsInGroup task e.key.variable e.key.value e.candidate
 
@@ -25,7 +25,7 @@ pub record IsGroup (entries : List Entry) (variable value at end : ℕ) : Type 0
   pub within : end ≤ length entries
   pub keyed : All (HasKey variable value) (slice_range entries at end)
 
--- behind the old starts stand those of the groups of a variable's values, from one place in the entries to another
+-- after the old starts come those of the groups of a variable's values, from one place in the entries to another
 pub record AddsStarts (entries : List Entry) (variable range at end : ℕ) (old new : List ℕ) : Type 0 where
   pub long : length new ≡ length old + (range + 1)
   pub kept : (k : ℕ) → k < length old → slice_index new k ≡ slice_index old k
@@ -33,7 +33,7 @@ pub record AddsStarts (entries : List Entry) (variable range at end : ℕ) (old 
   pub last : slice_index new (length old + range) ≡ end
   pub groups : (k : ℕ) → k < range → IsGroup entries variable k (slice_index new (length old + k)) (slice_index new (length old + (k + 1)))
 
--- the switches and the starts of the entries in front of a place
+-- the switches and the starts for the entries before a place
 pub record AreTables (task : FiniteDomainTask) (entries : List Entry) (ws : List Switch) (starts : List ℕ) (grouped : ℕ) : Type 0 where
   pub switches : All (IsSwitch task starts (candidates_of entries)) ws
   pub linked : AreLinked starts 0 ws grouped

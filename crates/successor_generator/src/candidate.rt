@@ -1,9 +1,9 @@
-//! Operators with one condition each that tells most of them apart.
+//! Operators with the condition that is tested first.
 
 use fdr::Fact;
 
-/// An operator that applies only where its guard holds. An operator without precondition has as its guard a fact on no
-/// variable, which nobody reads.
+/// An operator that applies only if its guard holds. The guard of an operator without precondition is on no variable,
+/// and is never read.
 #[derive(Clone, Copy)]
 pub(crate) struct Candidate {
     pub(crate) operator: usize,

@@ -1,4 +1,4 @@
-//! The generator of a task.
+//! The successor generator of a task.
 
 ghost use Rattle.std.specs.Prelude.{◌≡◌, ◌++◌, [], ◌<◌, All, length, IfOk, OnOk, OnErr, filter};
 ghost use Rattle.successor_generator.specs.Applicable.{applicable_operators};
@@ -11,16 +11,17 @@ use fdr::FdrTask;
 use std::alloc::{AllocError, Global};
 use std::marker::Model;
 
-/// Finds the applicable operators of states of one task. A contract sees the task.
+/// A successor generator: finds the applicable operators of states of one task (Helmert 2006). In contracts its value
+/// is the task.
 ///
-/// Each operator is kept under the one of its conditions, its key, that the fewest operators have, and with a second one, its
-/// guard. A state looks up one group for each variable on which there are keys, and tests the guards there; an operator whose
-/// guard holds is tested in full. So a state costs a look-up for each such variable, a test for each operator in the groups
-/// that it chooses, a full test for each of those whose guard holds, and the sorting of what is found. That is bad where many
-/// operators have no rare condition, since then groups are long: where all variables have two values, half of the guards are
-/// tested.
+/// Each operator is listed under its key, the fact of its precondition that the fewest operators have, together with
+/// its guard, a second fact. A state selects one group for each variable on which there are keys. Guards are tested in
+/// the selected groups, and an operator whose guard holds is tested in full. So a state takes a look-up for each such
+/// variable, a guard test for each operator in the selected groups, a full test for each operator whose guard holds,
+/// and the sorting of the result. This is slow if many operators have no rare fact, since the groups are then long: if
+/// all variables have two values, about half of the guards are tested.
 ///
-/// It takes memory for each operator, and for each value of the variables on which there are keys; none for pairs of these.
+/// It takes memory for each operator, and for each value of the variables on which there are keys.
 #[derive(Drop)]
 pub struct SuccessorGenerator<'a> {
     task: &'a FdrTask,
@@ -41,7 +42,7 @@ impl<'a> Model for SuccessorGenerator<'a> {
     ghost invariant = { λ g. IsGenerator g.task.now g.switches.items g.starts.items g.candidates.items g.grouped };
 }
 
-/// The operators under the value that the state gives a switch's variable.
+/// The operators under the value that the variable of a switch has in the state.
 fn group<'a>(
     switch: Switch,
     starts: &[usize],
@@ -61,7 +62,7 @@ fn group<'a>(
     }
 }
 
-/// Adds those of a group that apply; their guards are tested first.
+/// Appends those operators of a group that apply. Their guards are tested first. Fails only if allocation fails.
 fn add_guarded(
     task: &FdrTask,
     group: &[Candidate],
@@ -81,7 +82,7 @@ fn add_guarded(
     Ok(())
 }
 
-/// Adds those of the candidates outside all groups that apply.
+/// Appends those of the candidates outside all groups that apply. Fails only if allocation fails.
 fn add_others(
     task: &FdrTask,
     others: &[Candidate],
@@ -99,7 +100,8 @@ fn add_others(
     Ok(())
 }
 
-/// Adds those of the grouped candidates that apply, by the groups that the state chooses.
+/// Appends those of the grouped candidates that apply, from the groups that the state selects. Fails only if allocation
+/// fails.
 fn add_chosen(
     task: &FdrTask,
     switches: &[Switch],
@@ -120,8 +122,8 @@ fn add_chosen(
 }
 
 impl<'a> SuccessorGenerator<'a> {
-    /// The generator for the task, which takes time in proportion to the task's values and conditions, and to sort the
-    /// operators. An `Err` is of too little memory.
+    /// Makes the successor generator of the task. It takes time linear in the task's values and preconditions, and the
+    /// time to sort the operators. Fails only if allocation fails.
     pub fn new(alloc: Global, task: &'a FdrTask) -> Result<SuccessorGenerator<'a>, AllocError>
         ensures { IfOk result (λ g. g ≡ task.now) }
     {
@@ -137,11 +139,11 @@ impl<'a> SuccessorGenerator<'a> {
         })
     }
 
-    /// Puts the numbers of the operators that apply in the state, counted from 0 and in increasing order, in place of what
-    /// `found` holds. The state has a value for each variable, and one that is not below the variable's range meets no
-    /// condition.
+    /// Replaces the content of `found` by the numbers of the operators that apply in the state, counted from 0, in
+    /// increasing order. The state must have a value for each variable. A value that is not below the range of its
+    /// variable meets no condition.
     ///
-    /// An `Err` is of too little memory, and leaves `found` empty.
+    /// Fails only if allocation fails, and then leaves `found` empty.
     pub fn applicable(&self, state: &[u32], found: &mut Vec<usize>) -> Result<(), AllocError>
         requires { length state.now ≡ length self.now.value_names }
         ensures found { OnOk result (found.new.items ≡ applicable_operators self.now state.now) }
@@ -160,7 +162,7 @@ impl<'a> SuccessorGenerator<'a> {
         }
     }
 
-    /// Adds the operators that apply, in the order in which they are kept.
+    /// Appends the operators that apply, in the order of the candidates. Fails only if allocation fails.
     fn gather(&self, state: &[u32], found: &mut Vec<usize>) -> Result<(), AllocError>
         requires state { length state.now ≡ length self.now.value_names }
         requires none { found.old.items ≡ [] }

@@ -1,4 +1,4 @@
-//! Laws of the operators that apply. Each function states one as its contract, and its body is empty.
+//! Laws of the applicable operators. Each function states one in its contract; its body is empty.
 
 ghost use Rattle.std.specs.Prelude.{◌≡◌, ℕ, ◌<◌, true, List, [], ◌∷◌, length, Contains};
 ghost use Rattle.std.specs.List.Sorted.{IsStrictlyIncreasing};
@@ -6,15 +6,16 @@ ghost use Rattle.fdr.specs.Tasks.{FiniteDomainTask, applies_at};
 ghost use Rattle.successor_generator.specs.Applicable.{applicable_operators};
 ghost use Rattle.successor_generator.specs.Examples.{road, road_with_return};
 
-/// The numbers increase, so none is there twice, and they are those of the operators that apply.
+/// Proves that the numbers of the applicable operators are strictly increasing, and are exactly those of the operators
+/// that apply.
 pub fn applicable_operators_are_those_that_apply()
     ensures increasing { (task : FiniteDomainTask) (state : List ℕ) → IsStrictlyIncreasing (applicable_operators task state) }
     ensures sound { (task : FiniteDomainTask) (state : List ℕ) (o : ℕ) → Contains (applicable_operators task state) o → applies_at task o state ≡ true }
     ensures complete { (task : FiniteDomainTask) (state : List ℕ) (o : ℕ) → applies_at task o state ≡ true → Contains (applicable_operators task state) o }
 {}
 
-/// Worked tasks: on a road from 0 over 1 to 2 the first operator applies at 0, the second at 1 and none at 2; where one more
-/// operator has no precondition, it applies at each.
+/// Proves the applicable operators of examples: on a road from 0 by 1 to 2 the first operator applies at 0, the second
+/// at 1 and none at 2; one more operator, without precondition, applies everywhere.
 pub fn worked_example()
     ensures first { applicable_operators road (0 ∷ []) ≡ 0 ∷ [] }
     ensures second { applicable_operators road (1 ∷ []) ≡ 1 ∷ [] }

@@ -1,5 +1,5 @@
-//! Successor generation (Helmert 2006, The Fast Downward planning system): which operators of a task apply in a state,
-//! without a test of each.
+//! Successor generation (Helmert 2006, The Fast Downward planning system): the operators of a task that apply in a
+//! state, without a test of each.
 #![tactic(auto)]
 
 mod candidate;

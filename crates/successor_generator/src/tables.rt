@@ -1,4 +1,4 @@
-//! Where the operators of each key begin.
+//! The start of the operators of each key.
 
 ghost use Rattle.std.specs.Prelude.{◌≡◌, ◌+◌, ◌<◌, ◌≤◌, All, length, IfOk, OnErr};
 ghost use Rattle.successor_generator.specs.Starts.{IsEntry, IsGroup, AddsStarts, AreTables};
@@ -7,8 +7,8 @@ use crate::order::Entry;
 use fdr::FdrTask;
 use std::alloc::{AllocError, Global};
 
-/// The groups of the operators whose key is on one variable, one for each of its `range` values. The starts say from the place
-/// `first` on where each group begins, and behind that where the last ends.
+/// The groups of the operators whose key is on one variable, one for each of its `range` values. From the place `first`
+/// on, the starts have the place at which each group begins, followed by the place at which the last one ends.
 #[derive(Clone, Copy)]
 pub(crate) struct Switch {
     pub(crate) variable: usize,
@@ -16,8 +16,8 @@ pub(crate) struct Switch {
     pub(crate) range: usize,
 }
 
-/// The switches of the variables on which there are keys, and the starts of all. The entries behind the first `grouped`
-/// have no key.
+/// The switches of the variables on which there are keys, and the starts of their groups. The entries after the first
+/// `grouped` ones have no key.
 #[derive(Drop)]
 pub(crate) struct Tables {
     pub(crate) switches: Vec<Switch>,
@@ -40,7 +40,8 @@ fn group_end(entries: &[Entry], at: usize, variable: usize, value: usize) -> usi
     end
 }
 
-/// Adds the starts of one variable's values, from `at` on, and gives where its operators end.
+/// Appends the starts of the groups of one variable, from `at` on, and returns the place at which its operators end.
+/// Fails only if allocation fails.
 fn add_starts(
     entries: &[Entry],
     at: usize,
@@ -60,7 +61,7 @@ fn add_starts(
     Ok(end)
 }
 
-/// The tables of entries that stand in the order of their keys.
+/// The tables of entries that are in the order of their keys. Fails only if allocation fails.
 pub(crate) fn tables_of(
     alloc: Global,
     task: &FdrTask,

@@ -1,8 +1,9 @@
--- What is left of a bound once part of it is reached: a sum reaches the bound where its second part reaches what the first leaves.
+-- The remainder of a bound after a part of it has been reached: a sum reaches the bound if its second part reaches the
+-- remainder after the first.
 use Rattle.std.specs.Prelude.{◌-◌}
 use Rattle.cost.specs.Distances.{Distance, Finite, Infinite}
 
--- nothing is left where infinity is reached, and of infinity all is left by a number
+-- nothing remains after an infinite part, and the infinite bound remains after a finite one
 abbrev pub rest_of : Distance → Distance → Distance
 rest_of bound Infinite = Finite 0
 rest_of Infinite (Finite n) = Infinite

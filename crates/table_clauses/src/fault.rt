@@ -1,15 +1,16 @@
-//! Where a table fails.
+//! Faults of one table.
 
 use checker_clauses::Violation;
 
-/// Where a table fails: all numbers count from 0.
+/// A fault of one table. All numbers count from 0.
 #[derive(Clone, Copy)]
 pub(crate) enum TableFault {
-    /// It does not have its form.
+    /// The table does not have the required form.
     Form,
-    /// An abstract goal has another value than 0.
+    /// An abstract goal has a value other than 0.
     Goal(usize),
-    /// The value of an abstract state is more than an operator's share above that of where it leads.
+    /// The value of an abstract state exceeds that of its successor under an operator by more than the operator's
+    /// share.
     Fall(usize, usize),
 }
 
@@ -17,7 +18,7 @@ impl TableFault {
     ghost use Rattle.std.specs.Prelude.{◌≡◌};
     ghost use Rattle.table_clauses.specs.TableFaults.{violation_at};
 
-    /// The same of a table of a column.
+    /// Returns the violation for a table with this fault in a column.
     pub(crate) fn violation(self, column: usize, table: usize) -> Violation
         ensures { result ≡ violation_at column table self }
     {

@@ -1,4 +1,4 @@
-//! The lower bound that tables give.
+//! The heuristic of a certificate's tables.
 
 ghost use Rattle.std.specs.Prelude.{◌≡◌, ◌==◌, true, map, All, IfOk};
 ghost use Rattle.cost.specs.Distances.{Finite, distance_of, is_at_most, ◌+ᵈ◌};
@@ -17,8 +17,8 @@ use fdr::FdrTask;
 use std::alloc::{AllocError, Global};
 use std::marker::Model;
 
-/// What is left of a bound once so much of it is reached; `None` is infinite. Values are taken from the bound one by one, since
-/// their sum may be too large for a number.
+/// The remainder of a bound after a part of it has been reached; `None` is infinite. Values are subtracted from the
+/// bound one by one, since their sum may be out of range.
 fn rest_of(bound: Option<u64>, reached: Option<u64>) -> Option<u64>
     ensures { distance_of result ≡ spec.rest_of (distance_of bound) (distance_of reached) }
 {
@@ -29,7 +29,7 @@ fn rest_of(bound: Option<u64>, reached: Option<u64>) -> Option<u64>
     }
 }
 
-/// Whether the sum of the tables' values at the state reaches the bound.
+/// Whether the sum of the values of the tables at the state is at least the bound.
 fn column_reaches(column: &[ProjectedTable], state: &[u32], bound: Option<u64>) -> bool
     requires { All (λ t. IsState (ranges t.task) state.now) column.now }
     ensures { result ≡ is_at_most (distance_of bound) (column_value state.now (map on_projection column.now)) }
@@ -41,7 +41,7 @@ fn column_reaches(column: &[ProjectedTable], state: &[u32], bound: Option<u64>) 
     rest == Some(0)
 }
 
-/// The tables of a column with their projections.
+/// The tables of a column with their projections. Fails only if allocation fails.
 fn project_column<'a>(
     alloc: Global,
     task: &'a FdrTask,
@@ -61,8 +61,8 @@ fn project_column<'a>(
     Ok(made)
 }
 
-/// The lower bound that a certificate's tables give on the cost from a state on: the greatest over the columns of the sums
-/// of their tables' values, and 0 without a column. A contract sees the task and the columns of tables.
+/// The heuristic of a certificate's tables: the greatest over the columns of the sums of their tables' values, and 0 if
+/// there is no column. In contracts its value is the task and the columns of tables.
 #[derive(Drop)]
 pub struct Heuristic<'a> {
     task: &'a FdrTask,
@@ -80,8 +80,8 @@ impl<'a> Model for Heuristic<'a> {
 }
 
 impl<'a> Heuristic<'a> {
-    /// The lower bound that the certificate's tables give. Each table has to have its form: so it is where
-    /// `first_table_violation` finds nothing. An `Err` is of too little memory.
+    /// Makes the heuristic of the certificate's tables. The certificate must meet the clause C4, so that
+    /// `first_table_violation` finds nothing. Fails only if allocation fails.
     pub fn new(
         alloc: Global,
         task: &'a FdrTask,
@@ -97,8 +97,9 @@ impl<'a> Heuristic<'a> {
         Ok(Heuristic { task, columns })
     }
 
-    /// Whether what is still to come from a state that was reached at this cost reaches the bound: whether the cost and the
-    /// lower bound sum to it or more. No sum is too large for that, and an infinite bound is reached where a value is infinite.
+    /// Whether a state that was reached at this cost reaches the bound: whether the cost and the heuristic value of the
+    /// state sum to at least the bound. The sum may be out of range, and an infinite bound is reached if the heuristic
+    /// value is infinite.
     pub fn reaches(&self, state: &[u32], cost: u64, bound: Dist) -> bool
         requires { IsState (ranges self.now.task) state.now }
         ensures { result ≡ is_at_most bound (Finite cost +ᵈ heuristic_of self.now.task self.now.columns state.now) }

@@ -1,5 +1,4 @@
-//! The clauses of a certificate's tables, each tested up to the first place where it fails, and the lower bound that the
-//! tables give.
+//! The clauses on the tables of a certificate, each tested up to its first violation, and the heuristic of the tables.
 #![tactic(auto)]
 
 mod fault;

@@ -1,4 +1,4 @@
-//! Tables of a certificate with the projections that they are on.
+//! Tables of a certificate with their projections.
 
 ghost use Rattle.std.specs.Prelude.{◌≡◌, true, false, map, IfOk, MatchOption};
 ghost use Rattle.std.specs.List.Sorted.{IsStrictlyIncreasing};
@@ -16,7 +16,7 @@ use fdr::FdrTask;
 use std::alloc::{AllocError, Global};
 use std::marker::Model;
 
-/// A table that has its form, with the projection of the task to its pattern.
+/// A table that has the required form, with the projection of the task to its pattern.
 #[derive(Drop)]
 pub(crate) struct ProjectedTable<'a> {
     projection: Projection<'a>,
@@ -34,7 +34,7 @@ impl<'a> Model for ProjectedTable<'a> {
     ghost view = { λ t. record { task = t.projection.task; table = kept.table_of t.table.now; formed = t.has_form } };
 }
 
-/// Whether each variable is below the next.
+/// Whether the variables are strictly increasing.
 fn is_increasing(pattern: &[u32]) -> bool
     ensures { result ≡ spec.is_increasing pattern.now }
 {
@@ -51,7 +51,7 @@ fn is_increasing(pattern: &[u32]) -> bool
     true
 }
 
-/// The variables as places in a state.
+/// The variables as places in a state. Fails only if allocation fails.
 fn places_of(alloc: Global, pattern: &[u32]) -> Result<Vec<usize>, AllocError>
     ensures { IfOk result (λ places. places.items ≡ pattern.now) }
 {
@@ -62,8 +62,8 @@ fn places_of(alloc: Global, pattern: &[u32]) -> Result<Vec<usize>, AllocError>
     Ok(places)
 }
 
-/// The projection to the table's pattern, or `None` where there is none: where its variables do not increase or exist, or
-/// it has too many abstract states.
+/// The projection to the pattern of a table, or `None` if there is none: the variables are not strictly increasing, one
+/// of them does not exist, or there are too many abstract states. Fails only if allocation fails.
 fn projection_to<'a>(
     alloc: Global,
     task: &'a FdrTask,
@@ -85,7 +85,8 @@ fn projection_to<'a>(
 }
 
 impl<'a> ProjectedTable<'a> {
-    /// The table with its projection, or `None` where it does not have its form.
+    /// Joins a table and its projection. Returns `None` if the table does not have the required form. Fails only if
+    /// allocation fails.
     pub(crate) fn new(
         alloc: Global,
         task: &'a FdrTask,
@@ -103,7 +104,7 @@ impl<'a> ProjectedTable<'a> {
         }
     }
 
-    /// The projection of the task to the table's pattern.
+    /// Returns the projection of the task to the pattern of the table.
     pub(crate) fn projection(&self) -> &Projection<'a>
         ensures task { result.now.task ≡ self.now.task }
         ensures pattern { result.now.pattern ≡ self.now.table.pattern }
@@ -112,7 +113,7 @@ impl<'a> ProjectedTable<'a> {
         &self.projection
     }
 
-    /// The table's value at a state.
+    /// Returns the value of the table at a state.
     pub(crate) fn value_at(&self, state: &[u32]) -> Dist
         requires { IsState (ranges self.now.task) state.now }
         ensures { result ≡ value_at state.now (table_of self.now.task self.now.table) }

@@ -1,4 +1,4 @@
-//! Whether a column spends no operator's cost twice.
+//! The clause C3: the shares of an operator in a column sum to at most its cost.
 
 ghost use Rattle.std.specs.Prelude.{◌≡◌, ℕ, ◌^◌, ◌<◌, All, map, fold, length, slice_index, replicate, IfOk};
 ghost use Rattle.cost.specs.Distances.{Finite, distance_of, is_below, lesser};
@@ -15,12 +15,13 @@ use fdr::FdrTask;
 use std::alloc::{AllocError, Global};
 use std::marker::Model;
 
-/// What the tables of a column count the task's operators for, together. A contract sees a `Tally`.
+/// The sums of the shares that the tables of a column have of the task's operators. In contracts its value is a
+/// `Tally`.
 #[derive(Drop)]
 pub(crate) struct ShareSums {
-    // sums that are too large are kept as the greatest number
+    /// The sum for each operator. One that is out of range is replaced by the greatest number.
     sums: Vec<u64>,
-    // for each operator the last table that names it, counted from 1, or 0
+    /// For each operator the last table that names it, counted from 1, or 0.
     tables: Vec<usize>,
 }
 
@@ -36,7 +37,7 @@ impl Model for ShareSums {
 }
 
 impl ShareSums {
-    /// No share of any of so many operators.
+    /// Returns sums of 0 for this number of operators. Fails only if allocation fails.
     fn new(alloc: Global, operators: usize) -> Result<ShareSums, AllocError>
         ensures { IfOk result (λ s. s ≡ record { sums = replicate operators 0; tables = replicate operators 0 }) }
     {
@@ -46,8 +47,8 @@ impl ShareSums {
         })
     }
 
-    /// Counts a share of a table, whose number counts from 1, unless the operator does not exist or the table has named
-    /// it before.
+    /// Adds a share of a table, whose number counts from 1, unless the operator does not exist or the table has already
+    /// named it.
     fn count(&mut self, table: usize, share: Share)
         ensures value { self.new ≡ spec.counted table self.old share }
         ensures amount { share.amount < 2 ^ 32 }
@@ -59,7 +60,7 @@ impl ShareSums {
         }
     }
 
-    /// Counts the shares of a table.
+    /// Adds the shares of a table.
     fn count_all(&mut self, table: usize, shares: &[Share])
         ensures value { self.new ≡ fold (spec.counted table) self.old shares.now }
         ensures amounts { All (λ s. s.amount < 2 ^ 32) shares.now }
@@ -69,7 +70,7 @@ impl ShareSums {
         }
     }
 
-    /// The shares of one table.
+    /// The shares of one table. Fails only if allocation fails.
     pub(crate) fn of_table(
         alloc: Global,
         shares: &[Share],
@@ -83,7 +84,7 @@ impl ShareSums {
         Ok(sums)
     }
 
-    /// The shares of a column.
+    /// The sums of the shares of a column. Fails only if allocation fails.
     fn of_column(
         alloc: Global,
         column: &[PatternTable],
@@ -99,7 +100,7 @@ impl ShareSums {
         Ok(sums)
     }
 
-    /// The sum of the operator's shares, or the greatest number where it is above that.
+    /// Returns the sum of the operator's shares, or the greatest number if it is out of range.
     pub(crate) fn sum(&self, operator: usize) -> u64
         requires { operator < length self.now.sums }
         ensures { result ≡ slice_index self.now.sums operator }
@@ -108,7 +109,7 @@ impl ShareSums {
     }
 }
 
-/// What shares count an operator for: the first of them that names it.
+/// The share of an operator: the first one that is listed for it, and else 0.
 fn share_of(shares: &[Share], operator: u32) -> u32
     ensures { result ≡ clauses.share_of shares.now operator }
 {
@@ -120,7 +121,7 @@ fn share_of(shares: &[Share], operator: u32) -> u32
     0
 }
 
-/// Whether a number is below the least so far.
+/// Whether a number is less than the least one so far.
 fn is_less(number: usize, least: Option<usize>) -> bool
     ensures { result ≡ is_below (Finite number) (distance_of least) }
 {
@@ -130,10 +131,10 @@ fn is_less(number: usize, least: Option<usize>) -> bool
     }
 }
 
-/// The lesser of that number and the least operator from `count` on that the shares count for something.
+/// The lesser of `before` and the least operator from `count` on that has a positive share.
 ///
-/// The shares are searched for an operator only where it is below the least so far: once, where operators increase and count
-/// for something, as in every certificate that was read.
+/// The shares are searched for an operator only if it is less than the least so far. That is once if the operators are
+/// strictly increasing and the shares positive, as in every certificate that `read_cert` returns.
 fn least_foreign(shares: &[Share], count: usize, before: Option<usize>) -> Option<usize>
     ensures { distance_of result ≡ lesser (distance_of before) (spec.least_foreign count shares.now) }
 {
@@ -147,7 +148,7 @@ fn least_foreign(shares: &[Share], count: usize, before: Option<usize>) -> Optio
     least
 }
 
-/// The least operator from `count` on that a table of the column counts for something.
+/// The least operator from `count` on that has a positive share in a table of the column.
 fn least_of_column(column: &[PatternTable], count: usize) -> Option<usize>
     ensures { distance_of result ≡ spec.least_of_column count (map kept.table_of column.now) }
 {
@@ -158,7 +159,7 @@ fn least_of_column(column: &[PatternTable], count: usize) -> Option<usize>
     least
 }
 
-/// The least operator whose shares sum to more than its cost.
+/// The least operator whose shares sum to more than its cost. Fails only if allocation fails.
 fn first_overspent(
     alloc: Global,
     task: &FdrTask,
@@ -175,8 +176,9 @@ fn first_overspent(
     Ok(least_of_column(column, task.operator_count()))
 }
 
-/// The first place at which the shares of an operator in a column sum to more than its cost, by column and then by operator
-/// (C3): `None` where there is none. An operator that does not exist costs nothing. An `Err` is of too little memory.
+/// Returns the first violation of the clause C3, by column and then by operator: the shares of an operator in a column
+/// sum to more than its cost, which is 0 if the operator does not exist. Returns `None` if there is none. Fails only if
+/// allocation fails.
 pub fn first_share_violation(
     alloc: Global,
     task: &FdrTask,

@@ -1,4 +1,4 @@
-//! Whether a column's tables give lower bounds.
+//! The clause C4: the tables of a column are consistent.
 
 ghost use Rattle.std.specs.Prelude.{map, IfOk};
 ghost use Rattle.certificates.specs.Views as kept;
@@ -14,7 +14,7 @@ use checker_clauses::Violation;
 use fdr::FdrTask;
 use std::alloc::{AllocError, Global};
 
-/// The first place at which a table fails.
+/// The first fault of a table. Fails only if allocation fails.
 fn first_fault(
     alloc: Global,
     task: &FdrTask,
@@ -37,7 +37,7 @@ fn first_fault(
     }
 }
 
-/// The first table of a column that fails, by its number, and its first place.
+/// The first table of a column that has a fault, by its number, and its first fault. Fails only if allocation fails.
 fn first_in_column(
     alloc: Global,
     task: &FdrTask,
@@ -53,9 +53,9 @@ fn first_in_column(
     Ok(None)
 }
 
-/// The first place at which a table fails, by column and then by table (C4): `None` where there is none. Of a table its form
-/// goes first, then its abstract goals, and then its transitions, by abstract state and then by operator, of which only
-/// those are tried that may lead to another abstract state. An `Err` is of too little memory.
+/// Returns the first violation of the clause C4, by column and then by table, or `None` if there is none. Of one table
+/// its form comes first, then its abstract goals, and then its transitions, by abstract state and then by operator.
+/// Only operators that touch the abstraction are tested. Fails only if allocation fails.
 pub fn first_table_violation(
     alloc: Global,
     task: &FdrTask,

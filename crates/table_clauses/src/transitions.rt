@@ -10,14 +10,14 @@ use certificates::Values;
 use cost::Dist;
 use std::alloc::{AllocError, Global};
 
-/// An operator, by its number, with what it may lower values by.
+/// An operator that touches the abstraction, by its number, with its share.
 #[derive(Clone, Copy)]
 pub(crate) struct Spender {
     pub(crate) operator: usize,
     pub(crate) share: u64,
 }
 
-/// Whether a value is at most a share above another.
+/// Whether a value exceeds another by at most the share.
 fn is_within(value: Dist, share: u64, next: Dist) -> bool
     ensures { result ≡ is_at_most value (Finite share +ᵈ next) }
 {
@@ -28,7 +28,8 @@ fn is_within(value: Dist, share: u64, next: Dist) -> bool
     }
 }
 
-/// The operators, of so many, that may lead from an abstract state to another, with their shares.
+/// Those of the first `operators` operators that touch the abstraction, with their shares. Fails only if allocation
+/// fails.
 pub(crate) fn spenders<A: Abstraction>(
     alloc: Global,
     abstraction: &A,
@@ -49,7 +50,7 @@ pub(crate) fn spenders<A: Abstraction>(
     Ok(made)
 }
 
-/// The first abstract goal that has another value than 0.
+/// The first abstract goal with a value other than 0.
 pub(crate) fn first_goal<A: Abstraction>(abstraction: &A, values: &Values) -> Option<usize>
     requires { length values.now ≡ (A.abstraction abstraction.now).size }
     ensures { IsFirstGoal (A.abstraction abstraction.now) values.now result }
@@ -84,7 +85,7 @@ fn first_fall_from<A: Abstraction>(
     None
 }
 
-/// The first abstract state, with the first operator that lowers its value by more than its share.
+/// The first abstract state whose value some operator lowers by more than its share, with the first such operator.
 pub(crate) fn first_fall<A: Abstraction>(
     abstraction: &A,
     values: &Values,

@@ -3,17 +3,17 @@ use Rattle.std.specs.Prelude.{ℕ, ◌+◌, Bool, true, false, ◌&&◌, ◌==�
 use Rattle.std.specs.Option.{option_map_or}
 use Rattle.fdr.specs.declared.fact.Fact.{Fact}
 
--- the variables increase, and are not below this number
+-- the variables are strictly increasing, and at least this number
 abbrev pub are_from : ℕ → List Fact → Bool
 are_from n [] = true
 are_from n (f ∷ fs) = nat_le n f.variable && are_from (f.variable + 1) fs
 
--- the value that the facts give a variable
+-- the value of the fact on the variable, if there is one
 abbrev pub value_at : List Fact → ℕ → Option ℕ
 value_at [] k = None
 value_at (f ∷ fs) k = if f.variable == k then Some f.value else value_at fs k
 
--- whether the fact is among them
+-- whether the fact is one of these
 abbrev pub has_fact : List Fact → Fact → Bool
 has_fact facts f = option_map_or (λ x. f.value == x) (value_at facts f.variable) false
 
@@ -28,11 +28,11 @@ abbrev pub with_fact : List Fact → Option Fact → List Fact
 with_fact facts None = facts
 with_fact facts (Some f) = set_fact facts f
 
--- the facts with those set that the elements give, in their order
+-- the facts after those that the elements give have been set, in their order
 abbrev pub assigned : {X : Type 0} → (X → Option Fact) → List Fact → List X → List Fact
 assigned given facts xs = fold (λ fs x. with_fact fs (given x)) facts xs
 
--- where the fact on this variable is, or where it would go
+-- the place of the fact on this variable, or the place where it would be inserted
 abbrev pub one_more : Result ℕ ℕ → Result ℕ ℕ
 one_more (Ok i) = Ok (i + 1)
 one_more (Err i) = Err (i + 1)

@@ -18,12 +18,12 @@ use planning::{GroundAction, Task};
 use std::alloc::{AllocError, AllocFailed, Global};
 use variables::ListedVariable;
 
-// How many variables a task may have, and how many values one of them.
+/// The greatest number of variables of a task.
 const MAX_VARIABLES: usize = 65_536;
 
 const MAX_VALUES: usize = 65_536;
 
-/// Why no task is made.
+/// Why no task was made.
 #[derive(Clone, Copy, Debug, PartialEq, Eq)]
 pub enum AssemblyFault {
     /// Memory ran out.
@@ -56,18 +56,21 @@ impl From<TaskLimit> for AssemblyFault {
     }
 }
 
-/// A finite-domain task, and for each operator the place of its action in the list of actions, counted from 0.
+/// A finite-domain task, and the places of its operators' actions in the list of actions, counted from 0.
 #[derive(Drop)]
 pub struct Assembled {
+    /// The finite-domain task.
     pub task: FdrTask,
+    /// For each operator the place of its action, strictly increasing.
     pub carried: Vec<usize>,
 }
 
-/// The finite-domain task over the atoms, with these variables and an operator for each of the actions that can have one: those
-/// whose precondition does not contradict itself and names at most one atom of each variable (Helmert 2009).
+/// Makes the finite-domain task over the atoms, with these variables and an operator for each action that can have one:
+/// each action whose precondition is not contradictory and requires at most one atom of each variable to be true
+/// (Helmert 2009).
 ///
-/// It takes time linear in the literals of the actions, times the logarithm of their number in one action. A `Limit` says which
-/// table of the task would be too long; any other `Err` is of too little memory.
+/// For each literal of an action it looks up the atom by hash and its fact by binary search; a new fact is inserted in
+/// the order of the variables. Fails with the first limit that the task would pass, or if allocation fails.
 pub fn assemble(
     alloc: Global,
     task: &Task,
@@ -102,7 +105,7 @@ pub fn assemble(
     })
 }
 
-// Refuses more variables, and variables of more values, than a task may have.
+/// Checks the limits on variables and on the values of a variable. Fails with the first one that is passed.
 fn check_limits(variables: &[ListedVariable]) -> Result<(), TaskLimit>
     ensures short { OnOk result (All (λ v. length v.places ≤ 65536) variables.now) }
     ensures past { IfErr result (IsPastLimitAt variables.now) }
@@ -116,7 +119,7 @@ fn check_limits(variables: &[ListedVariable]) -> Result<(), TaskLimit>
     Ok(())
 }
 
-// Whether a variable has more values than it may have.
+/// Whether a variable has more values than it may have.
 fn has_long_range(variables: &[ListedVariable]) -> bool
     ensures { result ≡ list_any is_long variables.now }
 {

@@ -1,4 +1,4 @@
-//! Assignments.
+//! Facts, sorted by variable.
 
 ghost use Rattle.std.specs.Prelude.{◌≡◌, ◌<◌, [], length, OnOk, IfOk};
 ghost use Rattle.task_assembly.specs.Facts.{has_fact, set_fact, with_fact, place_in};
@@ -7,7 +7,7 @@ use fdr::Fact;
 use std::alloc::{AllocError, Global};
 use std::marker::Model;
 
-// Facts in the order of their variables, at most one for each.
+/// Facts in the order of their variables, at most one for each.
 #[derive(Debug, Drop)]
 pub(crate) struct Assignment {
     facts: Vec<Fact>,
@@ -34,7 +34,7 @@ impl Assignment {
         }
     }
 
-    // Where the fact on a variable is, or where it would go.
+    /// The place of the fact on a variable, or the place where it would be inserted.
     fn search(&self, variable: usize) -> Result<usize, usize>
         ensures place { result ≡ place_in self.now variable }
         ensures bound { IfOk result (λ place. place < length self.now) }
@@ -43,7 +43,7 @@ impl Assignment {
             .binary_search_by_key(&variable, |fact| fact.variable)
     }
 
-    // Gives the fact's variable its value, in place of the one that it has.
+    /// Sets the fact, in place of the one on its variable if there is one. Fails only if allocation fails.
     fn set(&mut self, fact: Fact) -> Result<(), AllocError>
         ensures { OnOk result (self.new ≡ set_fact self.old fact) }
     {
@@ -54,7 +54,7 @@ impl Assignment {
         Ok(())
     }
 
-    // Sets the fact, if there is one.
+    /// Sets the fact, if there is one. Fails only if allocation fails.
     pub(crate) fn set_some(&mut self, fact: Option<Fact>) -> Result<(), AllocError>
         ensures { OnOk result (self.new ≡ with_fact self.old fact) }
     {
@@ -64,7 +64,7 @@ impl Assignment {
         Ok(())
     }
 
-    // Whether the fact is one of these.
+    /// Whether the fact is one of these.
     pub(crate) fn holds(&self, fact: Fact) -> bool
         ensures { result ≡ has_fact self.now fact }
     {

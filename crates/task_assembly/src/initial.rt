@@ -9,7 +9,7 @@ use planning::GroundAtom;
 use std::alloc::{AllocError, Global};
 use variables::ListedVariable;
 
-// For each variable the value at which its initially true atom is true, or at which none is.
+/// For each variable the value of its initially true atom, or the none value. Fails only if allocation fails.
 pub(crate) fn initial_state(
     alloc: Global,
     table: &Table<'_>,
@@ -27,7 +27,7 @@ pub(crate) fn initial_state(
     Ok(state)
 }
 
-// The value of each variable at which none of its atoms is true.
+/// The none value of each variable: its number of atoms. Fails only if allocation fails.
 fn none_values(alloc: Global, variables: &[ListedVariable]) -> Result<Vec<u32>, AllocError>
     requires { All (λ v. length v.places ≤ 65536) variables.now }
     ensures { IfOk result (λ values. values.items ≡ map (λ v. length v.places) variables.now) }
@@ -39,7 +39,7 @@ fn none_values(alloc: Global, variables: &[ListedVariable]) -> Result<Vec<u32>, 
     Ok(values)
 }
 
-// Gives the slot's variable the slot's value.
+/// Sets the variable of the slot to the value of the slot.
 fn set_value(values: &mut [u32], slot: Option<Slot>)
     ensures { values.new ≡ with_slot values.old slot }
 {

@@ -10,7 +10,6 @@ mod operators;
 mod parts;
 mod slot;
 mod table;
-#[cfg(test)]
-mod tests;
 
 pub use assembly::{Assembled, AssemblyFault, assemble};
+pub use parts::{Parts, parts_of};

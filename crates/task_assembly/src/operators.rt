@@ -14,7 +14,7 @@ use planning::{GroundAction, Vocabulary};
 use std::alloc::{AllocError, Global};
 use translation_names::action_name;
 
-// Operators, and for each the place of its action in the list of actions.
+/// Operators, and for each the place of its action in the list of actions.
 #[derive(Drop)]
 pub(crate) struct CarriedOperators {
     pub(crate) operators: Vec<Operator>,
@@ -22,7 +22,7 @@ pub(crate) struct CarriedOperators {
 }
 
 impl CarriedOperators {
-    // The operators of those actions that have one.
+    /// Makes the operators of those actions that have one. Fails only if allocation fails.
     pub(crate) fn new(
         alloc: Global,
         vocabulary: &Vocabulary,
@@ -45,7 +45,7 @@ impl CarriedOperators {
         Ok(made)
     }
 
-    // Puts the operator of the action at the place to the end, if it has one.
+    /// Appends the operator of the action at the place, if it has one. Fails only if allocation fails.
     fn push(&mut self, place: usize, operator: Option<Operator>) -> Result<(), AllocError>
         ensures operators { OnOk result (self.new.operators.items ≡ self.old.operators.items ++ cons_option operator []) }
         ensures carried { OnOk result (self.new.carried.items
@@ -59,7 +59,8 @@ impl CarriedOperators {
     }
 }
 
-// The operator of an action, or `None` where its precondition asks for what cannot be.
+/// The operator of an action, or `None` if its precondition cannot hold in a reachable state. Fails only if allocation
+/// fails.
 fn operator(
     alloc: Global,
     vocabulary: &Vocabulary,

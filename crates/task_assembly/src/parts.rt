@@ -19,18 +19,27 @@ use std::alloc::{AllocError, Global};
 use translation_names::value_names;
 use variables::ListedVariable;
 
-// What a task is made of, and for each operator the place of its action.
+/// The parts that make up a finite-domain task.
 #[derive(Drop)]
-pub(crate) struct Parts {
-    pub(crate) value_names: Vec<Vec<String>>,
-    pub(crate) initial: Vec<u32>,
-    pub(crate) goal: Vec<Fact>,
-    pub(crate) operators: Vec<Operator>,
-    pub(crate) carried: Vec<usize>,
+pub struct Parts {
+    /// For each variable the names of its values.
+    pub value_names: Vec<Vec<String>>,
+    /// The initial value of each variable.
+    pub initial: Vec<u32>,
+    /// The facts of the goal.
+    pub goal: Vec<Fact>,
+    /// The operators, in the order of their actions.
+    pub operators: Vec<Operator>,
+    /// For each operator the place of its action in the list of actions, counted from 0.
+    pub carried: Vec<usize>,
 }
 
-// The parts, computed from the literals of the task and of the actions.
-pub(crate) fn parts_of(
+/// Computes the parts of the finite-domain task over listed atoms and variables, from the literals of the task and of
+/// the actions.
+///
+/// `value_names` and `initial` have one item for each variable, and `operators` and `carried` one for each action that
+/// has an operator. Fails only if allocation fails.
+pub fn parts_of(
     alloc: Global,
     task: &Task,
     atoms: &Atoms,

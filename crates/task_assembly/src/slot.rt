@@ -1,21 +1,21 @@
-//! Slots.
+//! The position of an atom among variables and values.
 
 ghost use Rattle.std.specs.Prelude.{◌≡◌};
 ghost use Rattle.task_assembly.specs.Operators.{own_fact, none_fact};
 
 use fdr::Fact;
 
-// Which variable an atom is in, and which of its values it is.
+/// The variable that an atom is in, and its value there.
 #[derive(Clone, Copy, Debug)]
 pub(crate) struct Slot {
     pub(crate) variable: usize,
     pub(crate) value: u32,
-    // How many atoms the variable has. It is the value at which none of them is true.
+    /// The number of atoms of the variable. It is also the none value, at which none of them is true.
     pub(crate) count: u32,
 }
 
 impl Slot {
-    // That the atom is true.
+    /// Returns the fact that the atom is true.
     pub(crate) fn own_fact(self) -> Fact
         ensures { result ≡ own_fact self }
     {
@@ -25,7 +25,7 @@ impl Slot {
         }
     }
 
-    // That none of the variable's atoms is true.
+    /// Returns the fact that none of the variable's atoms is true.
     pub(crate) fn none_fact(self) -> Fact
         ensures { result ≡ none_fact self }
     {

@@ -1,4 +1,4 @@
-//! The table of the atoms' slots.
+//! The slots of listed atoms.
 
 ghost use Rattle.std.specs.Prelude.{◌≡◌, ◌==◌, ◌<◌, ◌≤◌, ℕ, All, None, Some, if◌then◌else◌, length, map, slice_index_or, IfOk};
 ghost use Rattle.std.specs.Option.{option_or};
@@ -13,7 +13,7 @@ use std::alloc::{AllocError, Global};
 use std::marker::Model;
 use variables::ListedVariable;
 
-// The slot of each listed atom that is in a variable, by the atom's place in the list.
+/// The slot of each listed atom that is in a variable, by the place of the atom in the list.
 #[derive(Drop)]
 pub(crate) struct Table<'a> {
     atoms: &'a Atoms,
@@ -29,7 +29,8 @@ impl<'a> Model for Table<'a> {
 }
 
 impl<'a> Table<'a> {
-    // The table of these variables. Of an atom in several the first counts.
+    /// Makes the table of these variables. If an atom is in several, the first one counts. Fails only if allocation
+    /// fails.
     pub(crate) fn new(
         alloc: Global,
         atoms: &'a Atoms,
@@ -44,7 +45,7 @@ impl<'a> Table<'a> {
         Ok(Table { atoms, slots })
     }
 
-    // The slot of an atom, if it is in a variable.
+    /// Returns the slot of an atom, if it is in a variable.
     pub(crate) fn slot(&self, atom: &GroundAtom) -> Option<Slot>
         ensures { result ≡ look_up self.now atom.now }
     {
@@ -53,7 +54,7 @@ impl<'a> Table<'a> {
     }
 }
 
-// For each place below the count its slot.
+/// The slot of each place below `count`. Fails only if allocation fails.
 fn slots(
     alloc: Global,
     count: usize,
@@ -71,7 +72,7 @@ fn slots(
     Ok(slots)
 }
 
-// Gives the places slots as the values of this variable, where they have none yet.
+/// Sets the slots of the places to the values of this variable, where they have none yet.
 fn mark(slots: &mut [Option<Slot>], variable: usize, places: &[usize])
     requires within { All (λ p. p < length slots.old) places.now }
     requires short { length places.now ≤ 65536 }
@@ -93,7 +94,7 @@ fn mark(slots: &mut [Option<Slot>], variable: usize, places: &[usize])
     }
 }
 
-// Gives the place the slot, where it has none yet.
+/// Sets the slot of the place, if it has none yet.
 fn mark_one(slots: &mut [Option<Slot>], place: usize, slot: Slot)
     requires { place < length slots.old }
     ensures { (q : ℕ) → slice_index_or slots.new q None

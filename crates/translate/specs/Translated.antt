@@ -1,4 +1,5 @@
--- A planning task's translation with the atoms and the variables that it was made over, and what it promises of plans.
+-- The translation of a planning task with the atoms and the variables that it is over, and its relation to the plans of
+-- the task.
 use Rattle.std.specs.Prelude.{◌≡◌, ◌↔◌, ⊤, ℕ, List, length, Some, slice_get, All, Contains}
 use Rattle.std.specs.List.{filter_map, AllZip}
 use Rattle.cost.specs.Distances.{Distance}
@@ -23,27 +24,27 @@ pub record TranslatedTask : Type 0 where
   pub task : FiniteDomainTask
   pub places : List ℕ
 
--- all ground actions over its atoms, in order
+-- all ground actions over the atoms, in order
 abbrev pub actions_of : PlanningTask → TranslatedTask → List Action
 actions_of task t = actions_over task (contains t.atoms)
 
--- the actions of its operators, in their order
+-- the actions of the operators, in their order
 abbrev pub operator_actions : PlanningTask → TranslatedTask → List Action
 operator_actions task t = filter_map (slice_get (actions_of task t)) t.places
 
--- its atoms and variables are fit, and it is the translation over them
+-- the atoms and variables are fit, and the finite-domain task is the translation over them
 pub record IsTranslation (task : PlanningTask) (t : TranslatedTask) : Type 0 where
   pub placed : All (IsPlaced (length t.atoms)) t.variables
   pub fit : AreFit task t.atoms t.variables
   pub task_is : t.task ≡ translation task (variables_at t.atoms t.variables) (actions_of task t)
   pub actions_are : operator_actions task t ≡ carried (variables_at t.atoms t.variables) (actions_of task t)
 
--- operator o is that of the action, one for each action of the plan
+-- the numbers of the operators of the actions of the plan, in order
 abbrev pub AreOperatorsOf : PlanningTask → TranslatedTask → List Action → List ℕ → Type 0
 AreOperatorsOf task t plan os = AllZip (λ a o. slice_get (operator_actions task t) o ≡ Some a) plan os
 
--- Every action of a valid plan is over the atoms. A list of actions is a valid plan of some cost exactly where each has an operator and
--- the list of these is a plan of that cost. The same bounds hold.
+-- Every action of a valid plan is over the atoms. A list of actions is a valid plan of some cost exactly if each of
+-- them has an operator and the list of these operators is a plan of that cost. The same lower bounds hold.
 pub record HasSamePlans (task : PlanningTask) (t : TranslatedTask) : Type 0 where
   pub listed : (plan : List Action) → IsValidPlan task plan → All (Contains (actions_of task t)) plan
   pub plans : (plan : List Action) (cost : ℕ) →
@@ -52,7 +53,7 @@ pub record HasSamePlans (task : PlanningTask) (t : TranslatedTask) : Type 0 wher
   pub bounds : (bound : Distance) → EveryPlanCostsAtLeast t.task bound ↔ ValidPlansCostAtLeast task bound
   pub none : HasNoPlan t.task ↔ HasNoValidPlan task
 
--- the translation over these atoms and variables is larger than a task may be
+-- the translation over these atoms and variables passes a limit of finite-domain tasks
 abbrev pub IsTooLarge : PlanningTask → List Atom → List PlacedVariable → TranslateFault → Type 0
 IsTooLarge task atoms variables fault.OutOfMemory = ⊤
 IsTooLarge task atoms variables (fault.Limit l) = IsPastLimit (translation task (variables_at atoms variables) (actions_over task (contains atoms))) l
@@ -65,7 +66,8 @@ IsTooLarge task atoms variables (fault.NotGroup k) = ⊥
 IsTooLarge task atoms variables (fault.NotFull k) = ⊥
 IsTooLarge task atoms variables (fault.Misplaced k) = ⊥
 
--- there are too many atoms or actions; or variables, of which each atom is in one, make a task that is too large
+-- there are too many atoms or actions; or there are variables over the least closed set for which the finite-domain
+-- task passes a limit
 abbrev pub IsUntranslated : PlanningTask → TranslateFault → Type 0
 IsUntranslated task fault.OutOfMemory = ⊤
 IsUntranslated task fault.GroundLimit = IsPastLimits task

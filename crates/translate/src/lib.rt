@@ -1,4 +1,5 @@
-//! Planning tasks as finite-domain tasks: over given atoms and variables, or over the atoms that can be reached and chosen variables.
+//! Translations of planning tasks into finite-domain tasks: over given atoms and variables, or over the reachable atoms
+//! and chosen variables.
 #![tactic(auto)]
 
 mod translated;

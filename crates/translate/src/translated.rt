@@ -7,8 +7,8 @@ use fdr::FdrTask;
 use std::marker::Model;
 use variables::ListedVariable;
 
-/// A finite-domain task with the atoms and the variables that it was made over, and for each operator the place of its action among the
-/// ground actions over the atoms.
+/// A finite-domain task with the atoms and the variables that it is over, and for each operator the place of its action
+/// among the ground actions over the atoms.
 #[derive(Drop)]
 pub struct Translated {
     pub(crate) atoms: Atoms,
@@ -26,28 +26,29 @@ impl Model for Translated {
 }
 
 impl Translated {
-    /// The listed atoms, in the order of their places.
+    /// Returns the listed atoms, in the order of their places.
     pub fn atoms(&self) -> &Atoms
         ensures { result.now ≡ self.now.atoms }
     {
         &self.atoms
     }
 
-    /// The variables over the atoms, by their numbers in the task.
+    /// Returns the variables over the atoms, by their numbers in the task.
     pub fn variables(&self) -> &[ListedVariable]
         ensures { result.now ≡ self.now.variables }
     {
         &self.variables
     }
 
-    /// The finite-domain task.
+    /// Returns the finite-domain task.
     pub fn task(&self) -> &FdrTask
         ensures { result.now ≡ self.now.task }
     {
         &self.task
     }
 
-    /// The place of the operator's action among the ground actions over the atoms, counted from 0; `None` where there is no such operator.
+    /// Returns the place of the operator's action among the ground actions over the atoms, counted from 0, or `None` if
+    /// there is no such operator.
     pub fn action_of(&self, operator: usize) -> Option<usize>
         ensures { result ≡ slice_get self.now.places operator }
     {

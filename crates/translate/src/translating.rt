@@ -1,4 +1,4 @@
-//! Translating.
+//! Translating planning tasks.
 
 ghost use Rattle.std.specs.Prelude.{◌≡◌, ◌≤◌, All, IsTrue, IfOk, IfErr, length};
 ghost use Rattle.planning.specs.Atoms.{Literal, contains};
@@ -24,7 +24,8 @@ use translate_vars::{ListedParts, TranslateFault, check_parts};
 use variable_choice::choose_variables;
 use variables::ListedVariable;
 
-// The translation over atoms and variables that are fit. A `Limit` says which table of its task would be too long.
+/// The translation over atoms and variables that are fit. Fails with the first limit that its task would pass, or if
+/// allocation fails.
 fn translated(
     alloc: Global,
     task: &Task,
@@ -58,11 +59,12 @@ fn translated(
     }
 }
 
-/// The task's translation over these atoms, with these variables over them.
+/// Translates the task over these atoms, with these variables over them. A task that is returned has the same plans
+/// with the same costs as the planning task (Helmert 2009).
 ///
-/// An `Err` is the first that is wrong with the atoms and the variables: of their numbers, then of the atoms in their order, the number
-/// of actions, the missing atoms, the variables in their order, and the atoms in no variable. Any other is of too little memory.
-/// What is given Ok has the same plans with the same costs as the task (Helmert 2009).
+/// Fails with the first fault of the atoms and the variables, or if allocation fails. The order is: the numbers of
+/// atoms, variables and values; the atoms, in their order; the number of actions; the missing atoms; the variables, in
+/// their order; and the atoms in no variable.
 pub fn with_variables(
     alloc: Global,
     task: &Task,
@@ -82,7 +84,8 @@ pub fn with_variables(
     translated(alloc, task, parts, variables)
 }
 
-// The least closed set of atoms with the actions over it.
+/// The least closed set of atoms, with the actions over it. Fails if a limit on atoms or actions is passed, or if
+/// allocation fails.
 fn grounded(alloc: Global, task: &Task) -> Result<Grounded, TranslateFault>
     requires small { IsTrue (has_small_costs task.now) }
     ensures least { IfOk result (λ g. IsLeastClosedSet task.now (contains g.atoms)) }
@@ -94,7 +97,7 @@ fn grounded(alloc: Global, task: &Task) -> Result<Grounded, TranslateFault>
 {
     match ground(alloc, task) {
         Ok(grounded) => {
-            // a list of atoms tells here that none stands twice
+            // reading the list of atoms brings its invariant, that they are distinct, into the proof
             let _ = grounded.atoms.as_slice().len();
             Ok(grounded)
         }
@@ -103,7 +106,7 @@ fn grounded(alloc: Global, task: &Task) -> Result<Grounded, TranslateFault>
     }
 }
 
-// Variables over the atoms, by the groups that are proposed.
+/// Chooses variables over the atoms, by the proposed mutex groups. Fails only if allocation fails.
 fn chosen(
     alloc: Global,
     task: &Task,
@@ -118,10 +121,11 @@ fn chosen(
     choose_variables(alloc, &index, &groups)
 }
 
-/// The task's translation over the atoms of its least closed set, with variables that are chosen by mutex groups.
+/// Translates the task over the atoms of its relaxed reachability, the least closed set, with variables that are chosen
+/// by mutex groups. A task that is returned has the same plans with the same costs as the planning task (Helmert 2009).
 ///
-/// An `Err` is `GroundLimit` where there are too many atoms or actions, `Limit` where the variables would be too many or too large,
-/// and otherwise of too little memory. What is given Ok has the same plans with the same costs as the task (Helmert 2009).
+/// Fails with `GroundLimit` if there are too many atoms or actions, with `Limit` if the finite-domain task would have
+/// too many variables, values of a variable or operators, or if allocation fails.
 pub fn translate(alloc: Global, task: &Task) -> Result<Translated, TranslateFault>
     requires small { IsTrue (has_small_costs task.now) }
     requires costs { (a : Action) → IsActionOf task.now a → a.cost ≤ 2147483647 }

@@ -1,5 +1,5 @@
--- What is wrong with listed atoms and variables, and what goes first: the limits, the atoms, the actions over them, the atoms
--- that are missing, the variables in their order, and the atoms in no variable.
+-- The faults of listed atoms and variables, and which of them is the first: the limits, the atoms, the number of
+-- actions over them, the atoms that are missing, the variables in their order, and the atoms in no variable.
 use Rattle.std.specs.Prelude.{◌≡◌, ◌⊎◌, ⊤, ℕ, suc, ◌<◌, ◌≤◌, Bool, true, false, ◌&&◌, ◌||◌, not, nat_le, if◌then◌else◌, List, take, length, Some, slice_get, find, IsSomeAnd}
 use Rattle.std.specs.List.{list_all, list_any}
 use Rattle.fdr.specs.declared.task.TaskLimit.{TaskLimit}
@@ -24,35 +24,36 @@ IsPassed atoms variables limit.Variables = (length atoms ≤ most_atoms) × (655
 IsPassed atoms variables limit.Values = (length atoms ≤ most_atoms) × (length variables ≤ 65536) × (has_long_range variables ≡ true)
 IsPassed atoms variables limit.Operators = ⊥
 
--- atoms of the task, none twice
+-- distinct atoms of the task
 pub record AreAtomsOf (task : PlanningTask) (atoms : List Atom) : Type 0 where
   pub known : (k : ℕ) (p : Atom) → slice_get atoms k ≡ Some p → IsAtomOf task p
   pub distinct : AreDistinct atoms
 
--- the atoms before this place are such, and with the one at it they are not
+-- the atoms before this place are distinct atoms of the task, and with the one at the place they are not
 pub record IsBadAtom (task : PlanningTask) (atoms : List Atom) (k : ℕ) : Type 0 where
   pub there : k < length atoms
   pub before : AreAtomsOf task (take k atoms)
   pub bad : AreAtomsOf task (take (suc k) atoms) → ⊥
 
--- the least initial atom that is not listed or, where all are, the first of the goal
+-- the least initial atom that is not listed or, if all are, the first such atom of the goal
 abbrev pub IsMissing : PlanningTask → List Atom → Atom → Type 0
 IsMissing task atoms p =
     IsLeastMissing (contains atoms) task.initial p
     ⊎ ((list_all (contains atoms) task.initial ≡ true) × (find (λ q. not (contains atoms q)) (wanted_atoms task.goal) ≡ Some p))
 
--- the atoms and the actions over them are such as a translation asks for
+-- the atoms are a closed set of distinct atoms of the task, with few enough actions over them
 pub record AreGrounded (task : PlanningTask) (atoms : List Atom) : Type 0 where
   pub known : AreAtomsOf task atoms
   pub few : length (actions_over task (contains atoms)) ≤ most_actions
   pub is_closed : IsClosedSet task (contains atoms)
 
--- more than one
+-- whether there is more than one atom
 abbrev pub are_several : List Atom → Bool
 are_several atoms = nat_le 2 (length atoms)
 
 module _ (task : PlanningTask) (actions : List Action) where
-  -- an atom that cannot be there, beside these variables that are earlier
+  -- whether the variable has an atom that it must not have, given the earlier variables, or a single atom and no none
+  -- value
   abbrev pub is_misplaced : List Variable → Variable → Bool
   is_misplaced earlier v =
       list_any (λ p. is_constant task actions p || list_any (λ u. contains u.atoms p) earlier) v.atoms
@@ -66,29 +67,29 @@ module _ (task : PlanningTask) (actions : List Action) where
   abbrev pub is_not_full : Variable → Bool
   is_not_full v = are_several v.atoms && not v.has_none && not (is_full task actions v.atoms)
 
-  -- nothing is wrong with the variable
+  -- whether the variable has no fault
   abbrev pub is_in_order : List Variable → Variable → Bool
   is_in_order earlier v = not (is_misplaced earlier v) && not (is_no_group v) && not (is_not_full v)
 
-  -- nothing is wrong with the first variables, so many
+  -- the first `count` variables have no fault
   abbrev pub AreInOrder : List Variable → ℕ → Type 0
   AreInOrder variables count = (k : ℕ) (v : Variable) → k < count → slice_get variables k ≡ Some v → is_in_order (take k variables) v ≡ true
 
-  -- the variable is the first with which something is wrong, and passes or fails these tests
+  -- the variable is the first with a fault, and the test holds for it
   abbrev pub IsFirstWrong : List Variable → ℕ → (List Variable → Variable → Bool) → Type 0
   IsFirstWrong variables k test = AreInOrder variables k × IsSomeAnd (slice_get variables k) (λ v. test (take k variables) v ≡ true)
 
-  -- the atom is not constant, and in none of the variables
+  -- whether the atom is not constant, and in none of the variables
   abbrev pub is_uncovered : List Variable → State
   is_uncovered variables p = not (is_constant task actions p) && not (list_any (λ v. contains v.atoms p) variables)
 
-  -- the first such atom
+  -- the first such atom, where the variables have no fault
   pub record IsFirstUncovered (atoms : List Atom) (variables : List Variable) (k : ℕ) : Type 0 where
     pub in_order : AreInOrder variables (length variables)
     pub uncovered : IsSomeAnd (slice_get atoms k) (λ p. is_uncovered variables p ≡ true)
     pub first : list_any (is_uncovered variables) (take k atoms) ≡ false
 
--- what is wrong first
+-- the first fault
 abbrev pub IsFirstFault : PlanningTask → List Atom → List PlacedVariable → TranslateFault → Type 0
 IsFirstFault task atoms variables fault.OutOfMemory = ⊤
 IsFirstFault task atoms variables fault.GroundLimit =

@@ -1,4 +1,4 @@
--- Flags by the places of listed atoms, and what they tell of a variable.
+-- Flags by the places of listed atoms, and what they imply for a variable.
 use Rattle.std.specs.Prelude.{◌≡◌, ℕ, Bool, false, ◌&&◌, ◌||◌, not, nat_le, nat_lt, if◌then◌else◌, count_by, List, length, Option, Some, None, slice_get, slice_index_or}
 use Rattle.std.specs.List.{list_any}
 use Rattle.planning.specs.Atoms.{Atom, State, wants}
@@ -13,7 +13,7 @@ use Rattle.translate_vars.specs.declared.flags.AtomFlags.{AtomFlags}
 abbrev pub flag_at : List Bool → ℕ → Bool
 flag_at flags k = slice_index_or flags k false
 
--- at the place of each atom the flag is what the test says of it
+-- at the place of each atom the flag is the value of the test for it
 pub record Tell (atoms : List Atom) (test : State) (flags : List Bool) : Type 0 where
   pub told : (k : ℕ) (p : Atom) → slice_get atoms k ≡ Some p → flag_at flags k ≡ test p
 
@@ -22,14 +22,14 @@ pub record AreFlags (i : Indexed) (flags : AtomFlags) : Type 0 where
   pub excluded : Tell i.atoms (is_excluded i.task i.actions) flags.excluded.items
   pub goal : Tell i.atoms (wants i.task.goal) flags.goal.items
 
--- the variable has an atom that cannot be there, as the flags tell
+-- whether the variable has an atom that it must not have, by the flags, or a single atom and no none value
 abbrev pub is_misplaced_at : AtomFlags → List Bool → PlacedVariable → Bool
 is_misplaced_at flags taken v =
     (list_any (flag_at flags.constant.items) v.places || list_any (flag_at taken) v.places)
     || (if nat_lt (length v.places) 2 then not v.has_none
     else list_any (flag_at flags.excluded.items) v.places || not (nat_le (count_by (flag_at flags.goal.items) v.places) 1))
 
--- what is wrong with the variable of this number, as the flags tell
+-- the fault of the variable with this number, by the flags
 abbrev pub fault_at : Indexed → AtomFlags → List Bool → ℕ → PlacedVariable → Option TranslateFault
 fault_at i flags taken number v =
     if is_misplaced_at flags taken v then Some (Misplaced number)

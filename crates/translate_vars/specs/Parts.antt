@@ -1,4 +1,4 @@
--- Listed atoms and variables that are fit for a translation (the invariants of Helmert 2009, tested over all actions).
+-- Listed atoms and variables that are fit for a translation (the conditions of Helmert 2009, tested over all actions).
 use Rattle.std.specs.Prelude.{ℕ, ◌≤◌, ◌+◌, ◌≡◌, Bool, false, nat_lt, if◌then◌else◌, List, length}
 use Rattle.std.specs.List.{list_any}
 use Rattle.planning.specs.Atoms.{Atom, contains}
@@ -9,21 +9,22 @@ use Rattle.ground.specs.Rounds.{most_atoms}
 use Rattle.translations.specs.Translations.{AreVariables}
 use Rattle.variables.specs.Variables.{PlacedVariable, variables_at}
 
--- its atoms, and the none value where it has one
+-- the number of values: the atoms, and the none value if there is one
 abbrev pub value_count : PlacedVariable → ℕ
 value_count v = if v.has_none then length v.places + 1 else length v.places
 
--- a variable has more values than one may have
+-- whether a variable has more than 65536 values
 abbrev pub has_long_range : List PlacedVariable → Bool
 has_long_range variables = list_any (λ v. nat_lt 65536 (value_count v)) variables
 
--- not more atoms, variables and values of a variable than there may be
+-- the limits on atoms, on variables and on the values of a variable hold
 pub record AreWithinLimits (atoms : List Atom) (variables : List PlacedVariable) : Type 0 where
   pub few_atoms : length atoms ≤ most_atoms
   pub few_variables : length variables ≤ 65536
   pub few_values : has_long_range variables ≡ false
 
--- a closed set of the task's atoms with the initial ones and the goal, and each atom that is not constant in one variable
+-- the atoms are a closed set of the task with the initial atoms and the goal, and each atom that is not constant is in
+-- one variable
 pub record AreFit (task : PlanningTask) (atoms : List Atom) (variables : List PlacedVariable) : Type 0 where
   pub within : AreWithinLimits atoms variables
   pub listed : AreListedAtoms task atoms

@@ -1,4 +1,4 @@
--- Faults of a grounding that are passed on.
+-- Faults of a grounding, as faults of a translation.
 use Rattle.bindings.specs.declared.fault.GroundFault.{GroundFault}
 use Rattle.bindings.specs.declared.fault.GroundFault.TheVariants as ground
 use Rattle.translate_vars.specs.declared.fault.TranslateFault.{TranslateFault}

@@ -17,7 +17,7 @@ use ground::{first_open, least_missing};
 use planning::{GroundAction, GroundAtom, GroundLiteral, Task};
 use std::alloc::Global;
 
-// The first of the atoms among the literals that are not negated that is not listed.
+/// The first atom of a positive literal that is not listed.
 fn first_missing<'a>(atoms: &Atoms, literals: &'a [GroundLiteral]) -> Option<&'a GroundAtom>
     ensures { option_copied result ≡ find (λ q. not (contains atoms.now q)) (wanted_atoms literals.now) }
 {
@@ -29,8 +29,8 @@ fn first_missing<'a>(atoms: &Atoms, literals: &'a [GroundLiteral]) -> Option<&'a
     None
 }
 
-// Whether the initial atoms and those of the goal are listed. An `Err` names the least initial atom that is not, or the first
-// one of the goal.
+/// Checks that the initial atoms and the atoms of the goal are listed. Fails with the least initial atom that is
+/// missing, with the first missing atom of the goal, or if allocation fails.
 fn check_first_atoms(alloc: Global, task: &Task, atoms: &Atoms) -> Result<(), TranslateFault>
     ensures initial { OnOk result (list_all (contains atoms.now) task.now.initial ≡ true) }
     ensures goal { OnOk result (has_wanted (contains atoms.now) task.now.goal ≡ true) }
@@ -47,7 +47,8 @@ fn check_first_atoms(alloc: Global, task: &Task, atoms: &Atoms) -> Result<(), Tr
     Ok(())
 }
 
-// Whether the atoms, with the actions over them, are a closed set. An `Err` names a missing atom.
+/// Checks that the atoms, with the actions over them, are a closed set. Fails with the first missing atom, or if
+/// allocation fails.
 pub(crate) fn check_closed(
     alloc: Global,
     task: &Task,

@@ -1,4 +1,4 @@
-//! Whether each variable is in order, and each atom that is not constant is in one.
+//! Whether each variable is fit, and each atom that is not constant is in one.
 
 ghost use Rattle.std.specs.Prelude.{◌≡◌, ◌||◌, ℕ, ◌<◌, true, false, None, All, length, IfSome, OnOk, IfErr};
 ghost use Rattle.planning.specs.Atoms.{contains};
@@ -19,7 +19,7 @@ use planning::{GroundAction, Task};
 use std::alloc::Global;
 use variables::ListedVariable;
 
-// The first place below the count at which neither flag is set.
+/// The first place below `count` at which neither flag is set.
 fn first_unset(constant: &[bool], taken: &[bool], count: usize) -> Option<usize>
     ensures none { result ≡ None → (k : ℕ) → k < count → (flag_at constant.now k || flag_at taken.now k) ≡ true }
     ensures some { IfSome result (λ place. (place < count) × ((flag_at constant.now place || flag_at taken.now place) ≡ false)
@@ -33,8 +33,8 @@ fn first_unset(constant: &[bool], taken: &[bool], count: usize) -> Option<usize>
     None
 }
 
-// Whether the variables are those of a translation. An `Err` is of the first of them with which something is wrong, or of the
-// first atom in none.
+/// Checks that the variables are fit for a translation. Fails with the fault of the first variable that is not, with
+/// the first atom that is in none, or if allocation fails.
 fn check_each(
     alloc: Global,
     index: &ActionIndex,
@@ -62,7 +62,7 @@ fn check_each(
     }
 }
 
-// The same, over the actions of a closed set of atoms.
+/// The same, over the actions of a closed set of atoms.
 pub(crate) fn check_variables(
     alloc: Global,
     task: &Task,

@@ -1,4 +1,4 @@
-//! Why atoms and variables are not fit for a translation.
+//! Faults of listed atoms and variables.
 
 ghost use Rattle.std.specs.Prelude.{◌≡◌};
 ghost use Rattle.translate_vars.specs.declared.fault.TranslateFault.TheVariants.{OutOfMemory};
@@ -8,29 +8,30 @@ use ground::GroundFault;
 use planning::GroundAtom;
 use std::alloc::{AllocError, AllocFailed};
 
-/// Why atoms and variables are not fit for a translation. Places of atoms in their list, and variables, count from 0.
+/// Why listed atoms and variables are not fit for a translation. Places of atoms in their list, and variables, count
+/// from 0.
 #[derive(Debug, Drop)]
 pub enum TranslateFault {
-    /// Memory ran out. It says nothing of the atoms and the variables.
+    /// Memory ran out. This does not depend on the atoms and the variables.
     OutOfMemory,
-    /// F20: there are more than 262,144 atoms, or more than 1,048,576 actions over them.
+    /// F20: there are more than 262,144 atoms, or more than 1,048,576 ground actions over them.
     GroundLimit,
-    /// F18: there are more than 65,536 variables, or more than 65,536 values of one.
+    /// F18: there are more than 65,536 variables, or more than 65,536 values of one variable.
     Limit(TaskLimit),
-    /// F30: the atom at this place is no atom of the task, or stands before.
+    /// F30: the atom at this place is not an atom of the task, or is listed before.
     BadAtom(usize),
-    /// F31: the atom is true initially, or is a goal, and is not listed.
+    /// F31: the atom is initially true or a goal, and is not listed.
     Missing(GroundAtom),
-    /// F32: a listed action adds the atom, which is not listed.
+    /// F32: an action over the listed atoms adds this atom, which is not listed.
     NotClosed(GroundAtom),
     /// F33: the atom at this place is not constant, and in no variable.
     Uncovered(usize),
-    /// F34: the variable has several atoms, which are no usable group.
+    /// F34: the variable has several atoms, which are not a usable mutex group.
     NotGroup(usize),
-    /// F35: the variable has several atoms and no none value, and none of them may be true.
+    /// F35: the variable has several atoms and no none value, but they are not a full group.
     NotFull(usize),
-    /// F36: the variable has a constant atom, or one of an earlier variable; or with others an atom that is used negatively, or
-    /// two that are goals; or a single atom and no none value.
+    /// F36: the variable has a constant atom or an atom of an earlier variable; or it has several atoms, of which one
+    /// is used negatively or two are goals; or it has a single atom and no none value.
     Misplaced(usize),
 }
 

@@ -1,4 +1,4 @@
-//! What holds of listed atoms, by their places.
+//! Properties of listed atoms, by their places.
 
 ghost use Rattle.std.specs.Prelude.{◌≡◌, ◌==◌, ◌||◌, ℕ, ◌<◌, length, IfOk};
 ghost use Rattle.planning.specs.Atoms.{Atom, contains, wants};
@@ -11,7 +11,8 @@ use mutex::ActionIndex;
 use planning::GroundLiteral;
 use std::alloc::{AllocError, Global};
 
-// By the place of each listed atom, whether it is constant, a precondition or a goal is its negation, and it is a goal.
+/// For each listed atom, by its place: whether it is constant, whether its negation is a precondition or a goal, and
+/// whether it is a goal.
 #[derive(Drop)]
 pub(crate) struct AtomFlags {
     pub(crate) constant: Vec<bool>,
@@ -33,14 +34,14 @@ impl AtomFlags {
     }
 }
 
-// The flag at the place, which is not set past the end.
+/// The flag at a place. It is not set past the end.
 pub(crate) fn flag(flags: &[bool], place: usize) -> bool
     ensures { result ≡ flag_at flags.now place }
 {
     flags.get(place).copied().unwrap_or(false)
 }
 
-// Sets the flag at this place.
+/// Sets the flag at a place.
 fn mark_one(flags: &mut [bool], place: usize)
     ensures { (k : ℕ) → k < length flags.old → flag_at flags.new k ≡ (flag_at flags.old k || place == k) }
 {
@@ -49,7 +50,7 @@ fn mark_one(flags: &mut [bool], place: usize)
     }
 }
 
-// Sets the flags at these places.
+/// Sets the flags at these places.
 pub(crate) fn mark(flags: &mut [bool], places: &[usize])
     ensures { (k : ℕ) → k < length flags.old → flag_at flags.new k ≡ (flag_at flags.old k || has places.now k) }
 {
@@ -78,7 +79,7 @@ fn excluded_flags(alloc: Global, index: &ActionIndex) -> Result<Vec<bool>, Alloc
     Ok(flags)
 }
 
-// The atoms among the literals that are not negated.
+/// The atoms of the positive literals. Fails only if allocation fails.
 fn wanted_atoms(alloc: Global, literals: &[GroundLiteral]) -> Result<Atoms, AllocError>
     ensures { IfOk result (λ atoms. (p : Atom) → contains atoms p ≡ wants literals.now p) }
 {

@@ -1,4 +1,4 @@
-//! Laws of what is wrong first. Each function states one as its contract, and its body is empty.
+//! Laws of the first fault. Each function states one in its contract; its body is empty.
 
 ghost use Rattle.std.specs.Prelude.{◌≡◌, ◌≢◌, List};
 ghost use Rattle.planning.specs.Atoms.{Atom};
@@ -9,13 +9,13 @@ ghost use Rattle.translate_vars.specs.Faults.{IsFirstFault};
 ghost use Rattle.translate_vars.specs.declared.fault.TranslateFault.{TranslateFault};
 ghost use Rattle.translate_vars.specs.declared.fault.TranslateFault.TheVariants.{OutOfMemory};
 
-/// Nothing is wrong with atoms and variables that are fit.
+/// Proves that atoms and variables that are fit have no fault.
 pub fn fit_has_no_fault()
     ensures { (task : PlanningTask) (atoms : List Atom) (variables : List PlacedVariable) (e : TranslateFault) →
         e ≢ OutOfMemory → IsFirstFault task atoms variables e → AreFit task atoms variables → ⊥ }
 {}
 
-/// One thing is wrong first.
+/// Proves that atoms and variables have at most one first fault.
 pub fn one_fault()
     ensures { (task : PlanningTask) (atoms : List Atom) (variables : List PlacedVariable) (e f : TranslateFault) →
         e ≢ OutOfMemory → f ≢ OutOfMemory → IsFirstFault task atoms variables e → IsFirstFault task atoms variables f → e ≡ f }

@@ -1,4 +1,5 @@
-//! Whether listed atoms and chosen variables are fit for a translation of a planning task, and what is wrong with them first.
+//! The test whether listed atoms and chosen variables are fit for a translation of a planning task, with their first
+//! fault.
 #![tactic(auto)]
 
 mod closing;

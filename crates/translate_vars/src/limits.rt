@@ -1,4 +1,4 @@
-//! How many atoms, variables and values of a variable there may be.
+//! Limits on the numbers of atoms, of variables and of the values of a variable.
 
 ghost use Rattle.std.specs.Prelude.{◌≡◌, nat_lt, OnOk, IfErr};
 ghost use Rattle.planning.specs.Planning.{PlanningTask};
@@ -11,13 +11,13 @@ use ground::MOST_ATOMS;
 use planning::GroundAtom;
 use variables::ListedVariable;
 
-// As many variables as there may be.
+/// The greatest number of variables.
 const MOST_VARIABLES: usize = 65_536;
 
-// As many values as a variable may have.
+/// The greatest number of values of a variable.
 const MOST_VALUES: usize = 65_536;
 
-// Whether the variable has more values than it may have: its atoms, and the none value where it has one.
+/// Whether the variable has more than `MOST_VALUES` values: its atoms, and the none value if it has one.
 fn is_long(variable: &ListedVariable) -> bool
     ensures { result ≡ nat_lt 65536 (value_count variable.now) }
 {
@@ -34,7 +34,7 @@ fn has_long_range(variables: &[ListedVariable]) -> bool
     variables.iter().any(|variable| is_long(variable))
 }
 
-// Whether there are no more atoms, variables and values than there may be. An `Err` is the first limit that is passed.
+/// Checks the limits on atoms, variables and values. Fails with the first limit that is passed.
 pub(crate) fn check_limits(
     atoms: &[GroundAtom],
     variables: &[ListedVariable],

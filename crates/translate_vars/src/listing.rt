@@ -11,7 +11,7 @@ use atoms::Atoms;
 use planning::{GroundAtom, Task};
 use std::alloc::Global;
 
-// Whether the predicate takes as many objects, and the objects exist.
+/// Whether the predicate exists and takes this number of objects, and the objects exist.
 fn is_atom_of(task: &Task, atom: &GroundAtom) -> bool
     ensures { IsTrue result ↔ IsAtomOf task.now atom.now }
 {
@@ -25,8 +25,8 @@ fn is_atom_of(task: &Task, atom: &GroundAtom) -> bool
             .all(|object| *object < task.object_types.len())
 }
 
-// A copy of the atoms, with their places by hash. An `Err` names the first place at which there is no atom of the task, or one
-// that stands before.
+/// A copy of the atoms, indexed by hash. Fails with the first place of an atom that is not one of the task or is listed
+/// before, or if allocation fails.
 pub(crate) fn list_atoms(
     alloc: Global,
     task: &Task,

@@ -22,17 +22,22 @@ use variables::ListedVariable;
 /// Distinct atoms, and all ground actions over them, by schema and then by objects.
 #[derive(Drop)]
 pub struct ListedParts {
+    /// The atoms, in the order in which they were listed.
     pub atoms: Atoms,
+    /// The ground actions over the atoms.
     pub actions: Vec<GroundAction>,
 }
 
-/// Whether the atoms and the variables over them are fit for a translation of the task: the atoms are the task's, distinct and
-/// closed, with the initial ones and the goal; each atom that is not constant is in one variable, and constant ones are in none;
-/// several atoms of one variable are a usable group with at most one goal, none used negatively, and have the none value unless
-/// they are full; a single one has it (Helmert 2009).
+/// Checks that the atoms and the variables over them are fit for a translation of the task (Helmert 2009), and returns
+/// the atoms with the ground actions over them. The atoms must be distinct atoms of the task and a closed set with the
+/// initial atoms and those of the goal. Each atom that is not constant must be in exactly one variable, and constant
+/// atoms in none. Several atoms of one variable must be a usable mutex group with at most one goal, none of them used
+/// negatively, and with the none value unless the group is full. A variable with a single atom must have the none
+/// value.
 ///
-/// An `Err` is the first fault: of the numbers of atoms, variables and values, then of the atoms in their order, the number of
-/// actions, the missing atoms, the variables in their order, and the atoms in no variable. Any other is of too little memory.
+/// Fails with the first fault, or if allocation fails. The order is: the numbers of atoms, variables and values; the
+/// atoms, in their order; the number of actions; the missing atoms; the variables, in their order; and the atoms in no
+/// variable.
 pub fn check_parts(
     alloc: Global,
     task: &Task,

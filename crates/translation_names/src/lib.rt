@@ -1,4 +1,4 @@
-//! The names that the values and the operators of a translation have.
+//! The names of the values and the operators of a translation.
 #![tactic(auto)]
 
 mod texts;

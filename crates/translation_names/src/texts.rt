@@ -14,7 +14,7 @@ use planning::{GroundAction, GroundAtom, Vocabulary};
 use std::alloc::{AllocError, Global};
 use variables::ListedVariable;
 
-// The name of this number, which is empty where there is none.
+/// The name with this number, or the empty text if there is none.
 fn name_of(names: &Names, number: usize) -> &str
     ensures { result.now ≡ slice_index_or names.now number [] }
 {
@@ -24,7 +24,7 @@ fn name_of(names: &Names, number: usize) -> &str
     }
 }
 
-// Puts each object's name to the text, behind this one.
+/// Appends the name of each object to the text, after `before`.
 fn push_each(
     text: &mut String,
     vocabulary: &Vocabulary,
@@ -41,7 +41,7 @@ fn push_each(
     Ok(())
 }
 
-// Puts the objects' names to the text, with a comma between each two.
+/// Appends the names of the objects to the text, with a comma and a blank between each two.
 fn push_objects(
     text: &mut String,
     vocabulary: &Vocabulary,
@@ -57,7 +57,7 @@ fn push_objects(
     Ok(())
 }
 
-// Puts the predicate to the text, with the objects in parentheses.
+/// Appends the name of the predicate to the text, with the names of the objects in parentheses.
 fn push_atom(
     text: &mut String,
     vocabulary: &Vocabulary,
@@ -72,7 +72,7 @@ fn push_atom(
     Ok(())
 }
 
-// The word, and behind it the atom.
+/// The word followed by the text of the atom. Fails only if allocation fails.
 fn atom_name(
     alloc: Global,
     word: &str,
@@ -86,7 +86,7 @@ fn atom_name(
     Ok(text)
 }
 
-// The names of the atoms at these places.
+/// The names of the values of the atoms at these places. Fails only if allocation fails.
 fn place_names(
     alloc: Global,
     vocabulary: &Vocabulary,
@@ -104,7 +104,7 @@ fn place_names(
     Ok(texts)
 }
 
-// The name of the value at which none of the atoms at these places is true.
+/// The name of the value at which none of the atoms at these places is true. Fails only if allocation fails.
 fn none_name(
     alloc: Global,
     vocabulary: &Vocabulary,
@@ -125,7 +125,7 @@ fn none_name(
     )
 }
 
-// The names of a variable's values.
+/// The names of the values of a variable. Fails only if allocation fails.
 fn variable_names(
     alloc: Global,
     vocabulary: &Vocabulary,
@@ -143,8 +143,8 @@ fn variable_names(
     Ok(texts)
 }
 
-/// For each variable the names of its values, in their order: its atoms, and the none value where it has one (Helmert 2006). An `Err`
-/// is of too little memory.
+/// Returns for each variable the names of its values, in their order: those of its atoms, and that of the none value if
+/// it has one (Helmert 2006). Fails only if allocation fails.
 pub fn value_names(
     alloc: Global,
     vocabulary: &Vocabulary,
@@ -162,7 +162,8 @@ pub fn value_names(
     Ok(names)
 }
 
-/// The name of the action's operator: the schema and the objects, with a blank before each object. An `Err` is of too little memory.
+/// Returns the name of the operator of an action: the name of the schema, followed by the name of each object after a
+/// blank. Fails only if allocation fails.
 pub fn action_name(
     alloc: Global,
     vocabulary: &Vocabulary,

@@ -9,19 +9,20 @@ use Rattle.planning.specs.Planning.{PlanningTask, Vocabulary, Action}
 use Rattle.mutex.specs.Groups.{removes, is_excluded, is_constant, is_usable, is_full}
 use Rattle.translations.specs.Names.{atom_names, none_name, action_name}
 
--- its values are its atoms, and after them, where it has it, the none value
+-- the values are the atoms, followed by the none value if `has_none` is set
 pub record Variable : Type 0 where
   pub atoms : List Atom
   pub has_none : Bool
 
--- a usable group with the none value unless it is full, in which no atom is excluded and at most one is a goal
+-- a usable mutex group, with the none value unless it is a full group, without an excluded atom and with at most one
+-- goal
 pub record IsGroupVariable (task : PlanningTask) (actions : List Action) (v : Variable) : Type 0 where
   pub usable : is_usable task actions v.atoms ≡ true
   pub kind : (v.has_none || is_full task actions v.atoms) ≡ true
   pub positive : list_any (is_excluded task actions) v.atoms ≡ false
   pub one_goal : at_most_one (wants task.goal) v.atoms ≡ true
 
--- a single atom has the none value, and several are a group
+-- a variable of one atom has the none value, and one of several atoms is a mutex group
 abbrev pub IsVariableOver : PlanningTask → List Action → Variable → List Atom → Type 0
 IsVariableOver task actions v [] = ⊥
 IsVariableOver task actions v (p ∷ []) = v.has_none ≡ true
@@ -30,7 +31,7 @@ IsVariableOver task actions v (p ∷ q ∷ rest) = IsGroupVariable task actions 
 abbrev pub IsVariableOf : PlanningTask → List Action → Variable → Type 0
 IsVariableOf task actions v = IsVariableOver task actions v v.atoms
 
--- each listed atom that is not constant is in exactly one variable, and constant ones are in none
+-- each listed atom that is not constant is in exactly one variable, and constant atoms are in none
 pub record AreVariables (task : PlanningTask) (atoms : List Atom) (actions : List Action) (variables : List Variable) : Type 0 where
   pub each : All (IsVariableOf task actions) variables
   pub listed : All (λ v. list_all (contains atoms) v.atoms ≡ true) variables
@@ -41,11 +42,11 @@ pub record AreVariables (task : PlanningTask) (atoms : List Atom) (actions : Lis
 abbrev pub range_of : Variable → ℕ
 range_of v = if v.has_none then length v.atoms + 1 else length v.atoms
 
--- the place of the first true atom, and the none value where none is true
+-- the place of the first true atom, or the none value if none is true
 abbrev pub value_in : State → Variable → ℕ
 value_in state v = position_or_len state v.atoms
 
--- the value that the literals name: of the wanted atom, or the none value for an excluded one
+-- the value that the literals require: that of the wanted atom, or the none value for an excluded atom
 abbrev pub condition_on : List Literal → Variable → Option ℕ
 condition_on literals v =
     if list_any (wants literals) v.atoms then Some (position_or_len (wants literals) v.atoms)
@@ -56,15 +57,15 @@ is_single [] = false
 is_single (p ∷ []) = true
 is_single (p ∷ q ∷ rest) = false
 
--- the value that the action leaves the variable with: of the added atom, or the none value where it only removes, and
--- the removed atom is the precondition or the only atom
+-- the value that the action gives the variable: that of the added atom, or the none value if the action only removes
+-- atoms, and a removed atom is in the precondition or is the only atom of the variable
 abbrev pub target_on : Action → Variable → Option ℕ
 target_on a v =
     if list_any (contains a.adds) v.atoms then Some (position_or_len (contains a.adds) v.atoms)
     else if list_any (λ p. removes a p && (wants a.precondition p || is_single v.atoms)) v.atoms then Some (length v.atoms)
     else None
 
--- an effect equal to the precondition falls away
+-- an effect that is equal to the precondition is dropped
 abbrev pub unless_equal : Option ℕ → Option ℕ → Option ℕ
 unless_equal None other = None
 unless_equal (Some x) None = Some x
@@ -73,12 +74,12 @@ unless_equal (Some x) (Some y) = if x == y then None else Some x
 abbrev pub effect_on : Action → Variable → Option ℕ
 effect_on a v = unless_equal (target_on a v) (condition_on a.precondition v)
 
--- a fact for each variable to which a value is given, in the order of the variables
+-- a fact for each variable that is given a value, in the order of the variables
 abbrev pub facts : (Variable → Option ℕ) → List Variable → List Fact
 facts given variables =
     filter_map (λ e. option_map (λ x. record { variable = e.0; value = x }) (given e.1)) (enumerate_from 0 variables)
 
--- the precondition contradicts itself nowhere, and names at most one atom of each variable
+-- the precondition is not contradictory, and requires at most one atom of each variable to be true
 abbrev pub has_operator : List Variable → Action → Bool
 has_operator variables a =
     not (is_contradictory a.precondition) && list_all (λ v. at_most_one (wants a.precondition) v.atoms) variables
@@ -92,11 +93,11 @@ operator_of names variables a =
       cost = a.cost;
     }
 
--- the actions that have an operator, in order: that of operator o is at place o
+-- the actions that have an operator, in order: the action of operator o is at place o
 abbrev pub carried : List Variable → List Action → List Action
 carried variables actions = filter (has_operator variables) actions
 
--- the names of the atoms and, where there is a none value, of that
+-- the names of the atoms, followed by that of the none value if there is one
 abbrev pub value_names_of : Vocabulary → Variable → List (List ℕ)
 value_names_of names v = atom_names names v.atoms ++ (if v.has_none then none_name names v.atoms ∷ [] else [])
 
@@ -110,7 +111,7 @@ translation task variables actions =
       operators = map (operator_of task.vocabulary variables) (carried variables actions);
     }
 
--- operator o is that of the action, one for each action of the plan
+-- the numbers of the operators of the actions of the plan, in order
 abbrev pub AreOperatorsOf : List Variable → List Action → List Action → List ℕ → Type 0
 AreOperatorsOf variables actions plan os =
     AllZip (λ a o. slice_get (carried variables actions) o ≡ Some a) plan os

@@ -1,4 +1,4 @@
--- Worked translations: a road of one group and of single atoms, a door, and a gripper.
+-- Examples of translations: a road and a gripper.
 use Rattle.std.specs.Prelude.{ℕ, Bool, true, false, List, [], ◌∷◌, ◌++◌, codes}
 use Rattle.std.specs.List.{filter_map}
 use Rattle.planning.specs.declared.schema.Term.TheVariants.{Parameter}
@@ -16,11 +16,11 @@ variable atoms has_none = record { atoms = atoms; has_none = has_none }
 abbrev pub fact : ℕ → ℕ → Fact
 fact v x = record { variable = v; value = x }
 
--- of cost 1
+-- an operator of cost 1
 abbrev pub operator : List ℕ → List Fact → List Fact → Operator
 operator name precondition effect = record { name = name; precondition = precondition; effect = effect; cost = 1 }
 
--- the actions of a schema for these lists of objects
+-- the actions of a schema for these bindings of its parameters
 abbrev pub actions_of : PlanningTask → ℕ → List (List ℕ) → List Action
 actions_of task schema bindings = filter_map (action_of task schema) bindings
 
@@ -87,7 +87,7 @@ grip_actions =
     ++ actions_of grip 1 ((2 ∷ 0 ∷ []) ∷ (2 ∷ 1 ∷ []) ∷ (3 ∷ 0 ∷ []) ∷ (3 ∷ 1 ∷ []) ∷ [])
     ++ actions_of grip 2 ((2 ∷ 0 ∷ []) ∷ (2 ∷ 1 ∷ []) ∷ (3 ∷ 0 ∷ []) ∷ (3 ∷ 1 ∷ []) ∷ [])
 
--- where the gripper is, where each ball is, and whether a hand is free
+-- the location of the gripper, that of each ball, and whether the hand is free
 abbrev pub here_atoms : List Atom
 here_atoms = atom 2 (0 ∷ []) ∷ atom 2 (1 ∷ []) ∷ []
 

@@ -1,4 +1,4 @@
-//! Laws of translations. Each function states one as its contract, for every planning task, and its body is empty.
+//! Laws of translations, for every planning task. Each function states one in its contract; its body is empty.
 
 ghost use Rattle.std.specs.Prelude.{◌≡◌, ℕ, ◌↔◌, true, false, List, [], ◌∷◌, length, slice_get, Some, All, Contains, codes, map, option_map};
 ghost use Rattle.cost.specs.Distances.{Distance};
@@ -11,8 +11,9 @@ ghost use Rattle.translations.specs.Bounds.{ValidPlansCostAtLeast};
 ghost use Rattle.translations.specs.Translations.{Variable, AreVariables, value_in, translation, AreOperatorsOf};
 ghost use Rattle.translations.specs.Worked.{variable, fact, operator, named_road, at_a, at_b, at_c, go_b_go_c, grip, grip_actions, grip_variables};
 
-/// A planning task and its translation have the same plans: a list of actions is a valid plan of some cost exactly where each
-/// of them has an operator and the list of these operators is a plan of that cost. Each action of a valid plan is listed.
+/// Proves that a planning task and its translation have the same plans: a list of actions is a valid plan of some cost
+/// exactly if each action has an operator and the list of these operators is a plan of that cost. Each action of a
+/// valid plan is listed.
 pub fn translation_has_same_plans()
     ensures plans { (task : PlanningTask) (atoms : List Atom) (actions : List Action) (variables : List Variable) →
         IsPlanningTask task → AreListedAtoms task atoms → AreListedActions task atoms actions →
@@ -26,7 +27,8 @@ pub fn translation_has_same_plans()
         All (Contains actions) plan }
 {}
 
-/// A bound on the plans of the translation is one on the valid plans, and the other way round; likewise that there is none.
+/// Proves that a planning task and its translation have the same lower bounds on the costs of their plans, and that one
+/// has no plan exactly if the other has none.
 pub fn translation_has_same_bounds()
     ensures bound { (task : PlanningTask) (atoms : List Atom) (actions : List Action) (variables : List Variable) →
         IsPlanningTask task → AreListedAtoms task atoms → AreListedActions task atoms actions →
@@ -38,14 +40,16 @@ pub fn translation_has_same_bounds()
         HasNoPlan (translation task variables actions) ↔ HasNoValidPlan task }
 {}
 
-/// The translation is a finite-domain task: its states, goal, preconditions and effects are within the ranges.
+/// Proves that the translation is a finite-domain task: its initial state, goal, preconditions and effects are within
+/// the ranges.
 pub fn translation_is_task()
     ensures { (task : PlanningTask) (atoms : List Atom) (actions : List Action) (variables : List Variable) →
         AreListedAtoms task atoms → AreListedActions task atoms actions → AreVariables task atoms actions variables →
         IsTask (translation task variables actions) }
 {}
 
-/// In every state that ground actions reach, the value of a variable tells which of its atoms is true.
+/// Proves that in every reachable state an atom of a variable is true exactly if the variable has the value of that
+/// atom.
 pub fn values_tell_atoms()
     ensures { (task : PlanningTask) (atoms : List Atom) (actions : List Action) (variables : List Variable) →
         IsPlanningTask task → AreListedAtoms task atoms → AreListedActions task atoms actions →
@@ -54,8 +58,9 @@ pub fn values_tell_atoms()
         (state p ≡ true) ↔ (value_in state v ≡ k) }
 {}
 
-/// The definitions give what is worked out by hand: along a road as one variable, the text that Fast Downward would write; with a
-/// variable for each atom; and with a gripper, of which operator 2 picks up a ball and operator 7 drops one.
+/// Proves that the definitions give translations that were worked out by hand: a road as one variable, in the form that
+/// Fast Downward would write; the road with two variables; and a gripper, of which operator 2 picks up a ball and
+/// operator 7 drops one.
 pub fn worked_tasks_translate()
     ensures one_variable { translation named_road (variable (at_a ∷ at_b ∷ at_c ∷ []) false ∷ []) go_b_go_c ≡ record {
       metric = false;

@@ -1,5 +1,6 @@
-//! Translations of planning tasks into finite-domain tasks over listed atoms and chosen variables: what they are, and laws: a task
-//! and its translation have the same plans with the same costs, and the same bounds (Helmert 2009).
+//! Translations of planning tasks into finite-domain tasks over listed atoms and chosen variables (Helmert 2009): their
+//! definition, and the laws that a task and its translation have the same plans with the same costs, and the same
+//! bounds.
 #![tactic(auto)]
 
 mod laws;

@@ -1,4 +1,4 @@
--- Tasks of which it is seen at once that no action costs much.
+-- Tasks whose actions have low costs by a simple test.
 use Rattle.std.specs.Prelude.{nat_lt, ◌&&◌, Bool, true, false, List, [], ◌∷◌}
 use Rattle.std.specs.List.{list_all}
 use Rattle.planning.specs.declared.schema.Increase.{Increase}
@@ -9,7 +9,7 @@ abbrev pub is_low_increase : Increase → Bool
 is_low_increase (Amount n) = nat_lt n 1000
 is_low_increase (Value atom) = true
 
--- two at most, each low
+-- at most two increases, each of them low
 abbrev pub are_few_and_low : List Increase → Bool
 are_few_and_low [] = true
 are_few_and_low (i ∷ []) = is_low_increase i

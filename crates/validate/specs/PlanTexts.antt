@@ -1,4 +1,4 @@
--- Which bytes spell which plan, and what is wrong with a text that spells none.
+-- Which bytes spell which plan, and the fault of a text that spells none.
 use Rattle.std.specs.Prelude.{◌≡◌, ℕ, ◌<◌, ◌≤◌, List, [], ◌∷◌, ◌++◌, length, Option, Some, None, false, Result, Ok, Err}
 use Rattle.sexp.specs.Forms.{Forms, none, word, group}
 use Rattle.sexp.specs.Grammar.{SpellsAll}
@@ -13,7 +13,7 @@ words_of none = []
 words_of (word s e t f) = t ∷ words_of f
 words_of (group s e i f) = words_of f
 
--- a list of words as a step
+-- the step of a list of words
 abbrev pub step_of : Forms → Option Step
 step_of none = None
 step_of (word s e t f) = Some (record { name = t; arguments = words_of f })
@@ -23,21 +23,21 @@ abbrev pub with_step : Option Step → List Step → List Step
 with_step (Some s) steps = s ∷ steps
 with_step None steps = steps
 
--- the lists among the expressions, as steps
+-- the steps of the lists among the expressions
 abbrev pub steps_of : Forms → List Step
 steps_of none = []
 steps_of (word s e t f) = steps_of f
 steps_of (group s e i f) = with_step (step_of i) (steps_of f)
 
--- ---- the places at which something else than a list of words stands, in the order of the text
+-- ---- the places at which something other than a list of words stands, in the order of the text
 
--- where lists begin
+-- the places at which lists begin
 abbrev pub lists_in : Forms → List ℕ
 lists_in none = []
 lists_in (word s e t f) = lists_in f
 lists_in (group s e i f) = s ∷ lists_in f
 
--- a list at a place that is no step: it is empty, or holds lists
+-- the places at which the content of the list at this place is not that of a step: it is empty, or has lists
 abbrev pub list_faults : ℕ → Forms → List ℕ
 list_faults at none = at ∷ []
 list_faults at (word s e t f) = lists_in (word s e t f)
@@ -49,7 +49,7 @@ shape_faults none = []
 shape_faults (word s e t f) = s ∷ shape_faults f
 shape_faults (group s e i f) = list_faults s i ++ shape_faults f
 
--- the most steps of a plan
+-- the largest number of steps of a plan
 abbrev pub step_limit : ℕ
 step_limit = 1048576
 
@@ -65,14 +65,14 @@ pub record SpellsPlan (bytes : List ℕ) (steps : List Step) : Type 0 where
   pub steps_are : steps ≡ steps_of forms
   pub few : length steps ≤ step_limit
 
--- what is wrong with the text: with its trees, with its first place that is at fault, or with the number of its steps
+-- the fault of the text: that of its trees, its first place that is at fault, or the number of its steps
 abbrev pub IsPlanFault : List ℕ → PlanFault → Type 0
 IsPlanFault bytes OutOfMemory = Unit {0}
 IsPlanFault bytes (Tree e) = IsFirstFault false bytes e
 IsPlanFault bytes (PlanShape at) = (f : Forms) × SpellsAll bytes f × (first_of_places (shape_faults f) ≡ Some at)
 IsPlanFault bytes PlanLimit = (f : Forms) × SpellsAll bytes f × (shape_faults f ≡ []) × (step_limit < length (steps_of f))
 
--- the steps were read, unless memory ran out
+-- the steps were read, unless allocation failed
 abbrev pub GivesPlan : Result (List Step) PlanFault → List Step → Type 0
 GivesPlan (Ok p) steps = p ≡ steps
 GivesPlan (Err OutOfMemory) steps = Unit {0}

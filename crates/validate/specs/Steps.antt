@@ -1,9 +1,9 @@
--- The steps of a plan by their words, and the actions that they name in a task.
+-- The steps of a plan by their names, and the actions that they name in a task.
 use Rattle.std.specs.Prelude.{◌≡◌, ℕ, List, [], ◌∷◌, Option, Some, None, option_and_then}
 use Rattle.names.specs.Names.{place_of}
 use Rattle.planning.specs.Planning.{PlanningTask, Action, action_of}
 
--- a schema's name and the names of objects
+-- the name of a schema and the names of objects
 pub record Step : Type 0 where
   pub name : List ℕ
   pub arguments : List (List ℕ)
@@ -13,13 +13,14 @@ with_number (Some n) (Some ns) = Some (n ∷ ns)
 with_number (Some n) None = None
 with_number None ns = None
 
--- the numbers of objects of these names, if all are there
+-- the numbers of the objects with these names, if all exist
 abbrev pub numbers_of : List (List ℕ) → List (List ℕ) → Option (List ℕ)
 numbers_of names [] = Some []
 numbers_of names (t ∷ ts) = with_number (place_of names t) (numbers_of names ts)
 
--- The ground action that a step names. There is none where no schema has the name, the number of arguments is another, an
--- object is not known or does not fit, an equality fails, or a cost has no value.
+-- The ground action that a step names. There is none if no schema has the name, if the number of arguments is not that
+-- of the parameters, if an object does not exist or does not fit, if an equality condition fails or if, under the
+-- metric, an increase has no amount.
 abbrev pub action_named : PlanningTask → Step → Option Action
 action_named task step =
     option_and_then

@@ -1,4 +1,4 @@
--- The verdict worked out step by step.
+-- The verdict on a plan, step by step.
 use Rattle.std.specs.Prelude.{ℕ, ◌+◌, List, [], ◌∷◌, Option, Some, None, find, not}
 use Rattle.planning.specs.Atoms.{State, Literal, Atom, contains, literal_holds}
 use Rattle.planning.specs.Planning.{PlanningTask, Action}
@@ -12,37 +12,38 @@ use Rattle.validate.specs.declared.verdict.Verdict.TheVariants.{Valid, NoSuchAct
 abbrev pub first_failing : State → List Literal → Option Literal
 first_failing state literals = find (λ l. not (literal_holds state l)) literals
 
--- with each of the atoms, added in turn
+-- the state with all of these atoms added, in order
 abbrev pub with_all : State → List Atom → State
 with_all state [] = state
 with_all state (p ∷ ps) = with_all (added state p) ps
 
--- without each of the atoms, removed in turn
+-- the state with all of these atoms removed, in order
 abbrev pub without_all : State → List Atom → State
 without_all state [] = state
 without_all state (p ∷ ps) = without_all (without state p) ps
 
--- the verdict behind the last step, from the goal's first literal that fails
+-- the verdict after the last step, from the first literal of the goal that does not hold
 abbrev pub at_end : ℕ → Option Literal → Verdict
 at_end cost None = Valid cost
 at_end cost (Some l) = GoalOpen l
 
--- the verdict at a step with an action, from the first literal that fails and what comes behind the step
+-- the verdict at a step with an action, from the first literal of its precondition that does not hold and the verdict
+-- on the remaining steps
 abbrev pub at_precondition : ℕ → Option Literal → Verdict → Verdict
 at_precondition number None behind = behind
 at_precondition number (Some l) behind = NotApplicable number l
 
--- the verdict at a step, from its action and what comes behind it
+-- the verdict at a step, from its action and the verdict on the remaining steps
 abbrev pub at_step : ℕ → State → (Action → Verdict) → Option Action → Verdict
 at_step number state behind None = NoSuchAction number
 at_step number state behind (Some a) = at_precondition number (first_failing state a.precondition) (behind a)
 
--- the verdict from a state on, where the first of the steps has this number
+-- the verdict from a state with this cost so far, where the first of the steps has this number
 abbrev pub verdict_from : PlanningTask → List Step → ℕ → State → ℕ → Verdict
 verdict_from task [] number state cost = at_end cost (first_failing state task.goal)
 verdict_from task (s ∷ steps) number state cost =
     at_step number state (λ a. verdict_from task steps (number + 1) (next_state state a) (cost + a.cost)) (action_named task s)
 
--- the verdict from the initial state on
+-- the verdict from the initial state
 abbrev pub verdict_of : PlanningTask → List Step → Verdict
 verdict_of task steps = verdict_from task steps 1 (contains task.initial) 0

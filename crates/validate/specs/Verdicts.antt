@@ -1,4 +1,5 @@
--- The verdict on a plan: it is valid at a cost, or the first step at fault, or a goal that is left open.
+-- The verdict on a plan: its cost if it is valid, or its first step that is not applicable, or a literal of the goal
+-- that does not hold at its end.
 use Rattle.std.specs.Prelude.{◌≡◌, ℕ, ◌+◌, ◌≤◌, true, false, List, ◌∷◌, ◌++◌, length, Some, None}
 use Rattle.planning.specs.Atoms.{State, Literal, contains, literal_holds, satisfies}
 use Rattle.planning.specs.Planning.{PlanningTask, Action, IsActionOf}
@@ -7,7 +8,7 @@ use Rattle.validate.specs.Steps.{Step, action_named, AreActionsOf}
 use Rattle.validate.specs.declared.verdict.Verdict.{Verdict}
 use Rattle.validate.specs.declared.verdict.Verdict.TheVariants.{Valid, NoSuchAction, NotApplicable, GoalOpen}
 
--- the literal is the first of these, in their order, that does not hold
+-- the literal is the first of these that does not hold
 pub record IsFirstFailing (state : State) (literals : List Literal) (l : Literal) : Type 0 where
   pub before : List Literal
   pub after : List Literal
@@ -15,13 +16,13 @@ pub record IsFirstFailing (state : State) (literals : List Literal) (l : Literal
   pub hold : satisfies state before ≡ true
   pub fails : literal_holds state l ≡ false
 
--- the steps name actions that apply in turn and lead from the initial state to this one
+-- the steps name actions that are applicable in turn and lead from the initial state to this state
 pub record LeadTo (task : PlanningTask) (steps : List Step) (state : State) : Type 0 where
   pub plan : List Action
   pub named : AreActionsOf task steps plan
   pub run : state_after (contains task.initial) plan ≡ Some state
 
--- The steps before one lead to a state in which something is wrong with it; steps count from 1.
+-- The steps before the one with this number, counted from 1, lead to a state in which that step is wrong.
 pub record FailsAt (task : PlanningTask) (steps : List Step) (number : ℕ) (IsWrong : State → Step → Type 0) : Type 0 where
   pub before : List Step
   pub step : Step
@@ -32,7 +33,7 @@ pub record FailsAt (task : PlanningTask) (steps : List Step) (number : ℕ) (IsW
   pub led : LeadTo task before state
   pub wrong : IsWrong state step
 
--- the verdict holds of the plan
+-- the verdict is that on the plan
 abbrev pub IsVerdict : PlanningTask → List Step → Verdict → Type 0
 IsVerdict task steps (Valid cost) = (plan : List Action) × AreActionsOf task steps plan × IsValidPlan task plan × (total_cost plan ≡ cost)
 IsVerdict task steps (NoSuchAction number) = FailsAt task steps number (λ state step. action_named task step ≡ None)
@@ -40,6 +41,6 @@ IsVerdict task steps (NotApplicable number l) =
     FailsAt task steps number (λ state step. (a : Action) × (action_named task step ≡ Some a) × IsFirstFailing state a.precondition l)
 IsVerdict task steps (GoalOpen l) = (state : State) × LeadTo task steps state × IsFirstFailing state task.goal l
 
--- each ground action of the task costs at most this
+-- the number is an upper bound on the costs of all ground actions of the task
 unfoldable pub CostsAtMost : PlanningTask → ℕ → Type 0
 CostsAtMost task limit = (a : Action) → IsActionOf task a → a.cost ≤ limit

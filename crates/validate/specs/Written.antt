@@ -1,4 +1,4 @@
--- How a plan, its cost and a verdict are written.
+-- The texts of a plan, its cost and a verdict.
 use Rattle.std.specs.Prelude.{ℕ, Bool, if◌then◌else◌, List, ◌++◌, slice_get, unwrap_or, codes, []}
 use Rattle.std.specs.List.{flat_map}
 use Rattle.std.specs.Fmt.{decimal}
@@ -8,27 +8,27 @@ use Rattle.validate.specs.Steps.{Step}
 use Rattle.validate.specs.declared.verdict.Verdict.{Verdict}
 use Rattle.validate.specs.declared.verdict.Verdict.TheVariants.{Valid, NoSuchAction, NotApplicable, GoalOpen}
 
--- each of the words behind a blank
+-- each of the words, with a blank before it
 abbrev pub spaced : List (List ℕ) → List ℕ
 spaced words = flat_map (λ t. codes " " ++ t) words
 
--- a step on a line of its own
+-- a step as a line
 abbrev pub step_line : Step → List ℕ
 step_line s = codes "(" ++ s.name ++ spaced s.arguments ++ codes ")\n"
 
--- what the cost is, where each action costs 1, and otherwise
+-- how the end of the cost's line names the kind of cost: each action costs 1 (`unit`), or not
 abbrev pub cost_kind : Bool → List ℕ
 cost_kind unit = if unit then codes " (unit cost)\n" else codes " (general cost)\n"
 
--- a line for each step, and a comment that tells the cost
+-- a line for each step, and a comment with the cost
 abbrev pub plan_text_of : List Step → ℕ → Bool → List ℕ
 plan_text_of steps cost unit = flat_map step_line steps ++ codes "; cost = " ++ decimal cost ++ cost_kind unit
 
--- the name with a number, and nothing where there is none
+-- the name with this number, or nothing if there is none
 abbrev pub name_of : List (List ℕ) → ℕ → List ℕ
 name_of names n = unwrap_or (slice_get names n) []
 
--- each of the numbers by its name, behind a blank
+-- the name of each of the numbers, with a blank before it
 abbrev pub spaced_names : List (List ℕ) → List ℕ → List ℕ
 spaced_names names ns = flat_map (λ n. codes " " ++ name_of names n) ns
 
@@ -45,6 +45,6 @@ verdict_text v (NoSuchAction number) = codes "no such action " ++ decimal number
 verdict_text v (NotApplicable number l) = codes "not applicable " ++ decimal number ++ codes " " ++ literal_text v l
 verdict_text v (GoalOpen l) = codes "goal open " ++ literal_text v l
 
--- the verdict on a line, with the names of the task
+-- the verdict as a line, with the names of the task
 abbrev pub verdict_line_of : PlanningTask → Verdict → List ℕ
 verdict_line_of task verdict = verdict_text task.vocabulary verdict ++ codes "\n"

@@ -1,4 +1,5 @@
-//! What holds of every text and every plan, whoever reads and validates it.
+//! Laws of plans and verdicts. The contract of each function states one, for every text and every plan; its body is
+//! empty.
 
 ghost use Rattle.std.specs.Prelude.{◌≡◌, ◌≢◌, ◌⊎◌, ℕ, List};
 ghost use Rattle.planning.specs.Planning.{PlanningTask};
@@ -9,7 +10,7 @@ ghost use Rattle.validate.specs.declared.plan.PlanFault.{PlanFault};
 ghost use Rattle.validate.specs.declared.plan.PlanFault.TheVariants.{OutOfMemory};
 ghost use Rattle.validate.specs.declared.verdict.Verdict.{Verdict};
 
-/// A law: no text spells two plans.
+/// A law: a text spells at most one plan.
 pub fn one_plan()
     ensures { (bytes : List ℕ) (plan other : List Words) → SpellsPlan bytes plan → SpellsPlan bytes other → plan ≡ other }
 {}
@@ -30,7 +31,7 @@ pub fn one_plan_fault()
     ensures { (bytes : List ℕ) (e f : PlanFault) → e ≢ OutOfMemory → f ≢ OutOfMemory → IsPlanFault bytes e → IsPlanFault bytes f → e ≡ f }
 {}
 
-/// A law: a plan has one verdict, and no other.
+/// A law: a plan has exactly one verdict.
 pub fn one_verdict()
     ensures some { (task : PlanningTask) (steps : List Words) → (verdict : Verdict) × IsVerdict task steps verdict }
     ensures unique { (task : PlanningTask) (steps : List Words) (verdict other : Verdict) →

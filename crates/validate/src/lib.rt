@@ -1,5 +1,4 @@
-//! Plans, and the verdict on a plan: whether it is valid in a task (Fox and Long 2003) and what it costs, or the first step
-//! that is at fault.
+//! Plans, and the verdict on a plan in a task: that it is valid (Fox and Long 2003) at a cost, or its first fault.
 #![tactic(auto)]
 
 pub mod laws;

@@ -1,4 +1,4 @@
-//! Plans by their words.
+//! Plans as the names of their steps.
 
 ghost use Rattle.std.specs.Prelude.{◌≡◌, ◌≤◌, length};
 ghost use Rattle.validate.specs.declared.plan.PlanFault.TheVariants.{OutOfMemory};
@@ -8,7 +8,8 @@ use std::alloc::{AllocError, AllocFailed};
 use std::marker::Model;
 use thiserror::Error;
 
-/// A step of a plan: the name of an action schema, and the names of the objects for its parameters, in lower case.
+/// A step of a plan: the name of an action schema, and the names of the objects for its parameters. Names that are read
+/// from a text are in lower case.
 #[derive(Debug, Drop)]
 pub struct Step {
     pub name: String,
@@ -25,7 +26,7 @@ impl Model for Step {
     ghost view = { λ s. record { name = string_bytes s.name; arguments = texts_of s.arguments.items } };
 }
 
-/// A plan: its steps in order, as many as a plan may have, 1,048,576 at most.
+/// A plan: its steps in order, at most 1,048,576.
 #[derive(Debug, Drop)]
 pub struct Plan {
     steps: Vec<Step>,
@@ -43,15 +44,15 @@ impl Model for Plan {
     ghost invariant = { λ p. length p.steps.items ≤ step_limit };
 }
 
-/// Why a text is no plan.
+/// Why a text is not a plan.
 #[derive(Clone, Copy, Debug, PartialEq, Eq, Error)]
 pub enum PlanFault {
     #[error("out of memory")]
     OutOfMemory,
-    /// The text is no list of expressions.
+    /// The text is not a list of expressions (F1 to F5).
     #[error("{0}")]
     Tree(SexpFault),
-    /// F25: a word outside a list, an empty list, or a list inside one, at a byte counted from 0.
+    /// F25: a word outside a list, an empty list, or a list inside one. The place is a byte, counted from 0.
     #[error("at byte {0} stands something else than a list of words")]
     PlanShape(usize),
     /// F26: more than 1,048,576 steps.
@@ -76,7 +77,7 @@ impl<T: Drop> From<AllocFailed<T>> for PlanFault {
 }
 
 impl Plan {
-    /// The plan of these steps.
+    /// The plan with these steps, at most 1,048,576.
     pub fn new(steps: Vec<Step>) -> Plan
         requires { length steps.items ≤ 1048576 }
         ensures { result ≡ steps.items }
@@ -84,7 +85,7 @@ impl Plan {
         Plan { steps }
     }
 
-    /// The steps in order.
+    /// The steps, in order.
     pub fn steps(&self) -> &[Step]
         ensures steps { result.now ≡ self.now }
         ensures few { length self.now ≤ 1048576 }

@@ -1,4 +1,4 @@
-//! Reading a plan.
+//! Reading plans.
 
 ghost use Rattle.std.specs.Prelude.{◌≡◌, ◌≤◌, ◌∷◌, [], ◌++◌, ℕ, List, Option, Some, None, map, length, IfOk, IfErr, option_to_list};
 ghost use Rattle.std.specs.Option.{option_map};
@@ -26,7 +26,7 @@ fn list_at(tree: &Tree) -> Option<usize>
     }
 }
 
-/// Where the first list among these trees begins.
+/// The place of the first list among these trees.
 fn first_list(items: &[Tree]) -> Option<usize>
     ensures { result ≡ first_of_places (lists_in (views items.now)) }
 {
@@ -38,7 +38,7 @@ fn first_list(items: &[Tree]) -> Option<usize>
     None
 }
 
-/// Where a list that begins at a byte is no step.
+/// The first place at which the list at `at` is not a list of words, or `None` if it is one.
 #[tactic(auto, using(sexp::proofs::Walking::walking, crate::proofs::PlanLaws::list_faults_filled))]
 fn list_fault(items: &[Tree], at: usize) -> Option<usize>
     ensures { result ≡ first_of_places (list_faults at (views items.now)) }
@@ -59,7 +59,7 @@ fn tree_fault(tree: &Tree) -> Option<usize>
     }
 }
 
-/// Where something else than a list of words stands first.
+/// The first place at which something other than a list of words stands.
 fn shape_fault(trees: &[Tree]) -> Option<usize>
     ensures { result ≡ first_of_places (shape_faults (views trees.now)) }
 {
@@ -97,7 +97,7 @@ fn words(alloc: Global, items: &[Tree]) -> Result<Vec<String>, AllocError>
     Ok(words)
 }
 
-/// The step of a list whose first word is this tree.
+/// The step of a list whose first tree is `name`, or `None` if that is no word.
 #[tactic(auto, using(sexp::proofs::Walking::walking))]
 fn headed(alloc: Global, name: &Tree, arguments: &[Tree]) -> Result<Option<Step>, AllocError>
     ensures { IfOk result (λ s. s ≡ step_of (before name.now (views arguments.now))) }
@@ -112,7 +112,7 @@ fn headed(alloc: Global, name: &Tree, arguments: &[Tree]) -> Result<Option<Step>
     }
 }
 
-/// The step that a list of words is, if it is one.
+/// The step of a list, or `None` if it does not begin with a word.
 #[tactic(auto, using(sexp::proofs::Walking::walking))]
 fn step(alloc: Global, items: &[Tree]) -> Result<Option<Step>, AllocError>
     ensures { IfOk result (λ s. s ≡ step_of (views items.now)) }
@@ -139,7 +139,7 @@ fn push_step(alloc: Global, tree: &Tree, steps: &mut Vec<Step>) -> Result<(), Al
     }
 }
 
-/// The lists among the trees, as steps.
+/// The steps of the lists among the trees.
 fn steps(alloc: Global, trees: &[Tree]) -> Result<Vec<Step>, AllocError>
     ensures { IfOk result (λ steps. steps.items ≡ steps_of (views trees.now)) }
 {
@@ -150,7 +150,7 @@ fn steps(alloc: Global, trees: &[Tree]) -> Result<Vec<Step>, AllocError>
     Ok(steps)
 }
 
-/// The expressions of the text.
+/// The expressions of the text. Fails with its first fault, or if allocation fails.
 fn trees(alloc: Global, bytes: &[u8]) -> Result<Vec<Tree>, PlanFault>
     ensures found { IfOk result (λ v. SpellsAll bytes.now (views v.items)) }
     ensures fault { IfErr result (λ e. IsPlanFault bytes.now e) }
@@ -162,7 +162,7 @@ fn trees(alloc: Global, bytes: &[u8]) -> Result<Vec<Tree>, PlanFault>
     }
 }
 
-/// The plan of the text.
+/// The plan of the text. Fails with its first fault, or if allocation fails.
 fn plan(alloc: Global, bytes: &[u8]) -> Result<Plan, PlanFault>
     ensures found { IfOk result (λ plan. SpellsPlan bytes.now plan) }
     ensures fault { IfErr result (λ e. IsPlanFault bytes.now e) }
@@ -177,16 +177,18 @@ fn plan(alloc: Global, bytes: &[u8]) -> Result<Plan, PlanFault>
     Ok(Plan::new(steps(alloc, &trees)?))
 }
 
-/// Reads a plan: any number of lists of words, each a step, with comments and blanks, in upper or lower case.
+/// Reads a plan: any number of lists of words, each a step, with comments and blanks between them, in upper or lower
+/// case.
 ///
-/// It is refused for a fault of its trees (F1 to F5), then for the first place, in the order of the text, at which something
-/// else than a list of words stands (F25), then for more than 1,048,576 steps (F26).
+/// Fails with the first fault of its trees (F1 to F5); if there is none, with the first place, in the order of the
+/// text, at which something other than a list of words stands (F25); if there is none, for more than 1,048,576 steps
+/// (F26); or if allocation fails.
 pub fn read_plan(alloc: Global, bytes: &[u8]) -> Result<Plan, PlanFault>
-    // What is read is spelled so.
+    // The result is what the text spells.
     ensures found { IfOk result (λ plan. SpellsPlan bytes.now plan) }
-    // What is spelled so is read, unless memory runs out.
+    // A text that spells a plan is read, unless allocation fails.
     ensures only { (plan : List Words) → SpellsPlan bytes.now plan → GivesPlan result plan }
-    // What else comes is what is wrong with the text.
+    // An error is the fault of the text, or that allocation failed.
     ensures fault { IfErr result (λ e. IsPlanFault bytes.now e) }
 {
     plan(alloc, bytes)

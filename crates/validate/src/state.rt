@@ -1,4 +1,4 @@
-//! The set of the atoms that are true.
+//! States as sets of atoms.
 
 ghost use Rattle.std.specs.Prelude.{◌≡◌, [], IfOk, OnOk};
 ghost use Rattle.std.specs.Option.{option_copied};
@@ -11,7 +11,7 @@ use planning::{GroundAction, GroundAtom, GroundLiteral};
 use std::alloc::{AllocError, Global};
 use std::collections::HashSet;
 
-/// A set of ground atoms: those that are true.
+/// A state: the set of the ground atoms that are true.
 #[derive(Drop)]
 pub struct AtomSet {
     atoms: HashSet<GroundAtom>,
@@ -26,7 +26,7 @@ impl AtomSet {
         }
     }
 
-    /// The set of these atoms.
+    /// The state in which exactly these atoms are true. Fails only if allocation fails.
     pub fn of(alloc: Global, atoms: &[GroundAtom]) -> Result<AtomSet, AllocError>
         ensures { IfOk result (λ s. holds_in s ≡ contains atoms.now) }
     {
@@ -68,7 +68,8 @@ impl AtomSet {
         }
     }
 
-    /// Makes the atoms that the action deletes false, and then those that it adds true.
+    /// Applies an action: makes the atoms that it deletes false, and then those that it adds true. Fails only if
+    /// allocation fails, and then the state must not be used again.
     pub fn apply(&mut self, action: GroundAction) -> Result<(), AllocError>
         ensures { OnOk result (holds_in self.new ≡ next_state (holds_in self.old) action) }
     {
@@ -82,7 +83,7 @@ impl AtomSet {
         self.atoms.contains(&literal.atom) == literal.positive
     }
 
-    /// The first of the literals that does not hold.
+    /// The first of the literals that does not hold, or `None` if all hold.
     pub fn first_failing<'a>(&self, literals: &'a [GroundLiteral]) -> Option<&'a GroundLiteral>
         ensures { option_copied result ≡ first_failing (holds_in self.now) literals.now }
     {

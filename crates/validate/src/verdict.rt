@@ -14,21 +14,22 @@ use names::Names;
 use planning::{GroundAction, GroundLiteral, Task};
 use std::alloc::{AllocError, Global};
 
-/// What is said of a plan in a task. Steps count from 1.
+/// The verdict on a plan in a task. Steps count from 1.
 #[derive(Debug, Drop)]
 pub enum Verdict {
-    /// The plan is valid, and costs this.
+    /// The plan is valid, and has this cost.
     Valid(u64),
-    /// The first step at fault names no ground action of the task.
+    /// This step is the first that is not applicable, and it names no ground action of the task.
     NoSuchAction(usize),
-    /// The first step at fault names an action that does not apply, and this is its first literal, in the order of the
-    /// text, that does not hold.
+    /// This step is the first that is not applicable. It names a ground action, and this is the first literal of its
+    /// precondition, in the order of the text, that does not hold.
     NotApplicable(usize, GroundLiteral),
-    /// Every step applies, and this is the goal's first literal, in the order of the text, that does not hold at the end.
+    /// Every step is applicable, and this is the first literal of the goal, in the order of the text, that does not
+    /// hold at the end.
     GoalOpen(GroundLiteral),
 }
 
-/// The numbers of these names, if all are there.
+/// The numbers of these names, or `None` if one of them has none.
 fn numbers_of(
     alloc: Global,
     names: &Names,
@@ -46,7 +47,7 @@ fn numbers_of(
     Ok(Some(numbers))
 }
 
-/// The ground action that a step names, if it names one.
+/// The ground action that a step names, or `None` if it names none.
 fn action_named(alloc: Global, task: &Task, step: &Step) -> Result<Option<GroundAction>, AllocError>
     requires { IsTrue (has_small_costs task.now) }
     ensures { IfOk result (λ a. a ≡ action_named task.now step.now) }
@@ -60,7 +61,7 @@ fn action_named(alloc: Global, task: &Task, step: &Step) -> Result<Option<Ground
     }
 }
 
-/// The verdict, worked out step by step.
+/// The verdict on a plan, by applying its steps one after the other.
 fn verdict_of(alloc: Global, task: &Task, plan: &Plan) -> Result<Verdict, AllocError>
     requires small { IsTrue (has_small_costs task.now) }
     requires costs { CostsAtMost task.now 2147483647 }
@@ -84,10 +85,11 @@ fn verdict_of(alloc: Global, task: &Task, plan: &Plan) -> Result<Verdict, AllocE
     }
 }
 
-/// The verdict on a plan in a task: the plan is valid at a cost, or the first step at fault, or the goal's first literal that
-/// is left open (Fox and Long 2003). Each step costs what its own literals do, whatever the size of the state.
+/// The verdict on a plan in a task: its cost if it is valid, otherwise its first step that is not applicable, or the
+/// first literal of the goal that does not hold at its end (Fox and Long 2003). The time for a step depends on the
+/// schema and the effects of its action, and not on the size of the state.
 ///
-/// An `Err` is of too little memory.
+/// Fails only if allocation fails.
 pub fn validate(alloc: Global, task: &Task, plan: &Plan) -> Result<Verdict, AllocError>
     requires small { IsTrue (has_small_costs task.now) }
     requires costs { CostsAtMost task.now 2147483647 }

@@ -22,7 +22,7 @@ fn push_number(text: &mut String, number: u64) -> Result<(), AllocError>
 
 // ---- plans
 
-/// Adds each of the words behind a blank.
+/// Adds each of the words, with a blank before it.
 #[tactic(auto, using(crate::proofs::PlanLaws::appending))]
 fn push_words(text: &mut String, words: &[String]) -> Result<(), AllocError>
     ensures { OnOk result (string_bytes text.new ≡ string_bytes text.old ++ spaced (texts_of words.now)) }
@@ -65,10 +65,10 @@ fn push_cost_kind(text: &mut String, unit: bool) -> Result<(), AllocError>
     })
 }
 
-/// The plan as a text: a line for each step, as `(go a b)`, and a last line `; cost = 2 (unit cost)`, or `(general cost)`
-/// where actions have costs of their own.
+/// The plan as a text: a line for each step, such as `(go a b)`, and a last line such as `; cost = 2 (unit cost)`. If
+/// `unit` is not set that line ends with `(general cost)`.
 ///
-/// An `Err` is of too little memory.
+/// Fails only if allocation fails.
 #[tactic(auto, using(crate::proofs::PlanLaws::appending))]
 pub fn plan_text(alloc: Global, plan: &Plan, cost: u64, unit: bool) -> Result<String, AllocError>
     ensures { IfOk result (λ text. string_bytes text ≡ plan_text_of plan.now cost unit) }
@@ -83,7 +83,7 @@ pub fn plan_text(alloc: Global, plan: &Plan, cost: u64, unit: bool) -> Result<St
 
 // ---- verdicts
 
-/// Adds the name with a number, if there is one.
+/// Adds the name with this number, or nothing if there is none.
 fn push_name(text: &mut String, names: &Names, number: usize) -> Result<(), AllocError>
     ensures { OnOk result (string_bytes text.new ≡ string_bytes text.old ++ name_of names.now number) }
 {
@@ -93,7 +93,7 @@ fn push_name(text: &mut String, names: &Names, number: usize) -> Result<(), Allo
     }
 }
 
-/// Adds each of the numbers by its name, behind a blank.
+/// Adds the name of each of the numbers, with a blank before it.
 #[tactic(auto, using(crate::proofs::PlanLaws::appending))]
 fn push_names(text: &mut String, names: &Names, numbers: &[usize]) -> Result<(), AllocError>
     ensures { OnOk result (string_bytes text.new ≡ string_bytes text.old ++ spaced_names names.now numbers.now) }
@@ -168,10 +168,10 @@ fn push_verdict(
     Ok(())
 }
 
-/// The verdict on a line: `valid 7`, `no such action 2`, `not applicable 2 (at a)` or `goal open (not (at a))`. Numbers and
-/// literals have the names of the task; where a number has no name there, nothing stands for it.
+/// The verdict as a line: `valid 7`, `no such action 2`, `not applicable 2 (at a)` or `goal open (not (at a))`, with a
+/// line feed. Literals are written with the names of the task; for a number that has no name nothing is written.
 ///
-/// An `Err` is of too little memory.
+/// Fails only if allocation fails.
 pub fn verdict_line(alloc: Global, task: &Task, verdict: &Verdict) -> Result<String, AllocError>
     ensures { IfOk result (λ text. string_bytes text ≡ verdict_line_of task.now verdict.now) }
 {

@@ -16,7 +16,7 @@ use mutex::ActionIndex;
 use std::alloc::{AllocError, Global};
 use variables::ListedVariable;
 
-// By place, whether the atom is taken, and the variables that take the atoms.
+/// For each place whether the atom is taken, and the variables that have taken the atoms.
 #[derive(Drop)]
 struct Choice {
     taken: Vec<bool>,
@@ -24,7 +24,7 @@ struct Choice {
 }
 
 impl Choice {
-    // None of so many atoms is taken.
+    /// Makes a choice without variables, over this number of atoms. Fails only if allocation fails.
     fn new(alloc: Global, count: usize) -> Result<Choice, AllocError>
         ensures { IfOk result (λ choice. (index : Indexed) → length index.atoms ≡ count → IsChoice index choice) }
     {
@@ -34,7 +34,7 @@ impl Choice {
         })
     }
 
-    // Takes the variable and its atoms.
+    /// Adds a variable and marks its atoms as taken. Fails only if allocation fails.
     fn add(&mut self, variable: ListedVariable) -> Result<(), AllocError>
         ensures { OnOk result (AddsVariable self.old self.new variable) }
     {
@@ -44,7 +44,8 @@ impl Choice {
     }
 }
 
-// The variable of the group that comes first of those that are fit.
+/// The variable of the first group in the queue that is fit. Groups before it are removed. Fails only if allocation
+/// fails.
 fn next_variable(
     alloc: Global,
     offers: &Offers<'_>,
@@ -61,13 +62,13 @@ fn next_variable(
     Ok(None)
 }
 
-// Takes groups as long as one is fit.
+/// Takes groups as long as one is fit. Fails only if allocation fails.
 fn take_groups(alloc: Global, offers: &Offers<'_>, choice: &mut Choice) -> Result<(), AllocError>
     requires { IsChoice offers.now.index.now choice.old }
     ensures { OnOk result (IsChoice offers.now.index.now choice.new) }
 {
     let mut queue = Queue::new(alloc, choice.taken.len(), offers.groups())?;
-    // Each turn takes two atoms or more, so there are fewer turns than atoms.
+    // Each turn takes at least two atoms, so there are fewer turns than atoms.
     for _turn in 0..choice.taken.len() {
         let Some(variable) = next_variable(alloc, offers, &choice.taken, &mut queue)? else {
             return Ok(());
@@ -78,7 +79,7 @@ fn take_groups(alloc: Global, offers: &Offers<'_>, choice: &mut Choice) -> Resul
     Ok(())
 }
 
-// Whether the atom is neither taken nor constant.
+/// Whether the atom is neither taken nor constant.
 fn is_left(index: &ActionIndex<'_>, taken: &[bool], place: usize) -> bool
     requires { place < length index.now.atoms }
     ensures { result ≡ is_left index.now taken.now place }
@@ -86,7 +87,7 @@ fn is_left(index: &ActionIndex<'_>, taken: &[bool], place: usize) -> bool
     !is_set(taken, place) && !index.is_constant(place)
 }
 
-// Takes the atom by itself, unless it is taken already or is constant.
+/// Takes the atom as a variable of its own, unless it is taken or constant. Fails only if allocation fails.
 fn take_atom(
     alloc: Global,
     index: &ActionIndex<'_>,
@@ -108,7 +109,7 @@ fn take_atom(
     })
 }
 
-// Takes by itself each atom that is left and not constant.
+/// Takes each atom that is neither taken nor constant as a variable of its own. Fails only if allocation fails.
 fn take_atoms(alloc: Global, index: &ActionIndex<'_>, choice: &mut Choice) -> Result<(), AllocError>
     requires { IsChoice index.now choice.old }
     ensures choice { OnOk result (IsChoice index.now choice.new) }
@@ -120,21 +121,22 @@ fn take_atoms(alloc: Global, index: &ActionIndex<'_>, choice: &mut Choice) -> Re
     Ok(())
 }
 
-// The place of the variable's first atom.
+/// The place of the first atom of the variable.
 fn least_place(variable: &ListedVariable) -> usize
     ensures { result ≡ least_place variable.now }
 {
     variable.places.first().copied().unwrap_or(0)
 }
 
-/// Variables over the index's atoms, ordered by their least atoms: as long as there is one, of the groups without the atoms that
-/// are taken already, those that still have two or more atoms, at most one of them a goal, and are usable groups, the one of most
-/// atoms is taken, the earliest of several; each other atom that is not constant has a variable of its own. A variable has the
-/// none value unless it has several atoms and they are full (Helmert 2009, the greedy choice of invariants). An `Err` is of too
-/// little memory.
+/// Chooses variables over the atoms of the index, in the order of their least atoms (Helmert 2009, the greedy choice of
+/// mutex groups). The groups are considered without the atoms that are already taken. As long as some of them have at
+/// least two atoms, at most one of them a goal, and are usable, the largest of these becomes a variable, and of several
+/// the earliest. Each other atom that is not constant becomes a variable of its own. A variable has the none value
+/// unless it has several atoms and they are a full group. Fails only if allocation fails.
 ///
-/// The groups are of the index's atoms, none of them constant or excluded, as `group_proposals::groups` gives them. Each group
-/// is looked at once for each time that it loses atoms.
+/// The groups must be those of the index's atoms, none of them constant or excluded, as `group_proposals::groups`
+/// returns them. A group is examined again each time that it loses atoms. The contract does not specify which variables
+/// are chosen.
 pub fn choose_variables(
     alloc: Global,
     index: &ActionIndex<'_>,

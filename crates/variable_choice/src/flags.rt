@@ -5,14 +5,14 @@ ghost use Rattle.mutex.specs.Places.{has};
 
 use std::alloc::{AllocError, Global};
 
-// Whether the flag at this place is set. Past the end it is not.
+/// Whether the flag at a place is set. It is not set past the end.
 pub(crate) fn is_set(flags: &[bool], place: usize) -> bool
     ensures { result ≡ slice_index_or flags.now place false }
 {
     flags.get(place).copied().unwrap_or(false)
 }
 
-// Sets the flag at this place.
+/// Sets the flag at a place.
 fn set_one(flags: &mut [bool], place: usize)
     ensures { (p : ℕ) → p < length flags.old →
         slice_index_or flags.new p false ≡ (slice_index_or flags.old p false || place == p) }
@@ -22,7 +22,7 @@ fn set_one(flags: &mut [bool], place: usize)
     }
 }
 
-// Sets the flags at these places.
+/// Sets the flags at these places.
 pub(crate) fn set(flags: &mut [bool], places: &[usize])
     ensures { (p : ℕ) → p < length flags.old →
         slice_index_or flags.new p false ≡ (slice_index_or flags.old p false || has places.now p) }
@@ -32,7 +32,7 @@ pub(crate) fn set(flags: &mut [bool], places: &[usize])
     }
 }
 
-// So many flags, of which those at these places are set.
+/// Returns `count` flags, of which those at these places are set. Fails only if allocation fails.
 pub(crate) fn set_flags(
     alloc: Global,
     count: usize,

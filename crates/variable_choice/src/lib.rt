@@ -1,4 +1,4 @@
-//! Which variables a translation has: the largest groups first, and then single atoms.
+//! The choice of the variables of a translation: the largest mutex groups first, and then single atoms.
 #![tactic(auto)]
 
 mod choice;

@@ -1,4 +1,4 @@
-//! The groups that are offered, and what of them is fit to be a variable.
+//! The proposed groups, and the variables that their remaining atoms make.
 
 ghost use Rattle.std.specs.Prelude.{◌≡◌, ◌<◌, length, true, false, not, filter, slice_index_or, nat_le, count_by, position, None, if◌then◌else◌, All, IfOk, IfSome};
 ghost use Rattle.std.specs.Bool.{OnTrue};
@@ -16,7 +16,7 @@ use planning::GroundLiteral;
 use std::alloc::{AllocError, Global};
 use variables::ListedVariable;
 
-// Groups of an index's atoms, and by place whether the atom is a goal.
+/// Groups of an index's atoms, and for each place whether the atom is a goal.
 #[derive(Drop)]
 pub(crate) struct Offers<'a> {
     pub(crate) index: &'a ActionIndex<'a>,
@@ -46,7 +46,7 @@ impl<'a> Offers<'a> {
         self.groups
     }
 
-    // The places of the group that are not taken.
+    /// The places of the group that are not taken. Fails only if allocation fails.
     fn rest(&self, alloc: Global, group: usize, taken: &[bool]) -> Result<Vec<usize>, AllocError>
         ensures { IfOk result (λ rest. IsRest self.now.index.now taken.now rest.items) }
     {
@@ -56,7 +56,7 @@ impl<'a> Offers<'a> {
         }
     }
 
-    // Whether at most one of the atoms is a goal.
+    /// Whether at most one of the atoms is a goal.
     fn has_one_goal(&self, places: &[usize]) -> bool
         ensures { result ≡ nat_le (count_by (λ p. slice_index_or self.now.goals.items p false) places.now) 1 }
     {
@@ -67,7 +67,7 @@ impl<'a> Offers<'a> {
             <= 1
     }
 
-    // Whether the atoms are several, at most one of them a goal, and a usable group.
+    /// Whether there are several atoms, at most one of them a goal, and they are a usable group.
     fn is_fit(&self, places: &[usize]) -> bool
         requires rising { IsStrictlyIncreasing places.now }
         requires within { All (λ p. p < length self.now.index.now.atoms) places.now }
@@ -79,7 +79,8 @@ impl<'a> Offers<'a> {
         self.index.is_usable(places)
     }
 
-    // The variable of what is not taken of the group, where that is fit.
+    /// Returns the variable of the atoms of the group that are not taken, if they are fit. Fails only if allocation
+    /// fails.
     pub(crate) fn variable(
         &self,
         alloc: Global,
@@ -97,7 +98,7 @@ impl<'a> Offers<'a> {
     }
 }
 
-// Those of the places that are not taken.
+/// Those of the places that are not taken. Fails only if allocation fails.
 fn untaken(alloc: Global, taken: &[bool], places: &[usize]) -> Result<Vec<usize>, AllocError>
     ensures { IfOk result (λ rest. rest.items ≡ filter (λ p. not (slice_index_or taken.now p false)) places.now) }
 {
@@ -108,7 +109,7 @@ fn untaken(alloc: Global, taken: &[bool], places: &[usize]) -> Result<Vec<usize>
         .collect(alloc)
 }
 
-// The place of the literal's atom, where it is not negated and the atom is in the list.
+/// The place of the literal's atom, if the literal is positive and the atom is listed.
 fn place_of_goal(atoms: &Atoms, literal: &GroundLiteral) -> Option<usize>
     ensures { result ≡ (if (if literal.now.positive then true else not true)
         then position (same_atom literal.now.atom) atoms.now else None) }
@@ -120,7 +121,7 @@ fn place_of_goal(atoms: &Atoms, literal: &GroundLiteral) -> Option<usize>
     }
 }
 
-// The places of the goal's atoms.
+/// The places of the atoms of the goal. Fails only if allocation fails.
 fn goal_places(alloc: Global, index: &ActionIndex<'_>) -> Result<Vec<usize>, AllocError>
     ensures { IfOk result (λ places. places.items ≡ literal_places index.now.atoms true index.now.task.goal) }
 {
@@ -133,7 +134,7 @@ fn goal_places(alloc: Global, index: &ActionIndex<'_>) -> Result<Vec<usize>, All
         .collect(alloc)
 }
 
-// By place, whether the atom is a goal.
+/// For each place whether the atom is a goal. Fails only if allocation fails.
 fn goal_flags(alloc: Global, index: &ActionIndex<'_>) -> Result<Vec<bool>, AllocError>
     ensures { IfOk result (λ flags. AreGoals index.now flags.items) }
 {

@@ -1,4 +1,4 @@
-//! The queue of the groups that may be taken.
+//! The priority queue of the groups.
 
 ghost use Rattle.std.specs.Prelude.{◌<◌, OnSome};
 ghost use Rattle.std.specs.BinaryHeap.{heap_len};
@@ -8,25 +8,26 @@ use std::alloc::{AllocError, Global};
 use std::cmp::Reverse;
 use std::collections::BinaryHeap;
 
-// A group and how many of its atoms are left. The greatest is the one of most atoms, and of several the earliest group.
+/// A group and the number of its remaining atoms. The greatest candidate is the largest group, and of several the
+/// earliest.
 #[derive(Debug, Clone, Copy, PartialEq, Eq, PartialOrd, Ord)]
 struct Candidate {
     size: usize,
     group: Reverse<usize>,
 }
 
-// Groups by how many of their atoms are left. A group is queued anew each time that it loses atoms.
+/// Groups by the number of their remaining atoms. A group is queued again each time that it loses atoms.
 #[derive(Drop)]
 pub(crate) struct Queue {
-    // By place, the groups that have the atom.
+    /// For each place the groups that have the atom.
     groups_at: Vec<Vec<usize>>,
-    // By group, how many of its atoms are left.
+    /// For each group the number of its remaining atoms.
     left: Vec<usize>,
     heap: BinaryHeap<Candidate>,
 }
 
 impl Queue {
-    // All the groups, over so many atoms.
+    /// Makes the queue of all groups, over this number of atoms. Fails only if allocation fails.
     pub(crate) fn new(alloc: Global, count: usize, groups: &[Group]) -> Result<Queue, AllocError> {
         let mut groups_at = Vec::new(alloc);
         for _place in 0..count {
@@ -51,7 +52,7 @@ impl Queue {
         Ok(())
     }
 
-    // Notes that the group has the atoms at these places.
+    /// Records that the group has the atoms at these places. Fails only if allocation fails.
     fn note(&mut self, group: usize, places: &[usize]) -> Result<(), AllocError> {
         for place in places {
             if *place < self.groups_at.len() {
@@ -65,7 +66,7 @@ impl Queue {
         self.left.get(group).copied().unwrap_or(0)
     }
 
-    // Queues the group with what is left of it, unless that is less than two atoms.
+    /// Queues the group with its remaining atoms, unless they are fewer than two. Fails only if allocation fails.
     fn push(&mut self, group: usize) -> Result<(), AllocError> {
         let size = self.size(group);
         if size > 1 {
@@ -77,7 +78,8 @@ impl Queue {
         Ok(())
     }
 
-    // Takes the group that comes first off the queue. What was queued before the group lost atoms is passed over.
+    /// Removes the first group from the queue and returns it. Entries that were queued before the group lost atoms are
+    /// skipped.
     pub(crate) fn pop(&mut self) -> Option<usize>
         ensures { OnSome result (heap_len self.new.heap < heap_len self.old.heap) }
     {
@@ -90,7 +92,7 @@ impl Queue {
         None
     }
 
-    // For each of the places the groups that have the atom, with repeats.
+    /// For each of the places the groups that have the atom, with duplicates. Fails only if allocation fails.
     fn groups_with(&self, alloc: Global, places: &[usize]) -> Result<Vec<usize>, AllocError> {
         let mut groups = Vec::new(alloc);
         for place in places {
@@ -101,7 +103,7 @@ impl Queue {
         Ok(groups)
     }
 
-    // Takes one atom from each of the groups, as often as it stands there.
+    /// Subtracts one atom from each of the groups, as often as it is listed.
     fn shrink(&mut self, groups: &[usize]) {
         for group in groups {
             if *group < self.left.len() {
@@ -110,7 +112,8 @@ impl Queue {
         }
     }
 
-    // Takes the atoms at these places from the groups, and queues the groups that lose some anew.
+    /// Removes the atoms at these places from the groups, and queues the groups that lose some again. Fails only if
+    /// allocation fails.
     pub(crate) fn remove(&mut self, alloc: Global, places: &[usize]) -> Result<(), AllocError> {
         let mut groups = self.groups_with(alloc, places)?;
         self.shrink(&groups);

@@ -1,14 +1,14 @@
-//! Variables of a finite-domain translation: which of a planning task's listed atoms one variable stands for, by their places.
+//! Variables of a translation: the listed atoms of a planning task that make up one variable, by their places.
 #![tactic(auto)]
 
 use std::marker::Model;
 
-/// Listed atoms of which at most one is true at a time, as the values of one variable.
+/// Listed atoms that make up one variable of a translation, of which at most one is true in each reachable state.
 #[derive(Debug, Drop)]
 pub struct ListedVariable {
-    /// The atoms' places in the list, counted from 0. They increase.
+    /// The places of the atoms in the list, counted from 0. They must be strictly increasing.
     pub places: Vec<usize>,
-    /// Whether there is a value at which none of the atoms is true. It comes behind the atoms.
+    /// Whether the variable has the none value, at which none of the atoms is true. It comes after those of the atoms.
     pub has_none: bool,
 }
 

@@ -1,16 +1,16 @@
--- The ways into an abstract state.
+-- The transitions into an abstract state.
 use Rattle.std.specs.Prelude.{◌≡◌, ℕ, ◌<◌, true, ◌↔◌, List, Some, Contains}
 use Rattle.abstraction.specs.Abstractions.{Abstraction}
 
--- the operator leads from the one abstract state to the other
+-- the operator leads from the first abstract state to the second
 abbrev pub LeadsTo : Abstraction → ℕ → ℕ → ℕ → Type 0
 LeadsTo a o i j = (i < a.size) × (a.transition i o ≡ Some j)
 
--- the operator may lead on to another abstract state, and leads from one to this
+-- the operator touches the abstraction, and leads from some abstract state to this one
 abbrev pub IsEntering : Abstraction → ℕ → ℕ → Type 0
 IsEntering a j o = (a.touches o ≡ true) × ((i : ℕ) × LeadsTo a o i j)
 
--- exactly the operators that touch the abstract states and lead to this one
+-- exactly the operators that touch the abstraction and lead to this abstract state
 abbrev pub AreEntering : Abstraction → ℕ → List ℕ → Type 0
 AreEntering a j operators = (o : ℕ) → Contains operators o ↔ IsEntering a j o
 

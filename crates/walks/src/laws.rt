@@ -1,4 +1,4 @@
-//! Laws of distances and shares. Each function states one as its contract, for every abstraction, and its body is empty.
+//! Laws of distances and shares, for every abstraction. Each function states one in its contract; its body is empty.
 
 ghost use Rattle.std.specs.Prelude.{◌≡◌, ℕ, ◌≤◌, List, All};
 ghost use Rattle.cost.specs.Distances.{Distance};
@@ -7,7 +7,7 @@ ghost use Rattle.abstraction.specs.Abstractions.{Abstraction, Table, IsAbstracti
 ghost use Rattle.abstraction.specs.Columns.{IsColumn};
 ghost use Rattle.walks.specs.Walks.{IsDistanceFrom, IsGreatestFall, HasDistances, IsSaturated, IsPartition};
 
-/// An abstract state has one distance, and an operator has one greatest fall.
+/// Proves that the distance of an abstract state and the saturated share of an operator are unique.
 pub fn distances_and_falls_are_unique()
     ensures distance { (a : Abstraction) (share : ℕ → ℕ) (i : ℕ) (d e : Distance) →
         IsDistanceFrom a share i d → IsDistanceFrom a share i e → d ≡ e }
@@ -15,13 +15,14 @@ pub fn distances_and_falls_are_unique()
         IsGreatestFall a value o m → IsGreatestFall a value o n → m ≡ n }
 {}
 
-/// A table of distances is consistent.
+/// Proves that a table of distances under its own shares is consistent.
 pub fn distances_are_consistent()
     ensures { (task : FiniteDomainTask) (t : Table) → IsAbstractionOf task t.abstraction → HasDistances t t.share →
         IsConsistent t }
 {}
 
-/// Saturated shares keep a table consistent, and are at most the shares that it was made with.
+/// Proves that a table that is consistent under some shares stays so under its saturated shares, and that these are at
+/// most the former.
 pub fn saturated_shares_suffice()
     ensures kept { (t : Table) (made_with : ℕ → ℕ) →
         IsSaturated t → IsConsistent (record t { share = made_with }) → IsConsistent t }
@@ -29,7 +30,8 @@ pub fn saturated_shares_suffice()
         IsSaturated t → IsConsistent (record t { share = made_with }) → (o : ℕ) → t.share o ≤ made_with o }
 {}
 
-/// Tables that are made in turn from what is left of the costs are a column (Seipp, Keller and Helmert 2020).
+/// Proves that tables made in turn from the remaining costs are a cost-partitioned column (saturated cost partitioning,
+/// Seipp, Keller and Helmert 2020).
 pub fn partition_is_column()
     ensures { (task : FiniteDomainTask) (column : List Table) → All (λ t. IsAbstractionOf task t.abstraction) column →
         IsPartition (cost_of task) column → IsColumn task column }

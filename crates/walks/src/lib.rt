@@ -1,5 +1,5 @@
-//! Walks in abstractions and the distances that they make: what a table of distances is, which shares of the costs it needs,
-//! and what an abstraction gives for a search backwards from its goals.
+//! Walks in abstractions and the distances that they define: what a table of distances is, which shares of the costs it
+//! needs, and the interface that an abstraction offers to a search backwards from its goals.
 #![tactic(auto)]
 
 mod backward;

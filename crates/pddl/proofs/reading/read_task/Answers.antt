@@ -19,7 +19,7 @@ returns-clause-small c = spelled_small c.args.domain.now c.args.problem.now c.as
 pub returns-clause-costs : goal.returns-clause-costs
 returns-clause-costs c =
     subst (λ (t : PlanningTask). (a : Action) → IsActionOf t a → a.cost ≤ 2147483647) (sym c.assembled.ensures)
-    (costs_within (task_in c.read_texts.new.domain c.read_texts.new.problem) _ c.in-Ok.ensures.places c.in-Ok.ensures.sums)
+    (costs_within (task_in c.in-Ok.parts.domain c.in-Ok.parts.problem) _ c.in-Ok.ensures.places c.in-Ok.ensures.sums)
 
 pub returns-in-Err-clause-never_refused : goal.returns-in-Err-clause-never_refused
 returns-in-Err-clause-never_refused c = λ t s. spelled_not_refused_is c.args.domain.now c.args.problem.now t _ s c.in-Err.ensures.fault

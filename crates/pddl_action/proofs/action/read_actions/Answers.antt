@@ -1,5 +1,6 @@
-use Rattle.std.proofs.Common.{◌+◌, ◌++◌, [], ℕ, List, drop, map, arith, sym, ap, ◌∙◌}
+use Rattle.std.proofs.Common.{◌≡◌, ◌≤◌, ◌+◌, ◌++◌, [], ℕ, List, length, drop, map, arith, refl, sym, ap, ◌∙◌}
 use Rattle.std.proofs.Math.ListN.{drop_of_length-le}
+use Rattle.std.proofs.lemmas.List.{append-nil}
 use Rattle.std.specs.Prelude.{Option}
 use Rattle.pddl_syntax.specs.declared.fault.Fault.{Fault}
 use Rattle.pddl_syntax.specs.declared.fault.LimitedTable.TheVariants.{Schemas}
@@ -11,6 +12,11 @@ use Rattle.pddl_syntax.proofs.ParameterSteps.{listed_at}
 use Rattle.pddl_action.proofs.Noted.{noted_step, grown_step}
 use Rattle.pddl_syntax.proofs.Trees.{first_of_append}
 use Rattle.pddl_action.proofs.action.read_actions.Goals as goal
+
+-- a list that has grown to its end
+at_end : {A : Type 0} (ss : List Section) (i : ℕ) (f : List Section → List A) (read all : List A) → f [] ≡ [] → length ss ≤ i → read ++ f (drop i ss) ≡ all → read ≡ all
+at_end ss i f read all none le e =
+    sym (append-nil read) ∙ sym (ap (λ ys. read ++ ys) (ap f (drop_of_length-le ss le) ∙ none)) ∙ e
 
 pub loop-section-preserved : goal.loop-section-preserved
 loop-section-preserved c =
@@ -28,6 +34,21 @@ loop-section-preserved c =
           ∙ noted_step c.loop-section.first _ _ (action_faults d old.names (part_of s)) (each_faults d (with_action_name old.names (part_of s).inside) rest) c.in_ok-read.ensures.faults
           (ap (λ (ss : List Section). first_of c.loop-section.first (each_faults d old.names (map part_of ss))) (sym e) ∙ c.loop-section.invariant.faults);
     }
+
+pub returns-clause-schemas : goal.returns-clause-schemas
+returns-clause-schemas c =
+    let f = λ (ss : List Section). map (schema_of c.args.declarations.now) (map part_of ss) in
+    at_end c.args.sections.now c.loop-section.section-index f c.loop-section.actions.schemas.items (f c.args.sections.now) refl c.loop-section-test.false c.loop-section.invariant.schemas
+
+pub returns-clause-names : goal.returns-clause-names
+returns-clause-names c =
+    sym (ap (λ (ss : List Section). names_with c.loop-section.actions.names (map part_of ss)) (drop_of_length-le c.args.sections.now c.loop-section-test.false))
+    ∙ c.loop-section.invariant.names
+
+pub returns-clause-places : goal.returns-clause-places
+returns-clause-places c =
+    let f = λ (ss : List Section). map place_of (map part_of ss) in
+    at_end c.args.sections.now c.loop-section.section-index f c.loop-section.actions.places.items (f c.args.sections.now) refl c.loop-section-test.false c.loop-section.invariant.places
 
 pub returns-clause-faults : goal.returns-clause-faults
 unfolding first_of

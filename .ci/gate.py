@@ -1,0 +1,180 @@
+"""The merge gate: proves every crate and its tests of the last commit from nothing, runs every program, and tries must-fail edits.
+
+An edit changes its answer only where its crate, or something below it, changed. So `.ci/refused.txt` records for which state of
+a crate all its edits were refused, and the gate tries those of the crates whose state is not recorded.
+"""
+
+import contextlib
+import os
+import re
+import shutil
+import signal
+import subprocess
+import sys
+import tempfile
+import time
+
+from repository import Record, Repository
+from seconds import ProverSeconds
+
+TOP = os.path.dirname(os.path.dirname(os.path.abspath(__file__)))
+RECORD = f"{TOP}/.ci/refused.txt"
+USAGE = """usage: .ci/run                 the gate: proofs, tests, programs, and the edits of crates whose state is not recorded
+       .ci/run --all           the gate with every edit, whatever is recorded
+       .ci/run --edits [NAME..]  outside the gate: the edits that are not recorded, of these crates or of all
+Each takes the last commit, without drafts/, and records in .ci/refused.txt where all edits were refused."""
+# What the gate spends on edits at most, and what an edit takes on average, both in seconds of one processor.
+MOST_SECONDS_OF_EDITS = 3600
+SECONDS_OF_AN_EDIT = 20
+REFUSED = re.compile(r"rt: must-fail (\w+)/(\S+): refused, as it must be(.*)")
+BY_NAME_ONLY = "only because a proof file names"
+
+
+def say(text):
+    print(f"gate: {text}", flush=True)
+
+
+@contextlib.contextmanager
+def last_commit():
+    """A copy of the last commit without `drafts/`, which holds what is unfinished."""
+    with tempfile.TemporaryDirectory(prefix="optplan-gate-") as copy:
+        archive = subprocess.Popen(["git", "-C", TOP, "archive", "HEAD"], stdout=subprocess.PIPE)
+        subprocess.run(["tar", "-x", "-C", copy], stdin=archive.stdout, check=True)
+        if archive.wait():
+            raise SystemExit("gate: there is no commit to take")
+        shutil.rmtree(f"{copy}/drafts", ignore_errors=True)
+        subprocess.run(["git", "init", "-q", copy], check=True)
+        yield copy
+
+
+def keep_crates(repository, names):
+    """Cuts the copy's `crates.txt`, and its folders of crates, to these."""
+    with open(f"{repository.top}/crates.txt", "w", encoding="utf-8") as file:
+        file.writelines(line for name, line in repository.lines.items() if name in names)
+    for name in repository.uses:
+        if name not in names:
+            shutil.rmtree(repository.folder(name), ignore_errors=True)
+
+
+def run_toolchain(copy, tell, on_crate=None):
+    """Runs the toolchain's gate in a copy, and hands on each line that it prints. Gives its status and the seconds of its provers."""
+    gate = subprocess.Popen(["rt", "ci"], cwd=copy, stdin=subprocess.DEVNULL, stdout=subprocess.PIPE, stderr=subprocess.STDOUT,
+                            text=True, errors="replace", start_new_session=True)
+    seconds = ProverSeconds(gate.pid, on_crate)
+    try:
+        for line in gate.stdout:
+            tell(line)
+        return gate.wait(), seconds
+    finally:
+        # The toolchain ends what it has started where it is ended itself.
+        gate.kill()
+        gate.wait()
+        seconds.end()
+
+
+def missing_edits(repository, record, names, tries_all):
+    """The crates, of these, whose edits are to be tried."""
+    return [it for it in names if tries_all or not record.holds(repository, it)]
+
+
+def count_of_edits(repository, names):
+    return sum(len(repository.edits(it)) for it in names)
+
+
+def try_crates(repository, record, tried):
+    """Runs the toolchain's gate with the edits of `tried` alone, and records the crates all of whose edits were refused. Gives the
+    status."""
+    for name in repository.with_edits():
+        if name not in tried:
+            shutil.rmtree(f"{repository.folder(name)}/must-fail")
+    lines, refused, weak, started = [""], set(), [], time.time()
+
+    def tell(line):
+        # The last line stays behind what is said here.
+        sys.stdout.write(lines.pop())
+        lines.append(line)
+        found = REFUSED.match(line)
+        if found:
+            edit = f"{repository.folder(found[1])}/must-fail/{found[2]}"
+            weak.append(edit) if BY_NAME_ONLY in found[3] else refused.add(edit)
+
+    status, seconds = run_toolchain(repository.top, tell)
+    print("\n".join(seconds.table()))
+    say(f"{(time.time() - started) / 60:.1f} minutes on {len(os.sched_getaffinity(0))} processors")
+    for it in weak:
+        say(f"{os.path.relpath(it, repository.top)} is refused only over a name in a proof: change a value, and keep the names")
+    record.add(repository, [it for it in tried if refused.issuperset(repository.edits(it))])
+    # (the toolchain's count is the last line)
+    print(lines.pop(), end="", flush=True)
+    return status or int(bool(weak))
+
+
+def gate(tries_all):
+    record, started = Record(RECORD), time.time()
+    with last_commit() as copy:
+        repository = Repository(copy)
+        unfit = repository.unfit_edits()
+        for it in unfit:
+            say(f"must-fail {it}")
+        names = repository.with_edits()
+        tried = missing_edits(repository, record, names, tries_all)
+        edits, missing = count_of_edits(repository, names), count_of_edits(repository, tried)
+        say(f"of {edits} must-fail edits {edits - missing} are recorded as refused, and {missing}, of {len(tried)} crates, are tried now")
+        most = MOST_SECONDS_OF_EDITS * len(os.sched_getaffinity(0)) // SECONDS_OF_AN_EDIT
+        if unfit or (missing > most and not tries_all):
+            if missing > most:
+                say(f"that is more than the {most} for which there is time: call .ci/run --edits, which records what is refused, first")
+            print("0 passed, 1 failed")
+            return 1
+        status = try_crates(repository, record, tried)
+        if not status and is_tree_committed():
+            keep_program(copy, started)
+        return status
+
+
+def edits_alone(names):
+    """Tries the edits that are not recorded, of these crates or of all, over what these crates stand on."""
+    record = Record(RECORD)
+    with last_commit() as copy:
+        repository = Repository(copy)
+        unknown = [it for it in names if it not in repository.uses]
+        if unknown:
+            raise SystemExit(f"gate: there is no crate {unknown[0]}")
+        tried = missing_edits(repository, record, names or repository.with_edits(), False)
+        say(f"{count_of_edits(repository, tried)} edits, of {len(tried)} crates, are not recorded")
+        keep_crates(repository, repository.closure(tried))
+        return try_crates(Repository(copy), record, tried) if tried else 0
+
+
+def is_tree_committed():
+    """Whether the work tree is the last commit, as far as the program's crates go."""
+    changed = subprocess.run(["git", "-C", TOP, "status", "--porcelain", "crates", "crates.txt"], stdout=subprocess.PIPE, check=True)
+    return not changed.stdout
+
+
+def keep_program(copy, started):
+    """Puts the program that was built in a copy into the work tree, whole or not at all, with the names of the crates that it
+    stands on. That file's time is that at which the copy was taken."""
+    output = f"{TOP}/crates/optplan/out"
+    os.makedirs(output, exist_ok=True)
+    shutil.copy(f"{copy}/crates/optplan/out/optplan", f"{output}/optplan.new")
+    with open(f"{output}/built.new", "w", encoding="utf-8") as file:
+        file.writelines(f"{it}\n" for it in Repository(copy).closure(["optplan"]))
+    os.utime(f"{output}/built.new", (started, started))
+    for it in ("optplan", "built"):
+        os.replace(f"{output}/{it}.new", f"{output}/{it}")
+
+
+def main(words):
+    # Temporary folders go also where the gate is ended from outside.
+    signal.signal(signal.SIGTERM, lambda *_: sys.exit(143))
+    if not words or words == ["--all"]:
+        return gate(bool(words))
+    if words[0] == "--edits" and not any(it.startswith("-") for it in words[1:]):
+        return edits_alone(words[1:])
+    print(USAGE, file=sys.stdout if words == ["--help"] else sys.stderr)
+    return 0 if words == ["--help"] else 2
+
+
+if __name__ == "__main__":
+    sys.exit(main(sys.argv[1:]))

@@ -1,0 +1,146 @@
+"""The crates of a tree: what each stands on, its must-fail edits, and the state on which the answers of these edits depend."""
+
+import functools
+import hashlib
+import os
+import re
+import subprocess
+
+# The folders that the prover reads.
+PARTS = ("src", "specs", "proofs")
+# The proof of one function: no other function's proof and no crate above can cite it.
+PROOFS_OF_ONE_FUNCTION = ("Answers.antt", "Invariants.antt", "Proof.antt")
+COMMENTS = {".rt": b"//", ".antt": b"--"}
+
+
+class Repository:
+    """The crates that `crates.txt` lists at the top of a tree."""
+
+    def __init__(self, top):
+        self.top = top
+        # The line of each crate, and what it stands on.
+        self.lines, self.uses = {}, {}
+        with open(f"{top}/crates.txt", encoding="utf-8") as file:
+            for line in file:
+                head, _, uses = line.partition("#")[0].partition(":")
+                if head.split():
+                    name = head.split()[0]
+                    self.lines[name], self.uses[name] = line, uses.split()
+
+    def folder(self, name):
+        return f"{self.top}/crates/{name}"
+
+    @functools.lru_cache(maxsize=None)
+    def below(self, name):
+        """The crates of the tree that a crate stands on, each after those that it stands on itself."""
+        found = {}
+        for used in self.uses[name]:
+            if used in self.uses:
+                found.update(dict.fromkeys([*self.below(used), used]))
+        return tuple(found)
+
+    def closure(self, names):
+        """These crates and all that they stand on, each after those that it stands on itself."""
+        found = {}
+        for name in names:
+            found.update(dict.fromkeys([*self.below(name), name]))
+        return list(found)
+
+    def edits(self, name):
+        """The paths of a crate's must-fail edits, in order."""
+        folder = f"{self.folder(name)}/must-fail"
+        names = sorted(os.listdir(folder)) if os.path.isdir(folder) else []
+        return [f"{folder}/{it}" for it in names if it.endswith(".edit")]
+
+    def with_edits(self):
+        return [it for it in self.uses if self.edits(it)]
+
+    @functools.lru_cache(maxsize=None)
+    def state(self, name):
+        """A sum over all on which the answers of a crate's edits depend: the crate, what crates above can cite of those below it,
+        and the toolchain. Comments, blank lines and the proofs of single functions below do not count."""
+        total = hashlib.sha256(toolchain())
+        for it in self.below(name):
+            total.update(self.sum_of(it, True))
+        total.update(self.sum_of(name, False))
+        return total.hexdigest()[:32]
+
+    @functools.lru_cache(maxsize=None)
+    def sum_of(self, name, is_below):
+        total = hashlib.sha256(self.lines[name].encode())
+        for path in sorted(self.files(name, is_below)):
+            total.update(repr((path, text_of(f"{self.folder(name)}/{path}"))).encode())
+        return total.digest()
+
+    def files(self, name, is_below):
+        """The paths, relative to a crate, of what counts in its state."""
+        folder = self.folder(name)
+        for part in PARTS if is_below else (*PARTS, "must-fail"):
+            for at, _, names in os.walk(f"{folder}/{part}"):
+                inside = os.path.relpath(at, folder)
+                yield from (f"{inside}/{it}" for it in names if not (is_below and it in PROOFS_OF_ONE_FUNCTION))
+
+    def unfit_edits(self):
+        """What is wrong with edits that cannot be applied: an `old:` text stands exactly once in its file."""
+        return [f"{name}/{os.path.basename(it)}: {why}"
+                for name in self.uses for it in self.edits(name) if (why := self.misfit(name, it))]
+
+    def misfit(self, name, edit):
+        """Why an edit cannot be applied to its crate, or None."""
+        path, texts, pairs = None, {}, 0
+        with open(edit, encoding="utf-8") as file:
+            lines = file.read().split("\n")
+        for word, _, rest in (it.partition(": ") for it in lines):
+            if word == "file":
+                path = f"{self.folder(name)}/{rest.strip()}"
+                if not os.path.isfile(path):
+                    return f"there is no file {rest.strip()}"
+                if path not in texts:
+                    with open(path, encoding="utf-8") as file:
+                        texts[path] = file.read()
+            elif word == "old" and path:
+                old = rest
+                if texts[path].count(old) != 1:
+                    return f"an 'old:' text stands {texts[path].count(old)} times, and not once"
+            elif word.rstrip(":") == "new" and path:
+                texts[path], pairs = texts[path].replace(old, rest), pairs + 1
+        return None if pairs else "it has no 'old:' and 'new:' pair"
+
+
+def text_of(path):
+    """The lines of a file that are neither blank nor comments."""
+    mark = COMMENTS.get(os.path.splitext(path)[1])
+    with open(path, "rb") as file:
+        lines = file.read().split(b"\n")
+    return lines if mark is None else [it for it in lines if it.strip() and not it.strip().startswith(mark)]
+
+
+@functools.lru_cache(maxsize=None)
+def toolchain():
+    """The toolchain's identity, as it prints it."""
+    return subprocess.run(["rt", "version"], check=True, stdout=subprocess.PIPE).stdout
+
+
+class Record:
+    """The file that tells for which states of crates the prover refused every edit: a line a crate, its name and the state."""
+
+    HEAD = ("# Where the prover refused each must-fail edit of a crate: the crate, and the state of all on which that depends.\n"
+            "# Written by .ci/run alone.\n")
+
+    def __init__(self, path):
+        self.path = path
+        self.states = {}
+        if os.path.isfile(path):
+            with open(path, encoding="utf-8") as file:
+                self.states = dict(it.split() for it in file if re.fullmatch(r"\w+ [0-9a-f]+\n?", it))
+
+    def holds(self, repository, name):
+        return self.states.get(name) == repository.state(name)
+
+    def add(self, repository, names):
+        """Records crates, and writes the file. What it says of crates that are there no more is dropped."""
+        self.states.update((it, repository.state(it)) for it in names)
+        kept = sorted(it for it in self.states.items() if it[0] in repository.uses)
+        with open(f"{self.path}.new", "w", encoding="utf-8") as file:
+            file.write(self.HEAD + "".join(f"{name} {state}\n" for name, state in kept))
+        os.replace(f"{self.path}.new", self.path)

@@ -1,0 +1,27 @@
+use Rattle.std.proofs.Common.{arith}
+use Rattle.sexp.proofs.Walking.{walking}
+use Rattle.pddl_syntax.proofs.Trees.{noting}
+use Rattle.pddl_syntax.specs.Faults.{first_of}
+use Rattle.pddl_problem.proofs.Steps.{numbers}
+use Rattle.pddl_problem.proofs.value.number_alone.Goals as goal
+
+pub returns-in-empty-clause-meaning : goal.returns-in-empty-clause-meaning
+returns-in-empty-clause-meaning c = grind (arith, walking, numbers)
+
+pub returns-in-empty-clause-faults : goal.returns-in-empty-clause-faults
+unfolding first_of
+returns-in-empty-clause-faults c = grind (arith, walking, noting, numbers)
+
+pub returns-in-len1-clause-meaning : goal.returns-in-len1-clause-meaning
+returns-in-len1-clause-meaning c = grind (arith, walking, numbers)
+
+pub returns-in-len1-clause-faults : goal.returns-in-len1-clause-faults
+unfolding first_of
+returns-in-len1-clause-faults c = grind (arith, walking, noting, numbers)
+
+pub returns-in-len2-up-clause-meaning : goal.returns-in-len2-up-clause-meaning
+returns-in-len2-up-clause-meaning c = grind (arith, walking, numbers)
+
+pub returns-in-len2-up-clause-faults : goal.returns-in-len2-up-clause-faults
+unfolding first_of
+returns-in-len2-up-clause-faults c = grind (arith, walking, noting, numbers)

@@ -1,6 +1,0 @@
-use Rattle.std.proofs.Common.{◌≡◌, length}
-use Rattle.std.specs.List.{AllByRecursion}
-use Rattle.table_tests.proofs.closed_violations.listed.Given as goal
-
-abbrev pub invariant-loop-cost : goal.invariant-loop-cost
-invariant-loop-cost l = AllByRecursion (λ e. length e.state ≡ 1) l.closed

@@ -1,0 +1,268 @@
+//! Files that do not exist, and a device that fails.
+
+use command::run;
+use device::{DeviceFault, MemoryDevice};
+use program_runs::texts::{ROAD_CERTIFICATE, ROAD_DOMAIN, ROAD_PROBLEM, ROAD_SAS};
+use program_runs::{FaultyDevice, Outcome, program_words, recorded, run_over};
+use std::alloc::{AllocError, Global};
+use std::process::Abort;
+use std::test::Fail;
+
+const PLAN: &str = "(go a b)(go b c)";
+
+/// What is printed, what is reported, and the status.
+type Texts = (&'static str, &'static str, u8);
+
+fn wanted(alloc: Global, texts: Texts) -> Result<Outcome, AllocError> {
+    let (out, err, status) = texts;
+    Ok(Outcome {
+        out: String::from_str(alloc, out)?,
+        err: String::from_str(alloc, err)?,
+        status,
+    })
+}
+
+/// A word for each of the three files, and the expected outcome.
+const MISSING_ROWS: &[([&str; 3], Texts)] = &[
+    (["domain", "problem", "plan"], ("valid 2\n", "", 0)),
+    (
+        ["gone", "problem", "plan"],
+        ("", "optplan: F70 CannotRead domain\n", 7),
+    ),
+    (
+        ["domain", "gone", "plan"],
+        ("", "optplan: F70 CannotRead problem\n", 7),
+    ),
+    (
+        ["domain", "problem", "gone"],
+        ("", "optplan: F70 CannotRead plan\n", 7),
+    ),
+    (
+        ["gone", "gone", "gone"],
+        ("", "optplan: F70 CannotRead domain\n", 7),
+    ),
+    (
+        ["", "problem", "plan"],
+        ("", "optplan: F70 CannotRead domain\n", 7),
+    ),
+    // All files are read before any text is looked at.
+    (
+        ["plan", "problem", "gone"],
+        ("", "optplan: F70 CannotRead plan\n", 7),
+    ),
+    // Which text is which is determined by its place among the words.
+    (
+        ["domain", "domain", "domain"],
+        ("", "optplan: F10 Shape problem 0\n", 1),
+    ),
+    (
+        ["plan", "problem", "plan"],
+        ("", "optplan: F7 Trailing domain 8\n", 1),
+    ),
+    (
+        ["domain", "problem", "problem"],
+        ("", "optplan: F25 PlanShape plan 8\n", 1),
+    ),
+];
+
+#[test]
+fn files_that_are_not_there(rt: HostRuntime) -> Result<(), Fail> {
+    let files = [
+        ("domain", ROAD_DOMAIN.as_bytes()),
+        ("problem", ROAD_PROBLEM.as_bytes()),
+        ("plan", PLAN.as_bytes()),
+    ];
+    for (names, texts) in MISSING_ROWS {
+        let [domain, problem, plan] = names;
+        let outcome = run_over(&rt, &["validate", domain, problem, plan], &files)?;
+        assert_eq!(rt;
+            outcome,
+            wanted(rt.alloc(), *texts)?,
+            "at {domain} {problem} {plan}"
+        );
+    }
+    Ok(())
+}
+
+/// A word for each of the two files, and the expected outcome.
+const MISSING_CHECK_ROWS: &[([&str; 2], Texts)] = &[
+    (["sas", "cert"], ("accepted 2\n", "", 0)),
+    (["gone", "cert"], ("", "optplan: F70 CannotRead sas\n", 7)),
+    (["sas", "gone"], ("", "optplan: F70 CannotRead cert\n", 7)),
+    (["gone", "gone"], ("", "optplan: F70 CannotRead sas\n", 7)),
+    (["", "cert"], ("", "optplan: F70 CannotRead sas\n", 7)),
+    // Both files are read before any text is looked at.
+    (["cert", "gone"], ("", "optplan: F70 CannotRead cert\n", 7)),
+    // Which text is which is determined by its place among the words, and the fault of the task comes first.
+    (["sas", "sas"], ("", "optplan: F50 Header cert\n", 1)),
+    (["cert", "cert"], ("", "optplan: F41 Expected sas 1\n", 1)),
+    (["cert", "sas"], ("", "optplan: F41 Expected sas 1\n", 1)),
+];
+
+#[test]
+fn files_of_a_check_that_are_not_there(rt: HostRuntime) -> Result<(), Fail> {
+    let files = [
+        ("sas", ROAD_SAS.as_bytes()),
+        ("cert", ROAD_CERTIFICATE.as_bytes()),
+    ];
+    for (names, texts) in MISSING_CHECK_ROWS {
+        let [sas, cert] = names;
+        let outcome = run_over(&rt, &["check-sas", sas, cert], &files)?;
+        assert_eq!(rt; outcome, wanted(rt.alloc(), *texts)?, "at {sas} {cert}");
+    }
+    Ok(())
+}
+
+/// The outcome of the program if one call of its device fails with a fault.
+fn run_with_fault<R: AllocGlobal>(
+    rt: &R,
+    words: &[&str],
+    plan: &str,
+    calls_before: u64,
+    fault: DeviceFault,
+) -> Result<Outcome, Fail> {
+    let files = [
+        ("d", ROAD_DOMAIN.as_bytes()),
+        ("p", ROAD_PROBLEM.as_bytes()),
+        ("l", plan.as_bytes()),
+        ("s", ROAD_SAS.as_bytes()),
+        ("c", ROAD_CERTIFICATE.as_bytes()),
+    ];
+    let words = program_words(rt.alloc(), words)?;
+    let mut device = FaultyDevice::new(rt.alloc(), &files, calls_before, fault);
+    let status = run(&words, &mut device, rt);
+    Ok(recorded(rt.alloc(), device.events(), status)?)
+}
+
+/// The words after the program's name, the plan, the number of calls before the fault, and the expected outcome.
+type FaultRow = (&'static [&'static str], &'static str, u64, Texts);
+
+const VALIDATE: &[&str] = &["validate", "d", "p", "l"];
+
+const CHECK: &[&str] = &["check-sas", "s", "c"];
+
+/// A task's text in place of a certificate's.
+const CHECK_OF_NO_CERTIFICATE: &[&str] = &["check-sas", "s", "s"];
+
+const FAILING_ROWS: &[FaultRow] = &[
+    (CHECK, "", 0, ("", "optplan: F70 CannotRead sas\n", 7)),
+    (CHECK, "", 1, ("", "optplan: F70 CannotRead cert\n", 7)),
+    (CHECK, "", 2, ("", "optplan: F71 CannotWrite output\n", 7)),
+    (CHECK, "", 3, ("accepted 2\n", "", 0)),
+    (CHECK_OF_NO_CERTIFICATE, "", 2, ("", "", 1)),
+    (
+        CHECK_OF_NO_CERTIFICATE,
+        "",
+        3,
+        ("", "optplan: F50 Header cert\n", 1),
+    ),
+    (&["check-sas", "s", "gone"], "", 2, ("", "", 7)),
+    (
+        VALIDATE,
+        PLAN,
+        0,
+        ("", "optplan: F70 CannotRead domain\n", 7),
+    ),
+    (
+        VALIDATE,
+        PLAN,
+        1,
+        ("", "optplan: F70 CannotRead problem\n", 7),
+    ),
+    (VALIDATE, PLAN, 2, ("", "optplan: F70 CannotRead plan\n", 7)),
+    (
+        VALIDATE,
+        PLAN,
+        3,
+        ("", "optplan: F71 CannotWrite output\n", 7),
+    ),
+    (VALIDATE, PLAN, 4, ("valid 2\n", "", 0)),
+    (
+        VALIDATE,
+        "",
+        3,
+        ("", "optplan: F71 CannotWrite output\n", 7),
+    ),
+    (VALIDATE, "", 4, ("goal open (at c)\n", "", 3)),
+    // A report that fails leaves the status as it is.
+    (VALIDATE, "()", 2, ("", "optplan: F70 CannotRead plan\n", 7)),
+    (VALIDATE, "()", 3, ("", "", 1)),
+    (
+        VALIDATE,
+        "()",
+        4,
+        ("", "optplan: F25 PlanShape plan 0\n", 1),
+    ),
+    (&["validate", "d", "p", "gone"], PLAN, 3, ("", "", 7)),
+    (&["solve", "d", "p"], PLAN, 0, ("", "", 2)),
+    (
+        &["--help"],
+        PLAN,
+        0,
+        ("", "optplan: F71 CannotWrite output\n", 7),
+    ),
+];
+
+#[test]
+fn one_call_fails(rt: HostRuntime) -> Result<(), Fail> {
+    for (words, plan, calls_before, texts) in FAILING_ROWS {
+        let outcome = run_with_fault(&rt, words, plan, *calls_before, DeviceFault::Failed)?;
+        assert_eq!(rt;
+            outcome,
+            wanted(rt.alloc(), *texts)?,
+            "at {words:?} {plan} {calls_before}"
+        );
+    }
+    Ok(())
+}
+
+const MEMORY_ROWS: &[FaultRow] = &[
+    (VALIDATE, PLAN, 0, ("", "optplan: out of memory\n", 6)),
+    (VALIDATE, PLAN, 1, ("", "optplan: out of memory\n", 6)),
+    (VALIDATE, PLAN, 2, ("", "optplan: out of memory\n", 6)),
+    (VALIDATE, PLAN, 3, ("", "optplan: out of memory\n", 6)),
+    (VALIDATE, PLAN, 4, ("valid 2\n", "", 0)),
+    (VALIDATE, "()", 3, ("", "", 1)),
+    (CHECK, "", 0, ("", "optplan: out of memory\n", 6)),
+    (CHECK, "", 1, ("", "optplan: out of memory\n", 6)),
+    (CHECK, "", 2, ("", "optplan: out of memory\n", 6)),
+    (CHECK, "", 3, ("accepted 2\n", "", 0)),
+    (CHECK_OF_NO_CERTIFICATE, "", 2, ("", "", 1)),
+];
+
+#[test]
+fn one_call_is_refused_memory(rt: HostRuntime) -> Result<(), Fail> {
+    for (words, plan, calls_before, texts) in MEMORY_ROWS {
+        let outcome = run_with_fault(&rt, words, plan, *calls_before, DeviceFault::Memory)?;
+        assert_eq!(rt;
+            outcome,
+            wanted(rt.alloc(), *texts)?,
+            "at {words:?} {plan} {calls_before}"
+        );
+    }
+    Ok(())
+}
+
+/// The number of calls that succeed before all fail, the report too, and the status.
+const ALL_FAIL_ROWS: &[(u64, u8)] = &[(0, 7), (1, 7), (2, 7), (3, 7)];
+
+#[test]
+fn every_call_fails_from_one_on(rt: HostRuntime) -> Result<(), Fail> {
+    let files = [
+        ("d", ROAD_DOMAIN.as_bytes()),
+        ("p", ROAD_PROBLEM.as_bytes()),
+        ("l", PLAN.as_bytes()),
+    ];
+    let words = program_words(rt.alloc(), VALIDATE)?;
+    for (calls, status) in ALL_FAIL_ROWS {
+        let mut device = MemoryDevice::new(rt.alloc(), &files, *calls);
+        let given = run(&words, &mut device, &rt);
+        let outcome = recorded(rt.alloc(), device.events(), given)?;
+        assert_eq!(rt;
+            outcome,
+            wanted(rt.alloc(), ("", "", *status))?,
+            "at {calls}"
+        );
+    }
+    Ok(())
+}

@@ -1,0 +1,48 @@
+//! The first action over a set of atoms that adds another one, and the least such atom.
+
+use crate::texts::opening_of;
+use std::process::Abort;
+use std::test::*;
+
+/// Towns a, b and c, and the place d.
+const PLACES: &str =
+    "(define (domain places) (:types town - place) (:constants a b c - town d - place)
+    (:predicates (at ?x) (road ?x ?y) (done)) ";
+
+const GO: &str =
+    "(:action go :parameters (?x ?y - town) :precondition (and (at ?x) (road ?x ?y)) :effect (at ?y))";
+
+const BOTH: &str = "(:action both :parameters (?x - town) :effect (and (at c) (at ?x)))";
+
+/// Checks the first action over these atoms, beside a road from a to b, that adds another atom, and the least such atom.
+fn opens<R: Abort + AllocGlobal>(
+    rt: &R,
+    action: &str,
+    atoms: &str,
+    want: &str,
+) -> Result<(), Fail> {
+    let domain = format!(in rt.alloc(); "{PLACES}{action})")?;
+    let problem = format!(in rt.alloc();
+        "(define (problem p) (:init (road a b) {atoms}) (:goal ()))"
+    )?;
+    let found = opening_of(rt.alloc(), domain.as_str(), problem.as_str())?;
+    assert_eq!(rt; found.as_str(), want, "{action} {atoms}");
+    Ok(())
+}
+
+#[test]
+fn the_first_open_action_is_named(rt: HostRuntime) -> Result<(), Fail> {
+    opens(&rt, GO, "(at a)", "go a b|at b")?;
+    opens(&rt, BOTH, "", "both a|at a")
+}
+
+#[test]
+fn the_least_atom_that_is_missing_is_named(rt: HostRuntime) -> Result<(), Fail> {
+    opens(&rt, BOTH, "(at c) (at a)", "both b|at b")
+}
+
+#[test]
+fn closed_sets_have_nothing_open(rt: HostRuntime) -> Result<(), Fail> {
+    opens(&rt, GO, "(at b) (at a)", "closed")?;
+    opens(&rt, BOTH, "(at c) (at b) (at a)", "closed")
+}

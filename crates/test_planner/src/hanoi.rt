@@ -1,0 +1,63 @@
+//! The towers of Hanoi. Before the largest disc moves, all others must be on the third peg, so n discs take twice as many
+//! moves as n - 1 discs, and one more: 2^n - 1.
+
+use crate::rows::{costs, costs_with_tables};
+use std::test::Fail;
+
+const DOMAIN: &str = "(define (domain hanoi)
+ (:requirements :typing)
+ (:types disc peg - place)
+ (:predicates (clear ?p - place) (on ?d - disc ?p - place) (fits ?d - disc ?p - place))
+ (:action move :parameters (?d - disc ?from ?to - place)
+  :precondition (and (on ?d ?from) (clear ?d) (clear ?to) (fits ?d ?to))
+  :effect (and (clear ?from) (on ?d ?to) (not (on ?d ?from)) (not (clear ?to)))))
+";
+
+const ONE_DISC: &str = "(define (problem one) (:domain hanoi)
+ (:objects one - disc a b c - peg)
+ (:init (fits one a) (fits one b) (fits one c) (on one a) (clear one) (clear b) (clear c))
+ (:goal (on one c)))
+";
+
+const TWO_DISCS: &str = "(define (problem two) (:domain hanoi)
+ (:objects one two - disc a b c - peg)
+ (:init (fits one a) (fits one b) (fits one c) (fits one two) (fits two a) (fits two b) (fits two c)
+  (on one two) (on two a) (clear one) (clear b) (clear c))
+ (:goal (and (on one two) (on two c))))
+";
+
+const THREE_DISCS: &str = "(define (problem three) (:domain hanoi)
+ (:objects one two three - disc a b c - peg)
+ (:init (fits one a) (fits one b) (fits one c) (fits one two) (fits one three)
+  (fits two a) (fits two b) (fits two c) (fits two three) (fits three a) (fits three b) (fits three c)
+  (on one two) (on two three) (on three a) (clear one) (clear b) (clear c))
+ (:goal (and (on one two) (on two three) (on three c))))
+";
+
+const FOUR_DISCS: &str = "(define (problem four) (:domain hanoi)
+ (:objects one two three four - disc a b c - peg)
+ (:init (fits one a) (fits one b) (fits one c) (fits one two) (fits one three) (fits one four)
+  (fits two a) (fits two b) (fits two c) (fits two three) (fits two four)
+  (fits three a) (fits three b) (fits three c) (fits three four) (fits four a) (fits four b) (fits four c)
+  (on one two) (on two three) (on three four) (on four a) (clear one) (clear b) (clear c))
+ (:goal (and (on one two) (on two three) (on three four) (on four c))))
+";
+
+/// The greatest number of abstract states of a table for the higher towers, chosen so that a test takes seconds.
+const SMALL_TABLE: usize = 7;
+
+#[test]
+fn up_to_two_discs(rt: HostRuntime) -> Result<(), Fail> {
+    costs(&rt, DOMAIN, ONE_DISC, 1)?;
+    costs(&rt, DOMAIN, TWO_DISCS, 3)
+}
+
+#[test]
+fn three_discs(rt: HostRuntime) -> Result<(), Fail> {
+    costs_with_tables(&rt, DOMAIN, THREE_DISCS, 7, SMALL_TABLE)
+}
+
+#[test]
+fn four_discs(rt: HostRuntime) -> Result<(), Fail> {
+    costs_with_tables(&rt, DOMAIN, FOUR_DISCS, 15, SMALL_TABLE)
+}

@@ -1,0 +1,147 @@
+//! The first fault of texts with several faults.
+
+use program_runs::{answer_mismatch, domain_mismatches, plan_mismatches, problem_mismatches};
+use std::test::Fail;
+
+const SECTION_ROWS: &[(&str, &str)] = &[
+    // The heads of all sections go before what stands in them.
+    (
+        "(define (domain x) (:types - a) (:foo))",
+        "F11 Unsupported :foo domain 33",
+    ),
+    // Each section has its turn, wherever it stands.
+    (
+        "(define (domain x) (:types - a) (:requirements x))",
+        "F10 Shape domain 47",
+    ),
+    (
+        "(define (domain x) (:constants a - no) (:types - a))",
+        "F10 Shape domain 47",
+    ),
+    (
+        "(define (domain x) (:predicates ()) (:constants a - no))",
+        "F12 UnknownName domain 52",
+    ),
+    (
+        "(define (domain x) (:functions ()) (:predicates ()))",
+        "F10 Shape domain 48",
+    ),
+    (
+        "(define (domain x) (:action) (:functions ()))",
+        "F10 Shape domain 41",
+    ),
+    (
+        "(define (domain x) (:predicates (p ?x - no)) (:types a - a))",
+        "F15 TypeCycle domain 53",
+    ),
+    // In one turn the least place decides, and not the number.
+    (
+        "(define (domain x) (:types a - a - b))",
+        "F15 TypeCycle domain 27",
+    ),
+    (
+        "(define (domain x) (:types b - ?c a - a))",
+        "F10 Shape domain 31",
+    ),
+    (
+        "(define (domain x) (:action a :effect (p)) (:action))",
+        "F12 UnknownName domain 39",
+    ),
+    (
+        "(define (domain x) (:action) (:action a :effect (p)))",
+        "F10 Shape domain 19",
+    ),
+    (
+        "(define (domain x) (:foo) (:bar) ())",
+        "F11 Unsupported :foo domain 20",
+    ),
+];
+
+#[test]
+fn sections_have_their_turns(rt: HostRuntime) -> Result<(), Fail> {
+    let mismatches = domain_mismatches(&rt, SECTION_ROWS)?;
+    assert!(rt; mismatches.is_empty(), "{mismatches:?}");
+    Ok(())
+}
+
+const PROBLEM_ROWS: &[(&str, &str, &str)] = &[
+    // The whole domain goes before the problem.
+    ("(define (domain x) (:action))", "(", "F10 Shape domain 19"),
+    ("(", "", "F2 Unclosed domain 0"),
+    (
+        "(define (domain x))",
+        "(define (problem x) (:goal (q)) (:objects ?x)",
+        "F2 Unclosed problem 0",
+    ),
+    (
+        "(define (domain x) (:predicates))",
+        "(define (problem x) (:goal (q)) (:objects ?x))",
+        "F10 Shape problem 42",
+    ),
+    (
+        "(define (domain x))",
+        "(define (problem x) (:objects ?x) (:goal (q)) (:foo))",
+        "F11 Unsupported :foo problem 47",
+    ),
+    (
+        "(define (domain x))",
+        "(define (problem x) (:init (q)) (:objects a - no) (:goal ()))",
+        "F12 UnknownName problem 46",
+    ),
+    (
+        "(define (domain x))",
+        "(define (problem x) (:goal (q)) (:init (r)))",
+        "F12 UnknownName problem 40",
+    ),
+    (
+        "(define (domain x))",
+        "(define (problem x) (:metric) (:goal (q)))",
+        "F12 UnknownName problem 38",
+    ),
+    // Sums of costs come last, and only with the metric.
+    (
+        "(define (domain x)
+ (:action b :effect (and (increase (total-cost) 2147483647) (increase (total-cost) 1))))",
+        "(define (problem x) (:metric maximize (total-cost)) (:goal ()))",
+        "F11 Unsupported maximize problem 29",
+    ),
+];
+
+#[test]
+fn the_domain_goes_before_the_problem(rt: HostRuntime) -> Result<(), Fail> {
+    let mismatches = problem_mismatches(&rt, PROBLEM_ROWS)?;
+    assert!(rt; mismatches.is_empty(), "{mismatches:?}");
+    Ok(())
+}
+
+const GOOD_PROBLEM: &str = "(define (problem p) (:goal ()))";
+
+const PLAN_ROWS: &[(&str, &str, &str)] = &[
+    (
+        "(define (problem p) (:goal (q)))",
+        "(",
+        "F12 UnknownName problem 28",
+    ),
+    (GOOD_PROBLEM, "() )", "F3 StrayClose plan 3"),
+    (GOOD_PROBLEM, "a (b", "F2 Unclosed plan 2"),
+    (GOOD_PROBLEM, "(a) b ()", "F25 PlanShape plan 4"),
+    // A step of no action is no fault of the plan's text.
+    (GOOD_PROBLEM, "(a) ()", "F25 PlanShape plan 4"),
+];
+
+#[test]
+fn the_problem_goes_before_the_plan(rt: HostRuntime) -> Result<(), Fail> {
+    let mismatches = plan_mismatches(&rt, "(define (domain x))", PLAN_ROWS)?;
+    assert!(rt; mismatches.is_empty(), "{mismatches:?}");
+    Ok(())
+}
+
+#[test]
+fn sums_of_costs_go_before_the_plan(rt: HostRuntime) -> Result<(), Fail> {
+    let domain = "(define (domain x)
+ (:action b :effect (and (increase (total-cost) 2147483647) (increase (total-cost) 1))))";
+    let problem = "(define (problem x) (:metric minimize (total-cost)) (:goal ()))";
+    let mismatch = answer_mismatch(&rt, domain, problem, "(", "F17 CostRange domain 29")?;
+    assert!(rt; mismatch.is_none(), "{mismatch:?}");
+    Ok(())
+}

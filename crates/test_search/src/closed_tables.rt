@@ -1,0 +1,235 @@
+//! Tables of states of two variables, with 2 and 3 values.
+
+ghost use Rattle.std.specs.Prelude.{◌≡◌, All, IsTrue};
+ghost use Rattle.fdr.specs.Tasks.{IsState};
+ghost use Rattle.closed.specs.Tables.{arrival};
+
+use closed::{ClosedTable, Entry, Message, Outcome, Parent};
+use openlist::Rank;
+use packed::{Layout, Plain, StateForm};
+use small_tasks::states;
+use std::alloc::Global;
+use std::process::Abort;
+use std::test::Fail;
+
+fn rank(cost: u64, steps: u64) -> Rank {
+    Rank { cost, steps }
+}
+
+fn parent(index: usize) -> Parent {
+    Parent {
+        worker: 1,
+        index,
+        operator: 7,
+    }
+}
+
+/// Checks the outcome of reaching a state from the node at that place.
+fn reaches(
+    rt: &impl Abort,
+    table: &mut ClosedTable,
+    layout: &Layout,
+    state: &[u32],
+    rank: Rank,
+    from: usize,
+    expected: Outcome,
+) -> Result<(), Fail>
+    requires { layout.now ≡ table.old.ranges }
+    ensures { layout.now ≡ table.new.ranges }
+{
+    assert!(rt; layout.is_state(state), "a state");
+    let outcome = table.improve(state, rank, Some(parent(from)))?;
+    assert_eq!(rt; outcome, expected);
+    Ok(())
+}
+
+/// Checks the entry of the table at a place.
+fn keeps(
+    rt: &impl Abort,
+    table: &ClosedTable,
+    index: usize,
+    rank: Rank,
+    from: usize,
+    expanded: bool,
+) {
+    assert!(rt; index < table.len(), "a place");
+    let entry = Entry {
+        rank,
+        parent: Some(parent(from)),
+        expanded,
+    };
+    assert_eq!(rt; table.entry(index), entry);
+}
+
+/// Marks the state at a place as expanded.
+fn expands(rt: &impl Abort, table: &mut ClosedTable, index: usize)
+    ensures { table.new.ranges ≡ table.old.ranges }
+{
+    assert!(rt; index < table.len(), "a place");
+    table.mark_expanded(index);
+}
+
+#[test]
+fn keeps_the_least_rank(rt: HostRuntime) -> Result<(), Fail> {
+    let task = states(rt.alloc(), &[2, 3], &[0, 0])?.ok_or("a task")?;
+    let layout = Layout::new(rt.alloc(), &task)?;
+    let mut table = ClosedTable::new(rt.alloc(), &task)?;
+    let state = [1, 2];
+    reaches(
+        &rt,
+        &mut table,
+        &layout,
+        &state,
+        rank(5, 3),
+        0,
+        Outcome::New(0),
+    )?;
+    reaches(
+        &rt,
+        &mut table,
+        &layout,
+        &[1, 0],
+        rank(1, 1),
+        4,
+        Outcome::New(1),
+    )?;
+    // the same rank, and a greater cost over fewer steps
+    reaches(
+        &rt,
+        &mut table,
+        &layout,
+        &state,
+        rank(5, 3),
+        9,
+        Outcome::Kept,
+    )?;
+    reaches(
+        &rt,
+        &mut table,
+        &layout,
+        &state,
+        rank(6, 0),
+        9,
+        Outcome::Kept,
+    )?;
+    keeps(&rt, &table, 0, rank(5, 3), 0, false);
+    expands(&rt, &mut table, 0);
+    keeps(&rt, &table, 0, rank(5, 3), 0, true);
+    // fewer steps
+    reaches(
+        &rt,
+        &mut table,
+        &layout,
+        &state,
+        rank(5, 2),
+        8,
+        Outcome::Better(0),
+    )?;
+    keeps(&rt, &table, 0, rank(5, 2), 8, false);
+    keeps(&rt, &table, 1, rank(1, 1), 4, false);
+    Ok(())
+}
+
+#[test]
+fn gives_states_back(rt: HostRuntime) -> Result<(), Fail> {
+    let task = states(rt.alloc(), &[2, 3], &[1, 2])?.ok_or("a task")?;
+    let mut table = ClosedTable::new(rt.alloc(), &task)?;
+    let outcome = table.improve(task.initial(), rank(0, 0), None)?;
+    assert_eq!(rt; outcome, Outcome::New(0));
+    assert_eq!(rt; table.len(), 1);
+    assert_eq!(rt; table.entry(0).parent, None);
+    let mut state = vec![in rt.alloc(); 9; task.variable_count()]?;
+    table.copy_state(0, &mut state);
+    assert_eq!(rt; state.as_slice(), [1, 2].as_slice());
+    Ok(())
+}
+
+/// Messages of these states and ranks.
+fn messages(
+    rt: &impl Abort,
+    alloc: Global,
+    layout: &Layout,
+    reached: &[([u32; 2], Rank)],
+) -> Result<Vec<Message>, Fail> {
+    let mut messages = Vec::new(alloc);
+    for (state, rank) in reached {
+        assert!(rt; layout.is_state(state), "a state");
+        let state = Plain::pack(alloc, layout, state)?;
+        messages.push(Message {
+            state,
+            rank: *rank,
+            parent: parent(6),
+        })?;
+    }
+    Ok(messages)
+}
+
+/// Whether the messages are of states of the layout.
+fn are_of(layout: &Layout, messages: &[Message]) -> bool
+    ensures { IsTrue result → All (λ m. IsState layout.now (arrival m).state) messages.now }
+{
+    messages.iter().all(|message| message.state.is_form(layout))
+}
+
+/// Whether the messages were taken. Checks their outcomes, and that a failure leaves the table as it was.
+fn takes(
+    rt: &impl Abort,
+    alloc: Global,
+    table: &mut ClosedTable,
+    messages: &[Message],
+    expected: &[Outcome],
+) -> bool
+    requires { All (λ m. IsState table.old.ranges (arrival m).state) messages.now }
+{
+    let len = table.len();
+    match table.improve_all(alloc, messages) {
+        Ok(outcomes) => {
+            assert_eq!(rt; outcomes.as_slice(), expected);
+            true
+        }
+        Err(_) => {
+            assert_eq!(rt; table.len(), len, "as it was");
+            false
+        }
+    }
+}
+
+#[test]
+fn takes_messages_one_after_the_other(rt: HostRuntime) -> Result<(), Fail> {
+    let task = states(rt.alloc(), &[2, 3], &[0, 0])?.ok_or("a task")?;
+    let layout = Layout::new(rt.alloc(), &task)?;
+    let mut table = ClosedTable::new(rt.alloc(), &task)?;
+    reaches(
+        &rt,
+        &mut table,
+        &layout,
+        &[0, 0],
+        rank(2, 2),
+        5,
+        Outcome::New(0),
+    )?;
+    expands(&rt, &mut table, 0);
+    let reached = [
+        ([0, 1], rank(1, 1)),
+        ([0, 0], rank(3, 0)),
+        ([0, 1], rank(1, 0)),
+        ([0, 0], rank(1, 5)),
+        ([0, 1], rank(1, 0)),
+    ];
+    let expected = [
+        Outcome::New(1),
+        Outcome::Kept,
+        Outcome::Better(1),
+        Outcome::Better(0),
+        Outcome::Kept,
+    ];
+    let messages = messages(&rt, rt.alloc(), &layout, &reached)?;
+    assert!(rt; are_of(&layout, &messages), "states");
+    if takes(&rt, rt.alloc(), &mut table, &messages, &expected) {
+        keeps(&rt, &table, 0, rank(1, 5), 6, false);
+        keeps(&rt, &table, 1, rank(1, 0), 6, false);
+    } else {
+        keeps(&rt, &table, 0, rank(2, 2), 5, true);
+    }
+    Ok(())
+}

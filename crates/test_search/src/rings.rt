@@ -1,0 +1,107 @@
+//! Rings, with both ends in one thread.
+
+ghost use Rattle.std.specs.Prelude.{◌≤◌, ◌^◌, IfOk};
+ghost use Rattle.links.specs.Ends.{SameOut, SameIn};
+ghost use Rattle.links.specs.Ranks.{HasSmallRank};
+
+use links::{In, LinkTable, Message, Out, link, match_up};
+use openlist::Rank;
+use packed::{Layout, Plain, StateForm};
+use small_tasks::states;
+use std::alloc::Global;
+use std::process::Abort;
+use std::test::Fail;
+
+/// The message of the one state of a variable with one value, at this cost.
+fn message(rt: &impl Abort, alloc: Global, cost: u64) -> Result<Message, Fail>
+    requires { cost ≤ 2 ^ 62 }
+    ensures { IfOk result HasSmallRank }
+{
+    let task = states(alloc, &[1], &[0])?.ok_or("a task")?;
+    let layout = Layout::new(alloc, &task)?;
+    assert!(rt; layout.is_state(&[0]), "a state");
+    Ok(Message {
+        state: Plain::pack(alloc, &layout, &[0])?,
+        rank: Rank { cost, steps: 1 },
+        parent: links::Parent {
+            worker: 0,
+            index: 0,
+            operator: 0,
+        },
+    })
+}
+
+/// The cost of the oldest message, which is taken, if there is one.
+fn taken(receiver: &mut In) -> Option<u64>
+    ensures { SameIn receiver.old receiver.new }
+{
+    receiver.pop().map(|message| message.rank.cost)
+}
+
+/// Whether the message went into the ring.
+fn is_sent(sender: &mut Out, message: Message) -> bool
+    requires { HasSmallRank message }
+    ensures { SameOut sender.old sender.new }
+{
+    sender.push(message).is_ok()
+}
+
+/// A ring with room for one message takes one, and returns a second one.
+fn takes_one(rt: &impl Abort, alloc: Global, sender: &mut Out) -> Result<Message, Fail>
+    ensures ring { SameOut sender.old sender.new }
+    ensures back { IfOk result HasSmallRank }
+{
+    assert!(rt; sender.has_room());
+    assert!(rt; is_sent(sender, message(rt, alloc, 1)?));
+    assert!(rt; !sender.has_room());
+    match sender.push(message(rt, alloc, 2)?) {
+        Ok(()) => panic!(rt; "the ring is full"),
+        Err(back) => Ok(back),
+    }
+}
+
+#[test]
+fn a_ring_of_one(rt: HostRuntime) -> Result<(), Fail> {
+    let (mut sender, mut receiver) = link(rt.alloc(), 1)?;
+    let back = takes_one(&rt, rt.alloc(), &mut sender)?;
+    assert_eq!(rt; back.rank.cost, 2);
+    assert_eq!(rt; taken(&mut receiver), Some(1));
+    assert_eq!(rt; taken(&mut receiver), None);
+    assert!(rt; is_sent(&mut sender, back));
+    assert_eq!(rt; match_up(&mut sender, &mut receiver), 1);
+    assert_eq!(rt; taken(&mut receiver), Some(2));
+    Ok(())
+}
+
+/// Sends a message of this cost to the last of the workers.
+fn send_last(rt: &impl Abort, alloc: Global, outs: &mut Vec<Out>, cost: u64) -> Result<(), Fail>
+    requires { cost ≤ 2 ^ 62 }
+{
+    let sender = outs.last_mut().ok_or("a worker")?;
+    assert!(rt; is_sent(sender, message(rt, alloc, cost)?));
+    Ok(())
+}
+
+/// The cost of the message that is taken from the first worker, if there is one.
+fn from_first(ins: &mut Vec<In>) -> Option<u64> {
+    taken(ins.first_mut()?)
+}
+
+#[test]
+fn a_link_for_each_pair(rt: HostRuntime) -> Result<(), Fail> {
+    let LinkTable { mut outs, mut ins } = LinkTable::new(rt.alloc(), 2, 4)?;
+    assert_eq!(rt; (outs.len(), ins.len()), (2, 2));
+    let mut from_second = outs.pop().ok_or("a row")?;
+    let mut from_the_first = outs.pop().ok_or("a row")?;
+    let mut to_second = ins.pop().ok_or("a row")?;
+    let mut to_first = ins.pop().ok_or("a row")?;
+    send_last(&rt, rt.alloc(), &mut from_the_first, 7)?;
+    assert_eq!(rt; from_first(&mut to_first), None);
+    assert_eq!(rt; from_first(&mut to_second), Some(7));
+    send_last(&rt, rt.alloc(), &mut from_second, 8)?;
+    assert_eq!(rt;
+        (from_first(&mut to_first), from_first(&mut to_second)),
+        (None, None)
+    );
+    Ok(())
+}

@@ -1,0 +1,357 @@
+//! Two owners of the values of one variable, the even ones and the odd ones, without columns.
+
+use cert::cert_of;
+use cert_text::write_cert;
+use certificates::CertificateKind;
+use extract::plan_of;
+use fdr::FdrTask;
+use netcore::WorldStep::{Deliver, Expand, Look, Offer, Rest, Send};
+use netcore::{Joined, SearchAnswer, World, WorldStep};
+use owner::Space;
+use sasfile::read_sas;
+use scp::make_columns;
+use spread::{ByValue, Spread};
+use std::alloc::{AllocError, Global};
+use std::process::Abort;
+use std::test::Fail;
+
+/// One variable of three values, from 0 to 2. Operators 0: 0 to 1 at cost 0; 1: 1 to 0 at cost 0; 2: 1 to 2 at cost 1.
+pub(crate) const CYCLE: &str = "begin_version
+3
+end_version
+begin_metric
+1
+end_metric
+1
+begin_variable
+var0
+-1
+3
+Atom at(a)
+Atom at(b)
+Atom at(c)
+end_variable
+0
+begin_state
+0
+end_state
+begin_goal
+1
+0 2
+end_goal
+3
+begin_operator
+go a b
+0
+1
+0 0 0 1
+0
+end_operator
+begin_operator
+go b a
+0
+1
+0 0 1 0
+0
+end_operator
+begin_operator
+go b c
+0
+1
+0 0 1 2
+1
+end_operator
+0
+";
+
+/// One variable of four values, from 0 to 3. Operators 0: 0 to 1 at cost 9; 1: 0 to 2 at cost 2; 2: 2 to 1 at cost 2; 3:
+/// 0 to 3 at cost 3; 4: 1 to 3 at cost 5.
+const DETOUR: &str = "begin_version
+3
+end_version
+begin_metric
+1
+end_metric
+1
+begin_variable
+var0
+-1
+4
+Atom at(a)
+Atom at(b)
+Atom at(c)
+Atom at(d)
+end_variable
+0
+begin_state
+0
+end_state
+begin_goal
+1
+0 3
+end_goal
+5
+begin_operator
+go a b
+0
+1
+0 0 0 1
+9
+end_operator
+begin_operator
+go a c
+0
+1
+0 0 0 2
+2
+end_operator
+begin_operator
+go c b
+0
+1
+0 0 2 1
+2
+end_operator
+begin_operator
+go a d
+0
+1
+0 0 0 3
+3
+end_operator
+begin_operator
+go b d
+0
+1
+0 0 1 3
+5
+end_operator
+0
+";
+
+/// Owner 0 takes two messages in the order in which they were sent.
+const CYCLE_IN_ORDER: &[WorldStep] = &[
+    Expand(0),
+    Send(0, 1),
+    Deliver(1, 0),
+    Expand(1),
+    Send(1, 0),
+    Send(1, 0),
+    Deliver(0, 0),
+    Deliver(0, 0),
+    Offer(0),
+    Look(0),
+    Look(1),
+    Rest(0),
+    Rest(1),
+];
+
+/// Owner 0 takes them in the opposite order.
+const CYCLE_TURNED: &[WorldStep] = &[
+    Expand(0),
+    Send(0, 1),
+    Deliver(1, 0),
+    Expand(1),
+    Send(1, 0),
+    Send(1, 0),
+    Deliver(0, 1),
+    Deliver(0, 0),
+    Offer(0),
+    Look(0),
+    Look(1),
+    Rest(0),
+    Rest(1),
+];
+
+/// State 1 is expanded at cost 9, and then reached at cost 4.
+const DETOUR_IMPROVED: &[WorldStep] = &[
+    Expand(0),
+    Send(0, 1),
+    Deliver(1, 0),
+    Expand(1),
+    Expand(0),
+    Send(0, 1),
+    Send(0, 1),
+    Deliver(1, 0),
+    Offer(1),
+    Look(1),
+    Deliver(1, 0),
+    Rest(1),
+    Rest(0),
+];
+
+/// The goal is reached before the others, so that state 1 is never expanded.
+const DETOUR_GOAL_FIRST: &[WorldStep] = &[
+    Expand(0),
+    Send(0, 1),
+    Send(0, 1),
+    Deliver(1, 1),
+    Offer(1),
+    Look(1),
+    Deliver(1, 0),
+    Expand(0),
+    Send(0, 1),
+    Deliver(1, 0),
+    Rest(1),
+    Rest(0),
+];
+
+/// Owner 0 has seen the bound when it expands state 2, so the successor at cost 4 is dropped.
+const DETOUR_DROPPED: &[WorldStep] = &[
+    Expand(0),
+    Send(0, 1),
+    Deliver(1, 0),
+    Expand(1),
+    Send(0, 1),
+    Deliver(1, 0),
+    Offer(1),
+    Look(0),
+    Look(1),
+    Expand(0),
+    Rest(0),
+    Rest(1),
+];
+
+/// Checks that no work is left, and that the owners are settled at the cost.
+fn is_settled<S: Spread + Drop>(
+    rt: &impl Abort,
+    alloc: Global,
+    world: &World<'_, S>,
+    cost: u64,
+) -> Result<(), Fail> {
+    assert_eq!(rt; world.count(), 0);
+    assert_eq!(rt; world.answer(alloc)?, Some(SearchAnswer::Solved(cost)));
+    Ok(())
+}
+
+/// Checks that the best goal node is reached by this plan.
+fn has_plan<S: Spread + Drop>(
+    rt: &impl Abort,
+    alloc: Global,
+    joined: &Joined<'_, S>,
+    plan: &[usize],
+) -> Result<(), Fail> {
+    let goal = joined.best(alloc)?.ok_or("a goal node")?;
+    let found = plan_of(alloc, joined, goal)?;
+    assert_eq!(rt; found.as_slice(), plan);
+    Ok(())
+}
+
+/// Checks the text of the certificate.
+fn has_certificate<S: Spread + Drop>(
+    rt: &impl Abort,
+    alloc: Global,
+    joined: &Joined<'_, S>,
+    text: &str,
+) -> Result<(), Fail> {
+    let certificate = cert_of(alloc, joined, CertificateKind::Sas)?;
+    let written = write_cert(alloc, &certificate)?;
+    assert_eq!(rt; written.as_slice(), text.as_bytes());
+    Ok(())
+}
+
+/// The space of the task without columns.
+fn space_for<'t>(alloc: Global, task: &'t FdrTask) -> Result<Space<'t, ByValue<'t>>, AllocError> {
+    let columns = make_columns(alloc, task, &[])?;
+    Space::new(alloc, task, columns, ByValue::new(task), None)
+}
+
+/// Two owners do the steps, after which no work is left; they are settled at the cost.
+fn run_to_the_end<'a, S: Spread + Drop>(
+    rt: &impl Abort,
+    alloc: Global,
+    space: &'a Space<'a, S>,
+    steps: &[WorldStep],
+    cost: u64,
+) -> Result<Joined<'a, S>, Fail> {
+    let world = World::run(alloc, space, 2, steps).map_err(|_| "a refused step")?;
+    is_settled(rt, alloc, &world, cost)?;
+    Ok(world.joined())
+}
+
+/// Two owners of the task's states do the steps, after which no work is left: they are settled at the cost, with this
+/// plan and this text of a certificate.
+fn settle<'t>(
+    rt: &impl Abort,
+    alloc: Global,
+    task: &'t FdrTask,
+    steps: &[WorldStep],
+    cost: u64,
+    plan: &[usize],
+    text: &str,
+) -> Result<(), Fail> {
+    // the type is given so that the borrow checker need not infer how long the space is borrowed
+    let space: Space<'t, ByValue<'t>> = space_for(alloc, task)?;
+    let joined = run_to_the_end(rt, alloc, &space, steps, cost)?;
+    has_plan(rt, alloc, &joined, plan)?;
+    has_certificate(rt, alloc, &joined, text)
+}
+
+/// The same for the task of a text.
+fn settle_text(
+    rt: &impl Abort,
+    alloc: Global,
+    sas: &str,
+    steps: &[WorldStep],
+    cost: u64,
+    plan: &[usize],
+    text: &str,
+) -> Result<(), Fail> {
+    let task = read_sas(alloc, sas.as_bytes()).map_err(|_| "a task")?;
+    settle(rt, alloc, &task, steps, cost, plan, text)
+}
+
+const CYCLE_CERTIFICATE: &str = "optplan-cert 1
+sas
+bound 1
+columns 0
+closed 2
+0 0
+0 1
+end
+";
+
+const DETOUR_CERTIFICATE: &str = "optplan-cert 1
+sas
+bound 3
+columns 0
+closed 2
+0 0
+2 2
+end
+";
+
+const DETOUR_LONG_CERTIFICATE: &str = "optplan-cert 1
+sas
+bound 3
+columns 0
+closed 3
+0 0
+9 1
+2 2
+end
+";
+
+#[test]
+fn cycle_of_cost_0(rt: HostRuntime) -> Result<(), Fail> {
+    for steps in [CYCLE_IN_ORDER, CYCLE_TURNED] {
+        settle_text(&rt, rt.alloc(), CYCLE, steps, 1, &[0, 2], CYCLE_CERTIFICATE)?;
+    }
+    Ok(())
+}
+
+#[test]
+fn detours(rt: HostRuntime) -> Result<(), Fail> {
+    for steps in [DETOUR_IMPROVED, DETOUR_GOAL_FIRST] {
+        settle_text(&rt, rt.alloc(), DETOUR, steps, 3, &[3], DETOUR_CERTIFICATE)?;
+    }
+    settle_text(
+        &rt,
+        rt.alloc(),
+        DETOUR,
+        DETOUR_DROPPED,
+        3,
+        &[3],
+        DETOUR_LONG_CERTIFICATE,
+    )
+}

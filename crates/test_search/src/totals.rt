@@ -1,0 +1,78 @@
+//! Costs above the greatest total, 2^62, are refused.
+
+ghost use Rattle.std.specs.Prelude.{IfOk};
+ghost use Rattle.spread.specs.Spreads.{value_owner};
+ghost use Rattle.closed.specs.Tables.{message_of};
+ghost use Rattle.owner.specs.Spaces.{searched};
+ghost use Rattle.owner.specs.Owned.{IsMessageTo};
+
+use crate::schedules::CYCLE;
+use cost::Dist;
+use fdr::FdrTask;
+use owner::{Message, Owner, OwnerFault, Parent, Rank, Space};
+use packed::{Plain, StateForm};
+use sasfile::read_sas;
+use scp::make_columns;
+use spread::ByValue;
+use std::alloc::Global;
+use std::process::Abort;
+use std::test::Fail;
+
+/// The greatest total, 2^62.
+const MOST_TOTAL: u64 = 4_611_686_018_427_387_904;
+
+/// The message with which the second of two owners is handed the state 1, at the greatest cost.
+fn message_at_most_total<'a>(
+    rt: &impl Abort,
+    alloc: Global,
+    space: &'a Space<'a, ByValue<'a>>,
+) -> Result<Message, Fail>
+    ensures { IfOk result (λ m. IsMessageTo (searched (λ _. value_owner) space.now 2) 1 (message_of m)) }
+{
+    let state = [1];
+    assert!(rt; space.layout().is_state(&state), "a state of the task");
+    assert_eq!(rt; space.owner_of(&state, 2), 1);
+    Ok(Message {
+        state: Plain::pack(alloc, space.layout(), &state)?,
+        rank: Rank {
+            cost: MOST_TOTAL,
+            steps: 1,
+        },
+        parent: Parent {
+            worker: 0,
+            index: 0,
+            operator: 0,
+        },
+    })
+}
+
+/// Operator 1 leads on at cost 0, and operator 2 at cost 1, above the greatest total: so the state is not expanded.
+fn refuse_total<'a>(
+    rt: &impl Abort,
+    alloc: Global,
+    space: &'a Space<'a, ByValue<'a>>,
+) -> Result<(), Fail> {
+    let mut second = Owner::start(alloc, space, 1, 2)?;
+    let message = message_at_most_total(rt, alloc, space)?;
+    assert!(rt; second.take(message).is_ok(), "memory");
+    let open = Dist::fin(MOST_TOTAL).ok_or("a distance")?;
+    assert_eq!(rt; second.least_open(), open);
+    assert_eq!(rt; second.expand(Dist::inf()), Err(OwnerFault::TotalTooLarge));
+    assert_eq!(rt; (second.least_open(), second.len()), (open, 1));
+    assert!(rt; !second.entry(0).expanded);
+    Ok(())
+}
+
+/// The same test over the task, without columns.
+fn refuse_total_of<'t>(rt: &impl Abort, alloc: Global, task: &'t FdrTask) -> Result<(), Fail> {
+    let columns = make_columns(alloc, task, &[])?;
+    // the type is given so that the borrow checker need not infer how long the space is borrowed
+    let space: Space<'t, ByValue<'t>> = Space::new(alloc, task, columns, ByValue::new(task), None)?;
+    refuse_total(rt, alloc, &space)
+}
+
+#[test]
+fn a_total_past_the_greatest(rt: HostRuntime) -> Result<(), Fail> {
+    let task = read_sas(rt.alloc(), CYCLE.as_bytes()).map_err(|_| "a task")?;
+    refuse_total_of(&rt, rt.alloc(), &task)
+}

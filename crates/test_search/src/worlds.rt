@@ -1,0 +1,73 @@
+//! A world of two owners of the values of one variable, worked out by hand: the owner of a state is its value modulo 2.
+
+use fdr::FdrTask;
+use netcore::{World, WorldStep};
+use owner::Space;
+use scp::make_columns;
+use small_tasks::walk;
+use spread::{ByValue, Spread};
+use std::alloc::{AllocError, Global};
+use std::process::Abort;
+use std::test::Fail;
+
+/// From 0 to 1 and back at no cost, and from 1 to 2, which is the goal.
+const STEPS: &[(u32, u32, u64)] = &[(0, 1, 0), (1, 0, 0), (1, 2, 1)];
+
+/// The space of the task without columns.
+fn space_for<'a>(alloc: Global, task: &'a FdrTask) -> Result<Space<'a, ByValue<'a>>, AllocError> {
+    let columns = make_columns(alloc, task, &[])?;
+    Space::new(alloc, task, columns, ByValue::new(task), None)
+}
+
+/// Checks that the step would change nothing, and changes nothing.
+fn idles<S: Spread + Drop>(rt: &impl Abort, world: &mut World<'_, S>, step: WorldStep) {
+    assert!(rt; !world.would_change(step));
+    assert_eq!(rt; world.step(step), Ok(false));
+}
+
+/// Checks that two steps would change something.
+fn has_two_steps<S: Spread + Drop>(rt: &impl Abort, world: &World<'_, S>) {
+    assert_eq!(rt; world.possible_count(), 2);
+    assert_eq!(rt; world.possible_step(0), Some(WorldStep::Expand(0)));
+    assert_eq!(rt; world.possible_step(1), Some(WorldStep::Rest(1)));
+    assert_eq!(rt; world.possible_step(2), None);
+}
+
+/// The second owner comes to rest, and one step is left.
+fn second_rests<S: Spread + Drop>(rt: &impl Abort, world: &mut World<'_, S>) {
+    assert!(rt; world.would_change(WorldStep::Rest(1)));
+    assert_eq!(rt; world.step(WorldStep::Rest(1)), Ok(true));
+    assert_eq!(rt; (world.count(), world.possible_count()), (1, 1));
+}
+
+/// Which steps would change something at the start, and which would not.
+fn first_steps<'a, S: Spread + Drop>(
+    rt: &impl Abort,
+    alloc: Global,
+    space: &'a Space<'a, S>,
+) -> Result<(), Fail> {
+    let mut world = World::start(alloc, space, 2)?;
+    has_two_steps(rt, &world);
+    idles(rt, &mut world, WorldStep::Rest(0));
+    idles(rt, &mut world, WorldStep::Send(0, 1));
+    idles(rt, &mut world, WorldStep::Deliver(1, 5));
+    idles(rt, &mut world, WorldStep::Look(0));
+    idles(rt, &mut world, WorldStep::Expand(9));
+    idles(rt, &mut world, WorldStep::Send(0, 9));
+    assert_eq!(rt; (world.count(), world.answer(alloc)?), (2, None));
+    second_rests(rt, &mut world);
+    Ok(())
+}
+
+/// The same test over the task.
+fn first_steps_of<'t>(rt: &impl Abort, alloc: Global, task: &'t FdrTask) -> Result<(), Fail> {
+    // the type is given so that the borrow checker need not infer how long the space is borrowed
+    let space: Space<'t, ByValue<'t>> = space_for(alloc, task)?;
+    first_steps(rt, alloc, &space)
+}
+
+#[test]
+fn two_owners_at_the_beginning(rt: HostRuntime) -> Result<(), Fail> {
+    let task = walk(rt.alloc(), 3, 2, STEPS)?.ok_or("a task")?;
+    first_steps_of(&rt, rt.alloc(), &task)
+}

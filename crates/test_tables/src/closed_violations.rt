@@ -1,0 +1,116 @@
+ghost use Rattle.checker_clauses.specs.Violations.{IsMet};
+
+use certificates::{Certificate, CertificateKind, ClosedList};
+use checker_clauses::Violation;
+use closed_clauses::{Coverage, first_closed_violation, first_goal_violation};
+use cost::Dist;
+use fdr::FdrTask;
+use small_tasks::{fact, operator, task};
+use std::alloc::{AllocError, Global};
+use std::process::Abort;
+use std::test::*;
+use table_clauses::first_table_violation;
+
+const HUGE: u64 = 18_446_744_073_709_551_615;
+
+/// One variable with the values 0, 1 and 2, at first 0; the goal is 2. Operators: 0 to 1 and 1 to 2, at 1 each.
+fn road(alloc: Global) -> Result<FdrTask, Fail> {
+    let mut operators = Vec::new(alloc);
+    operators.push(operator(alloc, &[fact(0, 0)], &[fact(0, 1)])?)?;
+    operators.push(operator(alloc, &[fact(0, 1)], &[fact(0, 2)])?)?;
+    Ok(task(alloc, &[3], &[0], &[fact(0, 2)], operators)?.ok_or("a task")?)
+}
+
+/// States of one value each, with their costs.
+fn listed(alloc: Global, states: &[(u64, u32)]) -> Result<ClosedList, Fail> {
+    let mut closed = ClosedList::new(alloc);
+    for &(cost, value) in states {
+        closed.push(cost, &[value])?;
+    }
+    Ok(closed)
+}
+
+/// The first violation of the clauses from the initial state on.
+fn uncovered(
+    alloc: Global,
+    task: &FdrTask,
+    certificate: &Certificate,
+) -> Result<Option<Violation>, AllocError>
+    requires tables { IsMet task.now certificate.now 4 }
+    requires closed { IsMet task.now certificate.now 5 }
+{
+    let coverage = Coverage::new(alloc, task, certificate)?;
+    if let Some(violation) = coverage.start_violation() {
+        return Ok(Some(violation));
+    }
+    if let Some(violation) = first_goal_violation(alloc, task, certificate)? {
+        return Ok(Some(violation));
+    }
+    coverage.first_successor_violation(alloc)
+}
+
+/// The first violation of the clauses 4 to 8.
+fn first_violation(
+    alloc: Global,
+    task: &FdrTask,
+    certificate: &Certificate,
+) -> Result<Option<Violation>, AllocError> {
+    if let Some(violation) = first_table_violation(alloc, task, certificate)? {
+        return Ok(Some(violation));
+    }
+    if let Some(violation) = first_closed_violation(alloc, task, certificate)? {
+        return Ok(Some(violation));
+    }
+    uncovered(alloc, task, certificate)
+}
+
+/// The first violation of the clauses 4 to 8 of a certificate without tables.
+fn found(
+    alloc: Global,
+    task: &FdrTask,
+    bound: Dist,
+    closed: ClosedList,
+) -> Result<Option<Violation>, Fail> {
+    let certificate = Certificate::new(CertificateKind::Sas, bound, Vec::new(alloc), closed);
+    Ok(first_violation(alloc, task, &certificate)?)
+}
+
+#[test]
+fn finds_the_first_violation(rt: HostRuntime) -> Result<(), Fail> {
+    let task = road(rt.alloc())?;
+    let two: &[(u64, u32)] = &[(0, 0), (1, 1)];
+    let three: &[(u64, u32)] = &[(0, 0), (1, 1), (2, 2)];
+    for (bound, states, want) in [
+        (Some(2), two, None),
+        (Some(3), two, Some(Violation::Successor(1, 1))),
+        (None, two, Some(Violation::Successor(1, 1))),
+        (Some(2), three, None),
+        (Some(3), three, Some(Violation::ClosedGoal(2))),
+        (None, three, Some(Violation::ClosedGoal(2))),
+        (Some(2), &[(1, 1), (0, 0)], Some(Violation::ClosedState(1))),
+        (Some(2), &[(0, 3)], Some(Violation::ClosedState(0))),
+        (Some(2), &[(0, 1), (0, 1)], Some(Violation::ClosedState(1))),
+        (Some(2), &[], Some(Violation::Start)),
+        (Some(0), &[], None),
+        (Some(2), &[(1, 0)], Some(Violation::Start)),
+        // the second state is listed above the cost at which it is reached
+        (Some(2), &[(0, 0), (2, 1)], Some(Violation::Successor(0, 0))),
+        // 2^64 - 1 and 1 more
+        (Some(1), &[(0, 0), (HUGE, 1)], None),
+    ] {
+        let bound = bound.and_then(Dist::fin).unwrap_or(Dist::inf());
+        let closed = listed(rt.alloc(), states)?;
+        assert_eq!(rt; found(rt.alloc(), &task, bound, closed)?, want);
+    }
+    Ok(())
+}
+
+#[test]
+fn refuses_states_of_two_values(rt: HostRuntime) -> Result<(), Fail> {
+    let task = road(rt.alloc())?;
+    let mut closed = ClosedList::new(rt.alloc());
+    closed.push(0, &[0, 0])?;
+    let got = found(rt.alloc(), &task, Dist::ZERO, closed)?;
+    assert_eq!(rt; got, Some(Violation::ClosedState(0)));
+    Ok(())
+}

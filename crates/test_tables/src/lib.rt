@@ -1,0 +1,21 @@
+//! Tests of costs, distances, patterns, tables and columns of tasks, worked out by hand.
+#![tactic(auto)]
+
+#[cfg(test)]
+mod closed_violations;
+#[cfg(test)]
+mod costs;
+#[cfg(test)]
+mod projections;
+#[cfg(test)]
+mod stair_distances;
+#[cfg(test)]
+mod stairs;
+#[cfg(test)]
+mod table_violations;
+#[cfg(test)]
+mod tables;
+#[cfg(test)]
+mod tasks;
+#[cfg(test)]
+mod texts;

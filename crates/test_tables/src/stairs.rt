@@ -1,0 +1,95 @@
+//! Staircases, for tests.
+
+ghost use Rattle.std.specs.Prelude.{◌≡◌, ◌+◌, ◌^◌, ◌<◌, ◌≤◌, length};
+
+use abstraction::Abstraction;
+use std::alloc::AllocError;
+use walks::BackwardAbstraction;
+
+/// A staircase: each abstract state is a step, counted from 0 at the bottom. An operator that touches the states leads
+/// down by one more than its number, if there are that many steps below, and one that does not leads from each state to
+/// itself.
+#[derive(Drop)]
+pub(crate) struct Stairs {
+    /// For each step, whether it is an abstract goal.
+    pub(crate) goals: Vec<bool>,
+    /// The number of operators that touch the states; these are the first ones.
+    pub(crate) touching: usize,
+    /// The number of operators.
+    pub(crate) operators: usize,
+    ghost some: { 0 < length goals.items },
+    ghost small: { length goals.items ≤ 2 ^ 24 },
+    ghost within: { touching ≤ operators },
+    ghost few: { operators < 2 ^ 24 },
+}
+
+impl Abstraction for Stairs {
+    ghost use Rattle.test_tables.specs.Stairs.{stairs_task, stairs, stairs_abstracts};
+
+    ghost task = { λ s. stairs_task s.operators };
+
+    ghost abstraction = { λ s. stairs s.goals.items s.touching s.operators };
+
+    ghost abstracts = { λ s. stairs_abstracts s.goals.items s.touching s.operators s.some s.within };
+
+    ghost is_small = { λ s. s.small };
+
+    fn size(&self) -> usize {
+        self.goals.len()
+    }
+
+    fn index(&self, _: &[u32]) -> usize {
+        0
+    }
+
+    fn transition(&self, abstract_state: usize, operator: usize) -> Option<usize> {
+        if operator < self.touching {
+            if operator < abstract_state {
+                Some(abstract_state - (operator + 1))
+            } else {
+                None
+            }
+        } else if operator < self.operators {
+            Some(abstract_state)
+        } else {
+            None
+        }
+    }
+
+    fn touches(&self, operator: usize) -> bool {
+        operator < self.touching
+    }
+
+    fn is_goal(&self, abstract_state: usize) -> bool {
+        self.goals[abstract_state]
+    }
+}
+
+impl BackwardAbstraction for Stairs {
+    fn entering(&self, abstract_state: usize, operators: &mut Vec<u32>) -> Result<(), AllocError> {
+        operators.clear();
+        let above = self.goals.len() - 1 - abstract_state;
+        for operator in 0..self.touching.min(above) {
+            operators.push(operator as u32)?;
+        }
+        Ok(())
+    }
+
+    fn sources(
+        &self,
+        abstract_state: usize,
+        operator: usize,
+        states: &mut Vec<u32>,
+    ) -> Result<(), AllocError> {
+        states.clear();
+        if operator < self.touching {
+            let source = abstract_state + operator + 1;
+            if source < self.goals.len() {
+                states.push(source as u32)?;
+            }
+        } else if operator < self.operators {
+            states.push(abstract_state as u32)?;
+        }
+        Ok(())
+    }
+}

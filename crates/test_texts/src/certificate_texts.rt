@@ -1,0 +1,271 @@
+//! The text of a certificate.
+
+use cert_text::{CertFault, MAX_LENGTH, read_cert, write_cert};
+use certificates::{Certificate, CertificateKind, ClosedList, PatternTable, Share, Values};
+use cost::Dist;
+use std::alloc::{AllocError, Global};
+use std::test::*;
+
+const K1: &[u8] =
+    b"optplan-cert 1\npddl\nbound 2\natoms 5\nat a\nat b\nat c\nroad a b\nroad b c\nvars 1\n0 3 0 1 2\ncolumns 0\nclosed 2\n0 0\n1 1\nend\n";
+
+const K2: &[u8] =
+    b"optplan-cert 1\npddl\nbound 2\natoms 5\nat a\nat b\nat c\nroad a b\nroad b c\nvars 1\n0 3 0 1 2\ncolumns 1\ncolumn 1\ntable 1 0\nshares 2 0 1 1 1\nvalues 3 2 1 0\nclosed 0\nend\n";
+
+const K3: &[u8] = b"optplan-cert 1\nsas\nbound 2\ncolumns 0\nclosed 2\n0 0\n1 1\nend\n";
+
+/// The text with other bytes in place of a line. Lines are counted from 1.
+fn with_line(alloc: Global, text: &[u8], place: usize, line: &[u8]) -> Result<Vec<u8>, AllocError> {
+    let mut bytes = Vec::new(alloc);
+    let mut at = 1;
+    for byte in text {
+        if at != place {
+            bytes.push(*byte)?;
+        }
+        if *byte == b'\n' {
+            if at == place {
+                bytes.extend_from_slice(line)?;
+                bytes.push(b'\n')?;
+            }
+            at = at.saturating_add(1);
+        }
+    }
+    Ok(bytes)
+}
+
+fn fault_of(alloc: Global, text: &[u8]) -> Option<CertFault> {
+    read_cert(alloc, text).err()
+}
+
+fn number_of_digits(digits: &[u8]) -> usize {
+    let mut number = 0usize;
+    for digit in digits {
+        let digit = usize::from(digit.saturating_sub(b'0'));
+        number = number.saturating_mul(10).saturating_add(digit);
+    }
+    number
+}
+
+/// The fault for a letter and a line: E, N and O for `Expected`, `Number` and `Order`; `-` for none.
+fn wanted(fault: &[u8]) -> Option<CertFault> {
+    match fault {
+        [b'E', line @ ..] => Some(CertFault::Expected(number_of_digits(line))),
+        [b'N', line @ ..] => Some(CertFault::Number(number_of_digits(line))),
+        [b'O', line @ ..] => Some(CertFault::Order(number_of_digits(line))),
+        [b'X', line @ ..] => Some(CertFault::Trailing(number_of_digits(line))),
+        [b'H'] => Some(CertFault::Header),
+        [b'T'] => Some(CertFault::Truncated),
+        _ => None,
+    }
+}
+
+/// The first row with a text that does not have its fault. A row is a line's number, a fault, and texts in place of that
+/// line.
+fn first_wrong(alloc: Global, text: &[u8], rows: &[&[u8]]) -> Result<Option<usize>, Fail> {
+    for (at, row) in rows.iter().enumerate() {
+        let mut parts = row.split(|byte| *byte == b'|');
+        let (Some(line), Some(fault)) = (parts.next(), parts.next()) else {
+            return Ok(Some(at));
+        };
+        for part in parts {
+            let edited = with_line(alloc, text, number_of_digits(line), part)?;
+            if fault_of(alloc, &edited) != wanted(fault) {
+                return Ok(Some(at));
+            }
+        }
+    }
+    Ok(None)
+}
+
+fn dist(number: u64) -> Dist {
+    Dist::fin(number).unwrap_or(Dist::inf())
+}
+
+#[test]
+fn reads_and_writes_again(rt: HostRuntime) -> Result<(), Fail> {
+    for (text, states) in [(K1, 2), (K2, 0), (K3, 2)] {
+        let certificate = read_cert(rt.alloc(), text)?;
+        assert_eq!(rt; certificate.bound(), dist(2));
+        assert_eq!(rt; certificate.closed().len(), states);
+        let bytes = write_cert(rt.alloc(), &certificate)?;
+        assert_eq!(rt; bytes.as_slice(), text);
+    }
+    Ok(())
+}
+
+#[test]
+fn every_front_is_truncated(rt: HostRuntime) {
+    for text in [K1, K2, K3] {
+        for length in 0..text.len() {
+            assert_eq!(rt;
+                fault_of(rt.alloc(), &text[..length]),
+                Some(CertFault::Truncated),
+                "{length}"
+            );
+        }
+    }
+}
+
+#[test]
+fn heads(rt: HostRuntime) -> Result<(), Fail> {
+    let rows: [&[u8]; 6] = [
+        b"1|H|optplan-cert 1\r|optplan-cert 1 |optplan-cert 2|",
+        b"2|E2|pddl\r|fdr|",
+        b"3|E3|bound  |bound |bound 2 | bound 2|bound|bound\t2|bound 2 2|bount 2|",
+        b"3|N3|bound 01|bound 2\r|bound Inf|bound +1|bound -0|bound 1.0|bound 00|bound x",
+        b"3|N3|bound 4611686018427387905|bound 18446744073709551616|bound 99999999999999999999999",
+        b"3|-|bound inf|bound 0|bound 4611686018427387904",
+    ];
+    assert_eq!(rt; first_wrong(rt.alloc(), K1, &rows)?, None);
+    Ok(())
+}
+
+#[test]
+fn atoms_and_variables(rt: HostRuntime) -> Result<(), Fail> {
+    let rows: [&[u8]; 12] = [
+        b"4|E11|atoms 6",
+        b"4|E4|atoms|atom 5|atoms 5 ",
+        b"4|N4|atoms x|atoms 05|atoms 4294967296",
+        b"4|T|atoms 4294967295",
+        b"5|E5|at  a|at a |at\ta|at \x7f|at \xc3\xa9|",
+        b"5|-|(AT;) ~ !|at",
+        b"10|E11|vars 0",
+        b"10|N10|vars 4294967296",
+        b"11|O11|0 3 1 0 2|0 3 0 0 1",
+        b"11|N11|0 3 0 1 5|0 0|2 2 1 0|0 x 5 5|01 1 0|0 1 4294967296",
+        b"11|E11|0 0 1|x 3 1 0|0 3 0 1|0|0  3 0 1 2|",
+        b"11|-|0 3 0 1 4|1 1 4",
+    ];
+    assert_eq!(rt; first_wrong(rt.alloc(), K1, &rows)?, None);
+    Ok(())
+}
+
+#[test]
+fn tables(rt: HostRuntime) -> Result<(), Fail> {
+    let rows: [&[u8]; 17] = [
+        b"12|N12|columns 65",
+        b"12|E17|columns 64",
+        b"12|E13|columns 0",
+        b"12|E12|column 1|columns|columns  1",
+        b"13|N13|column 0|column 65",
+        b"13|E17|column 2",
+        b"14|N14|table 0|table x 0|table 2 1 00|table 1 4294967296",
+        b"14|E14|table 0 0|table|table x  0|table 4294967296 0|table 18446744073709551617 0|table 2 0",
+        b"14|O14|table 2 1 0|table 2 0 0",
+        b"14|-|table 1 4294967295|table 2 0 7",
+        b"15|E15|shares 2 0 1 1|shares 1 0 1 1|shares 0 1",
+        b"15|O15|shares 2 1 1 0 1|shares 2 1 1 1 1",
+        b"15|N15|shares 1 0 0|shares 1 0 2147483648|shares 1 0 inf|shares x 1",
+        b"15|-|shares 1 0 2147483647|shares 0",
+        b"16|E16|values 3 2 1|values 16777217 0|values 0 1",
+        b"16|N16|values 01 0|values 1 36028797018963969|values 1 INF",
+        b"16|-|values 1 36028797018963968|values 2 inf 0|values 0",
+    ];
+    assert_eq!(rt; first_wrong(rt.alloc(), K2, &rows)?, None);
+    Ok(())
+}
+
+#[test]
+fn states(rt: HostRuntime) -> Result<(), Fail> {
+    let rows: [&[u8]; 12] = [
+        b"13|N13|closed 4294967296",
+        b"13|E16|closed 4294967295|closed 3",
+        b"13|E15|closed 1",
+        b"14|E15|0",
+        b"14|N14|0 x|inf 0|4611686018427387905 0|0 4294967296",
+        b"14|-|4611686018427387904 0|0 4294967295",
+        b"14|E14| 0 0|",
+        b"15|E15|1 1 1|x 1 1|1|1 1 |",
+        b"15|N15|1 01",
+        b"15|-|1 0|1 1",
+        b"16|E16|end |end\r|END|",
+        b"16|X17|end\nend",
+    ];
+    assert_eq!(rt; first_wrong(rt.alloc(), K1, &rows)?, None);
+    Ok(())
+}
+
+#[test]
+fn ends(rt: HostRuntime) -> Result<(), Fail> {
+    for (text, more, fault) in [
+        (K1, b"x".as_slice(), Some(CertFault::Trailing(17))),
+        (K1, b"\n".as_slice(), Some(CertFault::Trailing(17))),
+        (K1, b"x\ny\n".as_slice(), Some(CertFault::Trailing(17))),
+        (K3, b" ".as_slice(), Some(CertFault::Trailing(9))),
+    ] {
+        let mut bytes = Vec::from_slice(rt.alloc(), text)?;
+        bytes.extend_from_slice(more)?;
+        assert_eq!(rt; fault_of(rt.alloc(), &bytes), fault);
+    }
+    for (text, fault) in [
+        (b"".as_slice(), Some(CertFault::Truncated)),
+        (b"\n".as_slice(), Some(CertFault::Header)),
+        (b"x".as_slice(), Some(CertFault::Truncated)),
+        (
+            b"optplan-cert 1\nsas\nbound 2\ncolumns 0\nclosed 3\n0\n1\nend\n".as_slice(),
+            Some(CertFault::Number(8)),
+        ),
+        (
+            b"optplan-cert 1\nsas\nbound 2\ncolumns 0\nclosed 2\n0\n1\nend\n".as_slice(),
+            None,
+        ),
+        (
+            b"optplan-cert 1\nsas\nbound 0\ncolumns 0\nclosed 0\nendx".as_slice(),
+            Some(CertFault::Truncated),
+        ),
+        (
+            b"optplan-cert 1\nsas\nbound 0\ncolumns 0\nclosed 0\nend\n".as_slice(),
+            None,
+        ),
+        (
+            b"optplan-cert 1\npddl\nbound 0\natoms 0\nvars 1\n0 1 0\n".as_slice(),
+            Some(CertFault::Number(6)),
+        ),
+    ] {
+        assert_eq!(rt; fault_of(rt.alloc(), text), fault);
+    }
+    Ok(())
+}
+
+/// A table whose values are infinite and 2^55.
+fn large_table(alloc: Global) -> Result<PatternTable, AllocError> {
+    let mut values = Values::new(alloc);
+    values.push(Dist::inf())?;
+    values.push(dist(36_028_797_018_963_968))?;
+    Ok(PatternTable {
+        pattern: [0, 4_294_967_295].to_vec(alloc)?,
+        shares: [Share {
+            operator: 7,
+            amount: 2_147_483_647,
+        }]
+        .to_vec(alloc)?,
+        values,
+    })
+}
+
+/// A column of that table alone.
+fn large_columns(alloc: Global) -> Result<Vec<Vec<PatternTable>>, AllocError> {
+    let mut column = Vec::new(alloc);
+    column.push(large_table(alloc)?)?;
+    let mut columns = Vec::new(alloc);
+    columns.push(column)?;
+    Ok(columns)
+}
+
+fn large_certificate(alloc: Global) -> Result<Certificate, AllocError> {
+    let columns = large_columns(alloc)?;
+    let mut closed = ClosedList::new(alloc);
+    closed.push(0, &[0])?;
+    Ok(Certificate::new(CertificateKind::Sas, Dist::inf(), columns, closed))
+}
+
+#[test]
+fn writes_a_value(rt: HostRuntime) -> Result<(), Fail> {
+    let certificate = large_certificate(rt.alloc())?;
+    let bytes = write_cert(rt.alloc(), &certificate)?;
+    assert_eq!(rt;
+        bytes.as_slice(),
+        b"optplan-cert 1\nsas\nbound inf\ncolumns 1\ncolumn 1\ntable 2 0 4294967295\nshares 1 7 2147483647\nvalues 2 inf 36028797018963968\nclosed 1\n0 0\nend\n".as_slice()
+    );
+    Ok(())
+}

@@ -1,0 +1,594 @@
+//! Rows worked out by hand. The tests are of the parts of a task, since what `assemble` requires of its lists cannot be
+//! tested.
+
+ghost use Rattle.std.specs.Prelude.{◌<◌, ◌≤◌, All, IsTrue, length};
+
+use atoms::Atoms;
+use cost::Cost;
+use fdr::{Fact, Operator};
+use indexmap::IndexMap;
+use names::Names;
+use planning::{GroundAction, GroundAtom, GroundLiteral, Task, Vocabulary};
+use smallvec::SmallVec;
+use std::alloc::Global;
+use std::process::Abort;
+use task_assembly::{Parts, parts_of};
+use variables::ListedVariable;
+
+/// A predicate and its objects.
+type Atom<'a> = (usize, &'a [usize]);
+
+fn atom(rt: &impl Abort, alloc: Global, row: Atom<'_>) -> GroundAtom {
+    let (predicate, objects) = row;
+    GroundAtom::new(
+        predicate,
+        SmallVec::from_slice(alloc, objects).expect(rt, "memory"),
+    )
+}
+
+fn atoms(rt: &impl Abort, alloc: Global, rows: &[Atom<'_>]) -> Vec<GroundAtom> {
+    let mut atoms = Vec::new(alloc);
+    for row in rows {
+        atoms.push(atom(rt, alloc, *row)).expect(rt, "memory");
+    }
+    atoms
+}
+
+fn listed(rt: &impl Abort, alloc: Global, rows: &[Atom<'_>]) -> Atoms {
+    let mut atoms = Atoms::new(alloc);
+    for row in rows {
+        atoms.push(atom(rt, alloc, *row)).expect(rt, "memory");
+    }
+    atoms
+}
+
+/// An atom for each wanted row, and the negation of one for each excluded row.
+fn literals(
+    rt: &impl Abort,
+    alloc: Global,
+    wanted: &[Atom<'_>],
+    excluded: &[Atom<'_>],
+) -> Vec<GroundLiteral> {
+    let mut literals = Vec::new(alloc);
+    for (rows, positive) in [(excluded, false), (wanted, true)] {
+        for row in rows {
+            let atom = atom(rt, alloc, *row);
+            literals
+                .push(GroundLiteral { atom, positive })
+                .expect(rt, "memory");
+        }
+    }
+    literals
+}
+
+/// Its objects, the wanted and the excluded atoms, and what it adds and deletes.
+#[derive(Clone, Copy)]
+struct Row<'a> {
+    objects: &'a [usize],
+    wanted: &'a [Atom<'a>],
+    excluded: &'a [Atom<'a>],
+    adds: &'a [Atom<'a>],
+    deletes: &'a [Atom<'a>],
+}
+
+/// The action of a schema, of cost 1.
+fn action(rt: &impl Abort, alloc: Global, schema: usize, row: Row<'_>) -> GroundAction {
+    GroundAction {
+        schema,
+        objects: SmallVec::from_slice(alloc, row.objects).expect(rt, "memory"),
+        precondition: literals(rt, alloc, row.wanted, row.excluded),
+        adds: atoms(rt, alloc, row.adds),
+        deletes: atoms(rt, alloc, row.deletes),
+        cost: 1,
+    }
+}
+
+fn actions(rt: &impl Abort, alloc: Global, rows: &[Row<'_>]) -> Vec<GroundAction> {
+    let mut actions = Vec::new(alloc);
+    for row in rows {
+        actions
+            .push(action(rt, alloc, 0, *row))
+            .expect(rt, "memory");
+    }
+    actions
+}
+
+fn names(rt: &impl Abort, alloc: Global, texts: &[&str]) -> Names {
+    let mut names = Names::new(alloc);
+    for text in texts {
+        names.add(alloc, text).expect(rt, "memory");
+    }
+    names
+}
+
+/// The names of the objects, of the predicates and of the schemas.
+#[derive(Clone, Copy)]
+struct Texts<'a> {
+    objects: &'a [&'a str],
+    predicates: &'a [&'a str],
+    schemas: &'a [&'a str],
+}
+
+fn task(
+    rt: &impl Abort,
+    alloc: Global,
+    texts: Texts<'_>,
+    initial: &[Atom<'_>],
+    goal: &[Atom<'_>],
+) -> Task {
+    Task {
+        supertypes: Vec::new(alloc),
+        object_types: Vec::new(alloc),
+        arities: Vec::new(alloc),
+        schemas: Vec::new(alloc),
+        initial: atoms(rt, alloc, initial),
+        goal: literals(rt, alloc, goal, &[]),
+        values: IndexMap::new(alloc),
+        metric: false,
+        vocabulary: Vocabulary {
+            objects: names(rt, alloc, texts.objects),
+            predicates: names(rt, alloc, texts.predicates),
+            functions: Names::new(alloc),
+            schemas: names(rt, alloc, texts.schemas),
+        },
+    }
+}
+
+fn variables(rt: &impl Abort, alloc: Global, rows: &[(&[usize], bool)]) -> Vec<ListedVariable> {
+    let mut variables = Vec::new(alloc);
+    for (places, has_none) in rows {
+        let places = Vec::from_slice(alloc, *places).expect(rt, "memory");
+        let has_none = *has_none;
+        variables
+            .push(ListedVariable { places, has_none })
+            .expect(rt, "memory");
+    }
+    variables
+}
+
+fn is_within(variable: &ListedVariable, count: usize) -> bool
+    ensures { IsTrue result → All (λ p. p < count) variable.now.places }
+{
+    variable.places.iter().all(|place| *place < count)
+}
+
+fn are_within(variables: &[ListedVariable], count: usize) -> bool
+    ensures { IsTrue result → All (λ v. All (λ p. p < count) v.places) variables.now }
+{
+    variables.iter().all(|variable| is_within(variable, count))
+}
+
+fn are_short(variables: &[ListedVariable]) -> bool
+    ensures { IsTrue result → All (λ v. length v.places ≤ 65536) variables.now }
+{
+    variables
+        .iter()
+        .all(|variable| variable.places.len() <= 65_536)
+}
+
+fn are_cheap(actions: &[GroundAction]) -> bool
+    ensures { IsTrue result → All (λ a. a.cost ≤ 2147483647) actions.now }
+{
+    actions.iter().all(|action| action.cost <= 2_147_483_647)
+}
+
+fn parts(
+    rt: &impl Abort,
+    alloc: Global,
+    task: &Task,
+    atoms: &Atoms,
+    actions: &[GroundAction],
+    variables: &[ListedVariable],
+) -> Parts {
+    let count = atoms.as_slice().len();
+    assert!(rt; are_within(variables, count));
+    assert!(rt; are_short(variables));
+    assert!(rt; are_cheap(actions));
+    parts_of(alloc, task, atoms, actions, variables).expect(rt, "memory")
+}
+
+fn name_of(names: &[Vec<String>], variable: usize, value: usize) -> &str {
+    match names.get(variable) {
+        Some(names) => match names.get(value) {
+            Some(name) => name.as_str(),
+            None => "no such value",
+        },
+        None => "no such variable",
+    }
+}
+
+/// Whether the facts are these, each a variable and a value.
+fn are(facts: &[Fact], rows: &[(usize, u32)]) -> bool {
+    facts.len() == rows.len()
+        && facts.iter().zip(rows).all(|(fact, row)| fact.variable == row.0 && fact.value == row.1)
+}
+
+/// Whether the operator of this number has this name, precondition and effect.
+fn is(
+    operators: &[Operator],
+    number: usize,
+    name: &str,
+    precondition: &[(usize, u32)],
+    effect: &[(usize, u32)],
+) -> bool {
+    match operators.get(number) {
+        Some(operator) => {
+            operator.name.as_str() == name
+                && are(&operator.precondition, precondition)
+                && are(&operator.effect, effect)
+        }
+        None => false,
+    }
+}
+
+const ROAD: Texts<'static> = Texts {
+    objects: &["a", "b", "c"],
+    predicates: &["at", "road"],
+    schemas: &["go"],
+};
+
+/// The road from a by b to c, with these variables over `at a`, `at b`, `at c` and the two roads.
+fn road(rt: &impl Abort, alloc: Global, rows: &[(&[usize], bool)]) -> Parts {
+    let initial: [Atom<'_>; 3] = [(0, &[0]), (1, &[0, 1]), (1, &[1, 2])];
+    let all: [Atom<'_>; 5] = [(0, &[0]), (0, &[1]), (0, &[2]), (1, &[0, 1]), (1, &[1, 2])];
+    let go = [
+        Row {
+            objects: &[0, 1],
+            wanted: &[(0, &[0]), (1, &[0, 1])],
+            excluded: &[],
+            adds: &[(0, &[1])],
+            deletes: &[(0, &[0])],
+        },
+        Row {
+            objects: &[1, 2],
+            wanted: &[(0, &[1]), (1, &[1, 2])],
+            excluded: &[],
+            adds: &[(0, &[2])],
+            deletes: &[(0, &[1])],
+        },
+    ];
+    let task = task(rt, alloc, ROAD, &initial, &[(0, &[2])]);
+    let atoms = listed(rt, alloc, &all);
+    let actions = actions(rt, alloc, &go);
+    let variables = variables(rt, alloc, rows);
+    parts(rt, alloc, &task, &atoms, &actions, &variables)
+}
+
+#[test]
+fn a_road_of_one_variable(rt: HostRuntime) {
+    let parts = road(&rt, rt.alloc(), &[(&[0, 1, 2], false)]);
+    for (value, name) in [(0, "Atom at(a)"), (1, "Atom at(b)"), (2, "Atom at(c)")] {
+        assert_eq!(rt; name_of(&parts.value_names, 0, value), name);
+    }
+    assert_eq!(rt; name_of(&parts.value_names, 0, 3), "no such value");
+    assert_eq!(rt; parts.initial.as_slice(), [0].as_slice());
+    assert!(rt; are(&parts.goal, &[(0, 2)]));
+    assert_eq!(rt; parts.operators.len(), 2);
+    assert!(rt; is(&parts.operators, 0, "go a b", &[(0, 0)], &[(0, 1)]));
+    assert!(rt; is(&parts.operators, 1, "go b c", &[(0, 1)], &[(0, 2)]));
+    assert_eq!(rt; parts.carried.as_slice(), [0, 1].as_slice());
+}
+
+#[test]
+fn a_road_of_two_variables(rt: HostRuntime) {
+    let parts = road(&rt, rt.alloc(), &[(&[0], true), (&[1, 2], true)]);
+    let table = [
+        (0, 0, "Atom at(a)"),
+        (0, 1, "NegatedAtom at(a)"),
+        (1, 0, "Atom at(b)"),
+        (1, 1, "Atom at(c)"),
+        (1, 2, "<none of those>"),
+    ];
+    for (variable, value, name) in table {
+        assert_eq!(rt; name_of(&parts.value_names, variable, value), name);
+    }
+    assert_eq!(rt; parts.initial.as_slice(), [0, 2].as_slice());
+    assert!(rt; are(&parts.goal, &[(1, 1)]));
+    assert!(rt; is(&parts.operators, 0, "go a b", &[(0, 0)], &[(0, 1), (1, 0)]));
+    assert!(rt; is(&parts.operators, 1, "go b c", &[(1, 0)], &[(1, 1)]));
+}
+
+const GRIPPER: Texts<'static> = Texts {
+    objects: &["p", "q", "x", "y"],
+    predicates: &["room", "ball", "here", "in", "free", "held"],
+    schemas: &["go", "pick", "drop"],
+};
+
+/// An action of the gripper without preconditions, add effects and delete effects.
+fn empty_action(rt: &impl Abort, alloc: Global, schema: usize, objects: &[usize]) -> GroundAction {
+    GroundAction {
+        schema,
+        objects: SmallVec::from_slice(alloc, objects).expect(rt, "memory"),
+        precondition: Vec::new(alloc),
+        adds: Vec::new(alloc),
+        deletes: Vec::new(alloc),
+        cost: 1,
+    }
+}
+
+/// Adds the atom to the action's precondition.
+fn want(rt: &impl Abort, alloc: Global, action: &mut GroundAction, row: Atom<'_>) {
+    let literal = GroundLiteral {
+        atom: atom(rt, alloc, row),
+        positive: true,
+    };
+    action.precondition.push(literal).expect(rt, "memory");
+}
+
+/// Adds the first atom to the action's precondition and delete effects, and the second to its add effects.
+fn exchange(
+    rt: &impl Abort,
+    alloc: Global,
+    action: &mut GroundAction,
+    old: Atom<'_>,
+    new: Atom<'_>,
+) {
+    want(rt, alloc, action, old);
+    let deleted = atom(rt, alloc, old);
+    action.deletes.push(deleted).expect(rt, "memory");
+    let added = atom(rt, alloc, new);
+    action.adds.push(added).expect(rt, "memory");
+}
+
+/// The action that goes from one room to another.
+fn go(rt: &impl Abort, alloc: Global, start: usize, end: usize) -> GroundAction {
+    let mut action = empty_action(rt, alloc, 0, &[start, end]);
+    want(rt, alloc, &mut action, (0, &[start]));
+    want(rt, alloc, &mut action, (0, &[end]));
+    exchange(rt, alloc, &mut action, (2, &[start]), (2, &[end]));
+    action
+}
+
+/// The action that picks up a ball in a room.
+fn pick(rt: &impl Abort, alloc: Global, ball: usize, room: usize) -> GroundAction {
+    let mut action = empty_action(rt, alloc, 1, &[ball, room]);
+    want(rt, alloc, &mut action, (0, &[room]));
+    want(rt, alloc, &mut action, (1, &[ball]));
+    want(rt, alloc, &mut action, (2, &[room]));
+    want(rt, alloc, &mut action, (4, &[]));
+    exchange(rt, alloc, &mut action, (3, &[ball, room]), (5, &[ball]));
+    let free = atom(rt, alloc, (4, &[]));
+    action.deletes.push(free).expect(rt, "memory");
+    action
+}
+
+/// The action that drops a ball in a room.
+fn drop_ball(rt: &impl Abort, alloc: Global, ball: usize, room: usize) -> GroundAction {
+    let mut action = empty_action(rt, alloc, 2, &[ball, room]);
+    want(rt, alloc, &mut action, (0, &[room]));
+    want(rt, alloc, &mut action, (1, &[ball]));
+    want(rt, alloc, &mut action, (2, &[room]));
+    exchange(rt, alloc, &mut action, (5, &[ball]), (3, &[ball, room]));
+    let free = atom(rt, alloc, (4, &[]));
+    action.adds.push(free).expect(rt, "memory");
+    action
+}
+
+/// The gripper goes from each of the rooms p and q to the other, and picks up and drops each of the balls x and y in each.
+fn gripper_actions(rt: &impl Abort, alloc: Global) -> Vec<GroundAction> {
+    let mut actions = Vec::new(alloc);
+    for (start, end) in [(0, 1), (1, 0)] {
+        actions.push(go(rt, alloc, start, end)).expect(rt, "memory");
+    }
+    for (ball, room) in BALLS_IN_ROOMS {
+        actions
+            .push(pick(rt, alloc, ball, room))
+            .expect(rt, "memory");
+    }
+    for (ball, room) in BALLS_IN_ROOMS {
+        actions
+            .push(drop_ball(rt, alloc, ball, room))
+            .expect(rt, "memory");
+    }
+    actions
+}
+
+const BALLS_IN_ROOMS: [(usize, usize); 4] = [(2, 0), (2, 1), (3, 0), (3, 1)];
+
+/// Variables for the gripper's room, for each ball, and for whether the gripper is free; the atoms of rooms and balls are
+/// constant.
+fn gripper(rt: &impl Abort, alloc: Global) -> Parts {
+    let all: [Atom<'_>; 11] = [
+        (0, &[0]),
+        (1, &[2]),
+        (2, &[0]),
+        (2, &[1]),
+        (3, &[2, 0]),
+        (3, &[2, 1]),
+        (5, &[2]),
+        (3, &[3, 0]),
+        (3, &[3, 1]),
+        (5, &[3]),
+        (4, &[]),
+    ];
+    let initial: [Atom<'_>; 4] = [(2, &[0]), (3, &[2, 0]), (3, &[3, 0]), (4, &[])];
+    let goal: [Atom<'_>; 2] = [(3, &[2, 1]), (3, &[3, 1])];
+    let places: [(&[usize], bool); 4] = [
+        (&[2, 3], false),
+        (&[4, 5, 6], false),
+        (&[7, 8, 9], false),
+        (&[10], true),
+    ];
+    let task = task(rt, alloc, GRIPPER, &initial, &goal);
+    let atoms = listed(rt, alloc, &all);
+    let actions = gripper_actions(rt, alloc);
+    let variables = variables(rt, alloc, &places);
+    parts(rt, alloc, &task, &atoms, &actions, &variables)
+}
+
+#[test]
+fn a_gripper(rt: HostRuntime) {
+    let parts = gripper(&rt, rt.alloc());
+    let pick: [(usize, u32); 3] = [(0, 0), (1, 0), (3, 0)];
+    let drop: [(usize, u32); 2] = [(0, 1), (1, 2)];
+    assert_eq!(rt; name_of(&parts.value_names, 1, 1), "Atom in(x, q)");
+    assert_eq!(rt; name_of(&parts.value_names, 1, 3), "no such value");
+    assert_eq!(rt; name_of(&parts.value_names, 3, 0), "Atom free()");
+    assert_eq!(rt; parts.initial.as_slice(), [0, 0, 0, 0].as_slice());
+    assert!(rt; are(&parts.goal, &[(1, 1), (2, 1)]));
+    assert_eq!(rt; parts.operators.len(), 10);
+    assert!(rt; is(&parts.operators, 2, "pick x p", &pick, &[(1, 2), (3, 1)]));
+    assert!(rt; is(&parts.operators, 7, "drop x q", &drop, &[(1, 1), (3, 0)]));
+}
+
+const DOOR: Texts<'static> = Texts {
+    objects: &["d"],
+    predicates: &["in", "locked"],
+    schemas: &["enter"],
+};
+
+fn door(rt: &impl Abort, alloc: Global) -> Parts {
+    let enter = [Row {
+        objects: &[0],
+        wanted: &[],
+        excluded: &[(1, &[0])],
+        adds: &[(0, &[])],
+        deletes: &[],
+    }];
+    let task = task(rt, alloc, DOOR, &[(1, &[0])], &[(0, &[])]);
+    let atoms = listed(rt, alloc, &[(0, &[]), (1, &[0])]);
+    let actions = actions(rt, alloc, &enter);
+    let variables = variables(rt, alloc, &[(&[0], true), (&[1], true)]);
+    parts(rt, alloc, &task, &atoms, &actions, &variables)
+}
+
+#[test]
+fn a_door_that_may_be_locked(rt: HostRuntime) {
+    let parts = door(&rt, rt.alloc());
+    assert_eq!(rt; parts.initial.as_slice(), [1, 0].as_slice());
+    assert!(rt; are(&parts.goal, &[(0, 0)]));
+    assert!(rt; is(&parts.operators, 0, "enter d", &[(1, 1)], &[(0, 0)]));
+}
+
+const LAMPS: Texts<'static> = Texts {
+    objects: &[],
+    predicates: &["red", "green", "fan"],
+    schemas: &["turn"],
+};
+
+const RED: Atom<'static> = (0, &[]);
+
+const GREEN: Atom<'static> = (1, &[]);
+
+const FAN: Atom<'static> = (2, &[]);
+
+fn turn<'a>(
+    wanted: &'a [Atom<'a>],
+    excluded: &'a [Atom<'a>],
+    adds: &'a [Atom<'a>],
+    deletes: &'a [Atom<'a>],
+) -> Row<'a> {
+    Row {
+        objects: &[],
+        wanted,
+        excluded,
+        adds,
+        deletes,
+    }
+}
+
+/// The parts of a task of these actions, with one variable for the red and the green lamp and one for the fan.
+fn lamps(rt: &impl Abort, alloc: Global, rows: &[Row<'_>], free: bool) -> Parts {
+    let mut task = task(rt, alloc, LAMPS, &[RED], &[]);
+    task.metric = true;
+    task.goal = literals(rt, alloc, &[FAN], &[RED]);
+    let atoms = listed(rt, alloc, &[RED, GREEN, FAN]);
+    let mut actions = actions(rt, alloc, rows);
+    if free {
+        for action in actions.iter_mut() {
+            action.cost = 0;
+        }
+    }
+    let variables = variables(rt, alloc, &[(&[0, 1], true), (&[2], true)]);
+    parts(rt, alloc, &task, &atoms, &actions, &variables)
+}
+
+/// Whether the action has an operator with these facts.
+fn turns(
+    rt: &impl Abort,
+    alloc: Global,
+    row: Row<'_>,
+    before: &[(usize, u32)],
+    after: &[(usize, u32)],
+) -> bool {
+    let parts = lamps(rt, alloc, &[row], false);
+    is(&parts.operators, 0, "turn", before, after)
+}
+
+#[test]
+fn what_is_deleted(rt: HostRuntime) {
+    let alloc = rt.alloc();
+    // where the green lamp is on, the red one is not
+    assert!(rt; turns(&rt, alloc, turn(&[GREEN], &[], &[], &[RED]), &[(0, 1)], &[]));
+    assert!(rt;
+        turns(
+            &rt,
+            alloc,
+            turn(&[RED], &[], &[], &[RED]),
+            &[(0, 0)],
+            &[(0, 2)]
+        )
+    );
+    assert!(rt; turns(&rt, alloc, turn(&[], &[], &[], &[FAN]), &[], &[(1, 1)]));
+    assert!(rt;
+        turns(
+            &rt,
+            alloc,
+            turn(&[RED], &[], &[RED], &[RED]),
+            &[(0, 0)],
+            &[]
+        )
+    );
+    assert!(rt;
+        turns(
+            &rt,
+            alloc,
+            turn(&[GREEN], &[], &[RED], &[GREEN]),
+            &[(0, 1)],
+            &[(0, 0)]
+        )
+    );
+}
+
+#[test]
+fn what_is_excluded(rt: HostRuntime) {
+    let alloc = rt.alloc();
+    assert!(rt; turns(&rt, alloc, turn(&[RED], &[GREEN], &[], &[]), &[(0, 0)], &[]));
+    assert!(rt;
+        turns(
+            &rt,
+            alloc,
+            turn(&[], &[RED], &[FAN], &[]),
+            &[(0, 2)],
+            &[(1, 0)]
+        )
+    );
+    let parts = lamps(&rt, alloc, &[], false);
+    assert!(rt; are(&parts.goal, &[(0, 2), (1, 0)]));
+    assert_eq!(rt; parts.initial.as_slice(), [0, 1].as_slice());
+}
+
+#[test]
+fn actions_without_operator_are_left_out(rt: HostRuntime) {
+    let rows = [
+        turn(&[RED, GREEN], &[], &[], &[]),
+        turn(&[RED], &[], &[], &[RED]),
+        turn(&[FAN], &[FAN], &[], &[]),
+        turn(&[], &[], &[FAN], &[]),
+    ];
+    let parts = lamps(&rt, rt.alloc(), &rows, true);
+    assert_eq!(rt; parts.carried.as_slice(), [1, 3].as_slice());
+    assert!(rt;
+        parts
+            .operators
+            .iter()
+            .all(|operator| operator.cost == Cost::ZERO)
+    );
+    let parts = lamps(&rt, rt.alloc(), &rows, false);
+    assert!(rt;
+        parts
+            .operators
+            .iter()
+            .all(|operator| operator.cost == Cost::ONE)
+    );
+}

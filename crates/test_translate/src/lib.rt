@@ -1,0 +1,12 @@
+//! Tests of groups and variables of small tasks, and of the parts of the finite-domain tasks over them, worked out by
+//! hand.
+#![tactic(auto)]
+
+#[cfg(test)]
+mod assembled_parts;
+#[cfg(test)]
+mod chosen_variables;
+#[cfg(test)]
+mod listed_parts;
+#[cfg(test)]
+mod proposed_groups;
