@@ -3,7 +3,7 @@
 
     ground.py [COUNT_GROUNDINGS]
 
-COUNT_GROUNDINGS is the program's file; without it, the one that `rt run` in crates/count_groundings has built. The program reads a task that
+COUNT_GROUNDINGS is the program's file; without it, the one that `rt run` in crates/bench_grounding has built. The program reads a task that
 generate_grounding.py makes, and runs three times on each. The first line is another task: a schema of 8 parameters over 60 objects,
 of which 5,000 bindings are left. The table has a line for each:
 
@@ -25,7 +25,7 @@ import measuring
 
 SIZES = [0, 75, 150, 300, 600]
 FILES = ["domain.pddl", "problem.pddl"]
-BUILT = os.path.join(measuring.FOLDER, "..", "crates", "count_groundings", "out", "count_groundings")
+BUILT = os.path.join(measuring.FOLDER, "..", "crates", "bench_grounding", "out", "bench_grounding")
 
 
 def main(arguments):

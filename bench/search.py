@@ -3,7 +3,7 @@
 
     search.py [MEASURE_SEARCH]
 
-MEASURE_SEARCH is the program's file; without it, the one that `rt run` in crates/measure_search has built. The program searches the tasks
+MEASURE_SEARCH is the program's file; without it, the one that `rt run` in crates/bench_search has built. The program searches the tasks
 that generate_search.py makes, three times with STEPS steps and three times with twice as many; no bound ends the search. A step of one owner
 is an expansion; a step of several owners is one of a world in one thread, which steps are drawn for: an expansion, or a message that is
 sent or taken, and others. The table has a line for each search:
@@ -46,7 +46,7 @@ SEARCHES = [
     ("logistics", 4, 0, 4_000_000),
     ("logistics", 64, 0, 1_000_000),
 ]
-BUILT = os.path.join(measuring.FOLDER, "..", "crates", "measure_search", "out", "measure_search")
+BUILT = os.path.join(measuring.FOLDER, "..", "crates", "bench_search", "out", "bench_search")
 
 
 def generate(folder, kind):

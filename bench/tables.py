@@ -3,7 +3,7 @@
 
     tables.py [MEASURE_TABLES]
 
-MEASURE_TABLES is the program's file; without it, the one that `rt run` in crates/measure_tables has built. The program reads a task that
+MEASURE_TABLES is the program's file; without it, the one that `rt run` in crates/bench_tables has built. The program reads a task that
 generate_tables.py makes, and runs three times on each. The first table has a line for each size of a task with one table and
 500 operators that touch it:
 
@@ -32,7 +32,7 @@ import measuring
 ONE_SIZES = [22, 46, 68, 90]
 MANY_SIZES = [10, 20, 40]
 TIMES = 200_000
-BUILT = os.path.join(measuring.FOLDER, "..", "crates", "measure_tables", "out", "measure_tables")
+BUILT = os.path.join(measuring.FOLDER, "..", "crates", "bench_tables", "out", "bench_tables")
 
 
 def generate(folder, kind, size):

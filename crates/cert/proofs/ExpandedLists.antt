@@ -5,12 +5,12 @@ use Rattle.std.proofs.lemmas.Bool.{cond_both}
 use Rattle.std.proofs.lemmas.List.{take_more, take_all, append-nil}
 use Rattle.std.proofs.lemmas.Grind.{flat_map-append}
 use Rattle.std.proofs.lemmas.Option.{slice_get-get_or}
-use Rattle.families.specs.Owners.{Node}
-use Rattle.families.specs.Families as families
-use Rattle.families.specs.Families.{expanded_of}
-use Rattle.certificates.specs.Certificates.{Entry}
-use Rattle.certificates.specs.Kept.{entries}
-use Rattle.certificates.proofs.KeptLaws.{entries_push, length_push}
+use Rattle.owner_theory.specs.Owners.{Node}
+use Rattle.owner_theory.specs.Families as families
+use Rattle.owner_theory.specs.Families.{expanded_of}
+use Rattle.cert_value.specs.Certificates.{Entry}
+use Rattle.cert_value.specs.Kept.{entries}
+use Rattle.cert_value.proofs.KeptLaws.{entries_push, length_push}
 use Rattle.closed.specs.declared.table.Entry.{Entry as KeptEntry}
 use Rattle.closed.specs.Tables.{node_with}
 use Rattle.owner.specs.Owned.{OwnerOf}

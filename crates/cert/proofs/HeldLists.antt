@@ -15,7 +15,7 @@ use Rattle.abstraction.specs.Abstractions as abstraction
 use Rattle.abstraction.specs.Columns.{IsColumn, IsTableOf}
 use Rattle.abstraction.specs.Projections.{projection, size_of}
 use Rattle.abstraction.specs.Steps.{found}
-use Rattle.certificates.specs.Certificates.{Kind, Table, Entry, CertificateValue}
+use Rattle.cert_value.specs.Certificates.{Kind, Table, Entry, CertificateValue}
 use Rattle.checker_clauses.specs.declared.violation.Violation.TheVariants.{Shares, TableForm, GoalValue, Fall, ClosedState, Start, ClosedGoal, Successor}
 use Rattle.checker_clauses.specs.Clauses.{share_of, value_of, table_of, heuristic_of, is_within_cost, has_form, is_zero, is_goal_at_zero, falls_within_share, is_state, is_behind, is_listed, reaches_bound, is_covered, is_dear_if_goal, covers_successor}
 use Rattle.checker_clauses.specs.ClosedLists.{IsListed, IsCovered, CoversSuccessors, IsFinished}

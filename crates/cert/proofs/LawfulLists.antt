@@ -8,7 +8,7 @@ use Rattle.std.proofs.lemmas.Grind.{get_or_default_zero}
 use Rattle.std.proofs.lemmas.List.Elements.{All-head, All-tail}
 use Rattle.cost.specs.Distances.{Distance, IsWithin}
 use Rattle.fdr.specs.Tasks.{FiniteDomainTask, ranges, IsState, IsWithinLimits, has_long_range}
-use Rattle.certificates.specs.Certificates.{Kind, Table, Entry}
+use Rattle.cert_value.specs.Certificates.{Kind, Table, Entry}
 use Rattle.cert_text.specs.Lawful.{IsShort, IsLawfulKind, IsEntry, IsLawful}
 use Rattle.scp.specs.Partitions.{AreCostPartitioned}
 use Rattle.scp.specs.TableProps.{columns_prop}

@@ -10,21 +10,21 @@ use Rattle.std.proofs.lemmas.List.Sorted.{All-permutation, IsPermutation-refl, I
 use native.Mathlib.Bridge.{le_prop}
 use Rattle.cost.specs.Distances.{Distance, Finite, Infinite, ◌≤ᵈ◌, IsWithin, least}
 use Rattle.fdr.specs.Tasks.{FiniteDomainTask, ranges, IsState, IsWithinLimits}
-use Rattle.certificates.specs.Certificates.{Kind, Entry, CertificateValue}
+use Rattle.cert_value.specs.Certificates.{Kind, Entry, CertificateValue}
 use Rattle.cert_text.specs.Lawful.{IsLawfulKind, IsLawful}
 use Rattle.checker_clauses.specs.ClosedLists.{IsFinished}
 use Rattle.checker_clauses.specs.Violations.{IsHeld}
-use Rattle.families.specs.Owners.{At, SearchSpace, Node, Log}
-use Rattle.families.specs.Families as families
-use Rattle.families.specs.Families.{IsSearchSpace, Family, PendingAbove, best_of, expanded_of, closed_of, NoTwice}
-use Rattle.families.proofs.Closed.{listed_once}
-use Rattle.families.proofs.Plans.{best_node, settled_finished}
+use Rattle.owner_theory.specs.Owners.{At, SearchSpace, Node, Log}
+use Rattle.owner_theory.specs.Families as families
+use Rattle.owner_theory.specs.Families.{IsSearchSpace, Family, PendingAbove, best_of, expanded_of, closed_of, NoTwice}
+use Rattle.owner_theory.proofs.Closed.{listed_once}
+use Rattle.owner_theory.proofs.Plans.{best_node, settled_finished}
 use Rattle.scp.specs.Partitions.{AreCostPartitioned}
 use Rattle.owner.specs.Spaces.{SpaceOf}
 use Rattle.owner.specs.Owned.{OwnerOf, IsKept, most_total}
-use Rattle.joined.specs.Ends.{EndOf, IsForm, IsEndOf, IsSettledAt, space_at}
-use Rattle.joined.proofs.Places.{at_some, each_at, all_at}
-use Rattle.joined.proofs.Families.{as_family}
+use Rattle.extract.specs.Ends.{EndOf, IsForm, IsEndOf, IsSettledAt, space_at}
+use Rattle.extract.proofs.Places.{at_some, each_at, all_at}
+use Rattle.extract.proofs.Families.{as_family}
 use Rattle.cert.specs.Orders.{IsInOrder, IsRising}
 use Rattle.cert.specs.Expanded.{closed_in}
 use Rattle.cert.proofs.Shuffles.{finished_again, once_again}

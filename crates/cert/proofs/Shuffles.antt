@@ -10,9 +10,9 @@ use Rattle.std.proofs.lemmas.List.Sorted.{All-permutation, Contains-permutation,
 use Rattle.std.proofs.lemmas.Option.{IfSome_then}
 use Rattle.cost.specs.Distances.{Distance, Finite, ◌≤ᵈ◌, ◌+ᵈ◌}
 use Rattle.fdr.specs.Tasks.{FiniteDomainTask, ranges, IsState, step, is_goal_state, cost_of}
-use Rattle.certificates.specs.Certificates.{Entry}
+use Rattle.cert_value.specs.Certificates.{Entry}
 use Rattle.checker_clauses.specs.ClosedLists.{IsListed, IsCovered, CoversSuccessors, IsFinished}
-use Rattle.families.specs.Families.{NoTwice}
+use Rattle.owner_theory.specs.Families.{NoTwice}
 
 any_again : {X : Type 0} (P : X → Type 0) (xs ys : List X) → IsPermutation xs ys → Any P xs → Any P ys
 any_again P xs ys moved (k, x, low, is, p) = let there = Contains-permutation xs ys x moved (k, low, is) in (there.0, x, there.1, there.2, p)

@@ -1,8 +1,8 @@
 -- The states that owners have expanded.
 use Rattle.std.specs.Prelude.{◌≡◌, ℕ, ◌*◌, List, length, flat_map}
-use Rattle.certificates.specs.Certificates.{Entry}
-use Rattle.certificates.specs.Kept.{entries}
-use Rattle.families.specs.Families.{expanded_of}
+use Rattle.cert_value.specs.Certificates.{Entry}
+use Rattle.cert_value.specs.Kept.{entries}
+use Rattle.owner_theory.specs.Families.{expanded_of}
 use Rattle.owner.specs.Owned.{OwnerOf}
 use Rattle.cert.specs.declared.states.ExpandedStates.{ExpandedStates}
 

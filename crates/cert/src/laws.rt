@@ -5,12 +5,12 @@ ghost use Rattle.std.specs.Prelude.{◌≡◌, ℕ, ◌<◌, ◌≤◌, ◌^◌,
 ghost use Rattle.std.specs.List.Sorted.{IsPermutation};
 ghost use Rattle.cost.specs.Distances.{Distance, IsWithin};
 ghost use Rattle.fdr.specs.Tasks.{FiniteDomainTask, ranges, IsState, IsWithinLimits};
-ghost use Rattle.certificates.specs.Certificates.{Kind, Table, Entry, CertificateValue};
+ghost use Rattle.cert_value.specs.Certificates.{Kind, Table, Entry, CertificateValue};
 ghost use Rattle.cert_text.specs.Lawful.{IsLawfulKind, IsLawful};
 ghost use Rattle.checker_clauses.specs.Clauses.{heuristic_of};
 ghost use Rattle.checker_clauses.specs.ClosedLists.{IsFinished};
 ghost use Rattle.checker_clauses.specs.Violations.{IsHeld};
-ghost use Rattle.families.specs.Families.{NoTwice};
+ghost use Rattle.owner_theory.specs.Families.{NoTwice};
 ghost use Rattle.scp.specs.Partitions.{AreCostPartitioned};
 ghost use Rattle.cert.specs.Orders.{IsInOrder, IsRising};
 

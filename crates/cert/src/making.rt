@@ -3,21 +3,21 @@
 ghost use Rattle.std.specs.Prelude.{◌≡◌, ◌<◌, ◌^◌, length, map, IfOk};
 ghost use Rattle.std.specs.List.Sorted.{IsPermutation};
 ghost use Rattle.cost.specs.Distances.{Distance, least};
-ghost use Rattle.certificates.specs.Views.{kind_of};
+ghost use Rattle.cert_value.specs.Views.{kind_of};
 ghost use Rattle.cert_text.specs.Lawful.{IsLawfulKind, IsLawful};
 ghost use Rattle.checker_clauses.specs.Violations.{IsHeld};
-ghost use Rattle.joined.specs.Ends.{IsSettledAt, space_at};
+ghost use Rattle.extract.specs.Ends.{IsSettledAt, space_at};
 ghost use Rattle.cert.specs.Expanded.{closed_in};
 ghost use Rattle.cert.specs.Orders.{IsRising};
 
 use crate::sorting::sorted_list;
 use crate::states::expanded_states;
 use crate::tables::copied_columns;
-use certificates::{Certificate, CertificateKind};
+use cert_value::{Certificate, CertificateKind};
 use cost::Dist;
-use joined::Joined;
+use extract::Joined;
 use owner::Owner;
-use spread::Spread;
+use packed_spread::Spread;
 use std::alloc::{AllocError, Global};
 
 /// The least cost at which any of the owners took a goal state, infinite if none did.

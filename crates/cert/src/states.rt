@@ -1,12 +1,12 @@
 //! The states that owners have expanded.
 
 ghost use Rattle.std.specs.Prelude.{◌≡◌, ◌≤◌, ◌++◌, length, All, IfOk, OnOk};
-ghost use Rattle.families.specs.Families.{expanded_of};
+ghost use Rattle.owner_theory.specs.Families.{expanded_of};
 ghost use Rattle.owner.specs.Owned.{most_total};
 ghost use Rattle.cert.specs.Expanded.{closed_in, listed, IsLong};
 
 use owner::Owner;
-use spread::Spread;
+use packed_spread::Spread;
 use std::alloc::{AllocError, Global};
 
 /// The states that were expanded, with their costs.

@@ -1,11 +1,11 @@
 //! Copies of tables.
 
 ghost use Rattle.std.specs.Prelude.{◌≡◌, map, IfOk};
-ghost use Rattle.certificates.specs.Views as kept;
+ghost use Rattle.cert_value.specs.Views as kept;
 ghost use Rattle.scp.specs.ColumnTables as columns;
 ghost use Rattle.scp.specs.ColumnTables.{tables_of};
 
-use certificates::{PatternTable, Values};
+use cert_value::{PatternTable, Values};
 use scp::ColumnTable;
 use std::alloc::{AllocError, Global};
 

@@ -8,8 +8,8 @@ use Rattle.std.proofs.lemmas.Bool.Decides.{nat_tests}
 use Rattle.std.proofs.lemmas.Fmt.{decimal_nonempty, decimal_digit}
 use Rattle.std.proofs.lemmas.List.{append-nil, length-map}
 use Rattle.cost.specs.Distances.{Distance, Finite, Infinite, IsWithin, distance_text}
-use Rattle.certificates.specs.declared.table.Share.{Share}
-use Rattle.certificates.specs.Certificates.{Variable, Entry}
+use Rattle.cert_value.specs.declared.table.Share.{Share}
+use Rattle.cert_value.specs.Certificates.{Variable, Entry}
 use Rattle.cert_text.specs.Pieces.{pieces, joined}
 use Rattle.cert_text.specs.Spelling.{counted, flag_text, variable_line, share_words, entry_line}
 use Rattle.cert_text.specs.Lawful.{IsIncreasing, IsPrinted, IsAtomWord, IsAtom, IsVariable, IsShare, IsPattern, AreShares, AreValues, IsEntry}

@@ -5,7 +5,7 @@ use Rattle.std.specs.List.{flat_map}
 use Rattle.std.proofs.lemmas.List.{map-append, append-nil}
 use Rattle.std.proofs.lemmas.Grind.{flat_map-append}
 use Rattle.cost.specs.Distances.{Distance, distance_text}
-use Rattle.certificates.specs.Certificates.{Kind, Table, Entry, CertificateValue}
+use Rattle.cert_value.specs.Certificates.{Kind, Table, Entry, CertificateValue}
 use Rattle.cert_text.specs.Spelling.{line_text, text_of, kind_line, kind_lines, columns_lines, closed_lines, spelling}
 use Rattle.cert_text.proofs.Steps.{some_is}
 

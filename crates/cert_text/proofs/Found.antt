@@ -6,7 +6,7 @@ use Rattle.std.specs.List.{flat_map, AllByRecursion}
 use Rattle.std.proofs.lemmas.Slice.Eq.{bytes_eq-Decides}
 use Rattle.std.proofs.lemmas.List.{map-append, append-nil}
 use Rattle.cost.specs.Distances.{Distance, Finite, Infinite, IsWithin, distance_text}
-use Rattle.certificates.specs.declared.table.Share.{Share}
+use Rattle.cert_value.specs.declared.table.Share.{Share}
 use Rattle.cert_text.specs.Pieces.{pieces, joined}
 use Rattle.cert_text.specs.Spelling.{counted, share_words}
 use Rattle.cert_text.specs.Lawful.{IsIncreasing, IsShare}

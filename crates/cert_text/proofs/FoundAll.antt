@@ -8,7 +8,7 @@ use Rattle.std.proofs.lemmas.List.Concat.{flat_map_single}
 use Rattle.cost.specs.Distances.{Distance, IsWithin, distance_text}
 use Rattle.cert_text.specs.declared.fault.CertFault.{CertFault}
 use Rattle.cert_text.specs.declared.fault.CertFault.TheVariants as fault
-use Rattle.certificates.specs.Certificates.{Kind, FiniteDomain, Planning, Variable, Table, Entry, CertificateValue, width_of}
+use Rattle.cert_value.specs.Certificates.{Kind, FiniteDomain, Planning, Variable, Table, Entry, CertificateValue, width_of}
 use Rattle.cert_text.specs.Pieces.{pieces, joined}
 use Rattle.cert_text.specs.Spelling.{counted, variable_line, kind_line, kind_lines, pattern_line, shares_line, values_line, table_lines, column_lines, columns_lines, entry_line, closed_lines, lines, spelling}
 use Rattle.cert_text.specs.Lawful.{IsAtom, IsVariable, IsLawfulKind, IsTable, IsColumn, AreColumns, IsEntry, AreEntries, IsLawful}

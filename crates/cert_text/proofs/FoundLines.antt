@@ -5,8 +5,8 @@ use Rattle.std.specs.List.{list_all, flat_map, AllByRecursion}
 use Rattle.std.proofs.lemmas.List.{length-map}
 use Rattle.std.proofs.lemmas.Fmt.{decimal_digit}
 use Rattle.cost.specs.Distances.{Distance, IsWithin, distance_text}
-use Rattle.certificates.specs.declared.table.Share.{Share}
-use Rattle.certificates.specs.Certificates.{Variable, Entry}
+use Rattle.cert_value.specs.declared.table.Share.{Share}
+use Rattle.cert_value.specs.Certificates.{Variable, Entry}
 use Rattle.cert_text.specs.Pieces.{pieces}
 use Rattle.cert_text.specs.Spelling.{counted, flag_text, variable_line, share_words, entry_line}
 use Rattle.cert_text.specs.Lawful.{IsPrinted, IsAtomWord, IsAtom, IsVariable, IsShare, IsPattern, AreShares, AreValues, IsEntry}

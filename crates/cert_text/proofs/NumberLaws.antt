@@ -4,7 +4,7 @@ use Rattle.std.specs.Prelude.{option_map}
 use Rattle.std.proofs.Math.Seq.{drop-cons}
 use Rattle.std.proofs.lemmas.List.{drop_all}
 use Rattle.std.proofs.lemmas.Bool.Decides.{nat_tests}
-use Rattle.certificates.specs.declared.table.Share.{Share}
+use Rattle.cert_value.specs.declared.table.Share.{Share}
 use Rattle.cert_text.specs.Reading.{◌>>?◌, digits_after, is_digit, share_in, shares_behind}
 
 by_digit : (b : Bool) (n m : ℕ) (x y : Option ℕ) → option_map (min (2 ^ 64 - 1)) x ≡ option_map (min (2 ^ 64 - 1)) y → option_map (min (2 ^ 64 - 1)) (cond b x None) ≡ option_map (min (2 ^ 64 - 1)) (cond b y None)

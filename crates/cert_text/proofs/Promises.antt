@@ -4,7 +4,7 @@ use Rattle.std.specs.Prelude.{IfOk, nat_lt}
 use Rattle.std.proofs.lemmas.Bool.Decides.{nat_tests}
 use Rattle.cert_text.specs.declared.fault.CertFault.{CertFault}
 use Rattle.cert_text.specs.declared.fault.CertFault.TheVariants as fault
-use Rattle.certificates.specs.Certificates.{CertificateValue}
+use Rattle.cert_value.specs.Certificates.{CertificateValue}
 use Rattle.cert_text.specs.Spelling.{spelling}
 use Rattle.cert_text.specs.Lawful.{IsLawful}
 use Rattle.cert_text.specs.Pieces.{pieces}

@@ -4,7 +4,7 @@ use Rattle.std.specs.Prelude.{◌&&◌, nat_le, nat_lt, ◌==◌}
 use Rattle.std.proofs.lemmas.Bool.Decides.{nat_tests}
 use Rattle.std.proofs.lemmas.List.{length-append}
 use Rattle.cert_text.specs.declared.fault.CertFault.{CertFault}
-use Rattle.certificates.specs.Certificates.{Entry}
+use Rattle.cert_value.specs.Certificates.{Entry}
 use Rattle.cert_text.specs.Reading.{◌>>=◌, ◌>>?◌, between, number_in, numbers_behind, numbers_in, filled_behind, filled, formed, numbered, ordered, has_width, entry_numbers, entry_of}
 
 pub bind_ok : {A B : Type 0} (r : Result A CertFault) (f : A → Result B CertFault) (y : B) → (r >>= f) ≡ Ok y → (x : A) × (r ≡ Ok x) × (f x ≡ Ok y)

@@ -1,7 +1,7 @@
 -- States of one width.
 use Rattle.std.proofs.Common.{◌≡◌, ℕ, List, [], ◌∷◌, ◌++◌, length, Some, Ok, refl, sym, ap, ◌∙◌}
 use Rattle.std.specs.List.{AllByRecursion}
-use Rattle.certificates.specs.Certificates.{Entry, width_of}
+use Rattle.cert_value.specs.Certificates.{Entry, width_of}
 use Rattle.cert_text.specs.Reading.{entry_of}
 use Rattle.cert_text.proofs.Steps.{some_is, entry_width}
 

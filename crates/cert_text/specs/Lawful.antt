@@ -2,8 +2,8 @@
 use Rattle.std.specs.Prelude.{◌≡◌, ◌≢◌, ℕ, ◌<◌, ◌≤◌, ◌^◌, List, [], ◌∷◌, length, map}
 use Rattle.std.specs.List.{AllByRecursion}
 use Rattle.cost.specs.Distances.{Distance, IsWithin}
-use Rattle.certificates.specs.declared.table.Share.{Share}
-use Rattle.certificates.specs.Certificates.{Kind, FiniteDomain, Planning, Variable, Table, Entry, CertificateValue}
+use Rattle.cert_value.specs.declared.table.Share.{Share}
+use Rattle.cert_value.specs.Certificates.{Kind, FiniteDomain, Planning, Variable, Table, Entry, CertificateValue}
 
 -- a count, or the number of a variable, an operator or a value
 abbrev pub IsShort : ℕ → Type 0

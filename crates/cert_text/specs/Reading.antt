@@ -6,8 +6,8 @@ use Rattle.std.specs.List.{list_all}
 use Rattle.cost.specs.Distances.{Distance, Finite, Infinite}
 use Rattle.cert_text.specs.declared.fault.CertFault.{CertFault}
 use Rattle.cert_text.specs.declared.fault.CertFault.TheVariants as fault
-use Rattle.certificates.specs.declared.table.Share.{Share}
-use Rattle.certificates.specs.Certificates.{Kind, FiniteDomain, Planning, Variable, Table, Entry, CertificateValue, width_of}
+use Rattle.cert_value.specs.declared.table.Share.{Share}
+use Rattle.cert_value.specs.Certificates.{Kind, FiniteDomain, Planning, Variable, Table, Entry, CertificateValue, width_of}
 use Rattle.cert_text.specs.Pieces.{pieces}
 
 -- reading fails with this error, unless allocation fails

@@ -1,7 +1,7 @@
 //! Laws of the texts of certificates. Each function states one in its contract; its body is empty.
 
 ghost use Rattle.std.specs.Prelude.{◌≡◌, ◌≤◌, ◌^◌, ℕ, List, length};
-ghost use Rattle.certificates.specs.Certificates.{CertificateValue};
+ghost use Rattle.cert_value.specs.Certificates.{CertificateValue};
 ghost use Rattle.cert_text.specs.Spelling.{spelling};
 ghost use Rattle.cert_text.specs.Lawful.{IsLawful};
 ghost use Rattle.cert_text.specs.declared.fault.CertFault.{CertFault};

@@ -6,7 +6,7 @@ ghost use Rattle.cert_text.specs.Cursors.{left};
 
 use crate::fault::CertFault;
 use crate::words::Words;
-use certificates::{Share, Values};
+use cert_value::{Share, Values};
 use cost::Dist;
 use std::alloc::Global;
 

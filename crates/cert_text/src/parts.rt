@@ -5,7 +5,7 @@ ghost use Rattle.std.specs.List.{list_all};
 ghost use Rattle.cert_text.specs.Pieces.{pieces};
 ghost use Rattle.cert_text.specs.Reading.{Gives, is_printed, is_atom_word, atom_of, variable_of, pattern_of, shares_of, values_of, entry_of, has_width};
 ghost use Rattle.cert_text.specs.Cursors.{left, remaining};
-ghost use Rattle.certificates.specs.Views as view;
+ghost use Rattle.cert_value.specs.Views as view;
 ghost use Rattle.std.specs.String.{string_bytes};
 
 use crate::fault::CertFault;
@@ -15,7 +15,7 @@ use crate::numbers::{
     distances, increases, number_within, operators_increase, read_numbers, shares,
 };
 use crate::words::Words;
-use certificates::{AtomVariable, Share, Values};
+use cert_value::{AtomVariable, Share, Values};
 use std::alloc::Global;
 
 /// The end of the numbers of variables, operators and values, and of most counts: 2^32.

@@ -1,13 +1,13 @@
 //! Reading a certificate.
 
 ghost use Rattle.std.specs.Prelude.{◌≡◌, ◌<◌, ◌≤◌, ◌^◌, IfOk, Ok, length, map};
-ghost use Rattle.certificates.specs.Certificates.{CertificateValue};
+ghost use Rattle.cert_value.specs.Certificates.{CertificateValue};
 ghost use Rattle.cert_text.specs.Spelling.{spelling};
 ghost use Rattle.cert_text.specs.Lawful.{IsLawful};
 ghost use Rattle.cert_text.specs.Reading.{Gives, header_at, kind_at, bound_of, atoms_at, variables_at, parts_at, table_at, column_at, columns_at, closed_at, end_at, certificate_at, certificate_of};
 ghost use Rattle.cert_text.specs.Pieces.{pieces};
 ghost use Rattle.cert_text.specs.Cursors.{remaining};
-ghost use Rattle.certificates.specs.Views as view;
+ghost use Rattle.cert_value.specs.Views as view;
 
 use crate::fault::CertFault;
 use crate::forms::{count_line, fixed_line, second_word};
@@ -16,9 +16,7 @@ use crate::numbers::distance_within;
 use crate::parts::{
     SHORT, atom_words, entry_line, pattern_line, shares_line, values_line, variable_line,
 };
-use certificates::{
-    AtomParts, AtomVariable, Certificate, CertificateKind, ClosedList, PatternTable,
-};
+use cert_value::{AtomParts, AtomVariable, Certificate, CertificateKind, ClosedList, PatternTable};
 use cost::Dist;
 use std::alloc::Global;
 

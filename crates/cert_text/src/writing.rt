@@ -8,9 +8,9 @@ ghost use Rattle.std.specs.String.{string_bytes};
 ghost use Rattle.cost.specs.Distances.{distance_text};
 ghost use Rattle.cert_text.specs.Spelling as text;
 ghost use Rattle.cert_text.specs.Pieces.{joined};
-ghost use Rattle.certificates.specs.Views as view;
+ghost use Rattle.cert_value.specs.Views as view;
 
-use certificates::{
+use cert_value::{
     AtomVariable, Certificate, CertificateKind, ClosedList, PatternTable, Share, Values,
 };
 use cost::Dist;

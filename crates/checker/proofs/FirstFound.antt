@@ -4,7 +4,7 @@ use Rattle.std.specs.Prelude.{Result, Ok, Err, IfOk}
 use Rattle.std.proofs.lemmas.Bool.{cases_eq}
 use Rattle.cost.specs.Distances.{Distance, Infinite}
 use Rattle.fdr.specs.Tasks.{FiniteDomainTask, IsTask, EveryPlanCostsAtLeast}
-use Rattle.certificates.specs.Certificates.{CertificateValue}
+use Rattle.cert_value.specs.Certificates.{CertificateValue}
 use Rattle.checker_clauses.specs.declared.violation.Violation.{Violation}
 use Rattle.checker_clauses.specs.declared.violation.Violation.TheVariants.{Shares, TableForm, GoalValue, Fall, ClosedState, Start, ClosedGoal, Successor}
 use Rattle.checker_clauses.specs.Violations.{clause_of, IsMet, IsFoundIn, IsFirstViolation, IsHeld}

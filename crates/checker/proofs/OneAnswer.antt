@@ -2,7 +2,7 @@
 use Rattle.std.proofs.Common.{◌≡◌, ℕ, ◌<◌, ◌≤◌, ◌^◌, ◌-◌, List, length, sym, ap, subst, ◌∙◌}
 use Rattle.fdr.specs.Tasks.{FiniteDomainTask}
 use Rattle.sasfile.proofs.Promises.{one_reading_is}
-use Rattle.certificates.specs.Certificates.{CertificateValue}
+use Rattle.cert_value.specs.Certificates.{CertificateValue}
 use Rattle.cert_text.proofs.Promises.{one_certificate}
 use Rattle.checker_clauses.proofs.FirstViolations.{one_first, none_where_held}
 use Rattle.checker.specs.declared.verdict.Verdict.{Verdict}

@@ -4,7 +4,7 @@ use Rattle.fdr.specs.Tasks.{FiniteDomainTask}
 use Rattle.sasfile.specs.SasTexts.{SpellsTask}
 use Rattle.sasfile.specs.Reading.{task_in}
 use Rattle.sasfile.specs.declared.fault.SasFault.TheVariants as sas_fault
-use Rattle.certificates.specs.Certificates.{Kind, FiniteDomain, Planning, CertificateValue}
+use Rattle.cert_value.specs.Certificates.{Kind, FiniteDomain, Planning, CertificateValue}
 use Rattle.cert_text.specs.Lawful.{IsLawful}
 use Rattle.cert_text.specs.Spelling.{spelling}
 use Rattle.cert_text.specs.Reading.{certificate_of}

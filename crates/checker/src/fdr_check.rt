@@ -7,12 +7,12 @@ ghost use Rattle.checker.specs.Verdicts.{IsVerdict, AreMetBelow, IsFoundBelow};
 ghost use Rattle.checker.specs.declared.verdict.Verdict.TheVariants.{Accepted};
 
 use crate::verdict::Verdict;
-use certificates::Certificate;
+use cert_value::Certificate;
 use checker_clauses::Violation;
-use closed_clauses::{Coverage, first_closed_violation, first_goal_violation};
+use checker_states::{Coverage, first_closed_violation, first_goal_violation};
+use checker_tables::{first_share_violation, first_table_violation};
 use fdr::FdrTask;
 use std::alloc::{AllocError, Global};
-use table_clauses::{first_share_violation, first_table_violation};
 
 /// The first violation of the clauses on tables, C3 and C4. Fails only if allocation fails.
 fn table_violation(

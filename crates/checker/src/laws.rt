@@ -2,7 +2,7 @@
 
 ghost use Rattle.std.specs.Prelude.{◌≡◌, ◌<◌, ◌≤◌, ◌-◌, ◌^◌, ℕ, List, length};
 ghost use Rattle.fdr.specs.Tasks.{FiniteDomainTask};
-ghost use Rattle.certificates.specs.Certificates.{CertificateValue};
+ghost use Rattle.cert_value.specs.Certificates.{CertificateValue};
 ghost use Rattle.checker.specs.Verdicts.{IsVerdict};
 ghost use Rattle.checker.specs.Answers.{IsAnswer};
 ghost use Rattle.checker.specs.declared.verdict.Verdict.{Verdict};

@@ -16,7 +16,7 @@ use Rattle.abstraction.specs.Abstractions.{IsConsistent}
 use Rattle.abstraction.specs.Projections.{projection, AllExist}
 use Rattle.abstraction.specs.ProjectionLaws.{projection_abstracts}
 use Rattle.abstraction.specs.Columns.{IsTableOf, IsColumn}
-use Rattle.certificates.specs.Certificates.{Table, Entry, CertificateValue}
+use Rattle.cert_value.specs.Certificates.{Table, Entry, CertificateValue}
 use Rattle.checker_clauses.specs.declared.violation.Violation.TheVariants.{Shares, TableForm, GoalValue, Fall, ClosedState, Start, ClosedGoal, Successor}
 use Rattle.checker_clauses.specs.Clauses.{share_of, value_of, table_of, columns_of, heuristic_of, is_within_cost, has_form, is_increasing, is_goal_at_zero, falls_within_share, is_state, is_behind, is_listed, reaches_bound, is_covered, is_dear_if_goal, covers_successor}
 use Rattle.checker_clauses.specs.ClosedLists.{IsListed, IsCovered, CoversSuccessors, IsFinished}

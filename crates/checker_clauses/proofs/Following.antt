@@ -4,7 +4,7 @@ use Rattle.std.proofs.lemmas.List.Sums.{sum_by-cons}
 use Rattle.cost.specs.Distances.{Distance, Finite, ◌≤ᵈ◌}
 use Rattle.cost.proofs.DistanceLaws.{below_more, sum_below}
 use Rattle.fdr.specs.Tasks.{FiniteDomainTask, ranges, IsTask, IsState, LeadsToGoal, EveryPlanCostsAtLeast, step, is_goal_state, plan_cost, cost_of}
-use Rattle.certificates.specs.Certificates.{Entry}
+use Rattle.cert_value.specs.Certificates.{Entry}
 use Rattle.checker_clauses.specs.ClosedLists.{IsCovered, CoversSuccessors, IsFinished}
 use Rattle.abstraction.specs.Steps.{both, at_some, first_step, step_keeps_state}
 

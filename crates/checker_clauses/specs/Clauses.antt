@@ -10,8 +10,8 @@ use Rattle.fdr.specs.Tasks.{FiniteDomainTask, ranges, step, is_goal_state, cost_
 use Rattle.abstraction.specs.Abstractions as abstraction
 use Rattle.abstraction.specs.Projections.{projection, size_of}
 use Rattle.abstraction.specs.Columns.{heuristic}
-use Rattle.certificates.specs.declared.table.Share.{Share}
-use Rattle.certificates.specs.Certificates.{Table, Entry, CertificateValue}
+use Rattle.cert_value.specs.declared.table.Share.{Share}
+use Rattle.cert_value.specs.Certificates.{Table, Entry, CertificateValue}
 
 -- ---- tables
 

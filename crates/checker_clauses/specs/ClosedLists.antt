@@ -1,7 +1,7 @@
 -- Closed lists: states that were reached, whose successors are all in the list or reach the bound.
 use Rattle.std.specs.Prelude.{◌≡◌, ℕ, ◌+◌, ◌≤◌, true, ◌⊎◌, List, IfSome, All, Any}
 use Rattle.cost.specs.Distances.{Distance, Finite, ◌≤ᵈ◌, ◌+ᵈ◌}
-use Rattle.certificates.specs.Certificates.{Entry}
+use Rattle.cert_value.specs.Certificates.{Entry}
 use Rattle.fdr.specs.Tasks.{FiniteDomainTask, ranges, IsState, step, is_goal_state, cost_of}
 
 -- the state is in the closed list with at most this cost

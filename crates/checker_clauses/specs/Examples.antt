@@ -3,7 +3,7 @@ use Rattle.std.specs.Prelude.{ℕ, false, List, [], ◌∷◌}
 use Rattle.cost.specs.Distances.{Distance, Finite}
 use Rattle.fdr.specs.declared.fact.Fact.{Fact}
 use Rattle.fdr.specs.Tasks.{FiniteDomainTask, Operator}
-use Rattle.certificates.specs.Certificates.{FiniteDomain, Table, Entry, CertificateValue}
+use Rattle.cert_value.specs.Certificates.{FiniteDomain, Table, Entry, CertificateValue}
 
 -- the location is this town
 abbrev pub town : ℕ → List Fact

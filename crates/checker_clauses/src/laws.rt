@@ -4,7 +4,7 @@
 ghost use Rattle.std.specs.Prelude.{◌≡◌, ℕ, ◌<◌, true, false, [], ◌∷◌, ◌⊎◌};
 ghost use Rattle.cost.specs.Distances.{Finite, Infinite};
 ghost use Rattle.fdr.specs.Tasks.{FiniteDomainTask, IsTask, EveryPlanCostsAtLeast, HasNoPlan};
-ghost use Rattle.certificates.specs.Certificates.{CertificateValue};
+ghost use Rattle.cert_value.specs.Certificates.{CertificateValue};
 ghost use Rattle.checker_clauses.specs.declared.violation.Violation.{Violation};
 ghost use Rattle.checker_clauses.specs.Clauses.{is_within_cost, has_form, is_goal_at_zero, falls_within_share, is_state, is_behind, is_covered, is_dear_if_goal, covers_successor};
 ghost use Rattle.checker_clauses.specs.Violations.{clause_of, IsMet, IsFirstViolation, IsHeld};

@@ -8,8 +8,8 @@ use Rattle.std.specs.Cmp.Lexicographic.{pointwise, nat_list_eq_equiv}
 use Rattle.std.proofs.lemmas.Bool.Decides.{nat_tests}
 use Rattle.std.proofs.lemmas.List.Elements.{All-cons, All-head, All-tail}
 use Rattle.std.proofs.lemmas.Iterator.Adapters.{position_from-zero}
-use Rattle.families.specs.Owners.{Node, same_state, rank_less}
-use Rattle.families.proofs.Lists.{get_below}
+use Rattle.owner_theory.specs.Owners.{Node, same_state, rank_less}
+use Rattle.owner_theory.proofs.Lists.{get_below}
 use Rattle.openlist.specs.declared.entry.Rank.{Rank}
 use Rattle.packed.specs.declared.plain.Plain.{Plain}
 use Rattle.closed.specs.declared.table.Entry.{Entry}

@@ -3,9 +3,9 @@ use Rattle.std.proofs.Common.{◌≡◌, ℕ, zero, suc, ◌+◌, ◌≤◌, Boo
 use Rattle.std.specs.Prelude.{slice_get, slice_set, All}
 use Rattle.std.proofs.lemmas.Bool.{cond_both}
 use Rattle.std.proofs.lemmas.List.Elements.{All-cons, All-head, All-tail}
-use Rattle.families.specs.Owners as machine
-use Rattle.families.specs.Owners.{At, Node, same_state, rank_less, node_of, improve}
-use Rattle.families.proofs.States.{same_state-true, same_state_refl}
+use Rattle.owner_theory.specs.Owners as machine
+use Rattle.owner_theory.specs.Owners.{At, Node, same_state, rank_less, node_of, improve}
+use Rattle.owner_theory.proofs.States.{same_state-true, same_state_refl}
 use Rattle.openlist.specs.declared.entry.Rank.{Rank}
 use Rattle.closed.specs.declared.message.Parent.{Parent}
 use Rattle.closed.specs.declared.message.Message.{Message}

@@ -1,6 +1,6 @@
 -- What an outcome says about the nodes.
 use Rattle.std.specs.Prelude.{◌≡◌, ℕ, true, false, List, [], ◌∷◌, ◌++◌, length, Some, slice_get, slice_set}
-use Rattle.families.specs.Owners.{At, Node, rank_less}
+use Rattle.owner_theory.specs.Owners.{At, Node, rank_less}
 use Rattle.closed.specs.Tables.{reached}
 
 -- no node has the state, and the state's node is appended

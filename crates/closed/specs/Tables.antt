@@ -2,8 +2,8 @@
 -- Raphael 1968).
 use Rattle.std.specs.Prelude.{ℕ, suc, false, if◌then◌else◌, List, [], ◌∷◌, Option, Some}
 use Rattle.std.specs.Option.{option_map}
-use Rattle.families.specs.Owners as machine
-use Rattle.families.specs.Owners.{Node, same_state, rank_less}
+use Rattle.owner_theory.specs.Owners as machine
+use Rattle.owner_theory.specs.Owners.{Node, same_state, rank_less}
 use Rattle.openlist.specs.declared.entry.Rank.{Rank}
 use Rattle.closed.specs.declared.message.Parent.{Parent}
 use Rattle.closed.specs.declared.message.Message.{Message}

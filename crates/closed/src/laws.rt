@@ -1,8 +1,8 @@
 //! Laws of the nodes of reached states. Each function states laws as its contract, for all nodes, and its body is empty.
 
 ghost use Rattle.std.specs.Prelude.{◌≡◌, ℕ, List, map, fold, Some, slice_get};
-ghost use Rattle.families.specs.Owners as machine;
-ghost use Rattle.families.specs.Owners.{Node, node_of, improve};
+ghost use Rattle.owner_theory.specs.Owners as machine;
+ghost use Rattle.owner_theory.specs.Owners.{Node, node_of, improve};
 ghost use Rattle.openlist.specs.declared.entry.Rank.{Rank};
 ghost use Rattle.closed.specs.declared.message.Message.{Message};
 ghost use Rattle.closed.specs.declared.message.Parent.{Parent};

@@ -2,7 +2,7 @@
 
 ghost use Rattle.std.specs.Prelude.{◌≡◌, ℕ, ◌<◌, ◌≤◌, Bool, List, [], take, length, map, fold, Option, slice_get, slice_set, Some, IfOk, OnOk, OnErr, All};
 ghost use Rattle.fdr.specs.Tasks.{IsState};
-ghost use Rattle.families.specs.Owners.{Node, marked};
+ghost use Rattle.owner_theory.specs.Owners.{Node, marked};
 ghost use Rattle.closed.specs.declared.message.Parent.{Parent};
 ghost use Rattle.closed.specs.declared.table.Outcome.TheVariants.{New, Better};
 ghost use Rattle.closed.specs.Tables.{reached, outcome_of, outcomes_of, node_with, arrival};

@@ -3,7 +3,7 @@
 ghost use Rattle.std.specs.Prelude.{◌≡◌, ◌<◌, ◌==◌, [], length, map, fold, slice_get, slice_set, Some, IfOk, OnOk, OnErr, All};
 ghost use Rattle.fdr.specs.Tasks as tasks;
 ghost use Rattle.fdr.specs.Tasks.{IsState};
-ghost use Rattle.families.specs.Owners.{Node, marked};
+ghost use Rattle.owner_theory.specs.Owners.{Node, marked};
 ghost use Rattle.closed.specs.declared.table.Outcome.TheVariants.{New};
 ghost use Rattle.closed.specs.Tables.{reached, outcome_of, outcomes_of, fresh, node_with, arrival};
 

@@ -9,15 +9,15 @@ use Rattle.fdr.specs.Tasks.{IsPlan, state_after, is_goal_state, plan_cost}
 use Rattle.closed.specs.declared.table.Entry.{Entry}
 use Rattle.closed.specs.declared.message.Parent as memory
 use Rattle.closed.specs.Tables.{parent_of, node_with}
-use Rattle.families.specs.Owners.{At, Node, Parent, rank_less}
-use Rattle.families.specs.Families.{Family, Follows, IsBelow, IsSearchSpace, IsLowerBound}
-use Rattle.families.proofs.Lists as lists
-use Rattle.families.proofs.Plans.{parents_fall, follows_lead, settled_plan_cost}
-use Rattle.families.proofs.Runs.{good}
+use Rattle.owner_theory.specs.Owners.{At, Node, Parent, rank_less}
+use Rattle.owner_theory.specs.Families.{Family, Follows, IsBelow, IsSearchSpace, IsLowerBound}
+use Rattle.owner_theory.proofs.Lists as lists
+use Rattle.owner_theory.proofs.Plans.{parents_fall, follows_lead, settled_plan_cost}
+use Rattle.owner_theory.proofs.Runs.{good}
 use Rattle.owner.specs.Owned.{OwnerOf}
-use Rattle.joined.specs.Ends.{EndOf, IsEndOf, IsSettledAt, IsGoalNodeAt, IsBestGoal, space_at}
-use Rattle.joined.proofs.Places.{at_below, at_some, at_get}
-use Rattle.joined.proofs.Families.{to_family, best_cost}
+use Rattle.extract.specs.Ends.{EndOf, IsEndOf, IsSettledAt, IsGoalNodeAt, IsBestGoal, space_at}
+use Rattle.extract.proofs.Places.{at_below, at_some, at_get}
+use Rattle.extract.proofs.Families.{to_family, best_cost}
 use Rattle.extract.proofs.Truncated.{told_test, told_some, told_at_most, told_equal}
 
 -- the node stands at that place of that owner

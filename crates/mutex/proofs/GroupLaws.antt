@@ -4,12 +4,12 @@ use Rattle.std.specs.Prelude.{All, Contains}
 use Rattle.std.specs.List.{list_all, list_any}
 use Rattle.std.proofs.lemmas.Bool.{and_parts, or_cases, or_left, cases_Bool, both_ways, true≢false, not-true}
 use Rattle.std.proofs.lemmas.List.Elements.{All-head, All-tail}
-use Rattle.planning.specs.Atoms.{Atom, State, same_atom, contains, at_most_one, wants}
-use Rattle.planning.specs.Planning.{PlanningTask, Action}
-use Rattle.planning.specs.Plans.{is_applicable, next_state, state_after}
-use Rattle.planning.proofs.Lists.{Mem, mem_from_contains, if_at, all_at, any_at, any_from, none_at}
-use Rattle.planning.proofs.AtomLaws.{same_atom_true, one_of, one_less, wanted_holds}
-use Rattle.closed_sets.proofs.Runs.{next_was}
+use Rattle.pddl_task.specs.Atoms.{Atom, State, same_atom, contains, at_most_one, wants}
+use Rattle.pddl_task.specs.Planning.{PlanningTask, Action}
+use Rattle.pddl_task.specs.Plans.{is_applicable, next_state, state_after}
+use Rattle.pddl_task.proofs.Lists.{Mem, mem_from_contains, if_at, all_at, any_at, any_from, none_at}
+use Rattle.pddl_task.proofs.AtomLaws.{same_atom_true, one_of, one_less, wanted_holds}
+use Rattle.ground_theory.proofs.Runs.{next_was}
 use Rattle.mutex.specs.Groups.{removes, is_excluded, is_constant, takes_over, starts_inside, is_group, is_usable, is_full}
 
 kept : (x d s : Bool) → s ≡ true → (d && not x) ≡ false → (x || (s && not d)) ≡ true

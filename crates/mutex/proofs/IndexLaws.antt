@@ -7,11 +7,11 @@ use Rattle.std.proofs.lemmas.Bool.{and_parts, and_from, eqb-true, eq-eqb, falseâ
 use Rattle.std.proofs.lemmas.List.Quantifiers.{position-Some}
 use Rattle.std.proofs.lemmas.List.Sums.{position_or_len_is, sum_by-cons}
 use Rattle.std.proofs.lemmas.Option.{slice_get_within, get_or_from_slice_get}
-use Rattle.planning.specs.Atoms.{Atom, Literal, same_atom, contains, wants, excludes}
-use Rattle.planning.specs.Planning.{Action}
-use Rattle.planning.proofs.Lists.{Mem, bool_same, get_of_mem}
-use Rattle.planning.proofs.AtomLaws.{same_atom_true, same_atom_self}
-use Rattle.atoms.specs.Order.{AreDistinct}
+use Rattle.pddl_task.specs.Atoms.{Atom, Literal, same_atom, contains, wants, excludes}
+use Rattle.pddl_task.specs.Planning.{Action}
+use Rattle.pddl_task.proofs.Lists.{Mem, bool_same, get_of_mem}
+use Rattle.pddl_task.proofs.AtomLaws.{same_atom_true, same_atom_self}
+use Rattle.ground_atoms.specs.Order.{AreDistinct}
 use Rattle.mutex.specs.Groups.{removes}
 use Rattle.mutex.specs.Places.{has, places_of, literal_places, removed_places}
 

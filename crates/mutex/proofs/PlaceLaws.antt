@@ -11,7 +11,7 @@ use Rattle.std.proofs.lemmas.List.Sorted.{searched}
 use Rattle.std.proofs.lemmas.List.Kept.{AllPairs-from_increasing}
 use Rattle.std.proofs.lemmas.List.Elements.{filter_map-append}
 use Rattle.std.proofs.Math.Seq.{take-suc}
-use Rattle.planning.proofs.Lists.{Mem, mem_from_contains, contains_from_mem, any_at, any_from}
+use Rattle.pddl_task.proofs.Lists.{Mem, mem_from_contains, contains_from_mem, any_at, any_from}
 use Rattle.mutex.specs.Places.{has}
 
 pub has_mem : (numbers : List ℕ) (k : ℕ) → has numbers k ≡ true → Mem k numbers

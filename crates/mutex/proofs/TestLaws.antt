@@ -7,10 +7,10 @@ use Rattle.std.proofs.lemmas.Bool.{and_parts, and_from, or_cases, or_left, or_ri
 use Rattle.std.proofs.lemmas.List.Kept.{AllPairs-from_increasing}
 use Rattle.std.proofs.Math.Dec.{eqb-suc-zero}
 use Rattle.std.proofs.lemmas.Option.{slice_get_within}
-use Rattle.planning.specs.Atoms.{Atom, State, same_atom, contains, at_most_one, wants, excludes}
-use Rattle.planning.specs.Planning.{PlanningTask, Action}
-use Rattle.planning.proofs.Lists.{Mem, bool_same, if_at, if_from, mem_get, get_of_mem, all_at, all_from, any_at, any_from}
-use Rattle.planning.proofs.AtomLaws.{same_atom_true, same_atom_self, one_of, one_from}
+use Rattle.pddl_task.specs.Atoms.{Atom, State, same_atom, contains, at_most_one, wants, excludes}
+use Rattle.pddl_task.specs.Planning.{PlanningTask, Action}
+use Rattle.pddl_task.proofs.Lists.{Mem, bool_same, if_at, if_from, mem_get, get_of_mem, all_at, all_from, any_at, any_from}
+use Rattle.pddl_task.proofs.AtomLaws.{same_atom_true, same_atom_self, one_of, one_from}
 use Rattle.mutex.specs.declared.tables.Tables.{Tables}
 use Rattle.mutex.specs.Groups.{removes, is_excluded, is_constant, takes_over, starts_inside, is_usable, is_full}
 use Rattle.mutex.specs.Places.{atoms_at, has, places_of, literal_places, removed_places, adds_alone, gives_way, meets}

@@ -1,8 +1,8 @@
 -- Mutex groups: lists of atoms of which at most one is true at a time (Helmert 2009, invariants with one or no parameter).
 use Rattle.std.specs.Prelude.{Bool, true, ◌&&◌, ◌||◌, not, if◌then◌else◌, List}
 use Rattle.std.specs.List.{list_all, list_any}
-use Rattle.planning.specs.Atoms.{Atom, State, same_atom, contains, at_most_one, wants, excludes}
-use Rattle.planning.specs.Planning.{PlanningTask, Action}
+use Rattle.pddl_task.specs.Atoms.{Atom, State, same_atom, contains, at_most_one, wants, excludes}
+use Rattle.pddl_task.specs.Planning.{PlanningTask, Action}
 
 -- the action deletes the atom and does not add it
 abbrev pub removes : Action → State

@@ -1,8 +1,8 @@
 -- Atoms by their places in a list, and the effects of actions by places.
 use Rattle.std.specs.Prelude.{ℕ, Bool, ◌&&◌, ◌||◌, ◌==◌, not, if◌then◌else◌, List, None, slice_get, position}
 use Rattle.std.specs.List.{list_all, list_any, filter_map}
-use Rattle.planning.specs.Atoms.{Atom, Literal, same_atom, contains}
-use Rattle.planning.specs.Planning.{PlanningTask, Action}
+use Rattle.pddl_task.specs.Atoms.{Atom, Literal, same_atom, contains}
+use Rattle.pddl_task.specs.Planning.{PlanningTask, Action}
 
 -- a task, atoms, and actions
 pub record Indexed : Type 0 where

@@ -1,9 +1,9 @@
 -- The meaning of the tables of an index: rows of places by action, rows of actions by place, and flags by place.
 use Rattle.std.specs.Prelude.{ℕ, ◌≡◌, ◌<◌, Bool, true, false, ◌&&◌, ◌||◌, ◌==◌, not, nat_le, count_by, List, [], length, map, slice_index_or}
 use Rattle.std.specs.List.{list_all, list_any}
-use Rattle.planning.specs.Atoms.{Atom}
-use Rattle.planning.specs.Planning.{PlanningTask, Action}
-use Rattle.atoms.specs.Order.{AreDistinct}
+use Rattle.pddl_task.specs.Atoms.{Atom}
+use Rattle.pddl_task.specs.Planning.{PlanningTask, Action}
+use Rattle.ground_atoms.specs.Order.{AreDistinct}
 use Rattle.mutex.specs.declared.tables.Tables.{Tables}
 use Rattle.mutex.specs.Places.{has, places_of, literal_places, removed_places, adds_alone, gives_way, meets}
 

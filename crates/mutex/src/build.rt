@@ -7,8 +7,8 @@ ghost use Rattle.mutex.specs.Tables.{IsTranspose};
 
 use crate::row::Row;
 use crate::rows::Rows;
-use atoms::Atoms;
-use planning::{GroundAction, Task};
+use ground_atoms::Atoms;
+use pddl_task::{GroundAction, Task};
 use std::alloc::{AllocError, Global};
 
 /// For each action the places of the atoms of its positive preconditions.

@@ -6,8 +6,8 @@ ghost use Rattle.mutex.specs.Groups.{is_usable, is_full, is_constant, is_exclude
 ghost use Rattle.mutex.specs.Places.{atoms_at};
 
 use crate::tables::Tables;
-use atoms::Atoms;
-use planning::{GroundAction, Task};
+use ground_atoms::Atoms;
+use pddl_task::{GroundAction, Task};
 use std::alloc::{AllocError, Global};
 use std::marker::Model;
 

@@ -2,9 +2,9 @@
 
 ghost use Rattle.std.specs.Prelude.{◌≡◌, true, List, Some, All, Contains};
 ghost use Rattle.std.specs.List.{list_any};
-ghost use Rattle.planning.specs.Atoms.{Atom, State, contains, at_most_one};
-ghost use Rattle.planning.specs.Planning.{PlanningTask, Action};
-ghost use Rattle.planning.specs.Plans.{state_after};
+ghost use Rattle.pddl_task.specs.Atoms.{Atom, State, contains, at_most_one};
+ghost use Rattle.pddl_task.specs.Planning.{PlanningTask, Action};
+ghost use Rattle.pddl_task.specs.Plans.{state_after};
 ghost use Rattle.mutex.specs.Groups.{is_usable, is_full, is_constant};
 
 /// In every state that a sequence of the actions reaches from the initial state, at most one atom of a usable group is

@@ -2,11 +2,11 @@
 
 ghost use Rattle.std.specs.Prelude.{◌≡◌, ◌++◌, [], ◌∷◌, position, not, if◌then◌else◌, IfOk, OnOk};
 ghost use Rattle.std.specs.List.{cons_option};
-ghost use Rattle.planning.specs.Atoms.{same_atom, contains};
+ghost use Rattle.pddl_task.specs.Atoms.{same_atom, contains};
 ghost use Rattle.mutex.specs.Places.{places_of, literal_places, removed_places};
 
-use atoms::Atoms;
-use planning::{GroundAtom, GroundLiteral};
+use ground_atoms::Atoms;
+use pddl_task::{GroundAtom, GroundLiteral};
 use smallvec::SmallVec;
 use std::alloc::{AllocError, Global};
 use std::marker::Model;

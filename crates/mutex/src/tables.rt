@@ -9,8 +9,8 @@ use crate::build::{
     added_rows, excluded_flags, initial_flags, removed_rows, transpose, wanted_rows,
 };
 use crate::rows::Rows;
-use atoms::Atoms;
-use planning::{GroundAction, Task};
+use ground_atoms::Atoms;
+use pddl_task::{GroundAction, Task};
 use std::alloc::{AllocError, Global};
 
 /// For each action the places of the atoms of its positive preconditions, of those that it adds and of those that it

@@ -8,9 +8,9 @@ use Rattle.std.proofs.lemmas.List.{length-set}
 use Rattle.std.proofs.lemmas.Bool.{true≢false, and_from, and_parts, and_left, and_right, not-false, eqb-false, eq-eqb, ne_eqb, cond_both, le-ltb, lt-ltb, le-leb, lt-leb, cases_order}
 use Rattle.cost.specs.Distances.{Distance, Finite, Infinite, is_at_most, is_below, distance_cmp, lesser, ◌≤ᵈ◌}
 use Rattle.cost.proofs.DistanceLaws.{at_most_infinite, at_most_itself, at_most_both, is_at_most-true, is_at_most-from, is_below-true, is_below-false, below_is_at_most, lesser_left, lesser_right}
-use Rattle.families.specs.Owners.{At, Owner, Look as Looking, Offer as Offering, happens, put}
-use Rattle.families.specs.Worlds.{World, Offers, Looks, Rests, idle}
-use Rattle.families.proofs.Lists.{put_cases, at_once}
+use Rattle.owner_theory.specs.Owners.{At, Owner, Look as Looking, Offer as Offering, happens, put}
+use Rattle.owner_theory.specs.Worlds.{World, Offers, Looks, Rests, idle}
+use Rattle.owner_theory.proofs.Lists.{put_cases, at_once}
 use Rattle.owner.specs.Owned.{OwnerOf, under}
 use Rattle.netcore.specs.declared.step.WorldStep.TheVariants.{Offer, Look, Rest}
 use Rattle.netcore.specs.Worlds.{WorldOf, space_in, Shows, Steps}

@@ -9,8 +9,8 @@ use Rattle.std.proofs.lemmas.Bool.{cases_lt, le-leb, lt-leb, le-ltb, lt-ltb}
 use Rattle.std.proofs.lemmas.Bool.Decides.{nat_tests}
 use Rattle.std.proofs.lemmas.List.Sums.{sum_by-cons}
 use Rattle.cost.specs.Distances.{Distance, Finite, Infinite, is_at_most, is_below, distance_cmp, lesser}
-use Rattle.families.specs.Owners.{At, SearchSpace, Node, Message, list_at, f_value}
-use Rattle.families.specs.Worlds.{no_open, idle, is_empty}
+use Rattle.owner_theory.specs.Owners.{At, SearchSpace, Node, Message, list_at, f_value}
+use Rattle.owner_theory.specs.Worlds.{no_open, idle, is_empty}
 use Rattle.owner.specs.Outboxes.{count_in_use}
 use Rattle.owner.specs.Owned.{OwnerOf, under, space_of, least_open}
 use Rattle.netcore.specs.declared.step.WorldStep.TheVariants.{Expand, Send, Rest}

@@ -5,7 +5,7 @@ use Rattle.std.specs.List.{range_with_len}
 use Rattle.std.proofs.lemmas.Bool.{cond-true, cond-false}
 use Rattle.std.proofs.lemmas.Option.{slice_get-get_or}
 use Rattle.std.proofs.lemmas.List.FromFn.{length-map-range_with_len, get_or-map-range_with_len}
-use Rattle.families.specs.Owners.{Packet}
+use Rattle.owner_theory.specs.Owners.{Packet}
 use Rattle.netcore.specs.declared.step.WorldStep.{WorldStep}
 use Rattle.netcore.specs.declared.step.WorldStep.TheVariants.{Deliver}
 use Rattle.netcore.specs.Possible.{below, deliveries}

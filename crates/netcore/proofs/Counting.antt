@@ -5,9 +5,9 @@ use Rattle.std.specs.List.Sorted.{IsPermutation}
 use Rattle.std.proofs.lemmas.List.Sorted.{sum_by-IsPermutation}
 use Rattle.std.proofs.lemmas.List.Sums.{sum_by-cons}
 use Rattle.cost.specs.Distances.{Distance}
-use Rattle.families.specs.Owners as machine
-use Rattle.families.specs.Owners.{At, list_at, Message, Packet}
-use Rattle.families.specs.Worlds.{World, waiting, busy, count}
+use Rattle.owner_theory.specs.Owners as machine
+use Rattle.owner_theory.specs.Owners.{At, list_at, Message, Packet}
+use Rattle.owner_theory.specs.Worlds.{World, waiting, busy, count}
 use Rattle.owner.specs.Owned.{OwnerOf}
 use Rattle.netcore.specs.Worlds.{WorldOf, space_in, left_in, Shows}
 use Rattle.netcore.specs.Kept.{IsWorld}

@@ -9,10 +9,10 @@ use Rattle.std.proofs.lemmas.Bool.{true≢false, and_from, eq-eqb, eqb-false, lt
 use Rattle.cost.specs.Distances.{Distance}
 use Rattle.fdr.specs.Tasks.{ranges}
 use Rattle.checker_clauses.specs.Clauses.{is_state}
-use Rattle.families.specs.Owners.{At, SearchSpace, Message, Packet, Log, Owner, Take, fits, took, happens, put}
-use Rattle.families.specs.Worlds.{World, Delivers, nth_to, without_nth_to, delivered}
-use Rattle.families.proofs.Lists.{put_cases, get_below}
-use Rattle.families.proofs.States.{is_state-from}
+use Rattle.owner_theory.specs.Owners.{At, SearchSpace, Message, Packet, Log, Owner, Take, fits, took, happens, put}
+use Rattle.owner_theory.specs.Worlds.{World, Delivers, nth_to, without_nth_to, delivered}
+use Rattle.owner_theory.proofs.Lists.{put_cases, get_below}
+use Rattle.owner_theory.proofs.States.{is_state-from}
 use Rattle.owner.specs.Owned.{OwnerOf, under, space_of, IsMessageTo}
 use Rattle.netcore.specs.declared.step.WorldStep.TheVariants.{Deliver}
 use Rattle.netcore.specs.Worlds.{WorldOf, space_in, packets_to, Shows, Steps}

@@ -11,21 +11,21 @@ use Rattle.std.proofs.lemmas.Bool.{cond-true, cond-false, eqb-true, eqb-false, n
 use Rattle.std.specs.declared.collections.VecDeque.{VecDeque}
 use Rattle.std.specs.Global.{Global}
 use Rattle.fdr.specs.Tasks.{ranges, IsState}
-use Rattle.families.specs.Owners as machine
-use Rattle.families.specs.Owners.{At, SearchSpace, Packet}
-use Rattle.families.specs.Families.{IsSearchSpace, Family}
-use Rattle.families.specs.Worlds.{World, family_of}
-use Rattle.families.proofs.Worlds.{run_ok, lawful}
+use Rattle.owner_theory.specs.Owners as machine
+use Rattle.owner_theory.specs.Owners.{At, SearchSpace, Packet}
+use Rattle.owner_theory.specs.Families.{IsSearchSpace, Family}
+use Rattle.owner_theory.specs.Worlds.{World, family_of}
+use Rattle.owner_theory.proofs.Worlds.{run_ok, lawful}
 use Rattle.owner.specs.Owned.{OwnerOf, IsMessageTo, most_total}
-use Rattle.joined.specs.Views.{packets_in, all_packets}
-use Rattle.joined.specs.Ends.{EndOf, IsForm, IsEndOf}
+use Rattle.extract.specs.Views.{packets_in, all_packets}
+use Rattle.extract.specs.Ends.{EndOf, IsForm, IsEndOf}
 use Rattle.netcore.specs.declared.step.WorldStep.{WorldStep}
 use Rattle.netcore.specs.Worlds.{WorldOf, space_in, packets_to, left_in, Shows, IsAfter, world_after_run}
 use Rattle.netcore.specs.Kept.{IsWorld}
 use Rattle.netcore.proofs.Places.{at_some, at_below}
 
 -- ---- lists of lists
-pub joined_same : (queues : List (VecDeque (Rattle.joined.specs.declared.packet.Packet.Packet) Global)) → flat_map (λ ps. ps) (map packets_in queues) ≡ all_packets queues
+pub joined_same : (queues : List (VecDeque (Rattle.extract.specs.declared.packet.Packet.Packet) Global)) → flat_map (λ ps. ps) (map packets_in queues) ≡ all_packets queues
 joined_same [] = refl
 joined_same (q ∷ queues) = ap (λ ps. packets_in q ++ ps) (joined_same queues)
 

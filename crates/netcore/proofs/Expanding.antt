@@ -8,9 +8,9 @@ use Rattle.std.proofs.lemmas.List.{length-set}
 use Rattle.std.proofs.lemmas.Bool.{true≢false, cases_Bool, and_parts, and_from, and_left, and_right, or_cases, or_left, or_right, or_from, not-true, not_from_false}
 use Rattle.cost.specs.Distances.{Distance, Infinite, is_at_most}
 use Rattle.cost.proofs.DistanceLaws.{at_most_through, at_most_infinite, is_at_most-true, is_at_most-from, is_at_most-false, below_is_at_most}
-use Rattle.families.specs.Owners.{At, SearchSpace, Node, Owner, Log, Expand as Expanding, f_value, may_expand, expanded_at, happens}
-use Rattle.families.specs.Worlds.{World, Expands, no_open, MayExpandAt}
-use Rattle.families.proofs.Lists.{at_once}
+use Rattle.owner_theory.specs.Owners.{At, SearchSpace, Node, Owner, Log, Expand as Expanding, f_value, may_expand, expanded_at, happens}
+use Rattle.owner_theory.specs.Worlds.{World, Expands, no_open, MayExpandAt}
+use Rattle.owner_theory.proofs.Lists.{at_once}
 use Rattle.owner.specs.Spaces.{searched}
 use Rattle.owner.specs.Owned as owned
 use Rattle.owner.specs.Owned.{OwnerOf, under, space_of, IsNext, is_open, goes_before, IsExpansion, IsRefusal}

@@ -4,8 +4,8 @@ use Rattle.std.specs.Prelude.{slice_get}
 use Rattle.std.specs.List.{remove}
 use Rattle.std.proofs.lemmas.Bool.{cond-true, cond-false, eqb-true, eq-eqb, ne_eqb}
 use Rattle.std.proofs.lemmas.List.Elements.{filter-append}
-use Rattle.families.specs.Owners.{SearchSpace, Packet}
-use Rattle.families.specs.Worlds.{nth_to, without_nth_to}
+use Rattle.owner_theory.specs.Owners.{SearchSpace, Packet}
+use Rattle.owner_theory.specs.Worlds.{nth_to, without_nth_to}
 use Rattle.netcore.specs.Worlds.{packets_to}
 
 by_test : (b : Bool) (P : Bool → Type 0) → P true → P false → P b

@@ -6,8 +6,8 @@ use Rattle.std.specs.Option.{option_map_or}
 use Rattle.std.proofs.lemmas.Bool.{true≢false, and_from}
 use Rattle.std.proofs.lemmas.List.Sums.{sum_by-cons}
 use Rattle.cost.specs.Distances.{Distance}
-use Rattle.families.specs.Owners.{At, list_at, Message}
-use Rattle.families.specs.Worlds.{waiting, no_open, idle, is_empty}
+use Rattle.owner_theory.specs.Owners.{At, list_at, Message}
+use Rattle.owner_theory.specs.Worlds.{waiting, no_open, idle, is_empty}
 use Rattle.owner.specs.Owned.{OwnerOf, under}
 use Rattle.netcore.specs.declared.step.WorldStep.TheVariants.{Expand, Send, Offer, Look, Rest}
 use Rattle.netcore.specs.Worlds.{WorldOf, space_in, left_in}

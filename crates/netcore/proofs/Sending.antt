@@ -5,9 +5,9 @@ use Rattle.std.proofs.lemmas.List.{length-set}
 use Rattle.std.proofs.lemmas.List.Elements.{All-append, All-cons, All-nil}
 use Rattle.std.proofs.lemmas.Bool.{true≢false}
 use Rattle.cost.specs.Distances.{Distance}
-use Rattle.families.specs.Owners as machine
-use Rattle.families.specs.Owners.{At, SearchSpace, Message, Packet, Log, HandOut, list_at, handed_out, happens, put}
-use Rattle.families.specs.Worlds.{World, Sends, is_empty, sent}
+use Rattle.owner_theory.specs.Owners as machine
+use Rattle.owner_theory.specs.Owners.{At, SearchSpace, Message, Packet, Log, HandOut, list_at, handed_out, happens, put}
+use Rattle.owner_theory.specs.Worlds.{World, Sends, is_empty, sent}
 use Rattle.owner.specs.Owned.{OwnerOf, under, space_of, IsMessageTo}
 use Rattle.netcore.specs.declared.step.WorldStep.TheVariants.{Send}
 use Rattle.netcore.specs.Worlds.{WorldOf, space_in, packets_to, Shows, Steps}

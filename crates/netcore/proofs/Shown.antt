@@ -4,9 +4,9 @@ use Rattle.std.proofs.Math.Logic.{∥∥₁_elim}
 use Rattle.std.proofs.lemmas.Bool.{eqb-false}
 use Rattle.std.proofs.lemmas.List.{map-append}
 use Rattle.cost.specs.Distances.{Distance}
-use Rattle.families.specs.Owners.{At, put, SearchSpace, Packet, Log}
-use Rattle.families.specs.Worlds.{World, Step, Request, Does, IsRunOf, world_after, world_start, world_run}
-use Rattle.families.proofs.Lists.{put_cases}
+use Rattle.owner_theory.specs.Owners.{At, put, SearchSpace, Packet, Log}
+use Rattle.owner_theory.specs.Worlds.{World, Step, Request, Does, IsRunOf, world_after, world_start, world_run}
+use Rattle.owner_theory.proofs.Lists.{put_cases}
 use Rattle.owner.specs.Spaces.{searched}
 use Rattle.owner.specs.Owned.{OwnerOf, under, IsMessageTo}
 use Rattle.netcore.specs.declared.step.WorldStep.{WorldStep}

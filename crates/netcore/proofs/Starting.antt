@@ -4,8 +4,8 @@ use Rattle.std.proofs.lemmas.List.{length-replicate}
 use Rattle.std.proofs.lemmas.List.Elements.{All-nil}
 use Rattle.std.proofs.lemmas.Bool.{ne_eqb}
 use Rattle.cost.specs.Distances.{Infinite}
-use Rattle.families.specs.Owners.{At, list_at, SearchSpace, Packet, Owner, start_owner}
-use Rattle.families.specs.Worlds.{world_start}
+use Rattle.owner_theory.specs.Owners.{At, list_at, SearchSpace, Packet, Owner, start_owner}
+use Rattle.owner_theory.specs.Worlds.{world_start}
 use Rattle.owner.specs.Spaces.{SpaceOf, searched}
 use Rattle.owner.specs.Owned.{OwnerOf, under, IsMessageTo}
 use Rattle.netcore.specs.Worlds.{WorldOf, space_in, IsVoid, Shows, IsAfter}

@@ -1,7 +1,7 @@
 -- The invariant of worlds as they are stored, and the result of a step.
 use Rattle.std.specs.Prelude.{◌≡◌, ℕ, ◌<◌, Bool, false, List, length, All}
-use Rattle.families.specs.Owners.{At, Packet}
-use Rattle.families.specs.Worlds as machine
+use Rattle.owner_theory.specs.Owners.{At, Packet}
+use Rattle.owner_theory.specs.Worlds as machine
 use Rattle.owner.specs.Owned.{OwnerOf, IsMessageTo}
 use Rattle.owner.specs.declared.fault.OwnerFault.{OwnerFault}
 use Rattle.netcore.specs.declared.step.WorldStep.{WorldStep}

@@ -3,8 +3,8 @@ use Rattle.std.specs.Prelude.{ℕ, suc, Bool, false, not, ◌&&◌, nat_lt, List
 use Rattle.std.specs.List.{range_with_len}
 use Rattle.std.specs.Option.{option_map_or}
 use Rattle.cost.specs.Distances.{Distance, is_at_most, is_below}
-use Rattle.families.specs.Owners.{Packet, list_at}
-use Rattle.families.specs.Worlds.{no_open, idle, is_empty}
+use Rattle.owner_theory.specs.Owners.{Packet, list_at}
+use Rattle.owner_theory.specs.Worlds.{no_open, idle, is_empty}
 use Rattle.owner.specs.Owned.{OwnerOf, under}
 use Rattle.netcore.specs.declared.step.WorldStep.{WorldStep}
 use Rattle.netcore.specs.declared.step.WorldStep.TheVariants.{Expand, Send, Deliver, Offer, Look, Rest}

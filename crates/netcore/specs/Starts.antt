@@ -1,7 +1,7 @@
 -- Owners at the start of a world.
 use Rattle.std.specs.Prelude.{◌≡◌, ℕ, ◌==◌, List}
 use Rattle.cost.specs.Distances.{Infinite}
-use Rattle.families.specs.Owners.{start_owner}
+use Rattle.owner_theory.specs.Owners.{start_owner}
 use Rattle.owner.specs.Spaces.{SpaceOf, searched}
 use Rattle.owner.specs.Owned.{OwnerOf, under}
 

@@ -2,10 +2,10 @@
 -- A*: Kishimoto, Fukunaga and Botea 2013).
 use Rattle.std.specs.Prelude.{◌≡◌, ℕ, ◌≤◌, ◌==◌, Bool, List, [], length, map, filter, flat_map, ◌∷◌, ◌++◌}
 use Rattle.cost.specs.Distances.{Distance, Infinite}
-use Rattle.families.specs.Owners as owners
-use Rattle.families.specs.Owners.{At, list_at, SearchSpace, Packet}
-use Rattle.families.specs.Worlds as machine
-use Rattle.families.specs.Worlds.{Request, ToExpand, ToSend, ToDeliver, ToOffer, ToLook, ToRest, Step, Does, IsRunOf, world_start, world_run, world_after}
+use Rattle.owner_theory.specs.Owners as owners
+use Rattle.owner_theory.specs.Owners.{At, list_at, SearchSpace, Packet}
+use Rattle.owner_theory.specs.Worlds as machine
+use Rattle.owner_theory.specs.Worlds.{Request, ToExpand, ToSend, ToDeliver, ToOffer, ToLook, ToRest, Step, Does, IsRunOf, world_start, world_run, world_after}
 use Rattle.owner.specs.Spaces.{SpaceOf, searched}
 use Rattle.owner.specs.Owned.{OwnerOf, under, IsRefusal}
 use Rattle.owner.specs.declared.fault.OwnerFault.{OwnerFault}

@@ -1,12 +1,12 @@
 //! The number of messages and of active owners in a world.
 
 ghost use Rattle.std.specs.Prelude.{◌≡◌, ◌-◌, ◌^◌, length, min, not, sum_by, count_by};
-ghost use Rattle.families.specs.Worlds.{waiting};
-ghost use Rattle.joined.specs.Views.{all_packets};
+ghost use Rattle.owner_theory.specs.Worlds.{waiting};
+ghost use Rattle.extract.specs.Views.{all_packets};
 
-use joined::Packet;
+use extract::Packet;
 use owner::Owner;
-use spread::Spread;
+use packed_spread::Spread;
 use std::collections::VecDeque;
 
 /// The number of messages in the owners' outboxes, or 2^128 - 1 if it is greater.

@@ -7,6 +7,6 @@ mod possible;
 mod step;
 mod world;
 
-pub use joined::{Joined, Packet, SearchAnswer};
+pub use extract::{Joined, Packet, SearchAnswer};
 pub use step::WorldStep;
 pub use world::World;

@@ -1,15 +1,15 @@
 //! The steps that would change something.
 
 ghost use Rattle.std.specs.Prelude.{◌≡◌, ◌<◌, ◌-◌, ◌^◌, ◌++◌, min, length, map, slice_get, flat_map};
-ghost use Rattle.joined.specs.Views.{packets_in};
+ghost use Rattle.extract.specs.Views.{packets_in};
 ghost use Rattle.netcore.specs.Possible.{would_change, own_step, by_owner, sends_of, deliveries, possible_steps, below};
 ghost use Rattle.netcore.specs.declared.step.WorldStep.TheVariants.{Expand, Send, Deliver, Offer, Look, Rest};
 
 use crate::counts::underway_count;
 use crate::step::WorldStep;
 use crate::world::World;
-use joined::Packet;
-use spread::Spread;
+use extract::Packet;
+use packed_spread::Spread;
 use std::collections::VecDeque;
 
 /// A kind of step that an owner does alone, without a message.

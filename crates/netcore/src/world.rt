@@ -2,9 +2,9 @@
 
 ghost use Rattle.std.specs.Prelude.{◌≡◌, ◌≢◌, ℕ, ◌<◌, ◌+◌, ◌-◌, ◌^◌, min, not, sum_by, count_by, List, [], Option, false, map, length, slice_get, replicate, IfOk, IfErr, MatchResult};
 ghost use Rattle.fdr.specs.Tasks.{ranges, IsState};
-ghost use Rattle.families.specs.Worlds as machine;
+ghost use Rattle.owner_theory.specs.Worlds as machine;
 ghost use Rattle.cost.specs.Distances.{Distance};
-ghost use Rattle.families.specs.Worlds.{world_start, family_of, waiting, IsQuiet};
+ghost use Rattle.owner_theory.specs.Worlds.{world_start, family_of, waiting, IsQuiet};
 ghost use Rattle.owner.specs.Spaces.{searched};
 ghost use Rattle.netcore.specs.declared.step.WorldStep.{WorldStep};
 ghost use Rattle.netcore.specs.Worlds.{space_in, left_in, world_after_run, Shows, Steps, IsAfter, IsStepRefusal, IsRunRefusal};
@@ -12,18 +12,18 @@ ghost use Rattle.netcore.specs.Possible.{would_change, possible_steps};
 ghost use Rattle.netcore.specs.Kept.{IsStepDone, IsStepRefused};
 ghost use Rattle.netcore.specs.Starts.{IsFirstOwner};
 ghost use Rattle.netcore.specs.declared.step.WorldStep.TheVariants.{Expand, Send, Deliver, Offer, Look, Rest};
-ghost use Rattle.joined.specs.Ends.{IsEndOf, IsSettledAnswer, answer_of};
-ghost use Rattle.joined.specs.Views.{packets_in};
-ghost use Rattle.families.specs.Owners.{At};
+ghost use Rattle.extract.specs.Ends.{IsEndOf, IsSettledAnswer, answer_of};
+ghost use Rattle.extract.specs.Views.{packets_in};
+ghost use Rattle.owner_theory.specs.Owners.{At};
 ghost use Rattle.owner.specs.Owned.{OwnerOf};
 ghost use Rattle.owner.specs.declared.fault.OwnerFault.TheVariants.{OutOfMemory};
 
 use crate::counts::{awake_count, underway_count, waiting_count};
 use crate::step::WorldStep;
 use cost::Dist;
-use joined::{Joined, Packet, SearchAnswer, settled_bound};
+use extract::{Joined, Packet, SearchAnswer, settled_bound};
 use owner::{Owner, OwnerFault, Space};
-use spread::Spread;
+use packed_spread::Spread;
 use std::alloc::{AllocError, Global};
 use std::collections::VecDeque;
 use std::marker::Model;
@@ -45,7 +45,7 @@ pub struct World<'a, S: Spread + Drop> {
 impl<'a, S: Spread + Drop> Model for World<'a, S> {
     ghost use Rattle.std.specs.Prelude.{map};
     ghost use Rattle.netcore.specs.Worlds.{WorldOf};
-    ghost use Rattle.joined.specs.Views.{packets_in};
+    ghost use Rattle.extract.specs.Views.{packets_in};
 
     ghost Value = { WorldOf S };
 

@@ -2,8 +2,8 @@
 //! certificate that the separate checker provably accepts, if the certificate's text has at most 2^30 bytes.
 #![tactic(auto)]
 
-use command::run;
-use device::ProcessDevice;
+use optplan_command::run;
+use optplan_device::ProcessDevice;
 use std::alloc::AllocError;
 use std::process::ExitCode;
 

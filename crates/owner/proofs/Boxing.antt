@@ -6,9 +6,9 @@ use Rattle.std.specs.declared.collections.VecDeque.{VecDeque}
 use Rattle.std.proofs.lemmas.Bool.{eq-eqb}
 use Rattle.std.proofs.lemmas.Bool.Decides.{nat_tests}
 use Rattle.std.proofs.lemmas.List.{map_push, map-append, map-set, length-map}
-use Rattle.families.specs.Owners as machine
-use Rattle.families.specs.Owners.{list_at}
-use Rattle.families.specs.Worlds.{waiting, is_empty}
+use Rattle.owner_theory.specs.Owners as machine
+use Rattle.owner_theory.specs.Owners.{list_at}
+use Rattle.owner_theory.specs.Worlds.{waiting, is_empty}
 use Rattle.closed.specs.declared.message.Message.{Message}
 use Rattle.closed.specs.Tables.{message_of}
 use Rattle.owner.specs.Outboxes.{boxes_of}

@@ -6,8 +6,8 @@ use Rattle.std.proofs.lemmas.Bool.{and_from}
 use Rattle.std.proofs.lemmas.Bool.Decides.{nat_tests}
 use Rattle.cost.specs.Distances.{Distance, Finite, Infinite, ◌+ᵈ◌, ◌≤ᵈ◌, is_at_most, lesser}
 use Rattle.cost.proofs.DistanceLaws.{at_most_itself, at_most_through, at_most_both, at_most_lesser, lesser_at_most_left, lesser_at_most_right, is_at_most-true, is_at_most-from}
-use Rattle.families.specs.Owners.{At, SearchSpace, Node, Owner, f_value, rank_less, may_expand}
-use Rattle.families.specs.Worlds.{no_open}
+use Rattle.owner_theory.specs.Owners.{At, SearchSpace, Node, Owner, f_value, rank_less, may_expand}
+use Rattle.owner_theory.specs.Worlds.{no_open}
 use Rattle.openlist.specs.declared.entry.OpenEntry.{OpenEntry}
 use Rattle.openlist.specs.OpenLists.{comes_first, entry_of}
 use Rattle.owner.specs.Queues.{IsLeast, HasNoneOpen}

@@ -2,7 +2,7 @@
 use Rattle.std.proofs.Common.{◌≡◌, ◌<◌, Bool, true, false, ◌&&◌, List, length, Some, sym, ap, ◌∙◌, nat_eq, true≢false}
 use Rattle.std.specs.Prelude.{slice_get}
 use Rattle.std.proofs.lemmas.Bool.{and_parts, and_from, eqb-true, eq-eqb}
-use Rattle.families.specs.Owners.{Node}
+use Rattle.owner_theory.specs.Owners.{Node}
 use Rattle.openlist.specs.declared.entry.OpenEntry.{OpenEntry}
 use Rattle.closed.specs.declared.table.Entry.{Entry}
 use Rattle.closed.specs.Tables.{node_with}

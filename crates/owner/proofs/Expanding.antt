@@ -7,12 +7,12 @@ use Rattle.std.proofs.lemmas.Bool.Decides.{nat_tests}
 use Rattle.std.proofs.lemmas.List.Elements.{All-nil, All-cons}
 use Rattle.cost.specs.Distances.{Distance, Finite, is_at_most}
 use Rattle.fdr.specs.Tasks.{FiniteDomainTask, ranges, IsState, applies_at, cost_of}
-use Rattle.successor_generator.specs.Applicable.{applicable_operators}
-use Rattle.families.specs.Owners.{At, Node, marked, treat_all, successor_by, successors}
-use Rattle.families.specs.Worlds.{waiting}
-use Rattle.families.proofs.Lists.{in_range}
-use Rattle.families.proofs.States.{step_there}
-use Rattle.families.proofs.Successors.{successors_by_applicable}
+use Rattle.fdr_successors.specs.Applicable.{applicable_operators}
+use Rattle.owner_theory.specs.Owners.{At, Node, marked, treat_all, successor_by, successors}
+use Rattle.owner_theory.specs.Worlds.{waiting}
+use Rattle.owner_theory.proofs.Lists.{in_range}
+use Rattle.owner_theory.proofs.States.{step_there}
+use Rattle.owner_theory.proofs.Successors.{successors_by_applicable}
 use Rattle.openlist.specs.declared.entry.Rank.{Rank}
 use Rattle.openlist.specs.declared.entry.OpenEntry.{OpenEntry}
 use Rattle.closed.specs.Tables.{fresh}

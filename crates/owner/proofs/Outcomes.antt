@@ -1,8 +1,8 @@
 -- What comes of reaching a state, and where nodes stand then.
 use Rattle.std.proofs.Common.{◌≡◌, ◌⊎◌, ℕ, zero, suc, ◌+◌, ◌<◌, Bool, true, false, List, [], ◌∷◌, ◌++◌, length, refl, ap, ◌∙◌, inl, inr, ⊎_elim, arith, cond}
 use Rattle.std.specs.Prelude.{slice_set, slice_get, Some}
-use Rattle.families.specs.Owners.{At, Message, Node, same_state, rank_less, node_of, improve}
-use Rattle.families.proofs.States.{same_state-true}
+use Rattle.owner_theory.specs.Owners.{At, Message, Node, same_state, rank_less, node_of, improve}
+use Rattle.owner_theory.proofs.States.{same_state-true}
 use Rattle.closed.specs.declared.table.Outcome.{Outcome}
 use Rattle.closed.specs.declared.table.Outcome.TheVariants.{New, Better, Kept}
 use Rattle.closed.specs.Tables.{reached, outcome_from, outcome_of}

@@ -8,11 +8,11 @@ use Rattle.std.proofs.lemmas.Bool.{eq-eqb, cases_lt}
 use Rattle.std.proofs.lemmas.List.Elements.{All-nil, All-cons, All-append, All-head, All-tail}
 use Rattle.cost.specs.Distances.{Distance, Finite, is_at_most, lesser}
 use Rattle.fdr.specs.Tasks.{ranges, IsState, is_goal_state}
-use Rattle.families.specs.Owners as machine
-use Rattle.families.specs.Owners.{At, list_at, SearchSpace, Node, Owner, f_value, node_of, improve, marked, took, treat, posted}
-use Rattle.families.specs.Worlds.{no_open, idle, is_empty}
-use Rattle.families.proofs.Lists.{set_cases}
-use Rattle.families.proofs.Nodes.{improve_at, mark_at}
+use Rattle.owner_theory.specs.Owners as machine
+use Rattle.owner_theory.specs.Owners.{At, list_at, SearchSpace, Node, Owner, f_value, node_of, improve, marked, took, treat, posted}
+use Rattle.owner_theory.specs.Worlds.{no_open, idle, is_empty}
+use Rattle.owner_theory.proofs.Lists.{set_cases}
+use Rattle.owner_theory.proofs.Nodes.{improve_at, mark_at}
 use Rattle.openlist.specs.declared.entry.Rank.{Rank}
 use Rattle.openlist.specs.declared.entry.OpenEntry.{OpenEntry}
 use Rattle.closed.specs.declared.message.Parent.{Parent}

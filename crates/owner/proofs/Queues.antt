@@ -7,9 +7,9 @@ use Rattle.std.proofs.lemmas.Bool.Decides.{nat_tests}
 use Rattle.std.proofs.lemmas.List.Elements.{All-contains}
 use Rattle.std.proofs.lemmas.List.Sorted.{Contains-permutation, IsPermutation-sym, length_permutation}
 use Rattle.cost.specs.Distances.{Distance, Finite, Infinite, ◌+ᵈ◌, distance_of}
-use Rattle.families.specs.Owners.{At, Node, rank_less, marked}
-use Rattle.families.proofs.Lists.{at_once, at_front}
-use Rattle.families.proofs.Nodes.{RankLe, mark_at, mark_there}
+use Rattle.owner_theory.specs.Owners.{At, Node, rank_less, marked}
+use Rattle.owner_theory.proofs.Lists.{at_once, at_front}
+use Rattle.owner_theory.proofs.Nodes.{RankLe, mark_at, mark_there}
 use Rattle.openlist.specs.declared.entry.Rank.{Rank}
 use Rattle.openlist.specs.declared.entry.OpenEntry.{OpenEntry}
 use Rattle.openlist.specs.OpenLists.{comes_first, IsFirst, entry_of}

@@ -5,7 +5,7 @@ use Rattle.std.specs.List.{cons_option}
 use Rattle.std.specs.Option.{option_map_or}
 use Rattle.fdr.specs.Tasks.{FiniteDomainTask, Operator, ranges, IsTask, IsState, applies, applies_at, successor, step}
 use Rattle.abstraction.specs.Steps.{step_keeps_state}
-use Rattle.families.specs.Owners.{SearchSpace, Message, Owner, treat, treat_all}
+use Rattle.owner_theory.specs.Owners.{SearchSpace, Message, Owner, treat, treat_all}
 use Rattle.owner.specs.Spaces.{searched}
 use Rattle.owner.specs.Owned.{OwnerOf, space_of}
 

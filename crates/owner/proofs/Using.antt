@@ -4,8 +4,8 @@ use Rattle.std.specs.Prelude.{slice_set, replicate}
 use Rattle.std.specs.List.{list_all}
 use Rattle.std.proofs.lemmas.Bool.{eq-eqb}
 use Rattle.std.proofs.lemmas.List.Sums.{sum_by-cons}
-use Rattle.families.specs.Owners.{Message, list_at}
-use Rattle.families.specs.Worlds.{is_empty}
+use Rattle.owner_theory.specs.Owners.{Message, list_at}
+use Rattle.owner_theory.specs.Worlds.{is_empty}
 use Rattle.owner.specs.Outboxes.{count_in_use}
 use Rattle.owner.proofs.Boxing.{box_set, not_zero}
 

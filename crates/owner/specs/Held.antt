@@ -1,7 +1,7 @@
 -- The invariant of owners.
 use Rattle.std.specs.Prelude.{ℕ, ◌+◌, ◌<◌, ◌≤◌, List, length, All, IfSome}
 use Rattle.fdr.specs.Tasks.{FiniteDomainTask, cost_of}
-use Rattle.families.specs.Owners.{At, Node, list_at}
+use Rattle.owner_theory.specs.Owners.{At, Node, list_at}
 use Rattle.openlist.specs.declared.entry.Rank.{Rank}
 use Rattle.owner.specs.Owned.{OwnerOf, space_of, most_total, IsKept, IsMessageTo}
 

@@ -1,8 +1,8 @@
 -- Outboxes as they are stored.
 use Rattle.std.specs.Prelude.{ℕ, List, map, not, count_by}
 use Rattle.std.specs.declared.collections.VecDeque.{VecDeque}
-use Rattle.families.specs.Owners as machine
-use Rattle.families.specs.Worlds.{is_empty}
+use Rattle.owner_theory.specs.Owners as machine
+use Rattle.owner_theory.specs.Worlds.{is_empty}
 use Rattle.closed.specs.declared.message.Message.{Message}
 use Rattle.closed.specs.Tables.{message_of}
 

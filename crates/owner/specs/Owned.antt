@@ -3,8 +3,8 @@
 use Rattle.std.specs.Prelude.{◌≡◌, ◌≢◌, ℕ, suc, ◌+◌, ◌<◌, ◌≤◌, ◌^◌, ◌⊎◌, Bool, true, false, ◌&&◌, ◌||◌, not, ◌==◌, nat_le, if◌then◌else◌, List, [], ◌∷◌, length, Option, Some, None, is_some}
 use Rattle.cost.specs.Distances.{Distance, Infinite, is_at_most, lesser}
 use Rattle.fdr.specs.Tasks.{FiniteDomainTask, ranges, IsState, applies_at, cost_of}
-use Rattle.families.specs.Owners.{At, SearchSpace, Message, Node, Owner, f_value, rank_less, expanded_at}
-use Rattle.families.specs.Worlds.{no_open, waiting}
+use Rattle.owner_theory.specs.Owners.{At, SearchSpace, Message, Node, Owner, f_value, rank_less, expanded_at}
+use Rattle.owner_theory.specs.Worlds.{no_open, waiting}
 use Rattle.owner.specs.declared.fault.OwnerFault.{OwnerFault}
 use Rattle.owner.specs.declared.fault.OwnerFault.TheVariants.{OutOfMemory, TotalTooLarge, LimitReached}
 use Rattle.owner.specs.Spaces.{SpaceOf, searched}

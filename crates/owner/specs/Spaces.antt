@@ -2,9 +2,9 @@
 -- on the number of states that each may expand.
 use Rattle.std.specs.Prelude.{ℕ, List, Option}
 use Rattle.fdr.specs.Tasks.{FiniteDomainTask}
-use Rattle.certificates.specs.Certificates.{Table}
+use Rattle.cert_value.specs.Certificates.{Table}
 use Rattle.checker_clauses.specs.Clauses.{heuristic_of}
-use Rattle.families.specs.Owners.{SearchSpace}
+use Rattle.owner_theory.specs.Owners.{SearchSpace}
 
 -- a space whose spread is of the type S
 pub record SpaceOf (S : Type 0) : Type 0 where

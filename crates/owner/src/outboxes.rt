@@ -3,8 +3,8 @@
 ghost use Rattle.std.specs.Prelude.{◌≡◌, ℕ, ◌<◌, ◌++◌, ◌∷◌, [], length, map, slice_set, replicate, IfOk, IfNone, OnOk, OnErr};
 ghost use Rattle.std.specs.List.{list_all};
 ghost use Rattle.std.specs.Option.{option_to_list};
-ghost use Rattle.families.specs.Owners.{list_at};
-ghost use Rattle.families.specs.Worlds.{is_empty, waiting};
+ghost use Rattle.owner_theory.specs.Owners.{list_at};
+ghost use Rattle.owner_theory.specs.Worlds.{is_empty, waiting};
 ghost use Rattle.closed.specs.Tables.{message_of};
 ghost use Rattle.owner.specs.Outboxes.{boxes_of, count_in_use};
 
@@ -25,8 +25,8 @@ pub(crate) struct Outboxes {
 
 impl Model for Outboxes {
     ghost use Rattle.std.specs.Prelude.{◌≡◌, List};
-    ghost use Rattle.families.specs.Owners as machine;
-    ghost use Rattle.families.specs.Worlds.{waiting};
+    ghost use Rattle.owner_theory.specs.Owners as machine;
+    ghost use Rattle.owner_theory.specs.Worlds.{waiting};
     ghost use Rattle.owner.specs.Outboxes.{boxes_of, count_in_use};
 
     ghost Value = { List (List machine.Message) };

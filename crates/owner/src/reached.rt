@@ -4,7 +4,7 @@ ghost use Rattle.std.specs.Prelude.{◌≡◌, ℕ, ◌<◌, ◌≤◌, ◌^◌,
 ghost use Rattle.std.specs.List.Sorted.{IsPermutation};
 ghost use Rattle.cost.specs.Distances.{Distance, Finite, ◌+ᵈ◌, distance_of};
 ghost use Rattle.fdr.specs.Tasks.{ranges, IsState};
-ghost use Rattle.families.specs.Owners.{At, Node, marked};
+ghost use Rattle.owner_theory.specs.Owners.{At, Node, marked};
 ghost use Rattle.openlist.specs.declared.entry.OpenEntry.{OpenEntry as EntryOf};
 ghost use Rattle.openlist.specs.Heaps.{HasRoomFor};
 ghost use Rattle.closed.specs.Tables.{reached, fresh, node_with};
@@ -13,7 +13,7 @@ ghost use Rattle.owner.specs.Queues.{added, h_of, IsCurrent, AreQueued, IsQueue,
 use crate::space::Space;
 use closed::{ClosedTable, Entry, Outcome, Parent};
 use openlist::{Heap, OpenEntry, OpenList, Rank};
-use spread::Spread;
+use packed_spread::Spread;
 use std::alloc::{AllocError, Global};
 use std::marker::Model;
 

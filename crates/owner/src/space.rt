@@ -5,17 +5,17 @@ ghost use Rattle.cost.specs.Distances.{◌+ᵈ◌, Finite};
 ghost use Rattle.checker_clauses.specs.Clauses.{heuristic_of};
 ghost use Rattle.fdr.specs.Tasks as tasks;
 ghost use Rattle.fdr.specs.Tasks.{IsState, IsTask};
-ghost use Rattle.families.specs.Families.{IsLowerBound};
-ghost use Rattle.successor_generator.specs.Applicable.{applicable_operators};
+ghost use Rattle.owner_theory.specs.Families.{IsLowerBound};
+ghost use Rattle.fdr_successors.specs.Applicable.{applicable_operators};
 
 use cost::Dist;
 use fdr::FdrTask;
+use fdr_successors::SuccessorGenerator;
 use packed::Layout;
+use packed_spread::Spread;
 use scp::Columns;
-use spread::Spread;
 use std::alloc::{AllocError, Global};
 use std::marker::Model;
-use successor_generator::SuccessorGenerator;
 
 /// What owners search: a task, the columns of its heuristic, the owner of each state, and how many nodes each owner may
 /// expand, if there is a limit. A contract sees the task, the tables, the spread and the limit.

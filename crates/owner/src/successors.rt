@@ -3,8 +3,8 @@
 ghost use Rattle.std.specs.Prelude.{◌≡◌, ◌+◌, ◌<◌, ◌≤◌, ◌||◌, nat_lt, length, true, if◌then◌else◌, ℕ, List, Some, None, filter_map, All, IfOk, OnOk};
 ghost use Rattle.std.specs.List.{list_any};
 ghost use Rattle.fdr.specs.Tasks.{ranges, IsState, applies_at, cost_of, step};
-ghost use Rattle.families.specs.Owners.{treat, treat_all, successor_by, message_to};
-ghost use Rattle.families.specs.Worlds.{waiting};
+ghost use Rattle.owner_theory.specs.Owners.{treat, treat_all, successor_by, message_to};
+ghost use Rattle.owner_theory.specs.Worlds.{waiting};
 ghost use Rattle.closed.specs.Tables.{fresh};
 ghost use Rattle.owner.specs.Owned.{space_of, under, most_total};
 ghost use Rattle.owner.specs.Held.{IsSmallStep};
@@ -14,7 +14,7 @@ use closed::Parent;
 use cost::Dist;
 use fdr::FdrTask;
 use openlist::{OpenEntry, Rank};
-use spread::Spread;
+use packed_spread::Spread;
 use std::alloc::{AllocError, Global};
 
 /// The greatest cost of a path, and the greatest number of operators on it: 2^62.

@@ -5,7 +5,7 @@ use Rattle.std.proofs.lemmas.List.{get_or_read}
 use Rattle.std.proofs.lemmas.List.Elements.{Contains-get_or}
 use Rattle.fdr.specs.Tasks.{FiniteDomainTask}
 use Rattle.abstraction.specs.Abstractions.{Abstraction, IsAbstractionOf}
-use Rattle.walks.specs.Entrances.{LeadsTo, IsEntering, AreEntering, AreSources}
+use Rattle.pdb_walks.specs.Entrances.{LeadsTo, IsEntering, AreEntering, AreSources}
 use Rattle.pdb.specs.declared.queue.Queue.{Queue}
 use Rattle.pdb.specs.Queues.{IsQueued, IsAbsent, HasTaken}
 use Rattle.pdb.specs.Searches.{IsSettledBy, IsSettled, IsSearch, IsSearchBut, HasFallen}

@@ -6,9 +6,9 @@ use Rattle.std.proofs.lemmas.Bool.{cases_Bool}
 use Rattle.cost.specs.Distances.{Distance, Finite, Infinite, ◌≤ᵈ◌, ◌+ᵈ◌}
 use Rattle.fdr.specs.Tasks.{FiniteDomainTask}
 use Rattle.abstraction.specs.Abstractions.{Abstraction, Table, IsAbstractionOf}
-use Rattle.walks.specs.Walks.{AreDistances, value_in, fall, IsGreatestFall}
-use Rattle.walks.specs.Entrances.{LeadsTo, AreEntering, AreSources}
-use Rattle.walks.proofs.Saturation.{distances_consistent}
+use Rattle.pdb_walks.specs.Walks.{AreDistances, value_in, fall, IsGreatestFall}
+use Rattle.pdb_walks.specs.Entrances.{LeadsTo, AreEntering, AreSources}
+use Rattle.pdb_walks.proofs.Saturation.{distances_consistent}
 use Rattle.pdb.specs.Saturations.{IsFallOf, IsCoveredAt}
 use Rattle.pdb.proofs.Lowering.{cases_set}
 use Rattle.pdb.proofs.Expansion.{element_at, source_leads, untouched_same}

@@ -8,8 +8,8 @@ use Rattle.std.proofs.lemmas.Bool.Decides.{nat_tests}
 use Rattle.std.proofs.lemmas.List.Sums.{sum_by-cons, sum_by-set, count_by-le-length}
 use Rattle.cost.specs.Distances.{Finite}
 use Rattle.abstraction.specs.Abstractions.{Abstraction}
-use Rattle.walks.specs.Walks.{IsTotalFrom}
-use Rattle.walks.specs.Entrances.{LeadsTo}
+use Rattle.pdb_walks.specs.Walks.{IsTotalFrom}
+use Rattle.pdb_walks.specs.Entrances.{LeadsTo}
 use Rattle.pdb.specs.declared.queue.Queue.{Queue}
 use Rattle.pdb.specs.declared.search.TheConstants.{UNREACHED}
 use Rattle.pdb.specs.Queues.{size_of, IsQueued, IsAbsent}

@@ -13,9 +13,9 @@ use Rattle.std.proofs.lemmas.Option.{slice_get-get_or}
 use Rattle.cost.specs.Distances.{Distance, Finite, Infinite, ◌≤ᵈ◌, ◌+ᵈ◌, IsWithin}
 use Rattle.fdr.specs.Tasks.{FiniteDomainTask}
 use Rattle.abstraction.specs.Abstractions.{Abstraction, IsAbstractionOf}
-use Rattle.certificates.specs.Kept.{kept_distance}
-use Rattle.walks.specs.Walks.{walk, IsWalkFrom, IsTotalFrom, AreDistances, value_in}
-use Rattle.walks.specs.Entrances.{LeadsTo}
+use Rattle.cert_value.specs.Kept.{kept_distance}
+use Rattle.pdb_walks.specs.Walks.{walk, IsWalkFrom, IsTotalFrom, AreDistances, value_in}
+use Rattle.pdb_walks.specs.Entrances.{LeadsTo}
 use Rattle.pdb.specs.declared.queue.Queue.{Queue}
 use Rattle.pdb.specs.declared.search.TheConstants.{UNREACHED}
 use Rattle.pdb.specs.Searches.{reached, IsSearch, IsSettled}

@@ -2,8 +2,8 @@
 use Rattle.std.specs.Prelude.{◌≡◌, ℕ, ◌<◌, ◌≤◌, ◌⊎◌, IsSomeAnd}
 use Rattle.cost.specs.Distances.{Distance}
 use Rattle.abstraction.specs.Abstractions.{Abstraction}
-use Rattle.walks.specs.Walks.{fall}
-use Rattle.walks.specs.Entrances.{LeadsTo}
+use Rattle.pdb_walks.specs.Walks.{fall}
+use Rattle.pdb_walks.specs.Entrances.{LeadsTo}
 
 -- the number is 0, or the fall over some transition of the operator
 abbrev pub IsFallOf : Abstraction → (ℕ → Distance) → ℕ → ℕ → Type 0

@@ -3,8 +3,8 @@
 use Rattle.std.specs.Prelude.{◌≡◌, ℕ, ◌+◌, ◌*◌, ◌^◌, ◌<◌, ◌≤◌, true, ◌⊎◌, nat_lt, min, List, length, slice_index, slice_set, sum, count_by}
 use Rattle.cost.specs.Distances.{Finite}
 use Rattle.abstraction.specs.Abstractions.{Abstraction}
-use Rattle.walks.specs.Walks.{IsTotalFrom}
-use Rattle.walks.specs.Entrances.{LeadsTo}
+use Rattle.pdb_walks.specs.Walks.{IsTotalFrom}
+use Rattle.pdb_walks.specs.Entrances.{LeadsTo}
 use Rattle.pdb.specs.declared.queue.Queue.{Queue}
 use Rattle.pdb.specs.declared.search.TheConstants.{UNREACHED}
 use Rattle.pdb.specs.Queues.{size_of, IsQueued, IsAbsent}

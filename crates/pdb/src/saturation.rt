@@ -3,13 +3,13 @@
 ghost use Rattle.std.specs.Prelude.{◌≡◌, ℕ, ◌+◌, ◌^◌, ◌<◌, ◌≤◌, ◌⊎◌, length, slice_index, IfOk, OnOk};
 ghost use Rattle.cost.specs.Distances.{Finite};
 ghost use Rattle.fdr.specs.Tasks.{FiniteDomainTask};
-ghost use Rattle.walks.specs.Walks.{AreDistances, IsGreatestFall, value_in, fall};
-ghost use Rattle.walks.specs.Entrances.{LeadsTo};
+ghost use Rattle.pdb_walks.specs.Walks.{AreDistances, IsGreatestFall, value_in, fall};
+ghost use Rattle.pdb_walks.specs.Entrances.{LeadsTo};
 ghost use Rattle.pdb.specs.Saturations.{IsFallOf, IsCoveredAt};
 
-use certificates::Values;
+use cert_value::Values;
+use pdb_walks::BackwardAbstraction;
 use std::alloc::{AllocError, Global};
-use walks::BackwardAbstraction;
 
 /// The amount by which `value` is below the value of a state, and 0 if it is not below or that value is infinite.
 fn fall_from(values: &Values, state: usize, value: u64) -> u32

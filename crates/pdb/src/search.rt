@@ -3,16 +3,16 @@
 ghost use Rattle.std.specs.Prelude.{◌≡◌, ℕ, ◌+◌, ◌^◌, ◌<◌, ◌≤◌, length, slice_index, map, All, IfOk, OnOk};
 ghost use Rattle.cost.specs.Distances.{IsWithin};
 ghost use Rattle.fdr.specs.Tasks.{FiniteDomainTask};
-ghost use Rattle.certificates.specs.Kept.{kept_distance};
-ghost use Rattle.walks.specs.Walks.{AreDistances};
+ghost use Rattle.cert_value.specs.Kept.{kept_distance};
+ghost use Rattle.pdb_walks.specs.Walks.{AreDistances};
 ghost use Rattle.pdb.specs.Queues.{size_of};
 ghost use Rattle.pdb.specs.Searches.{IsSearch, IsSearchBut, IsSettled, IsSettledBy, HasFallen, HasLowered, work};
 
 use crate::queue::Queue;
-use certificates::Values;
+use cert_value::Values;
 use cost::Dist;
+use pdb_walks::BackwardAbstraction;
 use std::alloc::{AllocError, Global};
-use walks::BackwardAbstraction;
 
 /// The value of an abstract state from which no walk to an abstract goal has been found.
 const UNREACHED: u64 = 18_446_744_073_709_551_615;

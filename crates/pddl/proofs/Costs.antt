@@ -5,11 +5,11 @@ use Rattle.std.specs.Option.{option_map}
 use Rattle.std.proofs.lemmas.Bool.Decides.{nat_tests}
 use Rattle.std.proofs.lemmas.Option.{option_and_then_some}
 use Rattle.std.proofs.lemmas.List.Sums.{sum_by-le-sum_by}
-use Rattle.planning.specs.Atoms.{Atom, Literal, same_atom}
-use Rattle.planning.specs.declared.schema.Increase.{Increase}
-use Rattle.planning.specs.declared.schema.Increase.TheVariants.{Amount, Value}
-use Rattle.planning.specs.Planning.{PlanningTask, Schema, FunctionValue, Action, IsActionOf, has_instance, value_of, ground_atom, cost_of_schema, sum_of_increases}
-use Rattle.planning.proofs.AtomLaws.{same_atom_true}
+use Rattle.pddl_task.specs.Atoms.{Atom, Literal, same_atom}
+use Rattle.pddl_task.specs.declared.schema.Increase.{Increase}
+use Rattle.pddl_task.specs.declared.schema.Increase.TheVariants.{Amount, Value}
+use Rattle.pddl_task.specs.Planning.{PlanningTask, Schema, FunctionValue, Action, IsActionOf, has_instance, value_of, ground_atom, cost_of_schema, sum_of_increases}
+use Rattle.pddl_task.proofs.AtomLaws.{same_atom_true}
 use Rattle.pddl_syntax.specs.declared.fault.Fault.{Fault}
 use Rattle.pddl_syntax.specs.declared.fault.FaultKind.TheVariants.{CostRange}
 use Rattle.pddl_syntax.specs.Faults.{fault, faults_if, first_of}

@@ -2,9 +2,9 @@
 use Rattle.std.proofs.Common.{◌≡◌, ℕ, List, [], ◌∷◌, refl, sym, ap, ◌∙◌, ◌+◌}
 use Rattle.std.specs.Prelude.{nat_lt, sum_by}
 use Rattle.std.proofs.lemmas.List.Sums.{sum_by-cons}
-use Rattle.planning.specs.declared.schema.Increase.{Increase}
-use Rattle.planning.specs.declared.schema.Increase.TheVariants.{Amount, Value}
-use Rattle.planning.specs.Planning.{Schema, FunctionValue}
+use Rattle.pddl_task.specs.declared.schema.Increase.{Increase}
+use Rattle.pddl_task.specs.declared.schema.Increase.TheVariants.{Amount, Value}
+use Rattle.pddl_task.specs.Planning.{Schema, FunctionValue}
 use Rattle.pddl_syntax.specs.declared.fault.FaultKind.TheVariants.{CostRange}
 use Rattle.pddl_syntax.specs.Faults.{fault, faults_if}
 use Rattle.pddl.specs.Sums.{AreGreatest, most_of, most_known, sum_faults, stated_sum_faults}

@@ -7,11 +7,11 @@ use Rattle.std.proofs.lemmas.Bool.Decides.{nat_tests}
 use Rattle.std.proofs.lemmas.List.{length-append}
 use Rattle.std.proofs.lemmas.List.Folds.{list_all-append}
 use Rattle.sexp.specs.Forms.{Forms, none, word, group, behind}
-use Rattle.planning.specs.Atoms.{Atom}
-use Rattle.planning.specs.Lifted.{Lifted}
-use Rattle.planning.specs.declared.schema.Increase.{Increase}
-use Rattle.planning.specs.declared.schema.Increase.TheVariants.{Value}
-use Rattle.planning.specs.Planning.{PlanningTask, FunctionValue, is_small_increase, has_small_increases, has_small_costs}
+use Rattle.pddl_task.specs.Atoms.{Atom}
+use Rattle.pddl_task.specs.Lifted.{Lifted}
+use Rattle.pddl_task.specs.declared.schema.Increase.{Increase}
+use Rattle.pddl_task.specs.declared.schema.Increase.TheVariants.{Value}
+use Rattle.pddl_task.specs.Planning.{PlanningTask, FunctionValue, is_small_increase, has_small_increases, has_small_costs}
 use Rattle.pddl_syntax.specs.declared.word.WordKind.{WordKind}
 use Rattle.pddl_syntax.specs.declared.word.WordKind.TheVariants.{Dash, Name, Variable, Other}
 use Rattle.pddl_syntax.specs.Words.{word_kind}

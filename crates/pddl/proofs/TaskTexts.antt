@@ -7,7 +7,7 @@ use Rattle.sexp.specs.Faults.{IsFirstFault}
 use Rattle.sexp.specs.declared.fault.SexpFault.{SexpFault}
 use Rattle.sexp.proofs.Promises.{one_reading_is, one_without_fault_is, one_spelled_or_not_is}
 use Rattle.sexp.proofs.Blame.{one_first}
-use Rattle.planning.specs.Planning.{PlanningTask}
+use Rattle.pddl_task.specs.Planning.{PlanningTask}
 use Rattle.pddl_syntax.specs.declared.fault.PlanningFile.TheVariants.{Domain, Problem}
 use Rattle.pddl.specs.declared.fault.PddlFault.{PddlFault}
 use Rattle.pddl.specs.declared.fault.PddlFault.TheVariants.{OutOfMemory, Tree, Section}

@@ -1,5 +1,5 @@
 -- The task of a domain and a problem that were read.
-use Rattle.planning.specs.Planning.{PlanningTask}
+use Rattle.pddl_task.specs.Planning.{PlanningTask}
 use Rattle.pddl_problem.specs.Initial.{values_of}
 use Rattle.pddl.specs.declared.domain.Domain.{Domain}
 use Rattle.pddl.specs.declared.problem.Problem.{Problem}

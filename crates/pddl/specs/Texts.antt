@@ -3,9 +3,9 @@ use Rattle.std.specs.Prelude.{◌≡◌, ℕ, ◌⊎◌, Bool, true, false, if�
 use Rattle.sexp.specs.Forms.{Forms, IsOne, none}
 use Rattle.sexp.specs.Grammar.{SpellsAll}
 use Rattle.sexp.specs.Faults.{IsFirstFault}
-use Rattle.names.specs.Names.{is_there}
-use Rattle.planning.specs.Atoms.{Literal}
-use Rattle.planning.specs.Planning.{PlanningTask, Schema, FunctionValue}
+use Rattle.pddl_names.specs.Names.{is_there}
+use Rattle.pddl_task.specs.Atoms.{Literal}
+use Rattle.pddl_task.specs.Planning.{PlanningTask, Schema, FunctionValue}
 use Rattle.pddl_syntax.specs.declared.fault.Fault.{Fault}
 use Rattle.pddl_syntax.specs.declared.fault.PlanningFile.{PlanningFile}
 use Rattle.pddl_syntax.specs.declared.fault.PlanningFile.TheVariants.{Domain, Problem}

@@ -2,7 +2,7 @@
 
 ghost use Rattle.std.specs.Prelude.{◌≡◌, [], None, map, codes, true, IfErr, OnOk};
 ghost use Rattle.sexp.specs.Forms.{alone};
-ghost use Rattle.names.specs.Names.{is_there};
+ghost use Rattle.pddl_names.specs.Names.{is_there};
 ghost use Rattle.pddl_syntax.specs.declared.fault.PlanningFile.TheVariants.{Domain as DomainFile};
 ghost use Rattle.pddl_syntax.specs.Faults.{first_of};
 ghost use Rattle.pddl_syntax.specs.Heads.{no_heads};
@@ -17,9 +17,9 @@ ghost use Rattle.pddl.specs.Passes.{Fails, AllFail, first_pass};
 
 use crate::fault::PddlFault;
 use crate::parts::{heads_pass, judge, part_of};
-use names::Names;
 use pddl_action::{Actions, Declarations, read_actions};
 use pddl_domain::{Objects, functions_section, objects_section, predicates_section, types_section};
+use pddl_names::Names;
 use pddl_syntax::{
     Fault, Heads, PlanningFile, Types, all_sections, requirements_section, sections_of,
 };

@@ -2,7 +2,7 @@
 //! empty.
 
 ghost use Rattle.std.specs.Prelude.{◌≡◌, ◌≢◌, ◌⊎◌, ℕ, List};
-ghost use Rattle.planning.specs.Planning.{PlanningTask};
+ghost use Rattle.pddl_task.specs.Planning.{PlanningTask};
 ghost use Rattle.pddl.specs.Texts.{SpellTask, IsTaskRefusal};
 ghost use Rattle.pddl.specs.declared.fault.PddlFault.{PddlFault};
 

@@ -17,13 +17,13 @@ use crate::fault::PddlFault;
 use crate::parts::{heads_pass, judge, part_of};
 use crate::sums::blame_sums;
 use indexmap::IndexMap;
-use names::Names;
 use pddl_action::{Actions, Declarations};
 use pddl_domain::{Objects, objects_section};
+use pddl_names::Names;
 use pddl_problem::{goal_section, initial_section, metric_section};
 use pddl_syntax::{Fault, PlanningFile, Types, find_section, sections_of};
+use pddl_task::{GroundAtom, GroundLiteral};
 use pddl_terms::Scope;
-use planning::{GroundAtom, GroundLiteral};
 use sexp::Tree;
 use std::alloc::{AllocError, Global};
 

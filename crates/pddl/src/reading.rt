@@ -5,7 +5,7 @@ ghost use Rattle.sexp.specs.Forms.{alone};
 ghost use Rattle.pddl_syntax.specs.Faults.{first_of};
 ghost use Rattle.pddl_domain.specs.Objects.{no_objects};
 ghost use Rattle.pddl_problem.specs.Initial.{values_of};
-ghost use Rattle.planning.specs.Planning.{PlanningTask, Action, IsActionOf, has_small_costs};
+ghost use Rattle.pddl_task.specs.Planning.{PlanningTask, Action, IsActionOf, has_small_costs};
 ghost use Rattle.pddl.specs.declared.fault.PddlFault.{PddlFault};
 ghost use Rattle.pddl.specs.Assembled.{task_in};
 ghost use Rattle.pddl.specs.Texts.{SpellTask, IsTaskRefusal, IsTree, IsTreeFault, sums_pass};
@@ -13,9 +13,9 @@ ghost use Rattle.pddl.specs.Texts.{SpellTask, IsTaskRefusal, IsTree, IsTreeFault
 use crate::domain::{Domain, read_domain};
 use crate::fault::PddlFault;
 use crate::problem::{Problem, with_problem};
-use names::Names;
+use pddl_names::Names;
 use pddl_syntax::PlanningFile;
-use planning::{Task, Vocabulary};
+use pddl_task::{Task, Vocabulary};
 use sexp::{SexpFault, Tree};
 use std::alloc::Global;
 

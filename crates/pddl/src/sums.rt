@@ -7,7 +7,7 @@ ghost use Rattle.pddl.specs.Sums as spec;
 
 use indexmap::IndexMap;
 use pddl_syntax::{Fault, FaultKind, blame_if};
-use planning::{ActionSchema, GroundAtom, Increase};
+use pddl_task::{ActionSchema, GroundAtom, Increase};
 use std::alloc::{AllocError, Global};
 
 /// The largest cost that an action may have.

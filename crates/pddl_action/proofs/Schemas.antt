@@ -4,9 +4,9 @@ use Rattle.std.proofs.lemmas.Option.{slice_get-map, slice_get_past}
 use Rattle.std.specs.Prelude.{Some, None}
 use Rattle.std.specs.Option.{option_map}
 use Rattle.sexp.specs.Forms.{Forms}
-use Rattle.planning.specs.declared.schema.Condition.{Condition}
-use Rattle.planning.specs.declared.schema.Increase.{Increase}
-use Rattle.planning.specs.Planning.{Effect}
+use Rattle.pddl_task.specs.declared.schema.Condition.{Condition}
+use Rattle.pddl_task.specs.declared.schema.Increase.{Increase}
+use Rattle.pddl_task.specs.Planning.{Effect}
 use Rattle.pddl_syntax.specs.declared.sections.Section.{Section}
 use Rattle.pddl_syntax.specs.Sections.{part_of}
 use Rattle.pddl_syntax.specs.Parameters.{parameter_names, parameter_types}

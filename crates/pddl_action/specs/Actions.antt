@@ -1,8 +1,8 @@
 -- Actions: their meaning and their faults.
 use Rattle.std.specs.Prelude.{ℕ, if◌then◌else◌, List, [], ◌∷◌, ◌++◌, map, Option, Some, None, slice_get}
 use Rattle.sexp.specs.Forms.{Forms, none, word, group}
-use Rattle.names.specs.Names.{is_there, with_name}
-use Rattle.planning.specs.Planning.{Schema}
+use Rattle.pddl_names.specs.Names.{is_there, with_name}
+use Rattle.pddl_task.specs.Planning.{Schema}
 use Rattle.pddl_syntax.specs.declared.fault.Fault.{Fault}
 use Rattle.pddl_syntax.specs.declared.fault.FaultKind.TheVariants.{Shape, TwiceDeclared, Limit}
 use Rattle.pddl_syntax.specs.declared.fault.LimitedTable.{LimitedTable}

@@ -2,7 +2,7 @@
 use Rattle.std.specs.Prelude.{ℕ, Bool, true, false, if◌then◌else◌, List, [], ◌∷◌, ◌++◌, Option, Some, None, option_to_list, find, codes}
 use Rattle.std.specs.Option.{option_map, option_map_or}
 use Rattle.sexp.specs.Forms.{Forms, none, word, group, alone}
-use Rattle.names.specs.Names.{same_text}
+use Rattle.pddl_names.specs.Names.{same_text}
 use Rattle.pddl_syntax.specs.declared.fault.Fault.{Fault}
 use Rattle.pddl_syntax.specs.declared.fault.FaultKind.TheVariants.{Shape, TwiceDeclared}
 use Rattle.pddl_syntax.specs.Faults.{fault, faults_if}

@@ -13,14 +13,14 @@ ghost use Rattle.pddl_action.specs.Actions as spec;
 
 use crate::keyword::{Keyword, Part, find_part, items_of, parts};
 use crate::scope::Declarations;
-use names::Names;
 use pddl_effect::{Effects, Places, add_places, read_condition, read_effect};
+use pddl_names::Names;
 use pddl_syntax::{
     Fault, FaultKind, LimitedTable, Parameters, Section, Types, WordKind, blame, blame_if,
     parameters_list, without_first, word_kind,
 };
+use pddl_task::{ActionSchema, Condition};
 use pddl_terms::{Scope, Setting};
-use planning::{ActionSchema, Condition};
 use sexp::Tree;
 use std::alloc::{AllocError, Global};
 

@@ -2,7 +2,7 @@
 
 ghost use Rattle.std.specs.Prelude.{◌≡◌};
 
-use names::Names;
+use pddl_names::Names;
 use pddl_syntax::{Heads, Types};
 use pddl_terms::Scope;
 use std::marker::Model;

@@ -6,8 +6,8 @@ use Rattle.std.specs.Option.{option_map, IfSome}
 use Rattle.std.specs.String.{string_bytes}
 use Rattle.std.proofs.lemmas.Bool.{eq-eqb, eqb-true}
 use Rattle.std.proofs.lemmas.Option.{same_Some, slice_get_within, slice_get-get_or, get_or_from_slice_get}
-use Rattle.names.specs.Names.{same_text, place_of, number_of, is_there, with_name, AreDistinct}
-use Rattle.names.proofs.NameLists.{with_name-new, number_of-there, number_of-distinct, slice_get-number, same_text-true, same_text-equal}
+use Rattle.pddl_names.specs.Names.{same_text, place_of, number_of, is_there, with_name, AreDistinct}
+use Rattle.pddl_names.proofs.NameLists.{with_name-new, number_of-there, number_of-distinct, slice_get-number, same_text-true, same_text-equal}
 use Rattle.pddl_syntax.specs.declared.fault.Fault.{Fault}
 use Rattle.pddl_syntax.specs.Faults.{first_of}
 use Rattle.pddl_syntax.specs.declared.typed.Named.{Named}

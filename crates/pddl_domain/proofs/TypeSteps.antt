@@ -7,8 +7,8 @@ use Rattle.std.specs.String.{string_bytes}
 use Rattle.std.proofs.lemmas.List.{take_rest, take_more}
 use Rattle.std.proofs.lemmas.List.Elements.{All-from_recursion, recursion_from_All, All-same}
 use Rattle.std.proofs.lemmas.List.FromFn.{length-map-range_with_len, get_or-map-range_with_len}
-use Rattle.names.specs.Names.{is_there, number_of, with_name}
-use Rattle.names.proofs.NameLists.{with_name-there, number_of-there, is_there-with_name_kept, is_there-with_name_itself}
+use Rattle.pddl_names.specs.Names.{is_there, number_of, with_name}
+use Rattle.pddl_names.proofs.NameLists.{with_name-there, number_of-there, is_there-with_name_kept, is_there-with_name_itself}
 use Rattle.pddl_syntax.specs.declared.fault.Fault.{Fault}
 use Rattle.pddl_syntax.specs.declared.fault.FaultKind.TheVariants.{TwiceDeclared, TypeCycle}
 use Rattle.pddl_syntax.specs.Faults.{fault, faults_if}

@@ -1,7 +1,7 @@
 -- The sections of the predicates and of the functions: their meaning and their faults.
 use Rattle.std.specs.Prelude.{ℕ, ◌+◌, not, nat_le, Bool, true, false, if◌then◌else◌, List, [], ◌∷◌, ◌++◌, length, codes}
 use Rattle.sexp.specs.Forms.{Forms, none, word, group}
-use Rattle.names.specs.Names.{same_text, is_there}
+use Rattle.pddl_names.specs.Names.{same_text, is_there}
 use Rattle.pddl_syntax.specs.declared.word.WordKind.{WordKind}
 use Rattle.pddl_syntax.specs.declared.word.WordKind.TheVariants.{Dash, Name}
 use Rattle.pddl_syntax.specs.declared.fault.Fault.{Fault}

@@ -3,7 +3,7 @@ use Rattle.std.specs.Prelude.{◌≡◌, ℕ, ◌<◌, ◌&&◌, not, nat_le, Bo
 use Rattle.std.specs.List.{All}
 use Rattle.std.specs.Option.{option_map, option_map_or, IfSome}
 use Rattle.sexp.specs.Forms.{Forms}
-use Rattle.names.specs.Names.{same_text, place_of, number_of, is_there, with_name}
+use Rattle.pddl_names.specs.Names.{same_text, place_of, number_of, is_there, with_name}
 use Rattle.pddl_syntax.specs.declared.fault.Fault.{Fault}
 use Rattle.pddl_syntax.specs.declared.fault.FaultKind.TheVariants.{TwiceDeclared, Limit}
 use Rattle.pddl_syntax.specs.declared.fault.LimitedTable.TheVariants.{Objects as TooManyObjects}

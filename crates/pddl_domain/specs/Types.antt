@@ -3,7 +3,7 @@ use Rattle.std.specs.Prelude.{ℕ, ◌==◌, Bool, true, false, not, if◌then�
 use Rattle.std.specs.List.{range_with_len}
 use Rattle.std.specs.Option.{option_map, option_map_or}
 use Rattle.sexp.specs.Forms.{Forms}
-use Rattle.names.specs.Names.{number_of, with_name}
+use Rattle.pddl_names.specs.Names.{number_of, with_name}
 use Rattle.pddl_syntax.specs.declared.fault.Fault.{Fault}
 use Rattle.pddl_syntax.specs.declared.fault.FaultKind.TheVariants.{TwiceDeclared, TypeCycle}
 use Rattle.pddl_syntax.specs.Faults.{fault, faults_if}

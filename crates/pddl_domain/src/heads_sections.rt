@@ -2,7 +2,7 @@
 
 ghost use Rattle.std.specs.Prelude.{◌≡◌, ◌<◌, ◌≤◌, ◌+◌, ℕ, Bool, true, false, List, length, IfOk, OnOk, codes};
 ghost use Rattle.sexp.specs.Forms.{Forms, views, before, group, word};
-ghost use Rattle.names.specs.Names.{is_there, same_text};
+ghost use Rattle.pddl_names.specs.Names.{is_there, same_text};
 ghost use Rattle.pddl_syntax.specs.declared.fault.Fault.{Fault};
 ghost use Rattle.pddl_syntax.specs.Faults.{first_of};
 ghost use Rattle.pddl_syntax.specs.Words.{word_kind};

@@ -11,7 +11,7 @@ ghost use Rattle.pddl_domain.specs.Objects as spec;
 ghost use Rattle.pddl_domain.specs.Objects.{Objects as DeclaredObjects, IsTextOf, objects_with, with_entry, declaration_faults, object_faults, objects_faults};
 
 use crate::types::differs;
-use names::Names;
+use pddl_names::Names;
 use pddl_syntax::{Fault, FaultKind, LimitedTable, Named, Run, Types, blame_if, typed_list};
 use sexp::Tree;
 use std::alloc::{AllocError, Global};

@@ -4,7 +4,7 @@ ghost use Rattle.std.specs.Prelude.{◌≡◌, ◌++◌, ◌<◌, ◌∷◌, [],
 ghost use Rattle.std.specs.List.{All, range_with_len};
 ghost use Rattle.std.specs.Option.{IfSome, option_map};
 ghost use Rattle.sexp.specs.Forms.{views};
-ghost use Rattle.names.specs.Names.{number_of, with_name};
+ghost use Rattle.pddl_names.specs.Names.{number_of, with_name};
 ghost use Rattle.pddl_syntax.specs.Faults.{first_of};
 ghost use Rattle.pddl_syntax.specs.Typed.{declared, spread, spread_run, with_type, parent_text, typed_faults};
 ghost use Rattle.pddl_syntax.specs.Parameters.{names_with};
@@ -13,7 +13,7 @@ ghost use Rattle.pddl_domain.specs.Types as spec;
 ghost use Rattle.pddl_domain.specs.Types.{with_parent, all_types, numbered, first_of_name, first_parent, parents, subtype_faults, types_faults};
 
 use crate::cycles::types_on_cycles;
-use names::Names;
+use pddl_names::Names;
 use pddl_syntax::{Fault, FaultKind, Named, Run, Types, blame_if, typed_list};
 use sexp::Tree;
 use std::alloc::{AllocError, Global};

@@ -6,9 +6,9 @@ use Rattle.std.specs.List.{filter_map}
 use Rattle.std.specs.Option.{option_map}
 use Rattle.sexp.specs.declared.tree.Tree.{Tree}
 use Rattle.sexp.specs.Forms.{Forms, none, word, group, before}
-use Rattle.planning.specs.declared.schema.Term.{Term}
-use Rattle.planning.specs.declared.schema.Condition.TheVariants.{Negative}
-use Rattle.planning.specs.Planning.{Lifted}
+use Rattle.pddl_task.specs.declared.schema.Term.{Term}
+use Rattle.pddl_task.specs.declared.schema.Condition.TheVariants.{Negative}
+use Rattle.pddl_task.specs.Planning.{Lifted}
 use Rattle.pddl_syntax.specs.declared.word.WordKind.{WordKind}
 use Rattle.pddl_syntax.specs.declared.word.WordKind.TheVariants.{Dash, Name, Variable, Other}
 use Rattle.pddl_syntax.specs.Sections.{more_faults}

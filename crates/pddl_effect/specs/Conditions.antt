@@ -2,9 +2,9 @@
 use Rattle.std.specs.Prelude.{ℕ, Bool, true, false, if◌then◌else◌, List, [], ◌∷◌, ◌++◌, Option, Some, None, option_to_list}
 use Rattle.std.specs.Option.{option_map}
 use Rattle.sexp.specs.Forms.{Forms, none, word, group}
-use Rattle.planning.specs.declared.schema.Term.{Term}
-use Rattle.planning.specs.declared.schema.Condition.{Condition}
-use Rattle.planning.specs.declared.schema.Condition.TheVariants.{Positive, Negative, Equal, Different}
+use Rattle.pddl_task.specs.declared.schema.Term.{Term}
+use Rattle.pddl_task.specs.declared.schema.Condition.{Condition}
+use Rattle.pddl_task.specs.declared.schema.Condition.TheVariants.{Positive, Negative, Equal, Different}
 use Rattle.pddl_syntax.specs.declared.fault.Fault.{Fault}
 use Rattle.pddl_syntax.specs.declared.fault.FaultKind.TheVariants.{Shape, Unsupported}
 use Rattle.pddl_syntax.specs.Faults.{fault}

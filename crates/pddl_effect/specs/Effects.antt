@@ -2,11 +2,11 @@
 use Rattle.std.specs.Prelude.{ℕ, ◌&&◌, not, Bool, true, false, if◌then◌else◌, List, [], ◌∷◌, ◌++◌, Option, Some, None, option_to_list}
 use Rattle.std.specs.Option.{option_map}
 use Rattle.sexp.specs.Forms.{Forms, none, word, group}
-use Rattle.planning.specs.declared.schema.Condition.{Condition}
-use Rattle.planning.specs.declared.schema.Condition.TheVariants.{Positive, Negative, Equal, Different}
-use Rattle.planning.specs.declared.schema.Increase.{Increase}
-use Rattle.planning.specs.declared.schema.Increase.TheVariants.{Amount, Value}
-use Rattle.planning.specs.Planning.{Lifted, Effect}
+use Rattle.pddl_task.specs.declared.schema.Condition.{Condition}
+use Rattle.pddl_task.specs.declared.schema.Condition.TheVariants.{Positive, Negative, Equal, Different}
+use Rattle.pddl_task.specs.declared.schema.Increase.{Increase}
+use Rattle.pddl_task.specs.declared.schema.Increase.TheVariants.{Amount, Value}
+use Rattle.pddl_task.specs.Planning.{Lifted, Effect}
 use Rattle.pddl_syntax.specs.declared.word.WordKind.{WordKind}
 use Rattle.pddl_syntax.specs.declared.word.WordKind.TheVariants.{Name}
 use Rattle.pddl_syntax.specs.declared.number.Number.{Number}

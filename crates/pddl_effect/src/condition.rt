@@ -7,8 +7,8 @@ ghost use Rattle.pddl_effect.specs.Conditions as spec;
 
 use crate::negation::{equality, negated};
 use pddl_syntax::{Fault, FaultKind, blame};
+use pddl_task::Condition;
 use pddl_terms::{Beginning, Scope, Setting, beginning_of, lifted};
-use planning::Condition;
 use sexp::Tree;
 use std::alloc::{AllocError, Global};
 

@@ -10,8 +10,8 @@ ghost use Rattle.pddl_effect.specs.Effects as spec;
 use crate::increase::read_increase;
 use crate::negation::negated;
 use pddl_syntax::{Fault, FaultKind, blame};
+use pddl_task::{Condition, Increase, LiftedAtom, LiftedEffect};
 use pddl_terms::{Beginning, Scope, Setting, beginning_of, lifted};
-use planning::{Condition, Increase, LiftedAtom, LiftedEffect};
 use sexp::Tree;
 use std::alloc::{AllocError, Global};
 

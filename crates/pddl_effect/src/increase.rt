@@ -10,8 +10,8 @@ ghost use Rattle.pddl_effect.specs.Effects as spec;
 use pddl_syntax::{
     Fault, FaultKind, Number, WordKind, blame, blame_if, blame_more, number_of, word_kind,
 };
+use pddl_task::Increase;
 use pddl_terms::{Scope, is_total_cost, lifted};
-use planning::Increase;
 use sexp::Tree;
 use std::alloc::{AllocError, Global};
 

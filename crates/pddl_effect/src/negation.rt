@@ -7,8 +7,8 @@ ghost use Rattle.pddl_terms.specs.Terms.{terms};
 ghost use Rattle.pddl_effect.specs.Conditions as spec;
 
 use pddl_syntax::{Fault, FaultKind, blame, blame_more};
+use pddl_task::{Condition, Term};
 use pddl_terms::{Beginning, Scope, Setting, beginning_of, lifted, term};
-use planning::{Condition, Term};
 use sexp::Tree;
 use std::alloc::{AllocError, Global};
 

@@ -7,7 +7,7 @@ use Rattle.pddl_syntax.proofs.ParameterSteps.{listed_at}
 use Rattle.pddl_syntax.specs.declared.fault.Fault.{Fault}
 use Rattle.pddl_syntax.specs.declared.fault.FaultKind.TheVariants.{GoalBothWays}
 use Rattle.pddl_syntax.specs.Faults.{first_of, fault, faults_if}
-use Rattle.planning.specs.Atoms.{Atom, State, Literal, same_atom, wants, excludes}
+use Rattle.pddl_task.specs.Atoms.{Atom, State, Literal, same_atom, wants, excludes}
 use Rattle.pddl_problem.specs.Goals.{Placed, opposite_faults, also_wanted, also_excluded, wanted_in, excluded_in, has_opposite_in, has_opposite}
 use Rattle.pddl_problem.specs.declared.goals.KnownGoals.{KnownGoals}
 

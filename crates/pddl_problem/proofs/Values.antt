@@ -4,9 +4,9 @@ use Rattle.std.specs.Prelude.{Option, Some, None, is_some, if◌then◌else◌, 
 use Rattle.std.specs.Option.{option_map, option_map_or}
 use Rattle.std.specs.Map.{lookup}
 use Rattle.indexmap.specs.IndexMap.{insert_entry}
-use Rattle.planning.specs.Atoms.{Atom, same_atom}
-use Rattle.planning.specs.Planning.{FunctionValue}
-use Rattle.planning.proofs.CostLaws.{value-lookup}
+use Rattle.pddl_task.specs.Atoms.{Atom, same_atom}
+use Rattle.pddl_task.specs.Planning.{FunctionValue}
+use Rattle.pddl_task.proofs.CostLaws.{value-lookup}
 use Rattle.pddl_problem.specs.Initial.{value_among, with_value, is_restated, values_of}
 
 abbrev pub value_at : Atom → ℕ → FunctionValue

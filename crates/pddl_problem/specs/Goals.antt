@@ -2,10 +2,10 @@
 use Rattle.std.specs.Prelude.{ℕ, ◌&&◌, ◌||◌, not, Bool, true, false, if◌then◌else◌, List, [], ◌∷◌, ◌++◌, Option, Some, None, option_to_list, codes}
 use Rattle.std.specs.Option.{option_map, option_map_or}
 use Rattle.sexp.specs.Forms.{Forms, none, word, group, behind}
-use Rattle.planning.specs.Atoms.{Atom, Literal, State, same_atom, wants, excludes}
+use Rattle.pddl_task.specs.Atoms.{Atom, Literal, State, same_atom, wants, excludes}
 use Rattle.std.specs.HashSet.{contains}
 use Rattle.pddl_problem.specs.declared.goals.KnownGoals.{KnownGoals}
-use Rattle.planning.specs.Lifted.{Lifted}
+use Rattle.pddl_task.specs.Lifted.{Lifted}
 use Rattle.pddl_syntax.specs.declared.fault.Fault.{Fault}
 use Rattle.pddl_syntax.specs.declared.fault.FaultKind.TheVariants.{Shape, Unsupported, GoalBothWays}
 use Rattle.pddl_syntax.specs.Faults.{fault, faults_if}

@@ -2,10 +2,10 @@
 use Rattle.std.specs.Prelude.{ℕ, ◌+◌, ◌==◌, ◌&&◌, not, Bool, true, false, if◌then◌else◌, List, [], ◌∷◌, ◌++◌, map, find, Option, Some, None, is_some, option_to_list, codes}
 use Rattle.std.specs.Option.{option_map, option_map_or}
 use Rattle.sexp.specs.Forms.{Forms, none, word, group, behind}
-use Rattle.names.specs.Names.{same_text}
-use Rattle.planning.specs.Atoms.{Atom, same_atom}
-use Rattle.planning.specs.Lifted.{Lifted}
-use Rattle.planning.specs.Planning.{FunctionValue, ground_atom}
+use Rattle.pddl_names.specs.Names.{same_text}
+use Rattle.pddl_task.specs.Atoms.{Atom, same_atom}
+use Rattle.pddl_task.specs.Lifted.{Lifted}
+use Rattle.pddl_task.specs.Planning.{FunctionValue, ground_atom}
 use Rattle.pddl_syntax.specs.declared.word.WordKind.{WordKind}
 use Rattle.pddl_syntax.specs.declared.word.WordKind.TheVariants.{Name}
 use Rattle.pddl_syntax.specs.declared.number.Number.{Number}

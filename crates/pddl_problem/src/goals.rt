@@ -3,14 +3,14 @@
 ghost use Rattle.std.specs.Prelude.{◌≡◌, ◌++◌, ℕ, [], ◌∷◌, false, map, IfOk, OnOk};
 ghost use Rattle.sexp.specs.Forms.{Forms, before, views, group};
 ghost use Rattle.pddl_syntax.specs.Faults.{first_of};
-ghost use Rattle.planning.specs.Atoms.{wants, excludes};
+ghost use Rattle.pddl_task.specs.Atoms.{wants, excludes};
 ghost use Rattle.pddl_problem.specs.Initial.{atom_of};
 ghost use Rattle.pddl_problem.specs.Goals as spec;
 
 use crate::grounding::ground;
 use pddl_syntax::{Fault, FaultKind, blame, blame_if, blame_more};
+use pddl_task::{GroundAtom, GroundLiteral, LiftedAtom};
 use pddl_terms::{Beginning, Scope, Setting, beginning_of, lifted};
-use planning::{GroundAtom, GroundLiteral, LiftedAtom};
 use sexp::Tree;
 use std::alloc::{AllocError, Global};
 use std::collections::HashSet;

@@ -3,7 +3,7 @@
 ghost use Rattle.std.specs.Prelude.{◌≡◌, IfOk};
 ghost use Rattle.pddl_problem.specs.Initial.{atom_of};
 
-use planning::{GroundAtom, LiftedAtom};
+use pddl_task::{GroundAtom, LiftedAtom};
 use std::alloc::{AllocError, Global};
 
 /// The ground atom of the atom, if there is one. Its terms must be objects. Fails only if allocation fails.

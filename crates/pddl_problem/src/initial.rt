@@ -11,8 +11,8 @@ use crate::grounding::ground;
 use crate::value::{keep_value, read_value};
 use indexmap::IndexMap;
 use pddl_syntax::{Fault, FaultKind, LimitedTable, blame, blame_if, blame_more};
+use pddl_task::{GroundAtom, LiftedAtom};
 use pddl_terms::{Beginning, Scope, Setting, beginning_of, lifted};
-use planning::{GroundAtom, LiftedAtom};
 use sexp::Tree;
 use std::alloc::{AllocError, Global};
 

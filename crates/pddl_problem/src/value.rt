@@ -15,8 +15,8 @@ use indexmap::IndexMap;
 use pddl_syntax::{
     Fault, FaultKind, Number, WordKind, blame, blame_if, blame_more, number_of, word_kind,
 };
+use pddl_task::GroundAtom;
 use pddl_terms::{Scope, is_total_cost, lifted};
-use planning::GroundAtom;
 use sexp::Tree;
 use std::alloc::{AllocError, Global};
 use std::marker::Model;
@@ -29,7 +29,7 @@ pub struct StatedValue {
 }
 
 impl Model for StatedValue {
-    ghost use Rattle.planning.specs.Planning.{FunctionValue};
+    ghost use Rattle.pddl_task.specs.Planning.{FunctionValue};
 
     ghost Value = { FunctionValue };
 

@@ -1,6 +1,6 @@
 -- Declared predicates and functions: a name and a number of parameters.
 use Rattle.std.specs.Prelude.{ℕ, ◌++◌, List, [], ◌∷◌, Option, slice_get, option_and_then, if◌then◌else◌}
-use Rattle.names.specs.Names.{place_of, is_there, with_name}
+use Rattle.pddl_names.specs.Names.{place_of, is_there, with_name}
 
 -- the names in the order of their first declarations, and the number of parameters of each in that declaration
 pub record Heads : Type 0 where

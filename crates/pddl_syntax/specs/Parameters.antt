@@ -2,7 +2,7 @@
 use Rattle.std.specs.Prelude.{ℕ, ◌+◌, nat_le, Bool, true, List, [], ◌∷◌, ◌++◌, map}
 use Rattle.std.specs.Option.{option_map_or}
 use Rattle.sexp.specs.Forms.{Forms}
-use Rattle.names.specs.Names.{is_there, with_name, number_of}
+use Rattle.pddl_names.specs.Names.{is_there, with_name, number_of}
 use Rattle.pddl_syntax.specs.declared.fault.Fault.{Fault}
 use Rattle.pddl_syntax.specs.declared.fault.FaultKind.TheVariants.{TwiceDeclared, Limit}
 use Rattle.pddl_syntax.specs.declared.fault.LimitedTable.TheVariants.{Arguments}

@@ -3,7 +3,7 @@ use Rattle.std.specs.Prelude.{ℕ, ◌&&◌, not, Bool, false, if◌then◌else�
 pub use Rattle.sexp.specs.Forms.{behind, start_of}
 use Rattle.sexp.specs.Forms.{Forms, none, word, group, views}
 use Rattle.pddl_syntax.specs.declared.sections.Section.{Section}
-use Rattle.names.specs.Names.{same_text, is_there, with_name}
+use Rattle.pddl_names.specs.Names.{same_text, is_there, with_name}
 use Rattle.pddl_syntax.specs.declared.fault.Fault.{Fault}
 use Rattle.pddl_syntax.specs.declared.fault.FaultKind.TheVariants.{Shape, Unsupported, TwiceDeclared}
 use Rattle.pddl_syntax.specs.declared.fault.PlanningFile.{PlanningFile}

@@ -15,7 +15,7 @@ use Rattle.pddl_syntax.specs.declared.typed.Run.{Run}
 use Rattle.pddl_syntax.specs.declared.typed.Typed.{Typed}
 use Rattle.pddl_syntax.specs.declared.typed.Types.{Types}
 use Rattle.pddl_syntax.specs.Faults.{fault}
-use Rattle.names.specs.Names.{same_text, is_there}
+use Rattle.pddl_names.specs.Names.{same_text, is_there}
 use Rattle.pddl_syntax.specs.Words.{word_kind}
 
 -- a name with its place, and its type if that can be read

@@ -3,7 +3,7 @@
 ghost use Rattle.std.specs.Prelude.{◌≡◌, OnOk};
 ghost use Rattle.pddl_syntax.specs.Heads.{no_heads, arity_of, with_head};
 
-use names::Names;
+use pddl_names::Names;
 use std::alloc::{AllocError, Global};
 use std::marker::Model;
 

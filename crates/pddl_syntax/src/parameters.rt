@@ -3,14 +3,14 @@
 ghost use Rattle.std.specs.Prelude.{◌≡◌, ◌++◌, ◌∷◌, [], ℕ, List, Option, map, length, IfOk, OnOk, false};
 ghost use Rattle.std.specs.String.{string_bytes};
 ghost use Rattle.sexp.specs.Forms.{views};
-ghost use Rattle.names.specs.Names.{with_name, is_there};
+ghost use Rattle.pddl_names.specs.Names.{with_name, is_there};
 ghost use Rattle.pddl_syntax.specs.Faults.{first_of};
 ghost use Rattle.pddl_syntax.specs.Typed.{Declared, spread_run, spread, with_type, parent_text};
 ghost use Rattle.pddl_syntax.specs.Parameters.{names_with, type_number, run_type, variable_faults, parameters_faults, parameter_names, parameter_types};
 
 use crate::fault::{Fault, FaultKind, LimitedTable, blame_if};
 use crate::typed::{Named, Run, Types, typed_list};
-use names::Names;
+use pddl_names::Names;
 use sexp::Tree;
 use std::alloc::{AllocError, Global};
 

@@ -3,7 +3,7 @@
 ghost use Rattle.std.specs.Prelude.{◌≡◌, ◌++◌, ◌∷◌, [], ℕ, List, Option, map, not, IfOk, OnOk, option_to_list, codes, is_some};
 ghost use Rattle.std.specs.Option.{option_map};
 ghost use Rattle.sexp.specs.Forms.{Forms, group, before, views, alone};
-ghost use Rattle.names.specs.Names.{is_there, with_name};
+ghost use Rattle.pddl_names.specs.Names.{is_there, with_name};
 ghost use Rattle.pddl_syntax.specs.Faults.{first_of};
 ghost use Rattle.pddl_syntax.specs.Words.{is_one_of};
 ghost use Rattle.pddl_syntax.specs.Sections as spec;
@@ -11,7 +11,7 @@ ghost use Rattle.pddl_syntax.specs.Sections.{part_of, has_head, title_word, sect
 
 use crate::fault::{Fault, FaultKind, PlanningFile, blame, blame_if};
 use crate::word::{WordKind, word_kind};
-use names::Names;
+use pddl_names::Names;
 use sexp::Tree;
 use std::alloc::{AllocError, Global};
 

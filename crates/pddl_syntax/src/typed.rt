@@ -10,7 +10,7 @@ ghost use Rattle.pddl_syntax.specs.Words.{word_kind};
 
 use crate::fault::{Fault, FaultKind, blame};
 use crate::word::{WordKind, word_kind};
-use names::Names;
+use pddl_names::Names;
 use sexp::Tree;
 use std::alloc::{AllocError, Global};
 use std::mem;

@@ -6,7 +6,7 @@ use Rattle.std.specs.Option.{option_map}
 use Rattle.sexp.specs.declared.tree.Tree.{Tree}
 use Rattle.sexp.specs.Forms.{Forms, before, views}
 use Rattle.sexp.proofs.Walking.{at_tree}
-use Rattle.planning.specs.declared.schema.Term.{Term}
+use Rattle.pddl_task.specs.declared.schema.Term.{Term}
 use Rattle.pddl_terms.specs.Terms.{Scope, with_term, terms, first_term, terms_faults, first_term_faults, count, not_empty}
 
 pub terms_step : (scope : Scope) (t : Tree) (g : Forms) → terms scope (before t g) ≡ with_term (first_term scope (before t g)) (terms scope g)

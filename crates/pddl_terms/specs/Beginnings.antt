@@ -1,6 +1,6 @@
 -- The construct that the head of a list names.
 use Rattle.std.specs.Prelude.{ℕ, if◌then◌else◌, List, [], ◌∷◌, codes}
-use Rattle.names.specs.Names.{same_text}
+use Rattle.pddl_names.specs.Names.{same_text}
 use Rattle.pddl_syntax.specs.declared.word.WordKind.{WordKind}
 use Rattle.pddl_syntax.specs.declared.word.WordKind.TheVariants.{Name}
 use Rattle.pddl_syntax.specs.Words.{word_kind, is_one_of}

@@ -2,10 +2,10 @@
 use Rattle.std.specs.Prelude.{ℕ, ◌+◌, ◌==◌, not, Bool, true, false, codes, if◌then◌else◌, List, [], ◌∷◌, ◌++◌, length, Option, Some, None}
 use Rattle.std.specs.Option.{option_map}
 use Rattle.sexp.specs.Forms.{Forms, none, word, group}
-use Rattle.names.specs.Names.{same_text, place_of, is_there}
-use Rattle.planning.specs.declared.schema.Term.{Term}
-use Rattle.planning.specs.declared.schema.Term.TheVariants.{Parameter, Object}
-use Rattle.planning.specs.Lifted.{Lifted}
+use Rattle.pddl_names.specs.Names.{same_text, place_of, is_there}
+use Rattle.pddl_task.specs.declared.schema.Term.{Term}
+use Rattle.pddl_task.specs.declared.schema.Term.TheVariants.{Parameter, Object}
+use Rattle.pddl_task.specs.Lifted.{Lifted}
 use Rattle.pddl_syntax.specs.declared.word.WordKind.{WordKind}
 use Rattle.pddl_syntax.specs.declared.word.WordKind.TheVariants.{Name, Variable}
 use Rattle.pddl_syntax.specs.declared.fault.Fault.{Fault}

@@ -8,7 +8,7 @@ ghost use Rattle.pddl_terms.specs.Terms as spec;
 
 use crate::scope::Scope;
 use pddl_syntax::{Fault, FaultKind, Heads, WordKind, blame, blame_if, word_kind};
-use planning::{LiftedAtom, Term};
+use pddl_task::{LiftedAtom, Term};
 use sexp::Tree;
 use std::alloc::{AllocError, Global};
 

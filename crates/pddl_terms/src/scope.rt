@@ -1,6 +1,6 @@
 //! The declarations that are visible to an expression.
 
-use names::Names;
+use pddl_names::Names;
 use pddl_syntax::Heads;
 use std::marker::Model;
 

@@ -4,7 +4,7 @@ use Rattle.std.specs.Prelude.{All, Vec}
 use Rattle.std.specs.Global.{Global}
 use Rattle.std.proofs.lemmas.List.Elements.{All-nil, All-cons, All-head, All-tail}
 use Rattle.fdr.specs.Tasks.{FiniteDomainTask}
-use Rattle.patterns.specs.Patterns.{IsPattern, ArePatterns}
+use Rattle.pdb_patterns.specs.Patterns.{IsPattern, ArePatterns}
 
 pub from_map : {X Y : Type 0} (P : Y → Type 0) (f : X → Y) (xs : List X) → All P (map f xs) → All (λ x. P (f x)) xs
 from_map P f [] all = All-nil (λ x. P (f x))

@@ -7,9 +7,9 @@ use Rattle.std.proofs.lemmas.List.{map-append, get_or_past}
 use Rattle.std.proofs.lemmas.List.Elements.{All-nil, All-cons, All-append}
 use Rattle.std.proofs.lemmas.Option.{slice_get_past}
 use Rattle.fdr.specs.Tasks.{FiniteDomainTask, cost_of, operator_cost}
-use Rattle.certificates.specs.Certificates.{Table}
+use Rattle.cert_value.specs.Certificates.{Table}
 use Rattle.checker_clauses.specs.Clauses.{table_of, share_of}
-use Rattle.walks.specs.Walks.{HasDistances, IsPartition}
+use Rattle.pdb_walks.specs.Walks.{HasDistances, IsPartition}
 use Rattle.scp.specs.ColumnTables.{ColumnTable}
 use Rattle.scp.specs.Partitions.{IsMadeFrom, IsNextTable, left_after}
 use Rattle.scp.proofs.SameColumns.{IsOf}

@@ -10,7 +10,7 @@ use Rattle.cost.specs.Distances.{Distance, Finite, Infinite, ◌+ᵈ◌, larger,
 use Rattle.fdr.specs.Tasks.{FiniteDomainTask}
 use Rattle.abstraction.specs.Abstractions.{value_at}
 use Rattle.abstraction.specs.Columns as spec
-use Rattle.certificates.specs.Certificates.{Table}
+use Rattle.cert_value.specs.Certificates.{Table}
 use Rattle.checker_clauses.specs.Clauses.{has_form, table_of, heuristic_of}
 use Rattle.cert_text.specs.Lawful.{IsTable, IsColumn, AreColumns}
 use Rattle.scp.specs.ColumnTables.{ColumnTable, tables_of}

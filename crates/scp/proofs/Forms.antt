@@ -9,10 +9,10 @@ use Rattle.std.proofs.lemmas.List.Elements.{All-head, All-tail}
 use Rattle.cost.specs.Distances.{Distance, IsWithin}
 use Rattle.fdr.specs.Tasks.{FiniteDomainTask, ranges}
 use Rattle.abstraction.specs.Projections.{size_of}
-use Rattle.certificates.specs.declared.table.Share.{Share}
+use Rattle.cert_value.specs.declared.table.Share.{Share}
 use Rattle.checker_clauses.specs.Clauses.{is_increasing, has_form}
 use Rattle.cert_text.specs.Lawful.{IsShort, IsIncreasing, AreShares, IsTable}
-use Rattle.patterns.specs.Patterns.{IsPattern}
+use Rattle.pdb_patterns.specs.Patterns.{IsPattern}
 
 pub by_recursion : {X : Type 0} (P : X → Type 0) (xs : List X) → All P xs → AllByRecursion P xs
 by_recursion P [] all = tt

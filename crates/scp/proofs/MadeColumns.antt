@@ -10,9 +10,9 @@ use Rattle.abstraction.specs.Abstractions as abstraction
 use Rattle.abstraction.specs.Columns.{IsColumn}
 use Rattle.abstraction.specs.Projections.{AllExist}
 use Rattle.abstraction.specs.ProjectionLaws.{projection_abstracts}
-use Rattle.certificates.specs.Certificates.{Table}
+use Rattle.cert_value.specs.Certificates.{Table}
 use Rattle.checker_clauses.specs.Clauses.{has_form, table_of}
-use Rattle.walks.proofs.Saturation.{partition_column}
+use Rattle.pdb_walks.proofs.Saturation.{partition_column}
 use Rattle.scp.specs.ColumnTables.{ColumnTable, on_projection}
 use Rattle.scp.specs.Partitions.{IsMadeFrom}
 use Rattle.scp.proofs.SameColumns.{IsOf, same_tables}

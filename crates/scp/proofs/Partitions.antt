@@ -1,7 +1,7 @@
 -- One more table in a column.
 use Rattle.std.proofs.Common.{◌≡◌, ℕ, ◌-◌, List, [], ◌∷◌, ◌++◌, refl}
 use Rattle.abstraction.specs.Abstractions.{Table}
-use Rattle.walks.specs.Walks.{HasDistances, IsSaturated, IsPartition}
+use Rattle.pdb_walks.specs.Walks.{HasDistances, IsSaturated, IsPartition}
 use Rattle.scp.specs.Partitions.{left_after}
 
 pub partition_longer : (left : ℕ → ℕ) (ts : List Table) (t : Table) → IsPartition left ts → HasDistances t (left_after left ts) → IsSaturated t → IsPartition left (ts ++ t ∷ [])

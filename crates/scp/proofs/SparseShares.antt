@@ -4,7 +4,7 @@ use Rattle.std.specs.Prelude.{slice_index}
 use Rattle.std.specs.List.{AllByRecursion}
 use Rattle.std.proofs.lemmas.Bool.{cases_lt}
 use Rattle.std.proofs.lemmas.List.{get_or_past}
-use Rattle.certificates.specs.declared.table.Share.{Share}
+use Rattle.cert_value.specs.declared.table.Share.{Share}
 use Rattle.checker_clauses.specs.Clauses.{share_of}
 use Rattle.cert_text.specs.Lawful.{IsShare, IsIncreasing, AreShares}
 

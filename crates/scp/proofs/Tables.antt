@@ -6,10 +6,10 @@ use Rattle.fdr.specs.Tasks.{FiniteDomainTask, ranges, IsTask}
 use Rattle.abstraction.specs.Abstractions as abstraction
 use Rattle.abstraction.specs.Projections.{projection, AllExist}
 use Rattle.abstraction.specs.ProjectionLaws.{projection_abstracts}
-use Rattle.certificates.specs.declared.table.Share.{Share}
+use Rattle.cert_value.specs.declared.table.Share.{Share}
 use Rattle.checker_clauses.specs.Clauses.{share_of}
-use Rattle.walks.specs.Walks.{AreDistances, IsGreatestFall, IsDistanceFrom, value_in}
-use Rattle.walks.proofs.Saturation.{distances_consistent, saturated_below}
+use Rattle.pdb_walks.specs.Walks.{AreDistances, IsGreatestFall, IsDistanceFrom, value_in}
+use Rattle.pdb_walks.proofs.Saturation.{distances_consistent, saturated_below}
 use Rattle.scp.specs.Partitions.{IsNextTable}
 
 value_is : (values : List Distance) (i : ℕ) → value_in values i ≡ slice_index_or values i Infinite

@@ -4,10 +4,10 @@ use Rattle.std.specs.Prelude.{◌≡◌, ℕ, ◌-◌, true, List, [], ◌∷◌
 use Rattle.fdr.specs.Tasks.{FiniteDomainTask, cost_of}
 use Rattle.abstraction.specs.Abstractions as abstraction
 use Rattle.abstraction.specs.Columns.{IsColumn}
-use Rattle.certificates.specs.Certificates.{Table}
+use Rattle.cert_value.specs.Certificates.{Table}
 use Rattle.checker_clauses.specs.Clauses.{table_of, has_form}
 use Rattle.cert_text.specs.Lawful.{AreColumns}
-use Rattle.walks.specs.Walks.{HasDistances, IsSaturated, IsPartition}
+use Rattle.pdb_walks.specs.Walks.{HasDistances, IsSaturated, IsPartition}
 
 -- the column has a table for each of the given patterns, made in turn from the remaining costs
 pub record IsMadeFrom (task : FiniteDomainTask) (given : List (List ℕ)) (column : List Table) : Type 0 where

@@ -3,8 +3,8 @@ use Rattle.std.specs.Prelude.{ℕ, ◌≤◌, ◌^◌, List, [], ◌∷◌}
 use Rattle.std.specs.List.{AllByRecursion}
 use native.Mathlib.Bridge.{le_prop}
 use Rattle.cost.specs.Distances.{Distance, Finite, Infinite, IsWithin}
-use Rattle.certificates.specs.declared.table.Share.{Share}
-use Rattle.certificates.specs.Certificates.{Table}
+use Rattle.cert_value.specs.declared.table.Share.{Share}
+use Rattle.cert_value.specs.Certificates.{Table}
 use Rattle.cert_text.specs.Lawful.{IsShort, IsIncreasing, IsShare, IsTable, IsColumn, AreColumns}
 
 below_prop : (m n : ℕ) → IsProp (m ≤ n)

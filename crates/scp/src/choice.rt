@@ -1,11 +1,11 @@
 //! The choice of columns.
 
 ghost use Rattle.std.specs.Prelude.{◌≡◌, ◌≢◌, ◌<◌, ◌≤◌, ◌^◌, [], length, All, IfOk};
-ghost use Rattle.patterns.specs.Patterns.{IsPattern};
+ghost use Rattle.pdb_patterns.specs.Patterns.{IsPattern};
 
 use crate::columns::{Columns, make_columns};
 use fdr::FdrTask;
-use patterns::choose_patterns;
+use pdb_patterns::choose_patterns;
 use std::alloc::{AllocError, Global};
 
 /// The greatest number of columns that `choose_columns` makes.

@@ -2,10 +2,10 @@
 
 ghost use Rattle.std.specs.Prelude.{◌≡◌, ◌≢◌, ℕ, ◌<◌, ◌≤◌, ◌-◌, ◌^◌, [], length, map, slice_index, All, IfOk, OnOk};
 ghost use Rattle.fdr.specs.Tasks.{cost_of};
-ghost use Rattle.walks.specs.Walks.{AreDistances, IsGreatestFall, value_in};
+ghost use Rattle.pdb_walks.specs.Walks.{AreDistances, IsGreatestFall, value_in};
 ghost use Rattle.cost.specs.Distances.{IsWithin};
 ghost use Rattle.abstraction.specs.Projections.{projection as projected};
-ghost use Rattle.patterns.specs.Patterns.{IsPattern};
+ghost use Rattle.pdb_patterns.specs.Patterns.{IsPattern};
 ghost use Rattle.scp.specs.ColumnTables.{on_projection, tables_of};
 ghost use Rattle.checker_clauses.specs.Clauses.{share_of};
 ghost use Rattle.scp.specs.Partitions.{IsMadeFrom, IsNextTable};
@@ -13,10 +13,10 @@ ghost use Rattle.scp.specs.Partitions.{IsMadeFrom, IsNextTable};
 use crate::shares::shares_of;
 use crate::table::ColumnTable;
 use abstraction::{Projection, ProjectionFault};
-use certificates::{PatternTable, Values};
+use cert_value::{PatternTable, Values};
 use fdr::FdrTask;
 use pdb::{distances, saturate};
-use regression::BackwardProjection;
+use pdb_regression::BackwardProjection;
 use std::alloc::{AllocError, Global};
 
 /// The projection of the task to a pattern. Fails only if allocation fails.

@@ -6,7 +6,7 @@ ghost use Rattle.cost.specs.Distances.{Finite, ◌≤ᵈ◌, IsWithin};
 ghost use Rattle.fdr.specs.Tasks.{ranges, IsState, LeadsToGoal, plan_cost};
 ghost use Rattle.abstraction.specs.Columns as spec;
 ghost use Rattle.checker_clauses.specs.Clauses.{heuristic_of};
-ghost use Rattle.patterns.specs.Patterns.{IsPattern};
+ghost use Rattle.pdb_patterns.specs.Patterns.{IsPattern};
 ghost use Rattle.scp.specs.ColumnTables.{on_projection};
 ghost use Rattle.scp.specs.Partitions.{AreCostPartitioned, IsMadeFrom, patterns_of};
 

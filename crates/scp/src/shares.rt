@@ -4,7 +4,7 @@ ghost use Rattle.std.specs.Prelude.{◌≡◌, ℕ, ◌<◌, ◌^◌, length, sl
 ghost use Rattle.checker_clauses.specs.Clauses.{share_of};
 ghost use Rattle.cert_text.specs.Lawful.{AreShares};
 
-use certificates::Share;
+use cert_value::Share;
 use std::alloc::{AllocError, Global};
 
 #[tactic(auto, using(crate::proofs::SparseShares::none_yet, crate::proofs::SparseShares::with_share, crate::proofs::SparseShares::without_share, crate::proofs::SparseShares::all_shares, crate::proofs::SparseShares::all_same))]

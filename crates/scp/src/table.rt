@@ -4,13 +4,13 @@ ghost use Rattle.std.specs.Prelude.{◌≡◌, ◌^◌, true};
 ghost use Rattle.cost.specs.Distances.{IsWithin};
 ghost use Rattle.fdr.specs.Tasks.{ranges, IsState};
 ghost use Rattle.abstraction.specs.Abstractions.{value_at};
-ghost use Rattle.certificates.specs.Views as kept;
+ghost use Rattle.cert_value.specs.Views as kept;
 ghost use Rattle.checker_clauses.specs.Clauses.{table_of, has_form};
 ghost use Rattle.cert_text.specs.Lawful.{IsTable};
 ghost use Rattle.scp.specs.TableProps.{table_prop};
 
 use abstraction::{Abstraction, Projection};
-use certificates::PatternTable;
+use cert_value::PatternTable;
 use cost::Dist;
 use std::marker::Model;
 
@@ -25,7 +25,7 @@ pub struct ColumnTable<'a> {
 }
 
 impl<'a> Model for ColumnTable<'a> {
-    ghost use Rattle.certificates.specs.Views as kept;
+    ghost use Rattle.cert_value.specs.Views as kept;
     ghost use Rattle.scp.specs.ColumnTables as spec;
 
     ghost Value = { spec.ColumnTable };

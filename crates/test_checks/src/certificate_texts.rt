@@ -1,7 +1,7 @@
 //! Texts of certificates: which are refused, and where.
 
 use crate::rows::{Row, gives, hold};
-use program_runs::texts::{ROAD_CERTIFICATE, ROAD_SAS};
+use optplan_runs::texts::{ROAD_CERTIFICATE, ROAD_SAS};
 use std::test::Fail;
 
 const ROWS: &[Row] = &[

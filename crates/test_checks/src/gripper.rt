@@ -1,7 +1,7 @@
 //! A gripper with one hand, which carries two balls from one room to another.
 
 use crate::planning_rows::translates;
-use program_runs::texts::{GRIP_DOMAIN, GRIP_PROBLEM};
+use optplan_runs::texts::{GRIP_DOMAIN, GRIP_PROBLEM};
 use std::test::Fail;
 
 #[test]

@@ -1,7 +1,7 @@
 //! A road from a by b to c.
 
 use crate::planning_rows::{answers, hold, translates};
-use program_runs::texts::{ROAD_DOMAIN, ROAD_PROBLEM, ROAD_PROBLEM_AT_ITS_GOAL};
+use optplan_runs::texts::{ROAD_DOMAIN, ROAD_PROBLEM, ROAD_PROBLEM_AT_ITS_GOAL};
 use std::test::Fail;
 
 #[test]

@@ -1,6 +1,6 @@
 //! Rows of texts and answers.
 
-use program_runs::{Outcome, RunFault, run_over, wanted};
+use optplan_runs::{Outcome, RunFault, run_over, wanted};
 use std::alloc::{AllocError, Global};
 use std::process::Abort;
 use std::test::Fail;

@@ -1,7 +1,7 @@
 //! Small tasks: a door, lengths of roads, actions that contradict themselves, and negated goals.
 
 use crate::planning_rows::{answers, translates};
-use program_runs::texts::{DOOR_DOMAIN, DRIVE_DOMAIN, DRIVE_PROBLEM};
+use optplan_runs::texts::{DOOR_DOMAIN, DRIVE_DOMAIN, DRIVE_PROBLEM};
 use std::test::Fail;
 
 const OPEN_DOOR: &str = "(define (problem p) (:objects d) (:init) (:goal (in)))";

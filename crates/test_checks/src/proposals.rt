@@ -2,7 +2,7 @@
 //! candidates of one part, then 435 of two, then those of three, in order: candidate 4,096 is that of predicates 16, 19
 //! and 20, and the next one is that of 16, 19 and 21.
 
-use program_runs::run_over;
+use optplan_runs::run_over;
 use std::alloc::{AllocError, Global};
 use std::process::Abort;
 use std::test::Fail;

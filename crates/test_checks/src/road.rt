@@ -1,7 +1,7 @@
 //! A way from a over b to c: certificates with closed states only, and with tables.
 
 use crate::rows::{Row, hold};
-use program_runs::texts::{ROAD_CERTIFICATE, ROAD_SAS};
+use optplan_runs::texts::{ROAD_CERTIFICATE, ROAD_SAS};
 use std::test::Fail;
 
 const CLOSED_ROWS: &[Row] = &[

@@ -1,6 +1,6 @@
 //! Rows of edits of two texts, and their answers.
 
-use program_runs::{checked, wanted};
+use optplan_runs::{checked, wanted};
 use std::alloc::{AllocError, Global};
 use std::process::Abort;
 use std::test::Fail;

@@ -1,7 +1,7 @@
 //! Texts of finite-domain tasks: which are refused, and where.
 
 use crate::rows::{Row, edited, gives, hold};
-use program_runs::texts::{ROAD_CERTIFICATE, ROAD_SAS};
+use optplan_runs::texts::{ROAD_CERTIFICATE, ROAD_SAS};
 use std::process::Abort;
 use std::test::Fail;
 

@@ -1,7 +1,7 @@
 //! Answers, and the files that are written for them.
 
 use crate::runs::{puts, solved};
-use program_runs::texts::{
+use optplan_runs::texts::{
     ROAD_DOMAIN, ROAD_PROBLEM, ROAD_PROBLEM_AT_ITS_GOAL, ROAD_PROBLEM_WITHOUT_WAY, ROAD_SAS,
 };
 use std::test::Fail;

@@ -1,7 +1,7 @@
 //! Help, words that are no command, and files with unusual names.
 
-use program_runs::run_over;
-use program_runs::texts::{ROAD_CERTIFICATE, ROAD_DOMAIN, ROAD_PROBLEM, ROAD_SAS};
+use optplan_runs::run_over;
+use optplan_runs::texts::{ROAD_CERTIFICATE, ROAD_DOMAIN, ROAD_PROBLEM, ROAD_SAS};
 use std::process::Abort;
 use std::test::Fail;
 

@@ -2,7 +2,7 @@
 
 use cert_text::CertFault;
 use fdr::TaskLimit;
-use replies::{Fault, FileWord};
+use optplan_replies::{Fault, FileWord};
 use sasfile::SasFault;
 use std::test::Fail;
 

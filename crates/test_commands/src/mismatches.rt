@@ -1,7 +1,7 @@
 //! A row with a wrong answer is found, and a row with the right one is not.
 
-use program_runs::texts::{ROAD_DOMAIN, ROAD_PROBLEM};
-use program_runs::{answer_mismatch, domain_mismatches, plan_mismatches, problem_mismatches};
+use optplan_runs::texts::{ROAD_DOMAIN, ROAD_PROBLEM};
+use optplan_runs::{answer_mismatch, domain_mismatches, plan_mismatches, problem_mismatches};
 use std::test::Fail;
 
 #[test]

@@ -1,7 +1,7 @@
 //! Options that are refused.
 
 use crate::runs::solved;
-use program_runs::texts::{ROAD_DOMAIN, ROAD_PROBLEM};
+use optplan_runs::texts::{ROAD_DOMAIN, ROAD_PROBLEM};
 use std::test::Fail;
 
 /// Options after `solve d p`, and a text that the report of them has.

@@ -1,8 +1,8 @@
 //! Runs of a solve command over files in memory, and their expected outcomes.
 
-use command::run;
-use device::{MemoryDevice, Recorded};
-use program_runs::{CALLS_OF_A_RUN, Outcome, program_words, recorded};
+use optplan_command::run;
+use optplan_device::{MemoryDevice, Recorded};
+use optplan_runs::{CALLS_OF_A_RUN, Outcome, program_words, recorded};
 use std::alloc::{AllocError, Global};
 use std::process::Abort;
 use std::test::Fail;

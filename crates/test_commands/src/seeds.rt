@@ -4,7 +4,7 @@
 //! each place by the published words of SplitMix64.
 
 use crate::runs::puts;
-use program_runs::texts::SQUARE_SAS;
+use optplan_runs::texts::SQUARE_SAS;
 use std::process::Abort;
 use std::test::Fail;
 

@@ -1,10 +1,10 @@
 //! A device of which one call fails.
 
 use crate::runs::written_names;
-use command::run;
-use device::DeviceFault;
-use program_runs::texts::{ROAD_DOMAIN, ROAD_PROBLEM, ROAD_PROBLEM_WITHOUT_WAY, ROAD_SAS};
-use program_runs::{FaultyDevice, program_words, recorded};
+use optplan_command::run;
+use optplan_device::DeviceFault;
+use optplan_runs::texts::{ROAD_DOMAIN, ROAD_PROBLEM, ROAD_PROBLEM_WITHOUT_WAY, ROAD_SAS};
+use optplan_runs::{FaultyDevice, program_words, recorded};
 use std::process::Abort;
 use std::test::Fail;
 

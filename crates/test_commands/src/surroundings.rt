@@ -1,9 +1,9 @@
 //! Files that do not exist, and a device that fails.
 
-use command::run;
-use device::{DeviceFault, MemoryDevice};
-use program_runs::texts::{ROAD_CERTIFICATE, ROAD_DOMAIN, ROAD_PROBLEM, ROAD_SAS};
-use program_runs::{FaultyDevice, Outcome, program_words, recorded, run_over};
+use optplan_command::run;
+use optplan_device::{DeviceFault, MemoryDevice};
+use optplan_runs::texts::{ROAD_CERTIFICATE, ROAD_DOMAIN, ROAD_PROBLEM, ROAD_SAS};
+use optplan_runs::{FaultyDevice, Outcome, program_words, recorded, run_over};
 use std::alloc::{AllocError, Global};
 use std::process::Abort;
 use std::test::Fail;

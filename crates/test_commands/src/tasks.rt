@@ -1,7 +1,7 @@
 //! Small tasks, with what is printed for them, worked out by hand.
 
 use crate::runs::{puts, solved};
-use program_runs::texts::{
+use optplan_runs::texts::{
     DOOR_DOMAIN, DRIVE_DOMAIN, DRIVE_PROBLEM, GRIP_DOMAIN, GRIP_PROBLEM, ROAD_DOMAIN, ROAD_SAS,
 };
 use std::process::Abort;

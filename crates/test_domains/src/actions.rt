@@ -1,6 +1,6 @@
 //! Faults of actions: their parts, parameters, conditions and effects.
 
-use program_runs::{answer_mismatch, domain_mismatches, problem_mismatches};
+use optplan_runs::{answer_mismatch, domain_mismatches, problem_mismatches};
 use std::process::Abort;
 use std::test::Fail;
 

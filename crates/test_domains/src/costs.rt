@@ -1,6 +1,6 @@
 //! Faults of increases, of the numbers in them and of their sums.
 
-use program_runs::{answer_mismatch, domain_mismatches, problem_mismatches};
+use optplan_runs::{answer_mismatch, domain_mismatches, problem_mismatches};
 use std::test::Fail;
 
 const INCREASE_ROWS: &[(&str, &str)] = &[

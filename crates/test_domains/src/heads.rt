@@ -1,7 +1,7 @@
 //! The heads of a domain and a problem: `define`, their names and their sections.
 
-use program_runs::texts::ROAD_PROBLEM;
-use program_runs::{domain_mismatches, problem_mismatches};
+use optplan_runs::texts::ROAD_PROBLEM;
+use optplan_runs::{domain_mismatches, problem_mismatches};
 use std::test::Fail;
 
 const DEFINE_ROWS: &[(&str, &str)] = &[

@@ -1,6 +1,6 @@
 //! Faults of predicates and functions.
 
-use program_runs::domain_mismatches;
+use optplan_runs::domain_mismatches;
 use std::test::Fail;
 
 const PREDICATE_ROWS: &[(&str, &str)] = &[

@@ -1,6 +1,6 @@
 //! Faults of types, constants and objects.
 
-use program_runs::{domain_mismatches, problem_mismatches};
+use optplan_runs::{domain_mismatches, problem_mismatches};
 use std::test::Fail;
 
 const LIST_ROWS: &[(&str, &str)] = &[

@@ -1,6 +1,6 @@
 //! Names with their numbers.
 
-use names::Names;
+use pddl_names::Names;
 use std::test::*;
 
 #[test]

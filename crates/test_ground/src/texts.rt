@@ -1,13 +1,13 @@
 //! Groundings as texts: an atom or an action is its name and those of its objects, and two of them are separated by `|`.
 
 ghost use Rattle.std.specs.Prelude.{IsTrue};
-ghost use Rattle.planning.specs.Planning.{has_small_costs};
+ghost use Rattle.pddl_task.specs.Planning.{has_small_costs};
 
-use atoms::Atoms;
 use ground::{GroundFault, OpenFault, actions_over, ground, is_closed};
-use names::Names;
+use ground_atoms::Atoms;
 use pddl::read_task;
-use planning::{GroundAction, GroundAtom, Task};
+use pddl_names::Names;
+use pddl_task::{GroundAction, GroundAtom, Task};
 use std::alloc::{AllocError, Global};
 
 /// Appends the name of that number and those of the objects, after a `|` unless the text is empty.

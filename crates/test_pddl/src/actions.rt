@@ -1,9 +1,9 @@
 //! Actions of a domain.
 
-use names::Names;
 use pddl_action::{Actions, Declarations, read_actions};
+use pddl_names::Names;
 use pddl_syntax::{Fault, FaultKind, Heads, Types, all_sections};
-use planning::{Condition, Increase, Term};
+use pddl_task::{Condition, Increase, Term};
 use sexp::{Tree, read};
 use std::alloc::{AllocError, Global};
 use std::test::*;

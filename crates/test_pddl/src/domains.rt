@@ -1,7 +1,7 @@
 //! Sections of a domain.
 
-use names::Names;
 use pddl_domain::{Objects, functions_section, objects_section, predicates_section, types_section};
+use pddl_names::Names;
 use pddl_syntax::{Fault, FaultKind, Heads, LimitedTable, Types};
 use sexp::{Tree, read};
 use std::alloc::{AllocError, Global};

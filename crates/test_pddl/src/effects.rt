@@ -1,10 +1,10 @@
 //! Conditions and effects.
 
-use names::Names;
 use pddl_effect::{Effects, Places, add_places, read_condition, read_effect};
+use pddl_names::Names;
 use pddl_syntax::{Fault, FaultKind, Heads};
+use pddl_task::{Condition, Increase, Term};
 use pddl_terms::{Scope, Setting};
-use planning::{Condition, Increase, Term};
 use sexp::read;
 use std::alloc::{AllocError, Global};
 use std::test::*;

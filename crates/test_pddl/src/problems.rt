@@ -1,10 +1,10 @@
 //! Sections of a problem.
 
-use names::Names;
+use pddl_names::Names;
 use pddl_problem::{Initial, goal_section, initial_section, metric_section};
 use pddl_syntax::{Fault, FaultKind, Heads};
+use pddl_task::{GroundAtom, GroundLiteral};
 use pddl_terms::Scope;
-use planning::{GroundAtom, GroundLiteral};
 use sexp::{Tree, read};
 use std::alloc::{AllocError, Global};
 use std::process::Abort;

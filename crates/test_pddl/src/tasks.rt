@@ -2,7 +2,7 @@
 
 use pddl::{PddlFault, read_task};
 use pddl_syntax::{Fault, FaultKind, PlanningFile};
-use planning::Task;
+use pddl_task::Task;
 use sexp::SexpFault;
 use std::process::Abort;
 use std::test::*;

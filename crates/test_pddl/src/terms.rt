@@ -1,9 +1,9 @@
 //! Terms, atoms and the starts of conditions and effects.
 
-use names::Names;
+use pddl_names::Names;
 use pddl_syntax::{Fault, FaultKind, Heads};
+use pddl_task::{LiftedAtom, Term};
 use pddl_terms::{Beginning, Scope, Setting, beginning_of, lifted, term, terms};
-use planning::{LiftedAtom, Term};
 use sexp::{Tree, read};
 use std::alloc::{AllocError, Global};
 use std::test::*;

@@ -1,7 +1,7 @@
 //! Cells to be visited, and a maze.
 
 use crate::rows::{costs, costs_by};
-use planner::Options;
+use optplan_pddl::Options;
 use std::test::Fail;
 
 const VISIT_ALL: &str = "(define (domain visit-all)

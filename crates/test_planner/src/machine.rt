@@ -5,11 +5,11 @@ use checker::{Verdict, check_sas};
 use cost::Dist;
 use netcore::WorldStep;
 use netcore::WorldStep::Expand;
-use planner::{Options, PlanningAnswer, simulate, solve_steps};
-use program_runs::texts::{
+use optplan_pddl::{Options, PlanningAnswer, simulate, solve_steps};
+use optplan_runs::texts::{
     DRIVE_DOMAIN, DRIVE_PROBLEM, GRIP_DOMAIN, GRIP_PROBLEM, ROAD_DOMAIN, ROAD_PROBLEM, ROAD_SAS,
 };
-use solver::{SasAnswer, solve_sas_steps};
+use optplan_sas::{SasAnswer, solve_sas_steps};
 use std::process::Abort;
 use std::test::Fail;
 

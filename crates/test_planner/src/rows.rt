@@ -1,14 +1,14 @@
 //! The checks of each task.
 
 ghost use Rattle.std.specs.Prelude.{◌≤◌, ◌^◌, IsTrue};
-ghost use Rattle.planning.specs.Planning.{has_small_costs};
+ghost use Rattle.pddl_task.specs.Planning.{has_small_costs};
 ghost use Rattle.validate.specs.Verdicts.{CostsAtMost};
 
+use checker_pddl::{PlanningVerdict, check_pddl};
 use cost::Dist;
+use optplan_pddl::{Options, PlanningAnswer, PlanningSolution, simulate};
 use pddl::read_task;
-use pddl_checker::{PlanningVerdict, check_pddl};
-use planner::{Options, PlanningAnswer, PlanningSolution, simulate};
-use planning::Task;
+use pddl_task::Task;
 use std::process::Abort;
 use std::test::Fail;
 use validate::{Plan, Verdict, read_plan, validate};

@@ -1,6 +1,6 @@
 //! Faults of initial states.
 
-use program_runs::problem_mismatches;
+use optplan_runs::problem_mismatches;
 use std::test::Fail;
 
 const PREDICATE: &str = "(define (domain x) (:predicates (p)))";

@@ -1,7 +1,7 @@
 //! The greatest texts and tables, and those with one item more.
 
-use program_runs::texts::{ROAD_DOMAIN, ROAD_PROBLEM};
-use program_runs::{answer_mismatch, domain_mismatches, problem_mismatches};
+use optplan_runs::texts::{ROAD_DOMAIN, ROAD_PROBLEM};
+use optplan_runs::{answer_mismatch, domain_mismatches, problem_mismatches};
 use std::alloc::{AllocError, Global};
 use std::process::Abort;
 use std::test::Fail;

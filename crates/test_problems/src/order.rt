@@ -1,6 +1,6 @@
 //! The first fault of texts with several faults.
 
-use program_runs::{answer_mismatch, domain_mismatches, plan_mismatches, problem_mismatches};
+use optplan_runs::{answer_mismatch, domain_mismatches, plan_mismatches, problem_mismatches};
 use std::test::Fail;
 
 const SECTION_ROWS: &[(&str, &str)] = &[

@@ -1,7 +1,7 @@
 //! Plan texts: what is a step, and what is refused.
 
-use program_runs::plan_mismatches;
-use program_runs::texts::{ROAD_DOMAIN, ROAD_PROBLEM};
+use optplan_runs::plan_mismatches;
+use optplan_runs::texts::{ROAD_DOMAIN, ROAD_PROBLEM};
 use std::test::Fail;
 
 const ROWS: &[(&str, &str, &str)] = &[

@@ -1,6 +1,6 @@
 //! Faults of the three texts as trees.
 
-use program_runs::{answer_mismatch, domain_mismatches, plan_mismatches, problem_mismatches};
+use optplan_runs::{answer_mismatch, domain_mismatches, plan_mismatches, problem_mismatches};
 use std::test::Fail;
 
 const DOMAIN_ROWS: &[(&str, &str)] = &[

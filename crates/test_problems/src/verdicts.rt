@@ -1,10 +1,10 @@
 //! Verdicts on plans.
 
-use program_runs::texts::{
+use optplan_runs::texts::{
     DOOR_DOMAIN, DRIVE_DOMAIN, DRIVE_PROBLEM, DRIVE_PROBLEM_WITHOUT_A_LENGTH, GRIP_DOMAIN,
     GRIP_PROBLEM, NOOP_PROBLEM, ROAD_DOMAIN, ROAD_PROBLEM, ROAD_PROBLEM_AT_ITS_GOAL, noop_domain,
 };
-use program_runs::{answer_mismatch, plan_mismatches};
+use optplan_runs::{answer_mismatch, plan_mismatches};
 use std::test::Fail;
 
 const ROAD_PLANS: &[(&str, &str, &str)] = &[

@@ -1,11 +1,11 @@
 //! The operators that apply in states of small tasks, worked out by hand.
 
 use fdr::FdrTask;
-use small_tasks::{fact, operator, task};
+use fdr_successors::SuccessorGenerator;
 use std::alloc::Global;
 use std::process::Abort;
 use std::test::Fail;
-use successor_generator::SuccessorGenerator;
+use test_tasks::{fact, operator, task};
 
 /// Checks that these operators apply, whatever the vector holds before.
 fn applies(

@@ -7,10 +7,10 @@ ghost use Rattle.closed.specs.Tables.{arrival};
 use closed::{ClosedTable, Entry, Message, Outcome, Parent};
 use openlist::Rank;
 use packed::{Layout, Plain, StateForm};
-use small_tasks::states;
 use std::alloc::Global;
 use std::process::Abort;
 use std::test::Fail;
+use test_tasks::states;
 
 fn rank(cost: u64, steps: u64) -> Rank {
     Rank { cost, steps }

@@ -3,10 +3,10 @@
 ghost use Rattle.fdr.specs.Tasks.{IsState};
 
 use packed::{Layout, Plain, StateForm};
-use small_tasks::states;
 use std::alloc::Global;
 use std::process::Abort;
 use std::test::Fail;
+use test_tasks::states;
 
 /// Checks the form of one state, which is then made that of another.
 fn keeps_states<F: StateForm + Drop>(

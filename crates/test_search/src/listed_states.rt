@@ -1,7 +1,7 @@
 //! Listed states that are looked up by their values.
 
-use certificates::ClosedList;
-use closed_index::ClosedIndex;
+use cert_value::ClosedList;
+use checker_states::ClosedIndex;
 use std::test::*;
 
 #[test]

@@ -5,12 +5,12 @@ ghost use Rattle.std.specs.Prelude.{◌≡◌, length};
 use cost::Dist;
 use fdr::FdrTask;
 use owner::{Owner, OwnerFault, Parent, Rank, Space};
+use packed_spread::{ByValue, Spread};
 use scp::make_columns;
-use small_tasks::walk;
-use spread::{ByValue, Spread};
 use std::alloc::{AllocError, Global};
 use std::process::Abort;
 use std::test::Fail;
+use test_tasks::walk;
 
 /// From 0 to 1 and to 2, from 1 to 2, and from 2 and 4 to 3, which is the goal.
 const STEPS: &[(u32, u32, u64)] = &[(0, 1, 1), (0, 2, 5), (1, 2, 1), (2, 3, 1), (4, 3, 1)];

@@ -7,10 +7,10 @@ ghost use Rattle.links.specs.Ranks.{HasSmallRank};
 use links::{In, LinkTable, Message, Out, link, match_up};
 use openlist::Rank;
 use packed::{Layout, Plain, StateForm};
-use small_tasks::states;
 use std::alloc::Global;
 use std::process::Abort;
 use std::test::Fail;
+use test_tasks::states;
 
 /// The message of the one state of a variable with one value, at this cost.
 fn message(rt: &impl Abort, alloc: Global, cost: u64) -> Result<Message, Fail>

@@ -2,15 +2,15 @@
 
 use cert::cert_of;
 use cert_text::write_cert;
-use certificates::CertificateKind;
+use cert_value::CertificateKind;
 use extract::plan_of;
 use fdr::FdrTask;
 use netcore::WorldStep::{Deliver, Expand, Look, Offer, Rest, Send};
 use netcore::{Joined, SearchAnswer, World, WorldStep};
 use owner::Space;
+use packed_spread::{ByValue, Spread};
 use sasfile::read_sas;
 use scp::make_columns;
-use spread::{ByValue, Spread};
 use std::alloc::{AllocError, Global};
 use std::process::Abort;
 use std::test::Fail;

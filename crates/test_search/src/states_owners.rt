@@ -2,11 +2,11 @@
 
 ghost use Rattle.fdr.specs.Tasks.{IsState};
 
-use small_tasks::states;
-use spread::{ByValue, Spread, Zobrist};
+use packed_spread::{ByValue, Spread, Zobrist};
 use std::alloc::Global;
 use std::process::Abort;
 use std::test::Fail;
+use test_tasks::states;
 
 /// The owner of the state among seven.
 fn owner_of_seven<S: Spread>(spread: &S, state: &[u32]) -> usize

@@ -1,7 +1,7 @@
 //! Costs above the greatest total, 2^62, are refused.
 
 ghost use Rattle.std.specs.Prelude.{IfOk};
-ghost use Rattle.spread.specs.Spreads.{value_owner};
+ghost use Rattle.packed_spread.specs.Spreads.{value_owner};
 ghost use Rattle.closed.specs.Tables.{message_of};
 ghost use Rattle.owner.specs.Spaces.{searched};
 ghost use Rattle.owner.specs.Owned.{IsMessageTo};
@@ -11,9 +11,9 @@ use cost::Dist;
 use fdr::FdrTask;
 use owner::{Message, Owner, OwnerFault, Parent, Rank, Space};
 use packed::{Plain, StateForm};
+use packed_spread::ByValue;
 use sasfile::read_sas;
 use scp::make_columns;
-use spread::ByValue;
 use std::alloc::Global;
 use std::process::Abort;
 use std::test::Fail;

@@ -3,12 +3,12 @@
 use fdr::FdrTask;
 use netcore::{World, WorldStep};
 use owner::Space;
+use packed_spread::{ByValue, Spread};
 use scp::make_columns;
-use small_tasks::walk;
-use spread::{ByValue, Spread};
 use std::alloc::{AllocError, Global};
 use std::process::Abort;
 use std::test::Fail;
+use test_tasks::walk;
 
 /// From 0 to 1 and back at no cost, and from 1 to 2, which is the goal.
 const STEPS: &[(u32, u32, u64)] = &[(0, 1, 0), (1, 0, 0), (1, 2, 1)];

@@ -3,7 +3,7 @@ use Rattle.std.proofs.Common.{◌≡◌, ℕ, ◌+◌, ◌-◌, ◌<◌, Bool, L
 use Rattle.std.proofs.lemmas.Bool.{ltb-true, lt-ltb}
 use Rattle.std.proofs.lemmas.Bool.Decides.{nat_tests}
 use Rattle.std.proofs.lemmas.List.{get_or_default}
-use Rattle.walks.specs.Entrances.{AreEntering}
+use Rattle.pdb_walks.specs.Entrances.{AreEntering}
 use Rattle.test_tables.specs.Stairs.{stairs, step_of}
 use Rattle.pdb.proofs.Expansion.{element_at}
 

@@ -1,15 +1,15 @@
 ghost use Rattle.checker_clauses.specs.Violations.{IsMet};
 
-use certificates::{Certificate, CertificateKind, ClosedList};
+use cert_value::{Certificate, CertificateKind, ClosedList};
 use checker_clauses::Violation;
-use closed_clauses::{Coverage, first_closed_violation, first_goal_violation};
+use checker_states::{Coverage, first_closed_violation, first_goal_violation};
+use checker_tables::first_table_violation;
 use cost::Dist;
 use fdr::FdrTask;
-use small_tasks::{fact, operator, task};
 use std::alloc::{AllocError, Global};
 use std::process::Abort;
 use std::test::*;
-use table_clauses::first_table_violation;
+use test_tasks::{fact, operator, task};
 
 const HUGE: u64 = 18_446_744_073_709_551_615;
 

@@ -3,10 +3,10 @@ ghost use Rattle.fdr.specs.Tasks.{ranges, IsState, is_goal_state};
 
 use abstraction::{Abstraction, Projection, ProjectionFault};
 use fdr::FdrTask;
-use small_tasks::{fact, is_increasing, is_state_of, operator, task};
 use std::alloc::Global;
 use std::process::Abort;
 use std::test::*;
+use test_tasks::{fact, is_increasing, is_state_of, operator, task};
 
 /// Whether the operators lead from the abstract state to these.
 fn has_row<A: Abstraction>(a: &A, state: usize, row: &[Option<usize>]) -> bool

@@ -3,8 +3,8 @@
 ghost use Rattle.std.specs.Prelude.{◌≡◌, ◌+◌, ◌^◌, ◌<◌, ◌≤◌, length};
 
 use abstraction::Abstraction;
+use pdb_walks::BackwardAbstraction;
 use std::alloc::AllocError;
-use walks::BackwardAbstraction;
 
 /// A staircase: each abstract state is a step, counted from 0 at the bottom. An operator that touches the states leads
 /// down by one more than its number, if there are that many steps below, and one that does not leads from each state to

@@ -1,14 +1,14 @@
 ghost use Rattle.std.specs.Prelude.{◌≡◌, IfOk};
 
-use certificates::{Certificate, CertificateKind, ClosedList, PatternTable, Share, Values};
+use cert_value::{Certificate, CertificateKind, ClosedList, PatternTable, Share, Values};
 use checker_clauses::Violation;
+use checker_tables::{Heuristic, first_share_violation, first_table_violation};
 use cost::Dist;
 use fdr::FdrTask;
-use small_tasks::{fact, is_state_of, operator, task};
 use std::alloc::Global;
 use std::process::Abort;
 use std::test::*;
-use table_clauses::{Heuristic, first_share_violation, first_table_violation};
+use test_tasks::{fact, is_state_of, operator, task};
 
 const INF: u64 = u64::MAX;
 

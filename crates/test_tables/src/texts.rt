@@ -2,9 +2,9 @@
 
 ghost use Rattle.std.specs.Prelude.{◌≤◌};
 
-use certificates::PatternTable;
+use cert_value::PatternTable;
 use fdr::FdrTask;
-use patterns::choose_patterns;
+use pdb_patterns::choose_patterns;
 use sasfile::read_sas;
 use scp::Columns;
 use std::alloc::{AllocError, Global};

@@ -1,6 +1,6 @@
 //! Values and states of a certificate.
 
-use certificates::{ClosedList, Values};
+use cert_value::{ClosedList, Values};
 use cost::Dist;
 use std::test::*;
 

@@ -1,7 +1,7 @@
 //! The text of a certificate.
 
 use cert_text::{CertFault, MAX_LENGTH, read_cert, write_cert};
-use certificates::{Certificate, CertificateKind, ClosedList, PatternTable, Share, Values};
+use cert_value::{Certificate, CertificateKind, ClosedList, PatternTable, Share, Values};
 use cost::Dist;
 use std::alloc::{AllocError, Global};
 use std::test::*;

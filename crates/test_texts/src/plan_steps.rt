@@ -1,6 +1,6 @@
 //! Steps of a plan, worked out by hand.
 
-use planning_plans::named_steps;
+use optplan_plans::named_steps;
 use sasfile::read_sas;
 use std::test::Fail;
 

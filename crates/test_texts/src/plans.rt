@@ -6,8 +6,8 @@ ghost use Rattle.indexmap.specs.IndexMap.{values};
 ghost use Rattle.validate.specs.LowCosts.{is_low_increase, are_few_and_low, has_low_values, has_low_costs};
 
 use indexmap::IndexMap;
-use names::Names;
-use planning::{
+use pddl_names::Names;
+use pddl_task::{
     ActionSchema, Condition, GroundAtom, GroundLiteral, Increase, LiftedAtom, LiftedEffect, Task,
     Term, Vocabulary,
 };

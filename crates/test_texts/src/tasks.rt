@@ -1,11 +1,11 @@
 //! Tasks, their atoms and their schemas.
 
 ghost use Rattle.std.specs.Prelude.{IsTrue};
-ghost use Rattle.planning.specs.Planning.{has_small_costs};
+ghost use Rattle.pddl_task.specs.Planning.{has_small_costs};
 
 use indexmap::IndexMap;
-use names::Names;
-use planning::{
+use pddl_names::Names;
+use pddl_task::{
     ActionSchema, Condition, GroundAtom, Increase, LiftedAtom, LiftedEffect, Task, Term, Vocabulary,
 };
 use smallvec::SmallVec;

@@ -3,8 +3,8 @@
 ghost use Rattle.std.specs.Prelude.{◌<◌, All};
 
 use fdr::FdrTask;
-use sas_writer::{sas_plan_text, write_sas};
 use sasfile::read_sas;
+use sasfile_writer::{sas_plan_text, write_sas};
 use std::alloc::Global;
 use std::process::Abort;
 use std::test::Fail;

@@ -3,17 +3,17 @@
 
 ghost use Rattle.std.specs.Prelude.{◌<◌, ◌≤◌, All, IsTrue, length};
 
-use atoms::Atoms;
 use cost::Cost;
 use fdr::{Fact, Operator};
+use ground_atoms::Atoms;
 use indexmap::IndexMap;
-use names::Names;
-use planning::{GroundAction, GroundAtom, GroundLiteral, Task, Vocabulary};
+use pddl_names::Names;
+use pddl_task::{GroundAction, GroundAtom, GroundLiteral, Task, Vocabulary};
 use smallvec::SmallVec;
 use std::alloc::Global;
 use std::process::Abort;
-use task_assembly::{Parts, parts_of};
-use variables::ListedVariable;
+use translate_assembly::{Parts, parts_of};
+use translate_theory::ListedVariable;
 
 /// A predicate and its objects.
 type Atom<'a> = (usize, &'a [usize]);

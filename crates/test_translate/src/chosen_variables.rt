@@ -1,14 +1,14 @@
 //! Mutex groups that become variables.
 
 ghost use Rattle.std.specs.Prelude.{IsTrue};
-ghost use Rattle.planning.specs.Planning.{has_small_costs};
+ghost use Rattle.pddl_task.specs.Planning.{has_small_costs};
 
 use ground::ground;
-use group_proposals::groups;
 use indexmap::IndexMap;
 use mutex::ActionIndex;
-use names::Names;
-use planning::{
+use mutex_proposals::groups;
+use pddl_names::Names;
+use pddl_task::{
     ActionSchema, Condition, GroundAtom, GroundLiteral, LiftedAtom, LiftedEffect, Task, Term,
     Vocabulary,
 };
@@ -16,7 +16,7 @@ use smallvec::SmallVec;
 use std::alloc::Global;
 use std::process::Abort;
 use std::test::*;
-use variable_choice::choose_variables;
+use translate_choice::choose_variables;
 
 /// A predicate, and two objects, of which it takes the first ones.
 type Row = (usize, usize, usize);

@@ -3,11 +3,11 @@
 ghost use Rattle.std.specs.Prelude.{All};
 ghost use Rattle.std.specs.Bool.{OnTrue};
 ghost use Rattle.std.specs.List.Sorted.{IsStrictlyIncreasing};
-ghost use Rattle.variables.specs.Variables.{IsPlaced};
+ghost use Rattle.translate_theory.specs.Variables.{IsPlaced};
 
 use indexmap::IndexMap;
-use names::Names;
-use planning::{
+use pddl_names::Names;
+use pddl_task::{
     ActionSchema, Condition, GroundAtom, GroundLiteral, LiftedAtom, LiftedEffect, Task, Term,
     Vocabulary,
 };
@@ -15,8 +15,8 @@ use smallvec::SmallVec;
 use std::alloc::Global;
 use std::process::Abort;
 use std::test::*;
+use translate_theory::ListedVariable;
 use translate_vars::{TranslateFault, check_parts};
-use variables::ListedVariable;
 
 /// A predicate, `at` of one object or `road` of two, and two objects or parameters, of which it takes the first ones.
 type Row = (usize, [usize; 2]);

@@ -1,11 +1,11 @@
 //! Mutex groups that are proposed.
 
 use ground::ground;
-use group_proposals::groups;
 use indexmap::IndexMap;
 use mutex::ActionIndex;
-use names::Names;
-use planning::{
+use mutex_proposals::groups;
+use pddl_names::Names;
+use pddl_task::{
     ActionSchema, Condition, GroundAtom, GroundLiteral, LiftedAtom, LiftedEffect, Task, Term,
     Vocabulary,
 };

@@ -6,11 +6,11 @@ use Rattle.std.specs.Option.{option_map_or}
 use Rattle.std.proofs.lemmas.Bool.{and_parts, and_from, eqb-true, eq-eqb}
 use Rattle.std.proofs.lemmas.Bool.Decides.{nat_tests}
 use Rattle.std.proofs.lemmas.List.Elements.{All-nil, All-cons, All-head, All-tail}
-use Rattle.planning.specs.Atoms.{Atom, State, Literal, contains, has_wanted}
-use Rattle.planning.specs.Planning.{PlanningTask, Action, IsActionOf, IsAtomOf}
-use Rattle.planning.proofs.Lists.{Mem, all_mem, all_from, if_from}
-use Rattle.planning.proofs.AtomLaws.{mem_contains}
-use Rattle.closed_sets.specs.Grounding.{IsClosedSet, IsLeastClosedSet}
+use Rattle.pddl_task.specs.Atoms.{Atom, State, Literal, contains, has_wanted}
+use Rattle.pddl_task.specs.Planning.{PlanningTask, Action, IsActionOf, IsAtomOf}
+use Rattle.pddl_task.proofs.Lists.{Mem, all_mem, all_from, if_from}
+use Rattle.pddl_task.proofs.AtomLaws.{mem_contains}
+use Rattle.ground_theory.specs.Grounding.{IsClosedSet, IsLeastClosedSet}
 
 -- whether the atom is one of the task
 abbrev is_known : PlanningTask → State

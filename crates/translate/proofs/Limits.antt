@@ -8,15 +8,15 @@ use Rattle.fdr.specs.Tasks.{IsWithinLimits, IsPastLimit}
 use Rattle.fdr.specs.Tasks as finite
 use Rattle.fdr.specs.declared.task.TaskLimit.{TaskLimit}
 use Rattle.fdr.specs.declared.task.TaskLimit.TheVariants as limit
-use Rattle.planning.specs.Atoms.{Atom, contains}
-use Rattle.planning.specs.Planning.{PlanningTask, Vocabulary, Action}
-use Rattle.closed_sets.specs.Grounding.{actions_over}
-use Rattle.bindings.specs.Search.{most_actions}
+use Rattle.pddl_task.specs.Atoms.{Atom, contains}
+use Rattle.pddl_task.specs.Planning.{PlanningTask, Vocabulary, Action}
+use Rattle.ground_theory.specs.Grounding.{actions_over}
+use Rattle.ground_bindings.specs.Search.{most_actions}
 use Rattle.ground.specs.Rounds.{most_atoms}
 use Rattle.mutex.specs.Places.{atoms_at}
-use Rattle.translations.specs.Translations.{Variable, translation, value_names_of, range_of, carried, has_operator}
-use Rattle.translations.proofs.Ranges.{ranges_are}
-use Rattle.variables.specs.Variables.{PlacedVariable, IsPlaced, variable_at, variables_at}
+use Rattle.translate_theory.specs.Translations.{Variable, translation, value_names_of, range_of, carried, has_operator}
+use Rattle.translate_theory.proofs.Ranges.{ranges_are}
+use Rattle.translate_theory.specs.Variables.{PlacedVariable, IsPlaced, variable_at, variables_at}
 use Rattle.translate_vars.specs.Parts.{value_count, has_long_range, AreWithinLimits, AreFit}
 
 there : {X : Type 0} (xs : List X) (k : ℕ) → k < length xs → (x : X) × (slice_get xs k ≡ Some x)
@@ -82,5 +82,5 @@ fits task atoms variables limit.Values placed fit past =
 fits task atoms variables limit.Operators placed fit past =
     let fewer = filter_shorter (has_operator (variables_at atoms variables)) (actions_over task (contains atoms)) in
     let few = fit.few_actions in
-    let same = length-map (carried (variables_at atoms variables) (actions_over task (contains atoms))) (Rattle.translations.specs.Translations.operator_of task.vocabulary (variables_at atoms variables)) in
+    let same = length-map (carried (variables_at atoms variables) (actions_over task (contains atoms))) (Rattle.translate_theory.specs.Translations.operator_of task.vocabulary (variables_at atoms variables)) in
     absurd (omega (arith, fewer, few, same, past.1))

@@ -4,19 +4,19 @@ use Rattle.std.specs.Prelude.{◌↔◌, ◌≤◌, All, Contains, Some, slice_g
 use Rattle.std.specs.List.{filter_map, AllZip}
 use Rattle.cost.specs.Distances.{Distance}
 use Rattle.fdr.specs.Tasks.{FiniteDomainTask, IsWithinLimits, IsPlan, plan_cost, EveryPlanCostsAtLeast, HasNoPlan}
-use Rattle.planning.specs.Atoms.{Atom, contains}
-use Rattle.planning.specs.Planning.{PlanningTask, IsPlanningTask, Action, IsActionOf}
-use Rattle.planning.specs.Plans.{IsValidPlan, total_cost, HasNoValidPlan}
-use Rattle.planning.proofs.Lists.{Mem, all_mem}
-use Rattle.closed_sets.specs.Grounding.{AreListedAtoms, AreListedActions, IsLeastClosedSet, actions_over}
-use Rattle.bindings.specs.Search.{most_actions}
+use Rattle.pddl_task.specs.Atoms.{Atom, contains}
+use Rattle.pddl_task.specs.Planning.{PlanningTask, IsPlanningTask, Action, IsActionOf}
+use Rattle.pddl_task.specs.Plans.{IsValidPlan, total_cost, HasNoValidPlan}
+use Rattle.pddl_task.proofs.Lists.{Mem, all_mem}
+use Rattle.ground_theory.specs.Grounding.{AreListedAtoms, AreListedActions, IsLeastClosedSet, actions_over}
+use Rattle.ground_bindings.specs.Search.{most_actions}
 use Rattle.ground.specs.Rounds.{most_atoms}
-use Rattle.closed_sets.proofs.Binding.{over_listed}
-use Rattle.translations.specs.Bounds.{ValidPlansCostAtLeast}
-use Rattle.translations.specs.Translations.{AreVariables, translation, carried}
-use Rattle.translations.proofs.Bounding.{same_plans, bound_forth, bound_back, none_forth, none_back}
-use Rattle.translations.proofs.SamePlans.{plan_listed}
-use Rattle.variables.specs.Variables.{PlacedVariable, IsPlaced, variables_at}
+use Rattle.ground_theory.proofs.Binding.{over_listed}
+use Rattle.translate_theory.specs.Bounds.{ValidPlansCostAtLeast}
+use Rattle.translate_theory.specs.Translations.{AreVariables, translation, carried}
+use Rattle.translate_theory.proofs.Bounding.{same_plans, bound_forth, bound_back, none_forth, none_back}
+use Rattle.translate_theory.proofs.SamePlans.{plan_listed}
+use Rattle.translate_theory.specs.Variables.{PlacedVariable, IsPlaced, variables_at}
 use Rattle.translate_vars.specs.Parts.{AreFit}
 use Rattle.translate_vars.specs.Faults.{IsFirstFault}
 use Rattle.translate_vars.specs.declared.fault.TranslateFault.{TranslateFault}

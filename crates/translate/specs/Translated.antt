@@ -5,14 +5,14 @@ use Rattle.std.specs.List.{filter_map, AllZip}
 use Rattle.cost.specs.Distances.{Distance}
 use Rattle.fdr.specs.declared.task.TaskLimit.{TaskLimit}
 use Rattle.fdr.specs.Tasks.{FiniteDomainTask, IsPlan, plan_cost, IsPastLimit, EveryPlanCostsAtLeast, HasNoPlan}
-use Rattle.planning.specs.Atoms.{Atom, contains}
-use Rattle.planning.specs.Planning.{PlanningTask, Action}
-use Rattle.planning.specs.Plans.{IsValidPlan, total_cost, HasNoValidPlan}
-use Rattle.closed_sets.specs.Grounding.{IsLeastClosedSet, actions_over}
+use Rattle.pddl_task.specs.Atoms.{Atom, contains}
+use Rattle.pddl_task.specs.Planning.{PlanningTask, Action}
+use Rattle.pddl_task.specs.Plans.{IsValidPlan, total_cost, HasNoValidPlan}
+use Rattle.ground_theory.specs.Grounding.{IsLeastClosedSet, actions_over}
 use Rattle.ground.specs.Rounds.{IsPastLimits}
-use Rattle.translations.specs.Bounds.{ValidPlansCostAtLeast}
-use Rattle.translations.specs.Translations.{Variable, AreVariables, translation, carried}
-use Rattle.variables.specs.Variables.{PlacedVariable, IsPlaced, variables_at}
+use Rattle.translate_theory.specs.Bounds.{ValidPlansCostAtLeast}
+use Rattle.translate_theory.specs.Translations.{Variable, AreVariables, translation, carried}
+use Rattle.translate_theory.specs.Variables.{PlacedVariable, IsPlaced, variables_at}
 use Rattle.translate_vars.specs.Parts.{AreFit}
 use Rattle.translate_vars.specs.declared.fault.TranslateFault.{TranslateFault}
 use Rattle.translate_vars.specs.declared.fault.TranslateFault.TheVariants as fault

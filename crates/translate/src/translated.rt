@@ -2,10 +2,10 @@
 
 ghost use Rattle.std.specs.Prelude.{◌≡◌, slice_get};
 
-use atoms::Atoms;
 use fdr::FdrTask;
+use ground_atoms::Atoms;
 use std::marker::Model;
-use variables::ListedVariable;
+use translate_theory::ListedVariable;
 
 /// A finite-domain task with the atoms and the variables that it is over, and for each operator the place of its action
 /// among the ground actions over the atoms.

@@ -1,28 +1,28 @@
 //! Translating planning tasks.
 
 ghost use Rattle.std.specs.Prelude.{◌≡◌, ◌≤◌, All, IsTrue, IfOk, IfErr, length};
-ghost use Rattle.planning.specs.Atoms.{Literal, contains};
-ghost use Rattle.planning.specs.Planning.{IsPlanningTask, IsActionOf, IsAtomOf, has_small_costs, Action};
-ghost use Rattle.closed_sets.specs.Grounding.{actions_over, AreListedAtoms, AreListedActions, IsLeastClosedSet};
-ghost use Rattle.atoms.specs.Order.{AreDistinct};
-ghost use Rattle.bindings.specs.Search.{most_actions};
+ghost use Rattle.pddl_task.specs.Atoms.{Literal, contains};
+ghost use Rattle.pddl_task.specs.Planning.{IsPlanningTask, IsActionOf, IsAtomOf, has_small_costs, Action};
+ghost use Rattle.ground_theory.specs.Grounding.{actions_over, AreListedAtoms, AreListedActions, IsLeastClosedSet};
+ghost use Rattle.ground_atoms.specs.Order.{AreDistinct};
+ghost use Rattle.ground_bindings.specs.Search.{most_actions};
 ghost use Rattle.ground.specs.Rounds.{most_atoms};
-ghost use Rattle.translations.specs.Translations.{AreVariables};
-ghost use Rattle.variables.specs.Variables.{IsPlaced, variables_at};
+ghost use Rattle.translate_theory.specs.Translations.{AreVariables};
+ghost use Rattle.translate_theory.specs.Variables.{IsPlaced, variables_at};
 ghost use Rattle.translate_vars.specs.Faults.{IsFirstFault};
 ghost use Rattle.translate.specs.Translated.{IsTranslation, HasSamePlans, IsTooLarge, IsUntranslated};
 
 use crate::translated::Translated;
-use atoms::Atoms;
 use ground::{GroundFault, Grounded, ground};
-use group_proposals::groups;
+use ground_atoms::Atoms;
 use mutex::ActionIndex;
-use planning::{GroundAction, GroundAtom, Task};
+use mutex_proposals::groups;
+use pddl_task::{GroundAction, GroundAtom, Task};
 use std::alloc::{AllocError, Global};
-use task_assembly::{AssemblyFault, assemble};
+use translate_assembly::{AssemblyFault, assemble};
+use translate_choice::choose_variables;
+use translate_theory::ListedVariable;
 use translate_vars::{ListedParts, TranslateFault, check_parts};
-use variable_choice::choose_variables;
-use variables::ListedVariable;
 
 /// The translation over atoms and variables that are fit. Fails with the first limit that its task would pass, or if
 /// allocation fails.

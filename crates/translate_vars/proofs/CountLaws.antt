@@ -6,8 +6,8 @@ use Rattle.std.proofs.lemmas.Bool.{true≢false, both_ways, or_parts, false_from
 use Rattle.std.proofs.lemmas.Grind.{common_steps}
 use Rattle.std.proofs.lemmas.List.Elements.{All-nil, All-cons}
 use Rattle.std.proofs.lemmas.List.Sums.{sum_by-cons}
-use Rattle.planning.specs.Atoms.{Atom, State}
-use Rattle.planning.proofs.Lists.{Mem, get_of_mem, any_at}
+use Rattle.pddl_task.specs.Atoms.{Atom, State}
+use Rattle.pddl_task.proofs.Lists.{Mem, get_of_mem, any_at}
 use Rattle.translate_vars.proofs.ListingLaws.{taken_get}
 
 pub all_by_mem : {X : Type 0} (P : X → Type 0) (xs : List X) → ((x : X) → Mem x xs → P x) → All P xs

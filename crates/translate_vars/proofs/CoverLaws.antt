@@ -9,16 +9,16 @@ use Rattle.std.proofs.lemmas.List.{length-map}
 use Rattle.std.proofs.lemmas.List.Folds.{list_any_more}
 use Rattle.std.proofs.lemmas.List.Kept.{AllPairs-from_increasing}
 use Rattle.std.proofs.lemmas.Option.{slice_get_within, get_or_from_slice_get, slice_get-map}
-use Rattle.planning.specs.Atoms.{Atom, contains, at_most_one, wants}
-use Rattle.planning.specs.Planning.{PlanningTask, Action}
-use Rattle.planning.proofs.Lists.{Mem, all_mem, mem_get, get_of_mem, all_from, none_at}
-use Rattle.planning.proofs.AtomLaws.{contains_mem, mem_contains}
-use Rattle.atoms.specs.Order.{AreDistinct}
+use Rattle.pddl_task.specs.Atoms.{Atom, contains, at_most_one, wants}
+use Rattle.pddl_task.specs.Planning.{PlanningTask, Action}
+use Rattle.pddl_task.proofs.Lists.{Mem, all_mem, mem_get, get_of_mem, all_from, none_at}
+use Rattle.pddl_task.proofs.AtomLaws.{contains_mem, mem_contains}
+use Rattle.ground_atoms.specs.Order.{AreDistinct}
 use Rattle.mutex.specs.Groups.{is_constant, is_excluded, is_usable, is_full}
 use Rattle.mutex.specs.Places.{atoms_at, has}
 use Rattle.mutex.proofs.IndexLaws.{get_of_within, one_place}
-use Rattle.translations.specs.Translations.{Variable, IsVariableOver, IsVariableOf, AreVariables}
-use Rattle.variables.specs.Variables.{PlacedVariable, IsPlaced, variable_at, variables_at}
+use Rattle.translate_theory.specs.Translations.{Variable, IsVariableOver, IsVariableOf, AreVariables}
+use Rattle.translate_theory.specs.Variables.{PlacedVariable, IsPlaced, variable_at, variables_at}
 use Rattle.translate_vars.specs.Faults.{are_several, is_misplaced, is_no_group, is_not_full, is_in_order, AreInOrder, is_uncovered, IsFirstUncovered}
 use Rattle.translate_vars.specs.Flags.{flag_at, Tell}
 use Rattle.translate_vars.proofs.FlagLaws.{at_mem, contains_at, length_at}

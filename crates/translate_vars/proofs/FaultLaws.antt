@@ -4,16 +4,16 @@ use Rattle.std.specs.Prelude.{slice_get, find, IsSomeAnd}
 use Rattle.std.specs.List.{list_any}
 use Rattle.std.proofs.lemmas.Bool.{true≢false, both_ways, cases_order}
 use Rattle.std.proofs.lemmas.Option.{slice_get_within, get_or_from_slice_get}
-use Rattle.planning.specs.Atoms.{Atom, State, contains, same_atom}
-use Rattle.planning.specs.Planning.{PlanningTask, Action}
-use Rattle.planning.proofs.Lists.{Mem, mem_get, any_from}
-use Rattle.planning.proofs.AtomLaws.{same_atom_true, same_atom_self}
-use Rattle.atoms.specs.Order.{comes_before}
-use Rattle.atoms.proofs.OrderLaws.{before_of_differing}
+use Rattle.pddl_task.specs.Atoms.{Atom, State, contains, same_atom}
+use Rattle.pddl_task.specs.Planning.{PlanningTask, Action}
+use Rattle.pddl_task.proofs.Lists.{Mem, mem_get, any_from}
+use Rattle.pddl_task.proofs.AtomLaws.{same_atom_true, same_atom_self}
+use Rattle.ground_atoms.specs.Order.{comes_before}
+use Rattle.ground_atoms.proofs.OrderLaws.{before_of_differing}
 use Rattle.ground.specs.Rounds.{wanted_atoms}
 use Rattle.ground.specs.Closing.{IsLeastMissing, IsFirstOpen}
 use Rattle.mutex.proofs.IndexLaws.{get_of_within}
-use Rattle.translations.specs.Translations.{Variable}
+use Rattle.translate_theory.specs.Translations.{Variable}
 use Rattle.translate_vars.specs.declared.fault.TranslateFault.{TranslateFault}
 use Rattle.translate_vars.specs.declared.fault.TranslateFault.TheVariants as fault
 use Rattle.translate_vars.specs.Faults.{AreAtomsOf, IsBadAtom, is_misplaced, is_no_group, is_not_full, is_in_order, AreInOrder, is_uncovered, IsFirstUncovered}

@@ -9,10 +9,10 @@ use Rattle.std.proofs.lemmas.List.Kept.{AllPairs-from_increasing}
 use Rattle.std.proofs.lemmas.List.Folds.{list_any_more}
 use Rattle.std.proofs.Math.Seq.{take-suc}
 use Rattle.std.proofs.lemmas.Option.{get_or_from_slice_get, slice_get-map}
-use Rattle.planning.specs.Atoms.{Atom, State, Literal, same_atom, contains, at_most_one, wants}
-use Rattle.planning.proofs.Lists.{Mem, bool_same}
-use Rattle.planning.proofs.AtomLaws.{same_atom_true, one_of, one_from, contains_mem, mem_contains}
-use Rattle.atoms.specs.Order.{AreDistinct, with_atom}
+use Rattle.pddl_task.specs.Atoms.{Atom, State, Literal, same_atom, contains, at_most_one, wants}
+use Rattle.pddl_task.proofs.Lists.{Mem, bool_same}
+use Rattle.pddl_task.proofs.AtomLaws.{same_atom_true, one_of, one_from, contains_mem, mem_contains}
+use Rattle.ground_atoms.specs.Order.{AreDistinct, with_atom}
 use Rattle.mutex.specs.Places.{atoms_at, has}
 use Rattle.mutex.proofs.PlaceLaws.{has_mem, mem_has}
 use Rattle.mutex.proofs.IndexLaws.{counted_one, one_counted, get_of_within, one_place}

@@ -3,7 +3,7 @@ use Rattle.std.proofs.Common.{◌≡◌, Bool, true, false, ◌&&◌, not, cond,
 use Rattle.std.specs.Prelude.{find}
 use Rattle.std.specs.List.{cons_option}
 use Rattle.std.proofs.lemmas.Bool.{true≢false}
-use Rattle.planning.specs.Atoms.{State, Literal, has_wanted}
+use Rattle.pddl_task.specs.Atoms.{State, Literal, has_wanted}
 use Rattle.ground.specs.Rounds.{wanted_atoms}
 
 module _ (set : State) where

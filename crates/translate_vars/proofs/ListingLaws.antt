@@ -4,13 +4,13 @@ use Rattle.std.specs.Prelude.{slice_get, All}
 use Rattle.std.proofs.Math.Seq.{take-suc}
 use Rattle.std.proofs.lemmas.List.{get_or_default}
 use Rattle.std.proofs.lemmas.List.Quantifiers.{all_pairs_push}
-use Rattle.atoms.specs.Order.{AreDistinct, with_atom}
+use Rattle.ground_atoms.specs.Order.{AreDistinct, with_atom}
 use Rattle.std.proofs.lemmas.Bool.{both_ways, cases_lt}
 use Rattle.std.proofs.lemmas.Option.{slice_get_within, slice_get_read, get_or_from_slice_get}
-use Rattle.planning.specs.Atoms.{Atom, contains}
-use Rattle.planning.specs.Planning.{PlanningTask, IsAtomOf}
-use Rattle.planning.proofs.Lists.{mem_get, all_mem, mem_from_contains, get_of_mem}
-use Rattle.planning.proofs.AtomLaws.{contains_mem, mem_contains}
+use Rattle.pddl_task.specs.Atoms.{Atom, contains}
+use Rattle.pddl_task.specs.Planning.{PlanningTask, IsAtomOf}
+use Rattle.pddl_task.proofs.Lists.{mem_get, all_mem, mem_from_contains, get_of_mem}
+use Rattle.pddl_task.proofs.AtomLaws.{contains_mem, mem_contains}
 use Rattle.mutex.proofs.IndexLaws.{get_of_within}
 use Rattle.translate_vars.specs.Faults.{AreAtomsOf, IsBadAtom}
 

@@ -3,15 +3,15 @@ use Rattle.std.proofs.Common.{◌≡◌, ℕ, ◌+◌, ◌<◌, Bool, true, fals
 use Rattle.std.specs.Prelude.{slice_get}
 use Rattle.std.specs.List.{list_any}
 use Rattle.std.proofs.lemmas.Bool.{lt-leb, le-leb, ltb-true, ltb-false, and_parts, and_from, not-true, not_from_false, not_from_true, true≢false, both_ways, or_parts, or_cases}
-use Rattle.planning.specs.Atoms.{Atom, State, contains, at_most_one, wants}
-use Rattle.planning.specs.Planning.{PlanningTask, Action}
-use Rattle.planning.proofs.Lists.{Mem, all_mem}
-use Rattle.closed_sets.specs.Grounding.{actions_over}
-use Rattle.atoms.specs.Order.{AreDistinct}
+use Rattle.pddl_task.specs.Atoms.{Atom, State, contains, at_most_one, wants}
+use Rattle.pddl_task.specs.Planning.{PlanningTask, Action}
+use Rattle.pddl_task.proofs.Lists.{Mem, all_mem}
+use Rattle.ground_theory.specs.Grounding.{actions_over}
+use Rattle.ground_atoms.specs.Order.{AreDistinct}
 use Rattle.mutex.specs.Groups.{is_constant, is_excluded, is_usable, is_full}
 use Rattle.mutex.specs.Places.{Indexed, atoms_at}
-use Rattle.translations.specs.Translations.{Variable}
-use Rattle.variables.specs.Variables.{PlacedVariable, IsPlaced, variable_at, variables_at}
+use Rattle.translate_theory.specs.Translations.{Variable}
+use Rattle.translate_theory.specs.Variables.{PlacedVariable, IsPlaced, variable_at, variables_at}
 use Rattle.translate_vars.specs.declared.fault.TranslateFault.{TranslateFault}
 use Rattle.translate_vars.specs.declared.fault.TranslateFault.TheVariants.{Misplaced, NotGroup, NotFull}
 use Rattle.translate_vars.specs.declared.flags.AtomFlags.{AtomFlags}

@@ -3,12 +3,12 @@ use Rattle.std.proofs.Common.{◌≡◌, suc, ◌≤◌, Bool, true, false, ◌&
 use Rattle.std.specs.Prelude.{count_by}
 use Rattle.std.specs.List.{list_all, list_any}
 use Rattle.std.proofs.lemmas.Bool.{lt-leb, le-leb, and_parts, not-true, true≢false, or_cases, false_from_ne_true, eqb-true, cond_both}
-use Rattle.planning.specs.Atoms.{Atom, contains}
-use Rattle.planning.specs.Planning.{PlanningTask, Action}
-use Rattle.planning.proofs.Lists.{Mem, all_mem, mem_get, all_at, none_at, any_at, any_from}
-use Rattle.planning.proofs.AtomLaws.{contains_mem, mem_contains}
+use Rattle.pddl_task.specs.Atoms.{Atom, contains}
+use Rattle.pddl_task.specs.Planning.{PlanningTask, Action}
+use Rattle.pddl_task.proofs.Lists.{Mem, all_mem, mem_get, all_at, none_at, any_at, any_from}
+use Rattle.pddl_task.proofs.AtomLaws.{contains_mem, mem_contains}
 use Rattle.mutex.specs.Groups.{is_constant, is_full}
-use Rattle.translations.specs.Translations.{Variable, IsVariableOver, IsVariableOf, AreVariables}
+use Rattle.translate_theory.specs.Translations.{Variable, IsVariableOver, IsVariableOf, AreVariables}
 use Rattle.translate_vars.specs.Faults.{are_several, is_in_order, AreInOrder, is_uncovered}
 use Rattle.translate_vars.proofs.OrderLaws.{are_in}
 use Rattle.translate_vars.proofs.CountLaws.{none_counted, any_counted, counted_at}

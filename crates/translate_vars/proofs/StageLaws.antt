@@ -5,17 +5,17 @@ use Rattle.std.specs.List.{list_all, list_any}
 use Rattle.std.proofs.lemmas.Bool.{and_parts, not-true, both_ways}
 use Rattle.std.proofs.lemmas.Option.{slice_get_within}
 use Rattle.fdr.specs.declared.task.TaskLimit.TheVariants as limit
-use Rattle.planning.specs.Atoms.{Atom, contains, has_wanted}
-use Rattle.planning.specs.Planning.{PlanningTask, Action}
-use Rattle.planning.proofs.Lists.{mem_get, all_at, any_from}
-use Rattle.planning.proofs.AtomLaws.{contains_mem}
-use Rattle.closed_sets.specs.Grounding.{actions_over, IsClosed}
-use Rattle.closed_sets.proofs.Binding.{closed_forth}
-use Rattle.bindings.specs.Search.{most_actions}
+use Rattle.pddl_task.specs.Atoms.{Atom, contains, has_wanted}
+use Rattle.pddl_task.specs.Planning.{PlanningTask, Action}
+use Rattle.pddl_task.proofs.Lists.{mem_get, all_at, any_from}
+use Rattle.pddl_task.proofs.AtomLaws.{contains_mem}
+use Rattle.ground_theory.specs.Grounding.{actions_over, IsClosed}
+use Rattle.ground_theory.proofs.Binding.{closed_forth}
+use Rattle.ground_bindings.specs.Search.{most_actions}
 use Rattle.ground.specs.Rounds.{most_atoms}
 use Rattle.ground.specs.Closing.{is_open}
-use Rattle.translations.specs.Translations.{Variable}
-use Rattle.variables.specs.Variables.{PlacedVariable, variables_at}
+use Rattle.translate_theory.specs.Translations.{Variable}
+use Rattle.translate_theory.specs.Variables.{PlacedVariable, variables_at}
 use Rattle.translate_vars.specs.declared.fault.TranslateFault.{TranslateFault}
 use Rattle.translate_vars.specs.declared.fault.TranslateFault.TheVariants as fault
 use Rattle.translate_vars.specs.Parts.{has_long_range, AreWithinLimits, AreFit}

@@ -4,16 +4,16 @@ use Rattle.std.specs.Prelude.{◌≡◌, ◌⊎◌, ⊤, ℕ, suc, ◌<◌, ◌�
 use Rattle.std.specs.List.{list_all, list_any}
 use Rattle.fdr.specs.declared.task.TaskLimit.{TaskLimit}
 use Rattle.fdr.specs.declared.task.TaskLimit.TheVariants as limit
-use Rattle.planning.specs.Atoms.{Atom, State, contains, at_most_one, wants, has_wanted}
-use Rattle.planning.specs.Planning.{PlanningTask, Action, IsAtomOf}
-use Rattle.closed_sets.specs.Grounding.{actions_over, IsClosedSet}
-use Rattle.atoms.specs.Order.{AreDistinct}
-use Rattle.bindings.specs.Search.{most_actions}
+use Rattle.pddl_task.specs.Atoms.{Atom, State, contains, at_most_one, wants, has_wanted}
+use Rattle.pddl_task.specs.Planning.{PlanningTask, Action, IsAtomOf}
+use Rattle.ground_theory.specs.Grounding.{actions_over, IsClosedSet}
+use Rattle.ground_atoms.specs.Order.{AreDistinct}
+use Rattle.ground_bindings.specs.Search.{most_actions}
 use Rattle.ground.specs.Rounds.{most_atoms, wanted_atoms}
 use Rattle.ground.specs.Closing.{IsLeastMissing, IsFirstOpen}
 use Rattle.mutex.specs.Groups.{is_excluded, is_constant, is_usable, is_full}
-use Rattle.translations.specs.Translations.{Variable}
-use Rattle.variables.specs.Variables.{PlacedVariable, variables_at}
+use Rattle.translate_theory.specs.Translations.{Variable}
+use Rattle.translate_theory.specs.Variables.{PlacedVariable, variables_at}
 use Rattle.translate_vars.specs.declared.fault.TranslateFault.{TranslateFault}
 use Rattle.translate_vars.specs.declared.fault.TranslateFault.TheVariants as fault
 use Rattle.translate_vars.specs.Parts.{has_long_range, AreWithinLimits}

@@ -1,13 +1,13 @@
 -- Listed atoms and variables that are fit for a translation (the conditions of Helmert 2009, tested over all actions).
 use Rattle.std.specs.Prelude.{ℕ, ◌≤◌, ◌+◌, ◌≡◌, Bool, false, nat_lt, if◌then◌else◌, List, length}
 use Rattle.std.specs.List.{list_any}
-use Rattle.planning.specs.Atoms.{Atom, contains}
-use Rattle.planning.specs.Planning.{PlanningTask}
-use Rattle.closed_sets.specs.Grounding.{AreListedAtoms, actions_over}
-use Rattle.bindings.specs.Search.{most_actions}
+use Rattle.pddl_task.specs.Atoms.{Atom, contains}
+use Rattle.pddl_task.specs.Planning.{PlanningTask}
+use Rattle.ground_theory.specs.Grounding.{AreListedAtoms, actions_over}
+use Rattle.ground_bindings.specs.Search.{most_actions}
 use Rattle.ground.specs.Rounds.{most_atoms}
-use Rattle.translations.specs.Translations.{AreVariables}
-use Rattle.variables.specs.Variables.{PlacedVariable, variables_at}
+use Rattle.translate_theory.specs.Translations.{AreVariables}
+use Rattle.translate_theory.specs.Variables.{PlacedVariable, variables_at}
 
 -- the number of values: the atoms, and the none value if there is one
 abbrev pub value_count : PlacedVariable → ℕ

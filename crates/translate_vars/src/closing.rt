@@ -3,18 +3,18 @@
 ghost use Rattle.std.specs.Prelude.{◌≡◌, ◌≤◌, true, not, find, length, List, OnOk, IfErr};
 ghost use Rattle.std.specs.List.{list_all};
 ghost use Rattle.std.specs.Option.{option_copied};
-ghost use Rattle.planning.specs.Atoms.{contains, has_wanted};
-ghost use Rattle.closed_sets.specs.Grounding.{IsClosedSet, actions_over};
-ghost use Rattle.bindings.specs.Search.{most_actions};
+ghost use Rattle.pddl_task.specs.Atoms.{contains, has_wanted};
+ghost use Rattle.ground_theory.specs.Grounding.{IsClosedSet, actions_over};
+ghost use Rattle.ground_bindings.specs.Search.{most_actions};
 ghost use Rattle.ground.specs.Rounds.{wanted_atoms};
-ghost use Rattle.variables.specs.Variables.{PlacedVariable};
+ghost use Rattle.translate_theory.specs.Variables.{PlacedVariable};
 ghost use Rattle.translate_vars.specs.Parts.{AreWithinLimits};
 ghost use Rattle.translate_vars.specs.Faults.{AreAtomsOf, IsFirstFault};
 
 use crate::fault::TranslateFault;
-use atoms::Atoms;
 use ground::{first_open, least_missing};
-use planning::{GroundAction, GroundAtom, GroundLiteral, Task};
+use ground_atoms::Atoms;
+use pddl_task::{GroundAction, GroundAtom, GroundLiteral, Task};
 use std::alloc::Global;
 
 /// The first atom of a positive literal that is not listed.

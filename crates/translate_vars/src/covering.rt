@@ -1,11 +1,11 @@
 //! Whether each variable is fit, and each atom that is not constant is in one.
 
 ghost use Rattle.std.specs.Prelude.{◌≡◌, ◌||◌, ℕ, ◌<◌, true, false, None, All, length, IfSome, OnOk, IfErr};
-ghost use Rattle.planning.specs.Atoms.{contains};
-ghost use Rattle.closed_sets.specs.Grounding.{actions_over};
-ghost use Rattle.atoms.specs.Order.{AreDistinct};
-ghost use Rattle.variables.specs.Variables.{IsPlaced, variables_at};
-ghost use Rattle.translations.specs.Translations.{AreVariables};
+ghost use Rattle.pddl_task.specs.Atoms.{contains};
+ghost use Rattle.ground_theory.specs.Grounding.{actions_over};
+ghost use Rattle.ground_atoms.specs.Order.{AreDistinct};
+ghost use Rattle.translate_theory.specs.Variables.{IsPlaced, variables_at};
+ghost use Rattle.translate_theory.specs.Translations.{AreVariables};
 ghost use Rattle.translate_vars.specs.Parts.{AreWithinLimits};
 ghost use Rattle.translate_vars.specs.Faults.{AreGrounded, IsFirstFault};
 ghost use Rattle.translate_vars.specs.Flags.{flag_at};
@@ -13,11 +13,11 @@ ghost use Rattle.translate_vars.specs.Flags.{flag_at};
 use crate::fault::TranslateFault;
 use crate::flags::{AtomFlags, flag, mark};
 use crate::order::fault_at;
-use atoms::Atoms;
+use ground_atoms::Atoms;
 use mutex::ActionIndex;
-use planning::{GroundAction, Task};
+use pddl_task::{GroundAction, Task};
 use std::alloc::Global;
-use variables::ListedVariable;
+use translate_theory::ListedVariable;
 
 /// The first place below `count` at which neither flag is set.
 fn first_unset(constant: &[bool], taken: &[bool], count: usize) -> Option<usize>

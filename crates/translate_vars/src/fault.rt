@@ -5,7 +5,7 @@ ghost use Rattle.translate_vars.specs.declared.fault.TranslateFault.TheVariants.
 
 use fdr::TaskLimit;
 use ground::GroundFault;
-use planning::GroundAtom;
+use pddl_task::GroundAtom;
 use std::alloc::{AllocError, AllocFailed};
 
 /// Why listed atoms and variables are not fit for a translation. Places of atoms in their list, and variables, count

@@ -1,14 +1,14 @@
 //! Properties of listed atoms, by their places.
 
 ghost use Rattle.std.specs.Prelude.{◌≡◌, ◌==◌, ◌||◌, ℕ, ◌<◌, length, IfOk};
-ghost use Rattle.planning.specs.Atoms.{Atom, contains, wants};
+ghost use Rattle.pddl_task.specs.Atoms.{Atom, contains, wants};
 ghost use Rattle.mutex.specs.Groups.{is_constant, is_excluded};
 ghost use Rattle.mutex.specs.Places.{has};
 ghost use Rattle.translate_vars.specs.Flags.{flag_at, Tell};
 
-use atoms::Atoms;
+use ground_atoms::Atoms;
 use mutex::ActionIndex;
-use planning::GroundLiteral;
+use pddl_task::GroundLiteral;
 use std::alloc::{AllocError, Global};
 
 /// For each listed atom, by its place: whether it is constant, whether its negation is a precondition or a goal, and

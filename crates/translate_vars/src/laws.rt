@@ -1,9 +1,9 @@
 //! Laws of the first fault. Each function states one in its contract; its body is empty.
 
 ghost use Rattle.std.specs.Prelude.{◌≡◌, ◌≢◌, List};
-ghost use Rattle.planning.specs.Atoms.{Atom};
-ghost use Rattle.planning.specs.Planning.{PlanningTask};
-ghost use Rattle.variables.specs.Variables.{PlacedVariable};
+ghost use Rattle.pddl_task.specs.Atoms.{Atom};
+ghost use Rattle.pddl_task.specs.Planning.{PlanningTask};
+ghost use Rattle.translate_theory.specs.Variables.{PlacedVariable};
 ghost use Rattle.translate_vars.specs.Parts.{AreFit};
 ghost use Rattle.translate_vars.specs.Faults.{IsFirstFault};
 ghost use Rattle.translate_vars.specs.declared.fault.TranslateFault.{TranslateFault};

@@ -1,15 +1,15 @@
 //! Limits on the numbers of atoms, of variables and of the values of a variable.
 
 ghost use Rattle.std.specs.Prelude.{◌≡◌, nat_lt, OnOk, IfErr};
-ghost use Rattle.planning.specs.Planning.{PlanningTask};
+ghost use Rattle.pddl_task.specs.Planning.{PlanningTask};
 ghost use Rattle.translate_vars.specs.Parts.{value_count, has_long_range, AreWithinLimits};
 ghost use Rattle.translate_vars.specs.Faults.{IsFirstFault};
 
 use crate::fault::TranslateFault;
 use fdr::TaskLimit;
 use ground::MOST_ATOMS;
-use planning::GroundAtom;
-use variables::ListedVariable;
+use pddl_task::GroundAtom;
+use translate_theory::ListedVariable;
 
 /// The greatest number of variables.
 const MOST_VARIABLES: usize = 65_536;

@@ -1,14 +1,14 @@
 //! Whether listed atoms are distinct atoms of a task.
 
 ghost use Rattle.std.specs.Prelude.{◌≡◌, ◌↔◌, IsTrue, List, IfOk, OnOk, IfErr};
-ghost use Rattle.planning.specs.Planning.{IsAtomOf};
-ghost use Rattle.variables.specs.Variables.{PlacedVariable};
+ghost use Rattle.pddl_task.specs.Planning.{IsAtomOf};
+ghost use Rattle.translate_theory.specs.Variables.{PlacedVariable};
 ghost use Rattle.translate_vars.specs.Parts.{AreWithinLimits};
 ghost use Rattle.translate_vars.specs.Faults.{AreAtomsOf, IsFirstFault};
 
 use crate::fault::TranslateFault;
-use atoms::Atoms;
-use planning::{GroundAtom, Task};
+use ground_atoms::Atoms;
+use pddl_task::{GroundAtom, Task};
 use std::alloc::Global;
 
 /// Whether the predicate exists and takes this number of objects, and the objects exist.

@@ -2,13 +2,13 @@
 
 ghost use Rattle.std.specs.Prelude.{◌≡◌, nat_le, length, count_by, not};
 ghost use Rattle.std.specs.List.{list_any};
-ghost use Rattle.variables.specs.Variables.{IsPlaced};
+ghost use Rattle.translate_theory.specs.Variables.{IsPlaced};
 ghost use Rattle.translate_vars.specs.Flags.{flag_at, is_misplaced_at, fault_at};
 
 use crate::fault::TranslateFault;
 use crate::flags::{AtomFlags, flag};
 use mutex::ActionIndex;
-use variables::ListedVariable;
+use translate_theory::ListedVariable;
 
 /// Whether the flag is set at one of the places.
 fn has_flag(flags: &[bool], places: &[usize]) -> bool

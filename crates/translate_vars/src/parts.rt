@@ -1,10 +1,10 @@
 //! The test of listed atoms and variables.
 
 ghost use Rattle.std.specs.Prelude.{◌≡◌, All, IsTrue, IfOk, IfErr, length};
-ghost use Rattle.planning.specs.Atoms.{contains};
-ghost use Rattle.planning.specs.Planning.{has_small_costs};
-ghost use Rattle.closed_sets.specs.Grounding.{actions_over};
-ghost use Rattle.variables.specs.Variables.{IsPlaced};
+ghost use Rattle.pddl_task.specs.Atoms.{contains};
+ghost use Rattle.pddl_task.specs.Planning.{has_small_costs};
+ghost use Rattle.ground_theory.specs.Grounding.{actions_over};
+ghost use Rattle.translate_theory.specs.Variables.{IsPlaced};
 ghost use Rattle.translate_vars.specs.Parts.{AreFit};
 ghost use Rattle.translate_vars.specs.Faults.{IsFirstFault};
 
@@ -13,11 +13,11 @@ use crate::covering::check_variables;
 use crate::fault::TranslateFault;
 use crate::limits::check_limits;
 use crate::listing::list_atoms;
-use atoms::Atoms;
 use ground::actions_over;
-use planning::{GroundAction, GroundAtom, Task};
+use ground_atoms::Atoms;
+use pddl_task::{GroundAction, GroundAtom, Task};
 use std::alloc::Global;
-use variables::ListedVariable;
+use translate_theory::ListedVariable;
 
 /// Distinct atoms, and all ground actions over them, by schema and then by objects.
 #[derive(Drop)]

@@ -2,8 +2,8 @@
 use Rattle.std.proofs.Common.{◌≡◌, ℕ, ◌≤◌, Bool, true, false, cond, List, Some, None, ap, arith}
 use Rattle.std.specs.Prelude.{slice_get}
 use Rattle.std.proofs.lemmas.Option.{option_and_then_some}
-use Rattle.planning.specs.Atoms.{Atom, Literal}
-use Rattle.planning.specs.Planning.{PlanningTask, Action, has_instance}
+use Rattle.pddl_task.specs.Atoms.{Atom, Literal}
+use Rattle.pddl_task.specs.Planning.{PlanningTask, Action, has_instance}
 use Rattle.validate.specs.Verdicts.{CostsAtMost}
 
 -- without the metric each action costs 1

@@ -5,10 +5,10 @@ use Rattle.std.specs.List.{list_all}
 use Rattle.std.specs.Option.{option_map}
 use Rattle.std.proofs.lemmas.Bool.Decides.{nat_tests}
 use Rattle.std.proofs.lemmas.Option.{option_and_then_some}
-use Rattle.planning.specs.Atoms.{Atom, Literal, same_atom}
-use Rattle.planning.specs.declared.schema.Increase.{Increase}
-use Rattle.planning.specs.declared.schema.Increase.TheVariants.{Amount, Value}
-use Rattle.planning.specs.Planning.{PlanningTask, Schema, FunctionValue, Action, has_instance, value_of, ground_atom, sum_of_increases, cost_of_schema}
+use Rattle.pddl_task.specs.Atoms.{Atom, Literal, same_atom}
+use Rattle.pddl_task.specs.declared.schema.Increase.{Increase}
+use Rattle.pddl_task.specs.declared.schema.Increase.TheVariants.{Amount, Value}
+use Rattle.pddl_task.specs.Planning.{PlanningTask, Schema, FunctionValue, Action, has_instance, value_of, ground_atom, sum_of_increases, cost_of_schema}
 use Rattle.validate.specs.LowCosts.{is_low_increase, are_few_and_low, has_low_costs}
 use Rattle.validate.specs.Verdicts.{CostsAtMost}
 

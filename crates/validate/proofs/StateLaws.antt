@@ -4,9 +4,9 @@ use Rattle.std.specs.Prelude.{Result, Ok, Err, OnOk}
 use Rattle.std.proofs.Math.Path.{fun_ext}
 use Rattle.std.proofs.Math.Seq.{drop-cons}
 use Rattle.std.proofs.Math.ListN.{drop_of_length-le}
-use Rattle.planning.specs.Atoms.{Atom, State, same_atom, contains}
-use Rattle.planning.specs.Planning.{Action}
-use Rattle.planning.specs.Plans.{next_state}
+use Rattle.pddl_task.specs.Atoms.{Atom, State, same_atom, contains}
+use Rattle.pddl_task.specs.Planning.{Action}
+use Rattle.pddl_task.specs.Plans.{next_state}
 use Rattle.validate.specs.States.{added, without}
 use Rattle.validate.specs.Validation.{with_all, without_all}
 

@@ -3,10 +3,10 @@ use Rattle.std.proofs.Common.{◌≡◌, ℕ, ◌+◌, ◌<◌, ◌≤◌, Bool,
 use Rattle.std.specs.Prelude.{not, slice_get}
 use Rattle.std.proofs.Math.ListN.{drop_of_length-le}
 use Rattle.std.proofs.lemmas.Option.{option_and_then_some}
-use Rattle.names.specs.Names.{place_of}
-use Rattle.planning.specs.Atoms.{State, Literal, literal_holds, satisfies}
-use Rattle.planning.specs.Planning.{PlanningTask, Action, IsActionOf, action_of, has_instance}
-use Rattle.planning.specs.Plans.{next_state}
+use Rattle.pddl_names.specs.Names.{place_of}
+use Rattle.pddl_task.specs.Atoms.{State, Literal, literal_holds, satisfies}
+use Rattle.pddl_task.specs.Planning.{PlanningTask, Action, IsActionOf, action_of, has_instance}
+use Rattle.pddl_task.specs.Plans.{next_state}
 use Rattle.validate.specs.Steps.{Step, action_named, numbers_of}
 use Rattle.validate.specs.Validation.{first_failing, at_end, at_precondition, at_step, verdict_from}
 use Rattle.validate.specs.Verdicts.{IsFirstFailing}

@@ -4,9 +4,9 @@ use Rattle.std.specs.Prelude.{All, IsSomeAnd, Result, Ok, Err, IfOk}
 use Rattle.std.proofs.lemmas.List.{append-nil}
 use Rattle.std.proofs.lemmas.List.Elements.{All-nil, All-push}
 use Rattle.std.proofs.lemmas.List.Sums.{sum_by-append, sum_by-cons}
-use Rattle.planning.specs.Atoms.{State, Literal, contains, satisfies}
-use Rattle.planning.specs.Planning.{PlanningTask, Action, IsActionOf}
-use Rattle.planning.specs.Plans.{is_applicable, next_state, state_after, total_cost}
+use Rattle.pddl_task.specs.Atoms.{State, Literal, contains, satisfies}
+use Rattle.pddl_task.specs.Planning.{PlanningTask, Action, IsActionOf}
+use Rattle.pddl_task.specs.Plans.{is_applicable, next_state, state_after, total_cost}
 use Rattle.validate.specs.Steps.{Step, action_named, AreActionsOf}
 use Rattle.validate.specs.Validation.{first_failing, at_end, at_precondition, at_step, verdict_from, verdict_of}
 use Rattle.validate.specs.Verdicts.{LeadTo, IsVerdict}

@@ -1,9 +1,9 @@
 -- Tasks whose actions have low costs by a simple test.
 use Rattle.std.specs.Prelude.{nat_lt, ◌&&◌, Bool, true, false, List, [], ◌∷◌}
 use Rattle.std.specs.List.{list_all}
-use Rattle.planning.specs.declared.schema.Increase.{Increase}
-use Rattle.planning.specs.declared.schema.Increase.TheVariants.{Amount, Value}
-use Rattle.planning.specs.Planning.{PlanningTask}
+use Rattle.pddl_task.specs.declared.schema.Increase.{Increase}
+use Rattle.pddl_task.specs.declared.schema.Increase.TheVariants.{Amount, Value}
+use Rattle.pddl_task.specs.Planning.{PlanningTask}
 
 abbrev pub is_low_increase : Increase → Bool
 is_low_increase (Amount n) = nat_lt n 1000

@@ -1,7 +1,7 @@
 -- A state as the set of its true atoms, as the code stores it.
 use Rattle.std.specs.Prelude.{◌||◌, ◌&&◌, not}
 use Rattle.std.specs.HashSet.{contains as has}
-use Rattle.planning.specs.Atoms.{Atom, State, same_atom}
+use Rattle.pddl_task.specs.Atoms.{Atom, State, same_atom}
 use Rattle.validate.specs.declared.state.AtomSet.{AtomSet}
 
 -- the set as a test

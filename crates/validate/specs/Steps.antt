@@ -1,7 +1,7 @@
 -- The steps of a plan by their names, and the actions that they name in a task.
 use Rattle.std.specs.Prelude.{◌≡◌, ℕ, List, [], ◌∷◌, Option, Some, None, option_and_then}
-use Rattle.names.specs.Names.{place_of}
-use Rattle.planning.specs.Planning.{PlanningTask, Action, action_of}
+use Rattle.pddl_names.specs.Names.{place_of}
+use Rattle.pddl_task.specs.Planning.{PlanningTask, Action, action_of}
 
 -- the name of a schema and the names of objects
 pub record Step : Type 0 where

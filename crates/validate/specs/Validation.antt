@@ -1,8 +1,8 @@
 -- The verdict on a plan, step by step.
 use Rattle.std.specs.Prelude.{ℕ, ◌+◌, List, [], ◌∷◌, Option, Some, None, find, not}
-use Rattle.planning.specs.Atoms.{State, Literal, Atom, contains, literal_holds}
-use Rattle.planning.specs.Planning.{PlanningTask, Action}
-use Rattle.planning.specs.Plans.{next_state}
+use Rattle.pddl_task.specs.Atoms.{State, Literal, Atom, contains, literal_holds}
+use Rattle.pddl_task.specs.Planning.{PlanningTask, Action}
+use Rattle.pddl_task.specs.Plans.{next_state}
 use Rattle.validate.specs.Steps.{Step, action_named}
 use Rattle.validate.specs.States.{added, without}
 use Rattle.validate.specs.declared.verdict.Verdict.{Verdict}

@@ -1,9 +1,9 @@
 -- The verdict on a plan: its cost if it is valid, or its first step that is not applicable, or a literal of the goal
 -- that does not hold at its end.
 use Rattle.std.specs.Prelude.{◌≡◌, ℕ, ◌+◌, ◌≤◌, true, false, List, ◌∷◌, ◌++◌, length, Some, None}
-use Rattle.planning.specs.Atoms.{State, Literal, contains, literal_holds, satisfies}
-use Rattle.planning.specs.Planning.{PlanningTask, Action, IsActionOf}
-use Rattle.planning.specs.Plans.{state_after, IsValidPlan, total_cost}
+use Rattle.pddl_task.specs.Atoms.{State, Literal, contains, literal_holds, satisfies}
+use Rattle.pddl_task.specs.Planning.{PlanningTask, Action, IsActionOf}
+use Rattle.pddl_task.specs.Plans.{state_after, IsValidPlan, total_cost}
 use Rattle.validate.specs.Steps.{Step, action_named, AreActionsOf}
 use Rattle.validate.specs.declared.verdict.Verdict.{Verdict}
 use Rattle.validate.specs.declared.verdict.Verdict.TheVariants.{Valid, NoSuchAction, NotApplicable, GoalOpen}

@@ -2,8 +2,8 @@
 use Rattle.std.specs.Prelude.{ℕ, Bool, if◌then◌else◌, List, ◌++◌, slice_get, unwrap_or, codes, []}
 use Rattle.std.specs.List.{flat_map}
 use Rattle.std.specs.Fmt.{decimal}
-use Rattle.planning.specs.Atoms.{Atom, Literal}
-use Rattle.planning.specs.Planning.{PlanningTask, Vocabulary}
+use Rattle.pddl_task.specs.Atoms.{Atom, Literal}
+use Rattle.pddl_task.specs.Planning.{PlanningTask, Vocabulary}
 use Rattle.validate.specs.Steps.{Step}
 use Rattle.validate.specs.declared.verdict.Verdict.{Verdict}
 use Rattle.validate.specs.declared.verdict.Verdict.TheVariants.{Valid, NoSuchAction, NotApplicable, GoalOpen}

@@ -2,7 +2,7 @@
 //! empty.
 
 ghost use Rattle.std.specs.Prelude.{◌≡◌, ◌≢◌, ◌⊎◌, ℕ, List};
-ghost use Rattle.planning.specs.Planning.{PlanningTask};
+ghost use Rattle.pddl_task.specs.Planning.{PlanningTask};
 ghost use Rattle.validate.specs.Steps.{Step as Words};
 ghost use Rattle.validate.specs.PlanTexts.{SpellsPlan, IsPlanFault};
 ghost use Rattle.validate.specs.Verdicts.{IsVerdict};

@@ -18,7 +18,7 @@ pub struct Step {
 
 impl Model for Step {
     ghost use Rattle.std.specs.Prelude.{string_bytes};
-    ghost use Rattle.names.specs.Names.{texts_of};
+    ghost use Rattle.pddl_names.specs.Names.{texts_of};
     ghost use Rattle.validate.specs.Steps.{Step as Words};
 
     ghost Value = { Words };

@@ -4,7 +4,7 @@ ghost use Rattle.std.specs.Prelude.{◌≡◌, ◌≤◌, ◌∷◌, [], ◌++�
 ghost use Rattle.std.specs.Option.{option_map};
 ghost use Rattle.sexp.specs.Forms.{Forms, before, views};
 ghost use Rattle.sexp.specs.Grammar.{SpellsAll};
-ghost use Rattle.names.specs.Names.{texts_of};
+ghost use Rattle.pddl_names.specs.Names.{texts_of};
 ghost use Rattle.validate.specs.Steps.{Step as Words};
 ghost use Rattle.validate.specs.PlanTexts.{SpellsPlan, IsPlanFault, GivesPlan, first_of_places, lists_in, list_faults, shape_faults, words_of, step_of, steps_of, with_step};
 

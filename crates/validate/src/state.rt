@@ -2,12 +2,12 @@
 
 ghost use Rattle.std.specs.Prelude.{◌≡◌, [], IfOk, OnOk};
 ghost use Rattle.std.specs.Option.{option_copied};
-ghost use Rattle.planning.specs.Atoms.{contains, literal_holds};
-ghost use Rattle.planning.specs.Plans.{next_state};
+ghost use Rattle.pddl_task.specs.Atoms.{contains, literal_holds};
+ghost use Rattle.pddl_task.specs.Plans.{next_state};
 ghost use Rattle.validate.specs.States.{holds_in, added, without};
 ghost use Rattle.validate.specs.Validation.{first_failing, with_all, without_all};
 
-use planning::{GroundAction, GroundAtom, GroundLiteral};
+use pddl_task::{GroundAction, GroundAtom, GroundLiteral};
 use std::alloc::{AllocError, Global};
 use std::collections::HashSet;
 

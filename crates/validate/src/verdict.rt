@@ -2,16 +2,16 @@
 
 ghost use Rattle.std.specs.Prelude.{◌≡◌, IfOk, IsTrue};
 ghost use Rattle.std.specs.Option.{option_map};
-ghost use Rattle.names.specs.Names.{texts_of};
-ghost use Rattle.planning.specs.Planning.{has_small_costs};
+ghost use Rattle.pddl_names.specs.Names.{texts_of};
+ghost use Rattle.pddl_task.specs.Planning.{has_small_costs};
 ghost use Rattle.validate.specs.Steps.{numbers_of, action_named};
 ghost use Rattle.validate.specs.Validation.{verdict_of};
 ghost use Rattle.validate.specs.Verdicts.{IsVerdict, CostsAtMost};
 
 use crate::plan::{Plan, Step};
 use crate::state::AtomSet;
-use names::Names;
-use planning::{GroundAction, GroundLiteral, Task};
+use pddl_names::Names;
+use pddl_task::{GroundAction, GroundLiteral, Task};
 use std::alloc::{AllocError, Global};
 
 /// The verdict on a plan in a task. Steps count from 1.

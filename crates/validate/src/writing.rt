@@ -3,14 +3,14 @@
 ghost use Rattle.std.specs.Prelude.{◌≡◌, ◌++◌, IfOk, OnOk, string_bytes};
 ghost use Rattle.std.specs.Fmt.{decimal};
 ghost use Rattle.std.specs.List.{flat_map};
-ghost use Rattle.names.specs.Names.{texts_of};
+ghost use Rattle.pddl_names.specs.Names.{texts_of};
 ghost use Rattle.validate.specs.Written.{spaced, step_line, cost_kind, plan_text_of, name_of, spaced_names, atom_text, literal_text, verdict_text, verdict_line_of};
 
 use crate::plan::{Plan, Step};
 use crate::verdict::Verdict;
 use itoa::Buffer;
-use names::Names;
-use planning::{GroundAtom, GroundLiteral, Task, Vocabulary};
+use pddl_names::Names;
+use pddl_task::{GroundAtom, GroundLiteral, Task, Vocabulary};
 use std::alloc::{AllocError, Global};
 
 fn push_number(text: &mut String, number: u64) -> Result<(), AllocError>

@@ -4,8 +4,8 @@ use Rattle.std.proofs.lemmas.Bool.{and_from, and_left, and_right, cases_Bool, eq
 use Rattle.fdr.specs.Tasks.{ranges, IsState}
 use Rattle.checker_clauses.specs.Clauses.{is_state}
 use Rattle.checker_clauses.proofs.ClauseLaws.{is_state_tells}
-use Rattle.families.specs.Owners.{SearchSpace, Message, fits}
-use Rattle.families.proofs.States.{is_state-from}
+use Rattle.owner_theory.specs.Owners.{SearchSpace, Message, fits}
+use Rattle.owner_theory.proofs.States.{is_state-from}
 
 -- one of no state does not fit
 pub no_state : (space : SearchSpace) (me : ℕ) (m : Message) → (IsState (ranges space.task) m.state → ⊥) → fits space me m ≡ false

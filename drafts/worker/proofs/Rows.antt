@@ -4,7 +4,7 @@ use Rattle.std.specs.Prelude.{slice_get, slice_set, IfSome, IfNone, Result, Ok, 
 use Rattle.std.proofs.lemmas.Bool.{eq-eqb, ne_eqb, cases_lt}
 use Rattle.std.proofs.lemmas.Option.{slice_get_within, slice_get-get_or}
 use Rattle.std.proofs.lemmas.List.{map-append, map-set, length-map}
-use Rattle.families.specs.Owners.{Message, list_at, put}
+use Rattle.owner_theory.specs.Owners.{Message, list_at, put}
 use Rattle.closed.specs.Tables.{message_of}
 use Rattle.closed.specs.declared.message.Message.{Message as MessageOf}
 use Rattle.links.specs.declared.ends.Out.{Out}

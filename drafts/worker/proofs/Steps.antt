@@ -4,7 +4,7 @@ use Rattle.cost.specs.Distances.{Distance, Infinite, lesser}
 use Rattle.cost.proofs.DistanceLaws.{lesser_assoc, lesser_left, at_most_infinite}
 use Rattle.board.specs.declared.views.View.{View}
 use Rattle.board.specs.Rule.{with_share}
-use Rattle.joined.specs.declared.packet.Packet.{Packet as PacketOf}
+use Rattle.extract.specs.declared.packet.Packet.{Packet as PacketOf}
 use Rattle.worker.specs.Workers.{WorkerOf, IsSameWorker, IsSameView, IsSeated, misfits_of}
 use Rattle.worker.proofs.Rows.{outs_through, ins_through, outs_same, ins_same}
 

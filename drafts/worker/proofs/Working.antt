@@ -4,10 +4,10 @@ use Rattle.std.specs.Prelude.{slice_set, slice_get}
 use Rattle.std.proofs.Math.Logic.{∥∥₁_elim}
 use Rattle.std.proofs.lemmas.List.{length-set}
 use Rattle.cost.specs.Distances.{Distance, Infinite, lesser}
-use Rattle.families.specs.Owners as machine
-use Rattle.families.specs.Owners.{SearchSpace, Message, Packet, Log, Look, Offer, HandOut, Take, Expand, fits, list_at, put, handed_out, happens, start, start_owner, took, expanded_at}
-use Rattle.families.specs.Threads.{IsWorker}
-use Rattle.families.proofs.Joins.{begins, acts, takes, misses, holds_out, pushes}
+use Rattle.owner_theory.specs.Owners as machine
+use Rattle.owner_theory.specs.Owners.{SearchSpace, Message, Packet, Log, Look, Offer, HandOut, Take, Expand, fits, list_at, put, handed_out, happens, start, start_owner, took, expanded_at}
+use Rattle.owner_theory.specs.Threads.{IsWorker}
+use Rattle.owner_theory.proofs.Joins.{begins, acts, takes, misses, holds_out, pushes}
 use Rattle.owner.specs.Spaces.{SpaceOf, searched}
 use Rattle.owner.specs.Owned.{OwnerOf, space_of, under, IsMessageTo, Expands, IsExpansion}
 use Rattle.links.specs.declared.ends.Out.{Out}

@@ -1,13 +1,13 @@
 -- A worker as it lies in memory, and what it keeps: a run of its owner, what went over its links, what it has seen and offered.
 use Rattle.std.specs.Prelude.{◌≡◌, ℕ, Bool, false, List, [], ◌∷◌, map, length, slice_get, Option, Some, None}
 use Rattle.cost.specs.Distances.{Distance, Infinite, lesser}
-use Rattle.families.specs.Owners.{Log, Message, Packet, list_at}
-use Rattle.families.specs.Threads.{IsWorker}
+use Rattle.owner_theory.specs.Owners.{Log, Message, Packet, list_at}
+use Rattle.owner_theory.specs.Threads.{IsWorker}
 use Rattle.closed.specs.Tables.{message_of}
 use Rattle.owner.specs.Spaces.{SpaceOf}
 use Rattle.owner.specs.Owned.{OwnerOf, space_of, under}
-use Rattle.joined.specs.Views.{packet_of}
-use Rattle.joined.specs.declared.packet.Packet.{Packet as PacketOf}
+use Rattle.extract.specs.Views.{packet_of}
+use Rattle.extract.specs.declared.packet.Packet.{Packet as PacketOf}
 use Rattle.links.specs.declared.ends.Out.{Out}
 use Rattle.links.specs.declared.ends.In.{In}
 use Rattle.links.specs.Ends.{sent, received, SameOut, SameIn}

@@ -1,7 +1,7 @@
 //! Rows of ends of links.
 
 ghost use Rattle.std.specs.Prelude.{◌≡◌, ℕ, ◌<◌, ◌++◌, ◌∷◌, [], length, slice_get, Some, IsTrue, IfSome, IfNone};
-ghost use Rattle.families.specs.Owners.{put};
+ghost use Rattle.owner_theory.specs.Owners.{put};
 ghost use Rattle.closed.specs.Tables.{message_of};
 ghost use Rattle.links.specs.declared.ends.Out.{Out as OutOf};
 ghost use Rattle.links.specs.Ends.{room};

@@ -2,14 +2,14 @@
 
 ghost use Rattle.std.specs.Prelude.{◌≡◌, ◌<◌, false, length, IsTrue};
 ghost use Rattle.fdr.specs.Tasks.{ranges, IsState};
-ghost use Rattle.families.specs.Owners.{fits};
+ghost use Rattle.owner_theory.specs.Owners.{fits};
 ghost use Rattle.closed.specs.Tables.{message_of};
 ghost use Rattle.owner.specs.Spaces.{searched};
 
 use links::Message;
 use owner::Space;
 use packed::StateForm;
-use spread::Spread;
+use packed_spread::Spread;
 
 /// Whether the message is of a state of the task that this one of so many owners has; the buffer is for use within.
 pub(crate) fn is_for<S: Spread + Drop>(

@@ -7,7 +7,7 @@ ghost use Rattle.worker.specs.Workers.{IsSameWorker, IsSameView, IsSeated};
 use crate::worker::Worker;
 use board::{Board, Seat};
 use owner::OwnerFault;
-use spread::Spread;
+use packed_spread::Spread;
 use std::alloc::AllocError;
 
 impl<'a, S: Spread + Drop> Worker<'a, S> {

@@ -8,10 +8,10 @@ use crate::ends::{has_room, pop, push};
 use crate::fitting::is_for;
 use board::{Board, Seat};
 use cost::Dist;
-use joined::Packet;
+use extract::Packet;
 use links::{In, Out};
 use owner::{Owner, OwnerFault, Space};
-use spread::Spread;
+use packed_spread::Spread;
 use std::alloc::{AllocError, Global};
 use std::marker::Model;
 

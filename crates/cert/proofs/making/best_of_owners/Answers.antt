@@ -1,5 +1,5 @@
 use Rattle.std.proofs.Common.{◌∙◌}
-use Rattle.joined.proofs.Leasts.{least_step}
+use Rattle.extract.proofs.Leasts.{least_step}
 use Rattle.cert.proofs.making.best_of_owners.Goals as goal
 
 pub loop-owner-preserved : goal.loop-owner-preserved

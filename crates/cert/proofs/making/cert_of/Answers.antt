@@ -2,8 +2,8 @@ use Rattle.std.proofs.Common.{◌≡◌, ◌∙◌, length, map, ap, sym, subst}
 use Rattle.std.specs.List.Sorted.{IsPermutation}
 use Rattle.cost.specs.Distances.{least}
 use Rattle.fdr.specs.Tasks.{FiniteDomainTask}
-use Rattle.certificates.specs.Certificates.{CertificateValue}
-use Rattle.certificates.specs.Views.{kind_of}
+use Rattle.cert_value.specs.Certificates.{CertificateValue}
+use Rattle.cert_value.specs.Views.{kind_of}
 use Rattle.cert.specs.Expanded.{closed_in}
 use Rattle.cert.proofs.Searches.{widths, IsMade, made_rising, made_held, made_lawful}
 use Rattle.cert.proofs.making.cert_of.Goals as goal

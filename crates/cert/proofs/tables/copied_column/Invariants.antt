@@ -1,5 +1,5 @@
 use Rattle.std.proofs.Common.{◌≡◌, map, take}
-use Rattle.certificates.specs.Views as kept
+use Rattle.cert_value.specs.Views as kept
 use Rattle.cert.proofs.tables.copied_column.Given as goal
 
 abbrev pub invariant-loop-table : goal.invariant-loop-table

@@ -1,4 +1,4 @@
-use Rattle.certificates.specs.Views as kept
+use Rattle.cert_value.specs.Views as kept
 use Rattle.scp.specs.ColumnTables.{tables_of}
 use Rattle.cert.proofs.Copies.{one_alike}
 use Rattle.cert.proofs.tables.copied_columns.Goals as goal

@@ -1,5 +1,5 @@
 use Rattle.std.proofs.Common.{◌≡◌, map, take}
-use Rattle.certificates.specs.Views as kept
+use Rattle.cert_value.specs.Views as kept
 use Rattle.scp.specs.ColumnTables.{tables_of}
 use Rattle.cert.proofs.tables.copied_columns.Given as goal
 

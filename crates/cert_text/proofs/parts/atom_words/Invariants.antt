@@ -3,7 +3,7 @@ use Rattle.std.specs.List.{list_all}
 use Rattle.cert_text.specs.Pieces.{pieces}
 use Rattle.cert_text.specs.Reading.{is_atom_word}
 use Rattle.cert_text.specs.Cursors.{left}
-use Rattle.certificates.specs.Views.{atom_of}
+use Rattle.cert_value.specs.Views.{atom_of}
 use Rattle.cert_text.proofs.parts.atom_words.Given as goal
 
 abbrev pub invariant-loop-word : goal.invariant-loop-word

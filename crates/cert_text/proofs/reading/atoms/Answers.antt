@@ -5,7 +5,7 @@ use Rattle.std.specs.Prelude.{Ok}
 use Rattle.cert_text.specs.Pieces.{pieces}
 use Rattle.cert_text.specs.Reading.{◌>>=◌, behind, Remaining, line_at, atom_at, atom_of}
 use Rattle.cert_text.specs.Cursors.{remaining}
-use Rattle.certificates.specs.Views as view
+use Rattle.cert_value.specs.Views as view
 use Rattle.cert_text.proofs.Repeating.{fails_first, fails_second, then_is, goes_on, stops}
 use Rattle.cert_text.proofs.reading.atoms.Goals as goal
 

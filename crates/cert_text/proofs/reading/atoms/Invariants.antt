@@ -1,7 +1,7 @@
 use Rattle.std.proofs.Common.{◌≡◌, ◌≤◌, ◌-◌, length, map}
 use Rattle.cert_text.specs.Reading.{repeated, behind, atom_at, atoms_at}
 use Rattle.cert_text.specs.Cursors.{remaining}
-use Rattle.certificates.specs.Views as view
+use Rattle.cert_value.specs.Views as view
 use Rattle.cert_text.proofs.reading.atoms.Given as goal
 
 abbrev pub invariant-loop : goal.invariant-loop

@@ -1,7 +1,7 @@
 use Rattle.std.proofs.Common.{◌≡◌, ◌++◌, ◌∷◌, [], List, ℕ, ap, ◌∙◌}
 use Rattle.std.proofs.lemmas.Result.{err_from_is_err_and}
 use Rattle.std.specs.Prelude.{Ok}
-use Rattle.certificates.specs.Certificates.{Entry, width_of}
+use Rattle.cert_value.specs.Certificates.{Entry, width_of}
 use Rattle.cert_text.specs.Pieces.{pieces}
 use Rattle.cert_text.specs.Reading.{◌>>=◌, Remaining, line_at, entry_of, entry_at, entry_step}
 use Rattle.cert_text.specs.Cursors.{remaining}

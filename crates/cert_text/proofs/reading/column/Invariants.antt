@@ -1,7 +1,7 @@
 use Rattle.std.proofs.Common.{◌≡◌, ◌-◌, map}
 use Rattle.cert_text.specs.Reading.{repeated, behind, table_at, column_at}
 use Rattle.cert_text.specs.Cursors.{remaining}
-use Rattle.certificates.specs.Views as view
+use Rattle.cert_value.specs.Views as view
 use Rattle.cert_text.proofs.reading.column.Given as goal
 
 abbrev pub invariant-loop : goal.invariant-loop

@@ -4,7 +4,7 @@ use Rattle.std.proofs.lemmas.List.{map_push}
 use Rattle.std.specs.Prelude.{Ok}
 use Rattle.cert_text.specs.Reading.{behind, column_at}
 use Rattle.cert_text.specs.Cursors.{remaining}
-use Rattle.certificates.specs.Views as view
+use Rattle.cert_value.specs.Views as view
 use Rattle.cert_text.proofs.Repeating.{fails_first, then_is, goes_on, stops}
 use Rattle.cert_text.proofs.reading.columns.Goals as goal
 

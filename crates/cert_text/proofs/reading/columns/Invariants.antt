@@ -1,7 +1,7 @@
 use Rattle.std.proofs.Common.{◌≡◌, ◌-◌}
 use Rattle.cert_text.specs.Reading.{repeated, behind, column_at, columns_at}
 use Rattle.cert_text.specs.Cursors.{remaining}
-use Rattle.certificates.specs.Views as view
+use Rattle.cert_value.specs.Views as view
 use Rattle.cert_text.proofs.reading.columns.Given as goal
 
 abbrev pub invariant-loop : goal.invariant-loop

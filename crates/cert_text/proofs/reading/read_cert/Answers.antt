@@ -1,7 +1,7 @@
 use Rattle.std.proofs.Common.{◌∙◌, sym, ap, subst, Result, Err}
 use Rattle.cert_text.specs.declared.fault.CertFault.{CertFault}
 use Rattle.cert_text.specs.declared.fault.CertFault.TheVariants as fault
-use Rattle.certificates.specs.Certificates.{CertificateValue}
+use Rattle.cert_value.specs.Certificates.{CertificateValue}
 use Rattle.cert_text.specs.Reading.{Gives, certificate_at, certificate_of}
 use Rattle.cert_text.proofs.Promises.{too_long, short_enough, found_from, only_from}
 use Rattle.cert_text.proofs.reading.read_cert.Goals as goal

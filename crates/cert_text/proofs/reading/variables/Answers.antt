@@ -5,7 +5,7 @@ use Rattle.std.specs.Prelude.{Ok}
 use Rattle.cert_text.specs.Pieces.{pieces}
 use Rattle.cert_text.specs.Reading.{◌>>=◌, behind, Remaining, line_at, variable_at, variable_of}
 use Rattle.cert_text.specs.Cursors.{remaining}
-use Rattle.certificates.specs.Views as view
+use Rattle.cert_value.specs.Views as view
 use Rattle.cert_text.proofs.Repeating.{fails_first, fails_second, then_is, goes_on, stops}
 use Rattle.cert_text.proofs.reading.variables.Goals as goal
 

@@ -1,7 +1,7 @@
 use Rattle.std.proofs.Common.{◌++◌, ◌∷◌, ap, ◌∙◌, sym, ◌+◌, take, map, List, ℕ, arith}
 use Rattle.std.specs.Prelude.{slice_get, decimal}
 use Rattle.std.specs.List.{flat_map}
-use Rattle.certificates.specs.Certificates.{Entry}
+use Rattle.cert_value.specs.Certificates.{Entry}
 use Rattle.cert_text.specs.Spelling.{line_text, entry_line}
 use Rattle.cert_text.proofs.Appends.{one_more, entry_by, flat_map-map, line_parts}
 use Rattle.cert_text.proofs.writing.push_states.Goals as goal

@@ -1,6 +1,6 @@
 use Rattle.std.proofs.Common.{◌≡◌, ◌++◌, map, take}
 use Rattle.cert_text.specs.Spelling as text
-use Rattle.certificates.specs.Views as view
+use Rattle.cert_value.specs.Views as view
 use Rattle.cert_text.proofs.writing.push_variables.Given as goal
 
 abbrev pub invariant-loop-variable : goal.invariant-loop-variable

@@ -1,4 +1,4 @@
-use Rattle.certificates.specs.Views.{kind_of, columns_of}
+use Rattle.cert_value.specs.Views.{kind_of, columns_of}
 use Rattle.cert_text.proofs.Appends.{written}
 use Rattle.cert_text.proofs.writing.write_cert.Goals as goal
 

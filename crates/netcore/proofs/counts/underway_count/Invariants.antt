@@ -1,5 +1,5 @@
 use Rattle.std.proofs.Common.{◌≡◌, ◌-◌, ◌^◌, min, take, length}
-use Rattle.joined.specs.Views.{all_packets}
+use Rattle.extract.specs.Views.{all_packets}
 use Rattle.netcore.proofs.counts.underway_count.Given as goal
 
 abbrev pub invariant-loop-queue : goal.invariant-loop-queue

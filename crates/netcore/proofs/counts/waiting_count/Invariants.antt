@@ -1,6 +1,6 @@
 use Rattle.std.proofs.Common.{◌≡◌, ◌-◌, ◌^◌, min, take}
 use Rattle.std.specs.Prelude.{sum_by}
-use Rattle.families.specs.Worlds.{waiting}
+use Rattle.owner_theory.specs.Worlds.{waiting}
 use Rattle.owner.specs.Owned.{OwnerOf}
 use Rattle.netcore.proofs.counts.waiting_count.Given as goal
 

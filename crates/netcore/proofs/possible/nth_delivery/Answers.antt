@@ -1,7 +1,7 @@
 use Rattle.std.proofs.Common.{◌≡◌, ◌+◌, ◌-◌, ◌∙◌, ap, sym, length, map, drop, arith}
 use Rattle.std.specs.Prelude.{slice_get}
 use Rattle.std.proofs.lemmas.List.{length-map}
-use Rattle.joined.specs.Views.{packet_of, packets_in}
+use Rattle.extract.specs.Views.{packet_of, packets_in}
 use Rattle.netcore.specs.Possible.{deliveries}
 use Rattle.netcore.proofs.Choosing.{deliver_within, deliver_past}
 use Rattle.netcore.proofs.possible.nth_delivery.Goals as goal

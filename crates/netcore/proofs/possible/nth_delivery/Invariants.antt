@@ -1,6 +1,6 @@
 use Rattle.std.proofs.Common.{◌≡◌, map, drop}
 use Rattle.std.specs.Prelude.{slice_get}
-use Rattle.joined.specs.Views.{packets_in}
+use Rattle.extract.specs.Views.{packets_in}
 use Rattle.netcore.specs.Possible.{deliveries}
 use Rattle.netcore.proofs.possible.nth_delivery.Given as goal
 

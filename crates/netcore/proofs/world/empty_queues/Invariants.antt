@@ -1,5 +1,5 @@
 use Rattle.std.proofs.Common.{◌≡◌, map, replicate, []}
-use Rattle.joined.specs.Views.{packets_in}
+use Rattle.extract.specs.Views.{packets_in}
 use Rattle.netcore.proofs.world.empty_queues.Given as goal
 
 abbrev pub invariant-loop : goal.invariant-loop

@@ -1,5 +1,5 @@
 use Rattle.std.proofs.Common.{◌≡◌, ℕ, length}
-use Rattle.families.specs.Owners.{At}
+use Rattle.owner_theory.specs.Owners.{At}
 use Rattle.owner.specs.Owned.{OwnerOf}
 use Rattle.netcore.specs.Starts.{IsFirstOwner}
 use Rattle.netcore.proofs.world.first_owners.Given as goal

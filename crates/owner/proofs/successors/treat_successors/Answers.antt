@@ -1,8 +1,8 @@
 use Rattle.std.proofs.Common.{◌≡◌, ◌+◌, true, get_or, Some, None, sym, ap, ◌∙◌, subst, arith, cond, refl}
 use Rattle.std.specs.Option.{option_map}
 use Rattle.fdr.specs.Tasks.{ranges, IsState, applies_at, step}
-use Rattle.families.specs.Owners.{treat, message_to, successor_by}
-use Rattle.families.specs.Worlds.{waiting}
+use Rattle.owner_theory.specs.Owners.{treat, message_to, successor_by}
+use Rattle.owner_theory.specs.Worlds.{waiting}
 use Rattle.closed.specs.Tables.{fresh}
 use Rattle.owner.specs.Spaces.{SpaceOf}
 use Rattle.owner.specs.Owned.{space_of, under}

@@ -1,7 +1,7 @@
 use Rattle.std.proofs.Common.{◌≡◌, ◌+◌, ◌≤◌, length, drop, None}
 use Rattle.std.specs.Prelude.{filter_map}
-use Rattle.families.specs.Owners.{treat_all, successor_by}
-use Rattle.families.specs.Worlds.{waiting}
+use Rattle.owner_theory.specs.Owners.{treat_all, successor_by}
+use Rattle.owner_theory.specs.Worlds.{waiting}
 use Rattle.closed.specs.Tables.{fresh}
 use Rattle.owner.specs.Owned.{space_of, under}
 use Rattle.owner.proofs.successors.treat_successors.Given as goal

@@ -1,7 +1,7 @@
 use Rattle.std.proofs.Common.{◌≡◌, ◌∙◌, ◌<◌, length, slice_index, slice_set, below_more, arith}
 use Rattle.cost.specs.Distances.{Distance, Finite}
-use Rattle.walks.specs.Walks.{value_in}
-use Rattle.walks.specs.Entrances.{AreEntering, AreSources}
+use Rattle.pdb_walks.specs.Walks.{value_in}
+use Rattle.pdb_walks.specs.Entrances.{AreEntering, AreSources}
 use Rattle.pdb.specs.Saturations.{IsCoveredAt}
 use Rattle.pdb.proofs.Expansion.{operator_below, entering_leads, source_leads}
 use Rattle.pdb.proofs.Falls.{value_in-get, reached_set, kept_set, covered_here, covered_entering}

@@ -1,5 +1,5 @@
 use Rattle.std.proofs.Common.{ℕ, ◌<◌, ◌≤◌, slice_index}
-use Rattle.walks.specs.Walks.{value_in}
+use Rattle.pdb_walks.specs.Walks.{value_in}
 use Rattle.pdb.specs.Saturations.{IsFallOf, IsCoveredAt}
 use Rattle.pdb.proofs.saturation.cover.Given as goal
 

@@ -1,7 +1,7 @@
 use Rattle.std.proofs.Common.{◌≡◌, ℕ, ◌<◌, ◌≤◌, length, slice_index, max, below_more, inl, inr, ⊎_elim, arith}
 use Rattle.std.proofs.lemmas.Bool.{cases_lt}
 use Rattle.cost.specs.Distances.{Finite}
-use Rattle.walks.specs.Walks.{value_in, fall}
+use Rattle.pdb_walks.specs.Walks.{value_in, fall}
 use Rattle.pdb.proofs.saturation.greatest_fall.Goals as goal
 
 pub loop-state-preserved : goal.loop-state-preserved

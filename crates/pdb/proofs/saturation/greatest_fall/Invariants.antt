@@ -1,6 +1,6 @@
 use Rattle.std.proofs.Common.{◌≡◌, ℕ, ◌<◌, ◌≤◌, ◌⊎◌, length, slice_index}
 use Rattle.cost.specs.Distances.{Finite}
-use Rattle.walks.specs.Walks.{value_in, fall}
+use Rattle.pdb_walks.specs.Walks.{value_in, fall}
 use Rattle.pdb.proofs.saturation.greatest_fall.Given as goal
 
 abbrev pub invariant-loop-state : goal.invariant-loop-state

@@ -1,7 +1,7 @@
 use Rattle.std.proofs.Common.{◌≡◌, ℕ, ◌≤◌, length, slice_index, below_more, arith}
 use Rattle.std.specs.Vec.{with_items}
 use Rattle.std.proofs.lemmas.List.{with_items_is}
-use Rattle.walks.specs.Walks.{value_in}
+use Rattle.pdb_walks.specs.Walks.{value_in}
 use Rattle.pdb.specs.Saturations.{IsCoveredAt}
 use Rattle.pdb.proofs.Falls.{fall_within_share}
 use Rattle.pdb.proofs.saturation.saturate.Goals as goal

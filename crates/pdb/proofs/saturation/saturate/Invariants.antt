@@ -1,5 +1,5 @@
 use Rattle.std.proofs.Common.{◌≡◌, ℕ, ◌<◌, length, slice_index}
-use Rattle.walks.specs.Walks.{value_in}
+use Rattle.pdb_walks.specs.Walks.{value_in}
 use Rattle.pdb.specs.Saturations.{IsFallOf, IsCoveredAt}
 use Rattle.pdb.proofs.saturation.saturate.Given as goal
 

@@ -1,5 +1,5 @@
 use Rattle.std.proofs.Common.{◌≡◌, map, take}
-use Rattle.certificates.specs.Kept.{kept_distance}
+use Rattle.cert_value.specs.Kept.{kept_distance}
 use Rattle.pdb.proofs.search.as_distances.Given as goal
 
 abbrev pub invariant-loop-value : goal.invariant-loop-value

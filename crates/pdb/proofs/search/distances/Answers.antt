@@ -2,8 +2,8 @@ use Rattle.std.proofs.Common.{◌≡◌, ◌∙◌, ℕ, ◌^◌, ◌<◌, lengt
 use Rattle.std.specs.Vec.{with_items}
 use Rattle.std.proofs.lemmas.List.{with_items_is}
 use Rattle.std.proofs.lemmas.Result.{IfOk-weaker}
-use Rattle.certificates.specs.Kept.{kept_distance}
-use Rattle.walks.specs.Walks.{AreDistances}
+use Rattle.cert_value.specs.Kept.{kept_distance}
+use Rattle.pdb_walks.specs.Walks.{AreDistances}
 use Rattle.pdb.proofs.Totals.{AreDistances-found}
 use Rattle.pdb.proofs.Totals.{values_small}
 use Rattle.std.specs.Prelude.{All}

@@ -1,5 +1,5 @@
 use Rattle.std.proofs.Common.{slice_index, arith}
-use Rattle.walks.specs.Entrances.{AreEntering}
+use Rattle.pdb_walks.specs.Entrances.{AreEntering}
 use Rattle.pdb.proofs.Expansion.{operator_below, entering_leads, IsSearch-expanded}
 use Rattle.pdb.proofs.search.expand.Goals as goal
 

@@ -1,5 +1,5 @@
 use Rattle.std.proofs.Common.{ℕ, ◌+◌, ◌^◌, ◌<◌, ◌≤◌, slice_index, below_more, arith}
-use Rattle.walks.specs.Entrances.{AreSources}
+use Rattle.pdb_walks.specs.Entrances.{AreSources}
 use Rattle.pdb.proofs.Lowering.{lowered_at_most, lowered_same, lowered_here, IsSearchBut-lowered, HasFallen-lowered}
 use Rattle.pdb.proofs.Expansion.{source_leads, IsSettledBy-lowered}
 use Rattle.pdb.proofs.search.relax.Goals as goal

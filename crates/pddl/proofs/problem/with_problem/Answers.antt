@@ -1,7 +1,7 @@
 use Rattle.std.proofs.Common.{rules, ◌≡◌, [], ap, subst, ◌∙◌, Bool, List}
 use Rattle.std.specs.Prelude.{Err, IfErr, OnOk, codes}
 use Rattle.sexp.specs.Forms.{alone}
-use Rattle.planning.specs.Planning.{FunctionValue}
+use Rattle.pddl_task.specs.Planning.{FunctionValue}
 use Rattle.pddl_syntax.proofs.Trees.{on_ok}
 use Rattle.pddl_problem.specs.Initial.{stated_values, values_of}
 use Rattle.pddl.specs.Passes.{Pass, Fails}

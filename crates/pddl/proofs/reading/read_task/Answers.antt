@@ -1,5 +1,5 @@
 use Rattle.std.proofs.Common.{◌≤◌, sym, subst}
-use Rattle.planning.specs.Planning.{PlanningTask, Action, IsActionOf}
+use Rattle.pddl_task.specs.Planning.{PlanningTask, Action, IsActionOf}
 use Rattle.pddl.specs.Assembled.{task_in}
 use Rattle.pddl.specs.Texts.{SpellTask}
 use Rattle.pddl.proofs.Costs.{costs_within}

@@ -1,6 +1,6 @@
 use Rattle.std.proofs.Common.{refl, sym, ◌∙◌}
 use Rattle.sexp.specs.Forms.{views, before}
-use Rattle.names.specs.Names.{is_there}
+use Rattle.pddl_names.specs.Names.{is_there}
 use Rattle.pddl_syntax.proofs.Trees.{word_is, list_is, on_ok, on_ok_3}
 use Rattle.pddl_domain.proofs.HeadItems.{equals_heads, equals_faults, predicate_item_heads, predicate_item_faults, predicate_list_heads, predicate_list_faults}
 use Rattle.pddl_domain.proofs.heads_sections.read_predicate_head.Goals as goal

@@ -1,7 +1,7 @@
 use Rattle.std.proofs.Common.{refl, sym, ap, ◌∙◌}
 use Rattle.std.specs.Prelude.{Option}
 use Rattle.sexp.specs.Forms.{Forms}
-use Rattle.names.specs.Names.{is_there}
+use Rattle.pddl_names.specs.Names.{is_there}
 use Rattle.pddl_syntax.specs.Faults.{first_of, fault}
 use Rattle.pddl_syntax.specs.declared.fault.Fault.{Fault}
 use Rattle.pddl_syntax.specs.declared.fault.FaultKind.TheVariants.{Shape}

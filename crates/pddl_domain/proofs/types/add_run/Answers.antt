@@ -1,6 +1,6 @@
 use Rattle.std.proofs.Common.{List, drop, length, map, take, ◌-◌, sym, ap, ◌∙◌}
 use Rattle.std.proofs.lemmas.Result.{on_ok_weaker}
-use Rattle.names.specs.Names.{with_name}
+use Rattle.pddl_names.specs.Names.{with_name}
 use Rattle.pddl_syntax.specs.declared.typed.Named.{Named}
 use Rattle.pddl_syntax.specs.Typed.{with_type, parent_text}
 use Rattle.pddl_syntax.specs.Parameters.{names_with}

@@ -1,6 +1,6 @@
 use Rattle.std.proofs.Common.{◌≡◌, drop}
 use Rattle.std.specs.Prelude.{codes}
-use Rattle.names.specs.Names.{with_name}
+use Rattle.pddl_names.specs.Names.{with_name}
 use Rattle.pddl_syntax.specs.Typed.{spread}
 use Rattle.pddl_domain.specs.Types.{all_types}
 use Rattle.pddl_domain.proofs.types.add_types.Given as goal

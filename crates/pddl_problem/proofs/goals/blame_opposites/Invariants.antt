@@ -1,5 +1,5 @@
 use Rattle.std.proofs.Common.{◌≡◌, [], drop}
-use Rattle.planning.specs.Atoms.{wants, excludes}
+use Rattle.pddl_task.specs.Atoms.{wants, excludes}
 use Rattle.pddl_syntax.specs.Faults.{first_of}
 use Rattle.pddl_problem.specs.Goals.{wanted_in, excluded_in, opposite_faults}
 use Rattle.pddl_problem.proofs.Opposites.{known_before}

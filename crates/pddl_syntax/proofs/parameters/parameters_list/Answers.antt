@@ -1,7 +1,7 @@
 use Rattle.std.proofs.Common.{true, [], List, sym, ap, ◌∙◌}
 use Rattle.std.specs.Prelude.{Option}
 use Rattle.sexp.specs.Forms.{views}
-use Rattle.names.specs.Names.{is_there}
+use Rattle.pddl_names.specs.Names.{is_there}
 use Rattle.pddl_syntax.specs.declared.fault.Fault.{Fault}
 use Rattle.pddl_syntax.specs.Faults.{first_of}
 use Rattle.pddl_syntax.specs.declared.typed.Run.{Run}

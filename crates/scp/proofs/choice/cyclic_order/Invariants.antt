@@ -1,6 +1,6 @@
 use Rattle.std.proofs.Common.{◌≡◌, ◌≢◌, ◌^◌, [], length}
 use Rattle.std.specs.Prelude.{All}
-use Rattle.patterns.specs.Patterns.{IsPattern}
+use Rattle.pdb_patterns.specs.Patterns.{IsPattern}
 use Rattle.scp.proofs.choice.cyclic_order.Given as goal
 
 abbrev pub invariant-loop-place : goal.invariant-loop-place

@@ -1,6 +1,6 @@
 use Rattle.std.proofs.Common.{◌≡◌, ◌≢◌, ◌≤◌, ◌^◌, [], length}
 use Rattle.std.specs.Prelude.{All}
-use Rattle.patterns.specs.Patterns.{IsPattern}
+use Rattle.pdb_patterns.specs.Patterns.{IsPattern}
 use Rattle.scp.proofs.choice.orders_of.Given as goal
 
 abbrev pub invariant-loop-first : goal.invariant-loop-first

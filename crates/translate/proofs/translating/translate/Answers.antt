@@ -1,8 +1,8 @@
 use Rattle.std.proofs.Common.{subst}
-use Rattle.planning.specs.Planning.{Action}
+use Rattle.pddl_task.specs.Planning.{Action}
 use Rattle.std.specs.Prelude.{List}
-use Rattle.translations.specs.Translations.{AreVariables}
-use Rattle.variables.specs.Variables.{variables_at}
+use Rattle.translate_theory.specs.Translations.{AreVariables}
+use Rattle.translate_theory.specs.Variables.{variables_at}
 use Rattle.translate.proofs.KnownAtoms.{least_known}
 use Rattle.translate.proofs.Promises.{same_plans_are, large_is_untranslated, if_ok_map, if_err_map}
 use Rattle.translate.proofs.translating.translate.Goals as goal

@@ -1,11 +1,11 @@
 use Rattle.std.proofs.Common.{◌≡◌, ◌≤◌, List, subst, ◌∙◌}
 use Rattle.std.specs.Prelude.{slice_get}
 use Rattle.std.specs.List.{filter_map}
-use Rattle.planning.specs.Planning.{IsActionOf, Action}
-use Rattle.planning.specs.Atoms.{contains}
-use Rattle.closed_sets.specs.Grounding.{AreListedActions, actions_over}
-use Rattle.translations.specs.Translations.{translation, carried}
-use Rattle.variables.specs.Variables.{PlacedVariable, variables_at}
+use Rattle.pddl_task.specs.Planning.{IsActionOf, Action}
+use Rattle.pddl_task.specs.Atoms.{contains}
+use Rattle.ground_theory.specs.Grounding.{AreListedActions, actions_over}
+use Rattle.translate_theory.specs.Translations.{translation, carried}
+use Rattle.translate_theory.specs.Variables.{PlacedVariable, variables_at}
 use Rattle.translate.proofs.Limits.{within_from}
 use Rattle.translate.proofs.Promises.{listed_actions, translation_from}
 use Rattle.translate.proofs.translating.translated.Goals as goal

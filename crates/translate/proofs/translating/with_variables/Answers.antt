@@ -1,5 +1,5 @@
 use Rattle.std.proofs.Common.{subst}
-use Rattle.planning.specs.Atoms.{Atom}
+use Rattle.pddl_task.specs.Atoms.{Atom}
 use Rattle.std.specs.Prelude.{List}
 use Rattle.translate_vars.specs.Parts.{AreFit}
 use Rattle.translate.specs.Translated.{IsTooLarge}

@@ -2,9 +2,9 @@ use Rattle.std.proofs.Common.{rules, ◌≡◌, true, false, Some, None}
 use Rattle.std.specs.Prelude.{find, position, IsSome, MatchOption}
 use Rattle.std.specs.List.{list_all}
 use Rattle.std.specs.Option.{option_copied}
-use Rattle.planning.specs.Atoms.{contains, has_wanted}
-use Rattle.closed_sets.specs.Grounding.{actions_over}
-use Rattle.closed_sets.proofs.Binding.{closed_back}
+use Rattle.pddl_task.specs.Atoms.{contains, has_wanted}
+use Rattle.ground_theory.specs.Grounding.{actions_over}
+use Rattle.ground_theory.proofs.Binding.{closed_back}
 use Rattle.ground.specs.Closing.{is_open, IsLeastMissing}
 use Rattle.ground.proofs.ClosingLaws.{none_open, first_is, first_is_open, some_of}
 use Rattle.translate_vars.proofs.closing.check_closed.Goals as goal

@@ -1,7 +1,7 @@
 use Rattle.std.proofs.Common.{rules, ◌≡◌, true, not, inr, Some, None}
 use Rattle.std.specs.Prelude.{find}
 use Rattle.std.specs.List.{list_all}
-use Rattle.planning.specs.Atoms.{contains}
+use Rattle.pddl_task.specs.Atoms.{contains}
 use Rattle.ground.specs.Rounds.{wanted_atoms}
 use Rattle.translate_vars.proofs.GoalLaws.{all_wanted}
 use Rattle.translate_vars.proofs.closing.check_first_atoms.Goals as goal

@@ -1,6 +1,6 @@
 use Rattle.std.proofs.Common.{◌≡◌, drop, not}
 use Rattle.std.specs.Prelude.{find}
-use Rattle.planning.specs.Atoms.{contains}
+use Rattle.pddl_task.specs.Atoms.{contains}
 use Rattle.ground.specs.Rounds.{wanted_atoms}
 use Rattle.translate_vars.proofs.closing.first_missing.Given as goal
 

@@ -1,11 +1,11 @@
 use Rattle.std.proofs.Common.{rules, arith, ◌≡◌, ◌<◌, ◌||◌, ◌+◌, ◌++◌, drop, ℕ, List, Some, None, length, refl, sym, ap, ◌∙◌, take, subst}
 use Rattle.std.specs.Prelude.{slice_get}
 use Rattle.std.proofs.lemmas.Option.{slice_get_read, slice_get-map}
-use Rattle.planning.proofs.Lists.{all_mem, mem_get}
-use Rattle.variables.specs.Variables.{IsPlaced, variable_at, variables_at}
+use Rattle.pddl_task.proofs.Lists.{all_mem, mem_get}
+use Rattle.translate_theory.specs.Variables.{IsPlaced, variable_at, variables_at}
 use Rattle.mutex.specs.Groups.{is_constant}
 use Rattle.mutex.specs.Places.{has}
-use Rattle.planning.specs.Planning.{Action}
+use Rattle.pddl_task.specs.Planning.{Action}
 use Rattle.translate_vars.specs.Faults.{IsFirstUncovered}
 use Rattle.translate_vars.specs.Flags.{Tell, flag_at}
 use Rattle.translate_vars.proofs.CountLaws.{written}

@@ -1,5 +1,5 @@
 use Rattle.std.proofs.Common.{◌≡◌, length, take}
-use Rattle.variables.specs.Variables.{variables_at}
+use Rattle.translate_theory.specs.Variables.{variables_at}
 use Rattle.translate_vars.specs.Faults.{AreInOrder}
 use Rattle.translate_vars.specs.Flags.{Tell}
 use Rattle.translate_vars.proofs.OrderLaws.{are_in}

@@ -1,7 +1,7 @@
 use Rattle.std.proofs.Common.{refl, arith, ◌≡◌, map}
 use Rattle.std.proofs.lemmas.Grind.{common_steps}
 use Rattle.translate_vars.proofs.FlagLaws.{tell_map}
-use Rattle.planning.specs.Atoms.{wants}
+use Rattle.pddl_task.specs.Atoms.{wants}
 use Rattle.translate_vars.proofs.flags.goal_flags.Goals as goal
 
 pub returns : goal.returns

@@ -1,5 +1,5 @@
 use Rattle.std.proofs.Common.{◌≡◌, map, take}
-use Rattle.planning.specs.Atoms.{wants}
+use Rattle.pddl_task.specs.Atoms.{wants}
 use Rattle.translate_vars.proofs.flags.goal_flags.Given as goal
 
 abbrev pub invariant-loop-atom : goal.invariant-loop-atom

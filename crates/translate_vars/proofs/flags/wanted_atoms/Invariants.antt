@@ -1,5 +1,5 @@
 use Rattle.std.proofs.Common.{◌≡◌, take}
-use Rattle.planning.specs.Atoms.{Atom, contains, wants}
+use Rattle.pddl_task.specs.Atoms.{Atom, contains, wants}
 use Rattle.translate_vars.proofs.flags.wanted_atoms.Given as goal
 
 abbrev pub invariant-loop-literal : goal.invariant-loop-literal

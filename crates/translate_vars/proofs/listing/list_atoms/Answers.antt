@@ -1,7 +1,7 @@
 use Rattle.std.proofs.Common.{rules, ◌≡◌, true, false, take, sym, ◌∙◌, ap, List}
 use Rattle.std.proofs.lemmas.Bool.{true≢false}
-use Rattle.planning.specs.Atoms.{Atom, contains}
-use Rattle.planning.specs.Planning.{IsAtomOf}
+use Rattle.pddl_task.specs.Atoms.{Atom, contains}
+use Rattle.pddl_task.specs.Planning.{IsAtomOf}
 use Rattle.translate_vars.specs.Faults.{IsBadAtom}
 use Rattle.translate_vars.proofs.ListingLaws.{one_more_listed, bad_if_unknown, bad_if_repeated, listed_with}
 use Rattle.translate_vars.proofs.listing.list_atoms.Goals as goal

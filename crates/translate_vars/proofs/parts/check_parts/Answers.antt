@@ -1,10 +1,10 @@
 use Rattle.std.proofs.Common.{rules, ◌≤◌, length}
-use Rattle.planning.specs.Atoms.{contains}
-use Rattle.closed_sets.specs.Grounding.{IsClosedSet, actions_over}
-use Rattle.bindings.specs.Search.{most_actions}
-use Rattle.bindings.proofs.SearchLaws.{fault_passed}
-use Rattle.translations.specs.Translations.{AreVariables}
-use Rattle.variables.specs.Variables.{variables_at}
+use Rattle.pddl_task.specs.Atoms.{contains}
+use Rattle.ground_theory.specs.Grounding.{IsClosedSet, actions_over}
+use Rattle.ground_bindings.specs.Search.{most_actions}
+use Rattle.ground_bindings.proofs.SearchLaws.{fault_passed}
+use Rattle.translate_theory.specs.Translations.{AreVariables}
+use Rattle.translate_theory.specs.Variables.{variables_at}
 use Rattle.translate_vars.specs.Faults.{AreAtomsOf}
 use Rattle.translate_vars.proofs.ListingLaws.{all_known}
 use Rattle.translate_vars.proofs.parts.check_parts.Goals as goal

@@ -1,7 +1,7 @@
 use Rattle.std.proofs.Common.{◌≡◌, ◌++◌, drop}
 use Rattle.sexp.specs.Forms.{views}
 use Rattle.validate.specs.PlanTexts.{words_of}
-use Rattle.names.specs.Names.{texts_of}
+use Rattle.pddl_names.specs.Names.{texts_of}
 use Rattle.validate.proofs.reading.words.Given as goal
 
 abbrev pub invariant-loop-tree : goal.invariant-loop-tree

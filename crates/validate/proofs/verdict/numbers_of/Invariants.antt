@@ -1,6 +1,6 @@
 use Rattle.std.proofs.Common.{◌≡◌, ◌++◌, drop}
 use Rattle.std.specs.Option.{option_map}
-use Rattle.names.specs.Names.{texts_of}
+use Rattle.pddl_names.specs.Names.{texts_of}
 use Rattle.validate.specs.Steps.{numbers_of}
 use Rattle.validate.proofs.verdict.numbers_of.Given as goal
 

@@ -1,7 +1,7 @@
 use Rattle.std.proofs.Common.{◌≡◌, ◌+◌, ◌<◌, Some, None, ap, sym, ◌∙◌, arith, length}
-use Rattle.planning.specs.Atoms.{State, contains}
-use Rattle.planning.specs.Planning.{PlanningTask, Action}
-use Rattle.planning.specs.Plans.{next_state}
+use Rattle.pddl_task.specs.Atoms.{State, contains}
+use Rattle.pddl_task.specs.Planning.{PlanningTask, Action}
+use Rattle.pddl_task.specs.Plans.{next_state}
 use Rattle.validate.specs.States.{holds_in}
 use Rattle.validate.specs.Steps.{action_named}
 use Rattle.validate.specs.Validation.{verdict_from, first_failing}

@@ -1,6 +1,6 @@
 use Rattle.std.proofs.Common.{◌≡◌, ◌++◌, drop}
 use Rattle.std.specs.String.{string_bytes}
-use Rattle.names.specs.Names.{texts_of}
+use Rattle.pddl_names.specs.Names.{texts_of}
 use Rattle.validate.specs.Written.{spaced}
 use Rattle.validate.proofs.writing.push_words.Given as goal
 

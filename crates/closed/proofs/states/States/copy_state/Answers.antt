@@ -2,7 +2,7 @@ use Rattle.std.proofs.Common.{◌≡◌, Option, Some, slice_get, sym, ap, ◌�
 use Rattle.std.specs.Option.{option_map}
 use Rattle.std.specs.Map.Iter.{deref_pair}
 use Rattle.fdr.specs.Tasks.{IsState}
-use Rattle.families.specs.Owners.{Node}
+use Rattle.owner_theory.specs.Owners.{Node}
 use Rattle.packed.specs.declared.plain.Plain.{Plain}
 use Rattle.closed.specs.declared.table.Entry.{Entry}
 use Rattle.closed.specs.Tables.{Table, node_with}

@@ -1,7 +1,7 @@
 use Rattle.std.proofs.Common.{◌≡◌, true, List, Some, slice_get, slice_set, sym, ap, ◌∙◌, subst}
 use Rattle.std.specs.Prelude.{All}
 use Rattle.fdr.specs.Tasks.{IsState}
-use Rattle.families.specs.Owners.{Node, marked}
+use Rattle.owner_theory.specs.Owners.{Node, marked}
 use Rattle.closed.specs.declared.table.Entry.{Entry}
 use Rattle.closed.specs.Tables.{Table}
 use Rattle.closed.specs.Entries.{nodes_of}

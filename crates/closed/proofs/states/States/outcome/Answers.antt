@@ -1,5 +1,5 @@
 use Rattle.std.proofs.Common.{◌≡◌, Bool, true, false, sym, ap, ◌∙◌, if◌then◌else◌}
-use Rattle.families.specs.Owners.{rank_less}
+use Rattle.owner_theory.specs.Owners.{rank_less}
 use Rattle.closed.specs.declared.table.Entry.{Entry}
 use Rattle.closed.specs.declared.table.Outcome.TheVariants.{New, Better, Kept}
 use Rattle.closed.specs.Tables.{Table, node_with, outcome_of}

@@ -2,7 +2,7 @@ use Rattle.std.proofs.Common.{◌≤◌, List, length, sym, ap, ◌∙◌, subst
 use Rattle.std.specs.Prelude.{All}
 use Rattle.std.proofs.lemmas.List.{length-map}
 use Rattle.fdr.specs.Tasks.{IsState}
-use Rattle.families.specs.Owners.{Node}
+use Rattle.owner_theory.specs.Owners.{Node}
 use Rattle.closed.specs.Tables.{Table, node_with}
 use Rattle.closed.specs.Entries.{nodes_of, with_entry}
 use Rattle.closed.proofs.Entries.{nodes_of-set_value_at, All-with_entry}

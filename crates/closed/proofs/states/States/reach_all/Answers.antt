@@ -1,5 +1,5 @@
 use Rattle.std.proofs.Common.{length, ap, ◌∙◌, arith}
-use Rattle.families.specs.Owners.{Node}
+use Rattle.owner_theory.specs.Owners.{Node}
 use Rattle.closed.specs.Tables.{reached, outcome_of}
 use Rattle.closed.proofs.Reaching.{one_reached, one_outcome}
 use Rattle.closed.proofs.states.States.reach_all.Goals as goal

@@ -1,5 +1,5 @@
 use Rattle.std.proofs.Common.{◌≤◌, List, length, take, sym, ap, ◌∙◌, subst}
-use Rattle.families.specs.Owners.{Node}
+use Rattle.owner_theory.specs.Owners.{Node}
 use Rattle.closed.specs.Tables.{node_with}
 use Rattle.closed.specs.Entries.{taken_back}
 use Rattle.closed.proofs.Reached.{length-reached}

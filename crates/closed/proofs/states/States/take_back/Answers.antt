@@ -1,5 +1,5 @@
 use Rattle.std.proofs.Common.{◌≡◌, ℕ, List, length, sym, ap, ◌∙◌, arith}
-use Rattle.families.specs.Owners.{Node}
+use Rattle.owner_theory.specs.Owners.{Node}
 use Rattle.closed.specs.declared.table.Entry.{Entry}
 use Rattle.closed.specs.Entries.{taken_back}
 use Rattle.closed.proofs.TakingBack.{taken_back-push, taken_back-none}

@@ -3,7 +3,7 @@ use Rattle.std.specs.Prelude.{All}
 use Rattle.std.proofs.lemmas.List.{take-map}
 use Rattle.std.proofs.lemmas.List.Elements.{All-take}
 use Rattle.fdr.specs.Tasks.{IsState}
-use Rattle.families.specs.Owners.{Node}
+use Rattle.owner_theory.specs.Owners.{Node}
 use Rattle.packed.specs.declared.plain.Plain.{Plain}
 use Rattle.closed.specs.declared.table.Entry.{Entry}
 use Rattle.closed.specs.Tables.{Table, node_with}

@@ -1,5 +1,5 @@
 use Rattle.std.proofs.Common.{◌∙◌, ◌<◌, length}
-use Rattle.planning.proofs.Lists.{all_mem}
+use Rattle.pddl_task.proofs.Lists.{all_mem}
 use Rattle.mutex.proofs.TestLaws.{full_is}
 use Rattle.mutex.proofs.index.ActionIndex.is_full.Goals as goal
 

@@ -1,5 +1,5 @@
 use Rattle.std.proofs.Common.{◌∙◌, ◌<◌, length}
-use Rattle.planning.proofs.Lists.{all_mem}
+use Rattle.pddl_task.proofs.Lists.{all_mem}
 use Rattle.mutex.proofs.TestLaws.{usable_is}
 use Rattle.mutex.proofs.index.ActionIndex.is_usable.Goals as goal
 

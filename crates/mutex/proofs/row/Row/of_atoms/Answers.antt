@@ -1,7 +1,7 @@
 use Rattle.std.proofs.Common.{◌<◌, ◌++◌, ◌∙◌, ℕ, Option, [], ap, arith, length}
 use Rattle.std.specs.Prelude.{position}
 use Rattle.std.specs.List.{cons_option}
-use Rattle.planning.specs.Atoms.{Atom, same_atom}
+use Rattle.pddl_task.specs.Atoms.{Atom, same_atom}
 use Rattle.mutex.proofs.PlaceLaws.{filter_more}
 use Rattle.mutex.proofs.row.Row.of_atoms.Goals as goal
 

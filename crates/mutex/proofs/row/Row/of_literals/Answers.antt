@@ -1,7 +1,7 @@
 use Rattle.std.proofs.Common.{◌<◌, ◌++◌, ◌∙◌, ℕ, None, Option, not, cond, [], ap, arith, length}
 use Rattle.std.specs.Prelude.{position}
 use Rattle.std.specs.List.{cons_option}
-use Rattle.planning.specs.Atoms.{Literal, same_atom}
+use Rattle.pddl_task.specs.Atoms.{Literal, same_atom}
 use Rattle.mutex.proofs.PlaceLaws.{filter_more}
 use Rattle.mutex.proofs.row.Row.of_literals.Goals as goal
 

@@ -2,8 +2,8 @@ use Rattle.std.proofs.Common.{◌≡◌, ◌∙◌, ap, sym, length, map, arith}
 use Rattle.std.specs.Prelude.{nat_lt}
 use Rattle.std.proofs.lemmas.Bool.{ltb-true, ltb-false, le-ltb}
 use Rattle.std.proofs.lemmas.List.{length-map}
-use Rattle.families.specs.Owners.{list_at}
-use Rattle.joined.specs.Views.{packet_of, packets_in}
+use Rattle.owner_theory.specs.Owners.{list_at}
+use Rattle.extract.specs.Views.{packet_of, packets_in}
 use Rattle.netcore.proofs.Places.{at_here, at_list, list_past, map_at}
 use Rattle.netcore.proofs.world.World.could_deliver.Goals as goal
 

@@ -1,5 +1,5 @@
 use Rattle.std.proofs.Common.{◌<◌, ◌∙◌, subst, length, arith}
-use Rattle.families.specs.Owners.{At}
+use Rattle.owner_theory.specs.Owners.{At}
 use Rattle.netcore.proofs.Places.{at_here}
 use Rattle.netcore.proofs.Changing.{rest_test}
 use Rattle.netcore.proofs.world.World.could_rest.Goals as goal

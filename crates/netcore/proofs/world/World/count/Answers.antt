@@ -1,6 +1,6 @@
 use Rattle.std.proofs.Common.{◌∙◌, ◌-◌, ◌^◌, ap, sym, subst, min, length, lit<}
-use Rattle.families.specs.Families.{IsSearchSpace}
-use Rattle.families.proofs.Worlds.{run_ok, count_zero}
+use Rattle.owner_theory.specs.Families.{IsSearchSpace}
+use Rattle.owner_theory.proofs.Worlds.{run_ok, count_zero}
 use Rattle.netcore.proofs.Places.{at_here}
 use Rattle.netcore.proofs.Expanding.{owner_space}
 use Rattle.netcore.proofs.Counting.{count_of, no_more}

@@ -5,7 +5,7 @@ use Rattle.std.specs.Option.{option_map}
 use Rattle.std.proofs.lemmas.Bool.{cases_lt}
 use Rattle.std.proofs.lemmas.List.{length-map, length-set, map-set}
 use Rattle.std.proofs.lemmas.Option.{slice_get-map, slice_get_read}
-use Rattle.joined.specs.Views.{packet_of, packets_in}
+use Rattle.extract.specs.Views.{packet_of, packets_in}
 use Rattle.netcore.proofs.Places.{at_here, at_some, map_at, map_remove, set_same}
 use Rattle.netcore.proofs.Expanding.{owner_space}
 use Rattle.netcore.proofs.Delivering.{deliver_past, deliver_none, deliver_done, deliver_kept, deliver_lost_kept, message_fits, IsTaking}

@@ -1,5 +1,5 @@
 use Rattle.std.proofs.Common.{◌≡◌, ◌-◌, ◌^◌, ◌∙◌, ap, sym, min, length, map}
-use Rattle.joined.specs.Views.{packets_in, all_packets}
+use Rattle.extract.specs.Views.{packets_in, all_packets}
 use Rattle.netcore.specs.Possible.{deliveries}
 use Rattle.netcore.proofs.Ending.{joined_same}
 use Rattle.netcore.proofs.Choosing.{deliveries_length}

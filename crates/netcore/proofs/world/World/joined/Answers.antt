@@ -1,5 +1,5 @@
 use Rattle.std.proofs.Common.{◌∙◌, ap, sym, subst}
-use Rattle.families.specs.Families.{IsSearchSpace}
+use Rattle.owner_theory.specs.Families.{IsSearchSpace}
 use Rattle.netcore.specs.Worlds.{WorldOf}
 use Rattle.netcore.proofs.Places.{at_here}
 use Rattle.netcore.proofs.Expanding.{owner_space}

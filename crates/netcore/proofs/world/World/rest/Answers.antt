@@ -1,6 +1,6 @@
 use Rattle.std.proofs.Common.{◌<◌, ◌∙◌, ap, subst, length, sym, arith}
-use Rattle.families.specs.Owners.{At}
-use Rattle.families.specs.Worlds.{idle}
+use Rattle.owner_theory.specs.Owners.{At}
+use Rattle.owner_theory.specs.Worlds.{idle}
 use Rattle.owner.specs.Owned.{under}
 use Rattle.netcore.proofs.Places.{at_here, at_some}
 use Rattle.netcore.proofs.Expanding.{owner_space}

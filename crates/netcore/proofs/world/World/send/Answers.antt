@@ -2,7 +2,7 @@ use Rattle.std.proofs.Common.{◌≡◌, ◌<◌, ◌∙◌, ◌++◌, ◌∷◌
 use Rattle.std.specs.Prelude.{slice_set}
 use Rattle.std.proofs.lemmas.List.{length-map, length-set, map-set, map-append}
 use Rattle.closed.specs.Tables.{message_of}
-use Rattle.joined.specs.Views.{packet_of, packets_in}
+use Rattle.extract.specs.Views.{packet_of, packets_in}
 use Rattle.netcore.proofs.Places.{at_here, at_some, map_at, set_same}
 use Rattle.netcore.proofs.Sending.{send_past, send_to_past, send_done, send_kept, send_lost_kept, send_nothing_done, send_nothing_kept, IsHandOut, packet_from}
 use Rattle.netcore.proofs.world.World.send.Goals as goal

@@ -1,6 +1,6 @@
 use Rattle.std.proofs.Common.{ap, ◌∙◌}
 use Rattle.std.specs.List.{list_all}
-use Rattle.families.specs.Worlds.{is_empty}
+use Rattle.owner_theory.specs.Worlds.{is_empty}
 use Rattle.owner.specs.Owned.{OwnerOf, space_of, under}
 use Rattle.owner.proofs.Owning.{idle_not, idle_from, none_from}
 use Rattle.owner.proofs.holdings.Holdings.is_idle.Goals as goal

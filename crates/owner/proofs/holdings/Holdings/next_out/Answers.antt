@@ -1,6 +1,6 @@
 use Rattle.std.proofs.Common.{◌≡◌, ◌<◌, [], length, sym, subst}
 use Rattle.std.specs.Prelude.{IfSome, IfNone}
-use Rattle.families.specs.Owners.{list_at}
+use Rattle.owner_theory.specs.Owners.{list_at}
 use Rattle.closed.specs.Tables.{message_of}
 use Rattle.owner.specs.Owned.{OwnerOf, space_of, IsMessageTo}
 use Rattle.owner.proofs.Owning.{popped_kept, popped_fits}

@@ -2,8 +2,8 @@ use Rattle.std.proofs.Common.{◌≡◌, ◌+◌, false, length, sym, ap, ◌∙
 use Rattle.cost.specs.Distances.{Finite, ◌+ᵈ◌, is_at_most}
 use Rattle.checker_clauses.specs.Clauses.{heuristic_of}
 use Rattle.fdr.specs.Tasks.{ranges, IsState}
-use Rattle.families.specs.Owners.{Owner, f_value}
-use Rattle.families.specs.Worlds.{waiting}
+use Rattle.owner_theory.specs.Owners.{Owner, f_value}
+use Rattle.owner_theory.specs.Worlds.{waiting}
 use Rattle.owner.specs.Spaces.{SpaceOf}
 use Rattle.owner.specs.Owned.{OwnerOf, space_of, under}
 use Rattle.owner.specs.Queues.{message_at}

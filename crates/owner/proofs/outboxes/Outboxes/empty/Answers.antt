@@ -1,5 +1,5 @@
 use Rattle.std.proofs.Common.{sym, ap, ◌∙◌}
-use Rattle.families.specs.Worlds.{waiting}
+use Rattle.owner_theory.specs.Worlds.{waiting}
 use Rattle.owner.specs.Outboxes.{count_in_use}
 use Rattle.owner.proofs.Boxing.{none_waiting}
 use Rattle.owner.proofs.Using.{none_used}

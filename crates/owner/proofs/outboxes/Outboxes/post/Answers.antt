@@ -1,6 +1,6 @@
 use Rattle.std.proofs.Common.{◌<◌, ap, sym, subst, length, ◌∙◌, arith}
-use Rattle.families.specs.Owners.{list_at}
-use Rattle.families.specs.Worlds.{is_empty}
+use Rattle.owner_theory.specs.Owners.{list_at}
+use Rattle.owner_theory.specs.Worlds.{is_empty}
 use Rattle.closed.specs.Tables.{message_of}
 use Rattle.owner.specs.Outboxes.{boxes_of}
 use Rattle.owner.proofs.Boxing.{box_empty, waiting_posted, waiting_small}

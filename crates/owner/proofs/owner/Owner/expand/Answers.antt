@@ -1,8 +1,8 @@
 use Rattle.std.proofs.Common.{◌≡◌, true, false, Some, All, sym, ap, ◌∙◌, subst, refl, true≢false}
 use Rattle.std.specs.List.{list_any}
 use Rattle.fdr.specs.Tasks.{FiniteDomainTask, ranges, IsState, applies_at}
-use Rattle.successor_generator.specs.Applicable.{applicable_operators}
-use Rattle.families.specs.Worlds.{no_open}
+use Rattle.fdr_successors.specs.Applicable.{applicable_operators}
+use Rattle.owner_theory.specs.Worlds.{no_open}
 use Rattle.owner.specs.declared.fault.OwnerFault.TheVariants.{TotalTooLarge}
 use Rattle.owner.specs.Spaces.{SpaceOf}
 use Rattle.owner.specs.Owned.{OwnerOf, space_of, under, IsRefusal, Expands}

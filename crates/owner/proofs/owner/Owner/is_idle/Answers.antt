@@ -1,5 +1,5 @@
 use Rattle.std.proofs.Common.{◌≡◌, subst}
-use Rattle.families.specs.Worlds.{idle}
+use Rattle.owner_theory.specs.Worlds.{idle}
 use Rattle.owner.specs.Owned.{OwnerOf, space_of, under}
 use Rattle.owner.proofs.owner.Owner.is_idle.Goals as goal
 

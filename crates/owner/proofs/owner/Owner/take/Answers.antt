@@ -1,5 +1,5 @@
 use Rattle.std.proofs.Common.{◌∙◌}
-use Rattle.families.specs.Owners.{took}
+use Rattle.owner_theory.specs.Owners.{took}
 use Rattle.owner.specs.Owned.{space_of, under}
 use Rattle.owner.specs.Queues.{message_at}
 use Rattle.owner.proofs.owner.Owner.take.Goals as goal

@@ -1,5 +1,5 @@
 use Rattle.std.proofs.Common.{List, sym, ◌∙◌, subst}
-use Rattle.families.specs.Owners.{Node}
+use Rattle.owner_theory.specs.Owners.{Node}
 use Rattle.owner.specs.Queues.{IsQueue, h_of}
 use Rattle.owner.proofs.Queues.{queue_permuted, reach_queue}
 use Rattle.owner.proofs.reached.Reached.reach.Goals as goal

@@ -1,6 +1,6 @@
 use Rattle.std.proofs.Common.{Bool, sym, ap, ◌∙◌}
 use Rattle.sexp.specs.Forms.{Forms, before}
-use Rattle.names.specs.Names.{is_there}
+use Rattle.pddl_names.specs.Names.{is_there}
 use Rattle.pddl_syntax.specs.Faults.{first_of}
 use Rattle.pddl_syntax.proofs.Trees.{word_is, list_is}
 use Rattle.pddl_domain.specs.DeclaredHeads.{function_heads, functions_faults, heads_from, faults_from}

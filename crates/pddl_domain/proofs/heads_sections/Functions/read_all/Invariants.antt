@@ -1,6 +1,6 @@
 use Rattle.std.proofs.Common.{◌≡◌, ◌≤◌, drop}
 use Rattle.sexp.specs.Forms.{views}
-use Rattle.names.specs.Names.{is_there}
+use Rattle.pddl_names.specs.Names.{is_there}
 use Rattle.pddl_syntax.specs.Faults.{first_of}
 use Rattle.pddl_domain.specs.DeclaredHeads.{heads_from, faults_from}
 use Rattle.pddl_domain.proofs.heads_sections.Functions.read_all.Given as goal

@@ -1,6 +1,6 @@
 use Rattle.std.proofs.Common.{refl}
 use Rattle.sexp.specs.Forms.{views, before}
-use Rattle.names.specs.Names.{is_there}
+use Rattle.pddl_names.specs.Names.{is_there}
 use Rattle.pddl_syntax.proofs.Trees.{word_is, list_is, on_ok, on_ok_3}
 use Rattle.pddl_domain.proofs.HeadItems.{function_item_heads, function_item_faults, function_list_heads, function_list_faults}
 use Rattle.pddl_domain.proofs.heads_sections.Functions.read_head.Goals as goal

@@ -1,6 +1,6 @@
 use Rattle.std.proofs.Common.{ap, ◌∙◌}
 use Rattle.sexp.specs.Forms.{Forms, group}
-use Rattle.names.specs.Names.{is_there}
+use Rattle.pddl_names.specs.Names.{is_there}
 use Rattle.pddl_syntax.specs.Faults.{first_of}
 use Rattle.pddl_syntax.proofs.Trees.{on_ok}
 use Rattle.pddl_domain.specs.DeclaredHeads.{function_heads, functions_faults}

@@ -1,5 +1,5 @@
 use Rattle.std.proofs.Common.{◌∙◌, ap}
-use Rattle.planning.specs.Planning.{Action}
+use Rattle.pddl_task.specs.Planning.{Action}
 use Rattle.validate.specs.States.{holds_in}
 use Rattle.validate.proofs.StateLaws.{applied}
 use Rattle.validate.proofs.state.AtomSet.apply.Goals as goal

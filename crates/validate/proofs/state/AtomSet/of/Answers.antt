@@ -1,5 +1,5 @@
 use Rattle.std.proofs.Common.{ap, sym, ◌∙◌}
-use Rattle.planning.specs.Atoms.{State}
+use Rattle.pddl_task.specs.Atoms.{State}
 use Rattle.validate.specs.States.{holds_in}
 use Rattle.validate.specs.Validation.{with_all}
 use Rattle.validate.proofs.StateLaws.{with_all_next, with_all_end, with_all_of_none}

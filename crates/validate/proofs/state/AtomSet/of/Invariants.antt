@@ -1,5 +1,5 @@
 use Rattle.std.proofs.Common.{◌≡◌, [], drop}
-use Rattle.planning.specs.Atoms.{contains}
+use Rattle.pddl_task.specs.Atoms.{contains}
 use Rattle.validate.specs.States.{holds_in}
 use Rattle.validate.specs.Validation.{with_all}
 use Rattle.validate.proofs.state.AtomSet.of.Given as goal

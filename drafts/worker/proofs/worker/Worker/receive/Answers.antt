@@ -1,7 +1,7 @@
 use Rattle.std.proofs.Common.{◌≡◌, ◌∙◌, ap, subst, sym, length, arith, false}
 use Rattle.fdr.specs.Tasks.{ranges, IsState}
-use Rattle.families.specs.Owners.{fits}
-use Rattle.families.specs.Owners as machine
+use Rattle.owner_theory.specs.Owners.{fits}
+use Rattle.owner_theory.specs.Owners as machine
 use Rattle.closed.specs.Tables.{message_of}
 use Rattle.owner.specs.Spaces.{SpaceOf, searched}
 use Rattle.owner.specs.Owned.{OwnerOf, space_of}

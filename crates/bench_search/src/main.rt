@@ -1,0 +1,116 @@
+//! Searches a task for a given number of steps, for the benchmark of searches:
+//! `measure_search TASK OWNERS STEPS COLUMNS`.
+#![tactic(auto)]
+
+mod alone;
+mod together;
+
+ghost use Rattle.std.specs.Prelude.{◌≡◌, ◌≤◌, ◌^◌, IfOk};
+
+use crate::alone::expand_alone;
+use crate::together::step_together;
+use fdr::FdrTask;
+use optplan_device::{Device, ProcessDevice};
+use owner::{OwnerFault, Space};
+use packed_spread::Zobrist;
+use sasfile::read_sas;
+use scp::{Columns, choose_columns, make_columns};
+use std::alloc::{AllocError, Global};
+use std::process::ExitCode;
+
+/// The greatest number of owners.
+const MOST_OWNERS: usize = 64;
+
+/// The greatest number of abstract states of a table.
+const MOST_TABLE: usize = 16_777_216;
+
+/// The size of a search: the number of owners, the number of steps, and the greatest number of abstract states of a
+/// table.
+#[derive(Clone, Copy)]
+struct Amounts {
+    owners: usize,
+    steps: u64,
+    table: usize,
+}
+
+/// Columns with tables of at most `table` abstract states, and no column if that is 0. Fails only if allocation fails.
+fn columns_of<'a>(alloc: Global, task: &'a FdrTask, table: usize) -> Result<Columns<'a>, AllocError>
+    requires { table ≤ 2 ^ 24 }
+    ensures { IfOk result (λ columns. columns.task ≡ task.now) }
+{
+    if table == 0 {
+        return make_columns(alloc, task, &[]);
+    }
+    choose_columns(alloc, task, table)
+}
+
+/// The line for the search of a task.
+fn searched<'a>(alloc: Global, task: &'a FdrTask, amounts: Amounts) -> Result<String, OwnerFault>
+    requires table { amounts.table ≤ 2 ^ 24 }
+    requires owners { 1 ≤ amounts.owners }
+{
+    let columns = columns_of(alloc, task, amounts.table)?;
+    let spread = Zobrist::new(alloc, task)?;
+    let space: Space<'a, Zobrist<'a>> = Space::new(alloc, task, columns, spread, None)?;
+    if amounts.owners == 1 {
+        expand_alone(alloc, &space, amounts.steps)
+    } else {
+        step_together(alloc, &space, amounts.owners, amounts.steps)
+    }
+}
+
+/// The line that the program prints. `None` if the text spells no task, or an amount is out of range.
+fn answer(alloc: Global, text: &[u8], amounts: Amounts) -> Result<Option<String>, OwnerFault> {
+    let Ok(task) = read_sas(alloc, text) else {
+        return Ok(None);
+    };
+    if amounts.owners < 1 || amounts.owners > MOST_OWNERS || amounts.table > MOST_TABLE {
+        return Ok(None);
+    }
+    Ok(Some(searched(alloc, &task, amounts)?))
+}
+
+/// The three amounts of the command line.
+fn amounts_of(owners: &str, steps: &str, table: &str) -> Option<Amounts> {
+    let (Ok(owners), Ok(steps), Ok(table)) = (owners.parse(), steps.parse(), table.parse()) else {
+        return None;
+    };
+    Some(Amounts {
+        owners,
+        steps,
+        table,
+    })
+}
+
+/// Prints the answer for a file and three numbers, and returns whether it did.
+fn put_answer<D: Device>(alloc: Global, device: &mut D, words: &[String]) -> bool {
+    let [_, task, owners, steps, table] = words else {
+        return false;
+    };
+    let Some(amounts) = amounts_of(owners.as_str(), steps.as_str(), table.as_str()) else {
+        return false;
+    };
+    let Ok(text) = device.read(alloc, task.as_str()) else {
+        return false;
+    };
+    match answer(alloc, &text, amounts) {
+        Ok(Some(line)) => device.out(line.as_bytes()).is_ok(),
+        _ => false,
+    }
+}
+
+fn main(rt: HostRuntime) -> ExitCode {
+    let words: Vec<String> = match std::env::args(&rt) {
+        Ok(args) => match args.collect(rt.alloc()) {
+            Ok(words) => words,
+            Err(_) => return ExitCode::from(6),
+        },
+        Err(_) => return ExitCode::from(6),
+    };
+    let mut device = ProcessDevice::new(&rt);
+    if put_answer(rt.alloc(), &mut device, &words) {
+        ExitCode::from(0)
+    } else {
+        ExitCode::from(1)
+    }
+}

@@ -1,0 +1,94 @@
+//! Makes the pattern databases of a task and evaluates lower bounds, for the benchmark of tables:
+//! `measure_tables TASK LIMIT TIMES`.
+#![tactic(auto)]
+
+mod states;
+
+ghost use Rattle.std.specs.Prelude.{◌<◌, length, All};
+ghost use Rattle.fdr.specs.Tasks.{ranges, IsState};
+
+use crate::states::draw_states;
+use cost::Dist;
+use optplan_device::{Device, ProcessDevice};
+use sasfile::read_sas;
+use scp::{Columns, choose_columns};
+use std::alloc::{AllocError, Global};
+use std::process::ExitCode;
+
+/// The greatest of `times` lower bounds, of one state after the other and then again from the first.
+fn greatest_bound(columns: &Columns<'_>, states: &[Vec<u32>], times: usize) -> Dist
+    requires some { 0 < length states.now }
+    requires states { All (λ state. IsState (ranges columns.now.task) state.items) states.now }
+{
+    let mut greatest = Dist::ZERO;
+    for time in 0..times {
+        greatest = greatest.max(columns.h(&states[time % states.len()]));
+    }
+    greatest
+}
+
+/// The number of tables in all columns, at most the greatest `usize`.
+fn table_count(columns: &Columns<'_>) -> usize {
+    let mut count: usize = 0;
+    for column in columns.tables() {
+        count = count.saturating_add(column.len());
+    }
+    count
+}
+
+/// The line that the program prints. `None` if the text spells no task, or the limit is out of range.
+fn answer(
+    alloc: Global,
+    text: &[u8],
+    limit: usize,
+    times: usize,
+) -> Result<Option<String>, AllocError> {
+    let Ok(task) = read_sas(alloc, text) else {
+        return Ok(None);
+    };
+    if limit < 1 || limit > 16_777_216 {
+        return Ok(None);
+    }
+    let columns = choose_columns(alloc, &task, limit)?;
+    let states = draw_states(alloc, &task)?;
+    let tables = table_count(&columns);
+    let initial = columns.h(task.initial());
+    let greatest = greatest_bound(&columns, &states, times);
+    let line = format!(in alloc;
+        "{tables} tables, {initial} from the initial state, {greatest} at most\n"
+    )?;
+    Ok(Some(line))
+}
+
+/// Prints the answer for a file and two numbers, and returns whether it did.
+fn put_answer<D: Device>(alloc: Global, device: &mut D, words: &[String]) -> bool {
+    let [_, task, limit, times] = words else {
+        return false;
+    };
+    let (Ok(limit), Ok(times)) = (limit.parse::<usize>(), times.parse::<usize>()) else {
+        return false;
+    };
+    let Ok(text) = device.read(alloc, task.as_str()) else {
+        return false;
+    };
+    match answer(alloc, &text, limit, times) {
+        Ok(Some(line)) => device.out(line.as_bytes()).is_ok(),
+        _ => false,
+    }
+}
+
+fn main(rt: HostRuntime) -> ExitCode {
+    let words: Vec<String> = match std::env::args(&rt) {
+        Ok(args) => match args.collect(rt.alloc()) {
+            Ok(words) => words,
+            Err(_) => return ExitCode::from(6),
+        },
+        Err(_) => return ExitCode::from(6),
+    };
+    let mut device = ProcessDevice::new(&rt);
+    if put_answer(rt.alloc(), &mut device, &words) {
+        ExitCode::from(0)
+    } else {
+        ExitCode::from(1)
+    }
+}

@@ -1,0 +1,166 @@
+//! The values of the states of a closed list.
+
+ghost use Rattle.std.specs.Prelude.{◌≡◌, ◌+◌, ◌*◌, ◌≤◌, ◌++◌, [], ◌∷◌, length, take, drop, nat_eq, OnOk, OnErr, IfOk};
+ghost use Rattle.std.specs.Cmp.Lexicographic.{pointwise};
+
+use std::alloc::{AllocError, Global};
+use std::marker::Model;
+
+/// Numbers, of 2 bytes each as long as all are below 2^16.
+#[derive(Drop)]
+enum Kept {
+    Short(Vec<u16>),
+    Long(Vec<u32>),
+}
+
+/// The values of states, one state after another: 2 bytes each as long as all are below 2^16, and else 4. In contracts
+/// its value is a list of numbers.
+#[derive(Drop)]
+pub(crate) struct Numbers {
+    kept: Kept,
+}
+
+impl Model for Numbers {
+    ghost use Rattle.std.specs.Prelude.{ℕ, List};
+    ghost use Rattle.cert_value.specs.Kept.{numbers_in};
+
+    ghost Value = { List ℕ };
+
+    ghost view = { λ n. numbers_in n.kept };
+}
+
+/// The numbers followed by `last`, as numbers of 4 bytes. Fails only if allocation fails.
+fn longer(alloc: Global, numbers: &[u16], last: u32) -> Result<Vec<u32>, AllocError>
+    ensures { IfOk result (λ all. all.items ≡ numbers.now ++ last ∷ []) }
+{
+    let mut all = Vec::new(alloc);
+    for number in numbers {
+        all.push(u32::from(*number))?;
+    }
+    all.push(last)?;
+    Ok(all)
+}
+
+impl Numbers {
+    /// Returns an empty list.
+    pub(crate) fn new(alloc: Global) -> Numbers
+        ensures { result ≡ [] }
+    {
+        Numbers {
+            kept: Kept::Short(Vec::new(alloc)),
+        }
+    }
+
+    /// Returns how many numbers there are.
+    pub(crate) fn len(&self) -> usize
+        ensures { result ≡ length self.now }
+    {
+        match &self.kept {
+            Kept::Short(numbers) => numbers.len(),
+            Kept::Long(numbers) => numbers.len(),
+        }
+    }
+
+    /// Appends a number. Fails only if allocation fails, and then leaves the list as it was.
+    pub(crate) fn push(&mut self, alloc: Global, number: u32) -> Result<(), AllocError>
+        ensures ok { OnOk result (self.new ≡ self.old ++ number ∷ []) }
+        ensures err { OnErr result (self.new ≡ self.old) }
+    {
+        match &mut self.kept {
+            Kept::Short(numbers) => match u16::try_from(number) {
+                Ok(short) => numbers.push(short)?,
+                Err(_) => {
+                    let all = longer(alloc, numbers, number)?;
+                    self.kept = Kept::Long(all);
+                }
+            },
+            Kept::Long(numbers) => numbers.push(number)?,
+        }
+        Ok(())
+    }
+
+    /// Keeps the first `len` numbers and drops the others.
+    pub(crate) fn truncate(&mut self, len: usize)
+        ensures { self.new ≡ take len self.old }
+    {
+        match &mut self.kept {
+            Kept::Short(numbers) => numbers.truncate(len),
+            Kept::Long(numbers) => numbers.truncate(len),
+        }
+    }
+
+    /// Appends numbers. Fails only if allocation fails, and then leaves the list as it was.
+    pub(crate) fn extend(&mut self, alloc: Global, more: &[u32]) -> Result<(), AllocError>
+        ensures ok { OnOk result (self.new ≡ self.old ++ more.now) }
+        ensures err { OnErr result (self.new ≡ self.old) }
+    {
+        let before = self.len();
+        for number in more {
+            if self.push(alloc, *number).is_err() {
+                self.truncate(before);
+                return Err(AllocError);
+            }
+        }
+        Ok(())
+    }
+
+    /// Copies the values of the state with this number. Each state has as many values as the buffer.
+    pub(crate) fn copy(&self, state: usize, into: &mut [u32])
+        requires { state * length into.old + length into.old ≤ length self.now }
+        ensures copied { into.new ≡ take (length into.old) (drop (state * length into.old) self.now) }
+        ensures len { length into.new ≡ length into.old }
+    {
+        let width = into.len();
+        match &self.kept {
+            Kept::Short(numbers) => {
+                let start = state * width;
+                copy_short(&numbers[start..start + width], into);
+            }
+            Kept::Long(numbers) => {
+                let start = state * width;
+                into.copy_from_slice(&numbers[start..start + width]);
+            }
+        }
+    }
+
+    /// Whether the state with this number has these values. Each state has as many values as there are here.
+    pub(crate) fn is_at(&self, state: usize, values: &[u32]) -> bool
+        requires { state * length values.now + length values.now ≤ length self.now }
+        ensures { result ≡ pointwise nat_eq (take (length values.now) (drop (state * length values.now) self.now)) values.now }
+    {
+        let width = values.len();
+        match &self.kept {
+            Kept::Short(numbers) => {
+                let start = state * width;
+                are_same(&numbers[start..start + width], values)
+            }
+            Kept::Long(numbers) => {
+                let start = state * width;
+                &numbers[start..start + width] == values
+            }
+        }
+    }
+}
+
+/// Copies numbers of 2 bytes into a buffer of the same length.
+fn copy_short(numbers: &[u16], into: &mut [u32])
+    requires { length numbers.now ≡ length into.old }
+    ensures { into.new ≡ numbers.now }
+{
+    for place in 0..into.len() {
+        into[place] = u32::from(numbers[place]);
+    }
+}
+
+/// Whether two lists of the same length have the same numbers.
+fn are_same(numbers: &[u16], others: &[u32]) -> bool
+    requires { length numbers.now ≡ length others.now }
+    ensures { result ≡ pointwise nat_eq numbers.now others.now }
+{
+    for place in 0..others.len() {
+        if u32::from(numbers[place]) != others[place] {
+            return false;
+        }
+    }
+    true
+}

@@ -1,9 +1,0 @@
-use Rattle.std.proofs.Common.{◌∙◌, sym, ap, arith}
-use Rattle.std.proofs.lemmas.Bool.Decides.{nat_tests}
-use Rattle.certificates.specs.Certificates.{width_of}
-use Rattle.certificates.proofs.KeptLaws.{width_is}
-use Rattle.certificates.proofs.closed.ClosedList.width.Goals as goal
-
-pub returns-else-is_empty : goal.returns-else-is_empty
-returns-else-is_empty c =
-    sym (width_is c.self.inside.width c.self.inside.costs.items c.self.inside.values (grind (arith, nat_tests)) c.self.invariant) ∙ ap width_of c.self.view_is

@@ -1,0 +1,36 @@
+-- The tests of single places of a closed list. They pass where there is no such place.
+use Rattle.std.specs.Prelude.{◌≡◌, ℕ, ◌<◌, Bool, true, false, ◌&&◌, List, slice_get, Option, Some, None}
+use Rattle.std.specs.Option.{option_map_or}
+use Rattle.fdr.specs.Tasks.{FiniteDomainTask, ranges}
+use Rattle.cert_value.specs.Certificates.{Entry, CertificateValue}
+use Rattle.checker_clauses.specs.Clauses.{is_state, is_behind, is_dear_if_goal, covers_successor}
+
+-- whether the state is one of the task, and lexicographically greater than the one before it
+abbrev pub passes_state : FiniteDomainTask → List Entry → ℕ → Bool
+passes_state task closed i =
+    option_map_or (λ e. is_state (ranges task) e.state && is_behind closed i e.state) (slice_get closed i) true
+
+-- whether the state costs at least the bound, if it is a goal state
+abbrev pub passes_goal : FiniteDomainTask → CertificateValue → ℕ → Bool
+passes_goal task c i = option_map_or (is_dear_if_goal task c) (slice_get c.closed i) true
+
+-- whether the successor under the operator, if there is one, is covered
+abbrev pub passes_successor : FiniteDomainTask → CertificateValue → ℕ → ℕ → Bool
+passes_successor task c i o = option_map_or (λ e. covers_successor task c e o) (slice_get c.closed i) true
+
+-- the test passes for each number below n
+abbrev pub PassesBelow : (ℕ → Bool) → ℕ → Type 0
+PassesBelow test n = (i : ℕ) → i < n → test i ≡ true
+
+-- the test passes for each number
+abbrev pub PassesAll : (ℕ → Bool) → Type 0
+PassesAll test = (i : ℕ) → test i ≡ true
+
+-- the tests of each number below n pass for all numbers
+abbrev pub PassesEach : (ℕ → ℕ → Bool) → ℕ → Type 0
+PassesEach test n = (i : ℕ) → i < n → PassesAll (test i)
+
+-- the first number for which the test fails, or none
+abbrev pub IsFirstFailing : (ℕ → Bool) → Option ℕ → Type 0
+IsFirstFailing test None = PassesAll test
+IsFirstFailing test (Some i) = (test i ≡ false) × PassesBelow test i

@@ -1,0 +1,201 @@
+//! The clauses C6 and C8: the initial state and the successors of closed states are covered.
+
+ghost use Rattle.std.specs.Prelude.{◌≡◌, ℕ, ◌-◌, ◌<◌, ◌^◌, min, not, All, length, slice_get, option_map, Some, IfOk, IfSome};
+ghost use Rattle.std.specs.List.{find};
+ghost use Rattle.cost.specs.Distances.{IsWithin};
+ghost use Rattle.fdr.specs.Tasks.{ranges, IsTask, IsState};
+ghost use Rattle.checker_clauses.specs.Clauses.{is_covered};
+ghost use Rattle.checker_clauses.specs.Violations.{IsMet, IsFoundIn};
+ghost use Rattle.checker_states.specs.Places.{passes_successor, IsFirstFailing};
+
+use cert_value::{Certificate, ClosedList};
+use checker_clauses::Violation;
+use checker_states::ClosedIndex;
+use checker_tables::Heuristic;
+use cost::Dist;
+use fdr::FdrTask;
+use fdr_successors::SuccessorGenerator;
+use std::alloc::{AllocError, Global};
+use std::marker::Model;
+
+/// Proves that each cost is below 2^64, in time linear in the list.
+fn recall_costs(closed: &ClosedList)
+    ensures { All (λ e. e.cost < 2 ^ 64) closed.now }
+{
+    for place in 0..closed.len() {
+        closed.cost(place);
+    }
+}
+
+/// Proves the invariant of a distance.
+fn recall_distance(distance: Dist)
+    ensures { IsWithin (2 ^ 63) distance }
+{
+    distance.get();
+}
+
+/// The closed list of a certificate for a task, prepared for the test whether a state is covered: whether it is in the
+/// list with at most its cost, or reaches the bound with the heuristic of the tables. In contracts its value is the
+/// task and the certificate.
+#[derive(Drop)]
+pub struct Coverage<'a> {
+    task: &'a FdrTask,
+    certificate: &'a Certificate,
+    index: ClosedIndex<'a>,
+    generator: SuccessorGenerator<'a>,
+    heuristic: Heuristic<'a>,
+}
+
+impl<'a> Model for Coverage<'a> {
+    ghost use Rattle.checker_states.specs.Coverings.{Covering, IsCovering};
+
+    ghost Value = { Covering };
+
+    ghost view = { λ c. record { task = c.task.now; certificate = c.certificate.now } };
+
+    ghost invariant = { λ c. IsCovering c.task.now c.certificate.now c.index c.generator c.heuristic.task c.heuristic.columns };
+}
+
+impl<'a> Coverage<'a> {
+    /// Prepares the closed list of the certificate, which must meet the clause C4. Fails only if allocation fails.
+    pub fn new(
+        alloc: Global,
+        task: &'a FdrTask,
+        certificate: &'a Certificate,
+    ) -> Result<Coverage<'a>, AllocError>
+        requires { IsMet task.now certificate.now 4 }
+        ensures { IfOk result (λ c. (c.task ≡ task.now) × (c.certificate ≡ certificate.now)) }
+    {
+        task.recall();
+        recall_costs(certificate.closed());
+        recall_distance(certificate.bound());
+        Ok(Coverage {
+            task,
+            certificate,
+            index: ClosedIndex::new(alloc, certificate.closed())?,
+            generator: SuccessorGenerator::new(alloc, task)?,
+            heuristic: Heuristic::new(alloc, task, certificate)?,
+        })
+    }
+
+    /// Whether a state that was reached at this cost is covered. The cost 2^64 - 1 also represents every greater cost.
+    fn is_covered(&self, state: &[u32], cost: u64) -> bool
+        requires { IsState (ranges self.now.task) state.now }
+        ensures { (total : ℕ) → cost ≡ min total (2 ^ 64 - 1)
+            → result ≡ is_covered self.now.task self.now.certificate state.now total }
+    {
+        self.index.is_listed(state, cost)
+            || self
+                .heuristic
+                .reaches(state, cost, self.certificate.bound())
+    }
+
+    /// Returns the violation of the clause C6: the initial state is not covered at the cost 0. Returns `None` if it is.
+    pub fn start_violation(&self) -> Option<Violation>
+        ensures { IsFoundIn self.now.task self.now.certificate 6 result }
+    {
+        if self.is_covered(self.task.initial(), 0) {
+            None
+        } else {
+            Some(Violation::Start)
+        }
+    }
+
+    /// Whether the successor under the operator of the state, which is the closed state at the place, is covered, if
+    /// there is one. `successor` is a buffer for it.
+    fn covers(&self, place: usize, state: &[u32], operator: usize, successor: &mut [u32]) -> bool
+        requires place { place < length self.now.certificate.closed }
+        requires here { option_map (λ e. e.state) (slice_get self.now.certificate.closed place) ≡ Some state.now }
+        requires state { IfSome (slice_get self.now.certificate.closed place) (λ e. IsState (ranges self.now.task) e.state) }
+        requires buffer { length successor.old ≡ length self.now.task.value_names }
+        ensures { result ≡ passes_successor self.now.task self.now.certificate place operator }
+    {
+        successor.copy_from_slice(state);
+        if !self.task.apply(operator, successor) {
+            return true;
+        }
+        let cost = self.task.cost(operator).get();
+        let reached = self.certificate.closed().cost(place);
+        self.is_covered(successor, reached.saturating_add(cost))
+    }
+
+    /// The first of the operators under which the state, which is the closed state at the place, has a successor that
+    /// is not covered. `successor` is a buffer.
+    fn first_uncovered(
+        &self,
+        place: usize,
+        state: &[u32],
+        operators: &[usize],
+        successor: &mut [u32],
+    ) -> Option<usize>
+        requires place { place < length self.now.certificate.closed }
+        requires here { option_map (λ e. e.state) (slice_get self.now.certificate.closed place) ≡ Some state.now }
+        requires state { IfSome (slice_get self.now.certificate.closed place) (λ e. IsState (ranges self.now.task) e.state) }
+        requires buffer { length successor.old ≡ length self.now.task.value_names }
+        ensures { result ≡ find (λ o. not (passes_successor self.now.task self.now.certificate place o)) operators.now }
+    {
+        for operator in operators {
+            if !self.covers(place, state, *operator, successor) {
+                return Some(*operator);
+            }
+        }
+        None
+    }
+
+    /// The first operator under which the closed state at the place has a successor that is not covered. `operators`,
+    /// `state` and `successor` are buffers. Fails only if allocation fails.
+    fn first_failing(
+        &self,
+        place: usize,
+        operators: &mut Vec<usize>,
+        state: &mut [u32],
+        successor: &mut [u32],
+    ) -> Result<Option<usize>, AllocError>
+        requires place { place < length self.now.certificate.closed }
+        requires state { IfSome (slice_get self.now.certificate.closed place) (λ e. IsState (ranges self.now.task) e.state) }
+        requires unpacked { All (λ e. length e.state ≡ length state.old) self.now.certificate.closed }
+        requires buffer { length successor.old ≡ length self.now.task.value_names }
+        ensures found { IfOk result (IsFirstFailing (passes_successor self.now.task self.now.certificate place)) }
+        ensures len { length state.new ≡ length state.old }
+    {
+        self.certificate.closed().copy_state(place, state);
+        self.generator.applicable(state, operators)?;
+        Ok(self.first_uncovered(place, state, operators, successor))
+    }
+
+    /// The first successor of a closed state that is not covered. `operators`, `state` and `successor` are buffers.
+    /// Fails only if allocation fails.
+    fn first_failing_successor(
+        &self,
+        operators: &mut Vec<usize>,
+        state: &mut [u32],
+        successor: &mut [u32],
+    ) -> Result<Option<Violation>, AllocError>
+        requires clause { IsMet self.now.task self.now.certificate 5 }
+        requires unpacked { All (λ e. length e.state ≡ length state.old) self.now.certificate.closed }
+        requires buffer { length successor.old ≡ length self.now.task.value_names }
+        ensures { IfOk result (λ found. IsFoundIn self.now.task self.now.certificate 8 found) }
+    {
+        for place in 0..self.certificate.closed().len() {
+            if let Some(operator) = self.first_failing(place, operators, state, successor)? {
+                return Ok(Some(Violation::Successor(place, operator)));
+            }
+        }
+        Ok(None)
+    }
+
+    /// Returns the first violation of the clause C8, by the place of the closed state and then by the number of the
+    /// operator: a successor that is not covered. Returns `None` if there is none. The certificate must meet the clause
+    /// C5.
+    ///
+    /// Fails only if allocation fails.
+    pub fn first_successor_violation(&self, alloc: Global) -> Result<Option<Violation>, AllocError>
+        requires { IsMet self.now.task self.now.certificate 5 }
+        ensures { IfOk result (λ found. IsFoundIn self.now.task self.now.certificate 8 found) }
+    {
+        let mut operators = Vec::new(alloc);
+        let mut state = self.certificate.closed().buffer(alloc)?;
+        let mut successor = Vec::from_slice(alloc, self.task.initial())?;
+        self.first_failing_successor(&mut operators, &mut state, &mut successor)
+    }
+}

@@ -1,0 +1,94 @@
+//! The clause C5: closed states are states of the task, in strictly increasing lexicographic order.
+
+ghost use Rattle.std.specs.Prelude.{◌≡◌, ◌<◌, All, length, IfOk};
+ghost use Rattle.fdr.specs.Tasks.{ranges};
+ghost use Rattle.checker_clauses.specs.Clauses as spec;
+ghost use Rattle.checker_clauses.specs.Violations.{IsFoundIn};
+ghost use Rattle.checker_states.specs.Places.{passes_state};
+
+use cert_value::{Certificate, ClosedList};
+use checker_clauses::Violation;
+use fdr::FdrTask;
+use std::alloc::{AllocError, Global};
+
+/// Whether the state has for each variable a value below its range.
+fn is_state(task: &FdrTask, state: &[u32]) -> bool
+    ensures { result ≡ spec.is_state (ranges task.now) state.now }
+{
+    if state.len() != task.variable_count() {
+        return false;
+    }
+    for variable in 0..state.len() {
+        if state[variable] as usize >= task.range(variable) {
+            return false;
+        }
+    }
+    true
+}
+
+/// Whether the first state is lexicographically less than the second.
+fn comes_before(first: &[u32], second: &[u32]) -> bool
+    ensures { result ≡ spec.comes_before first.now second.now }
+{
+    first < second
+}
+
+/// Whether the closed state at the place is a state of the task and lexicographically greater than the one before it.
+/// `state` and `before` are buffers of the width of the closed states.
+fn passes_at(
+    task: &FdrTask,
+    closed: &ClosedList,
+    place: usize,
+    state: &mut [u32],
+    before: &mut [u32],
+) -> bool
+    requires place { place < length closed.now }
+    requires state { All (λ e. length e.state ≡ length state.old) closed.now }
+    requires before { All (λ e. length e.state ≡ length before.old) closed.now }
+    ensures passes { result ≡ passes_state task.now closed.now place }
+    ensures state { length state.new ≡ length state.old }
+    ensures before { length before.new ≡ length before.old }
+{
+    closed.copy_state(place, state);
+    if place == 0 {
+        return is_state(task, state);
+    }
+    closed.copy_state(place - 1, before);
+    is_state(task, state) && comes_before(before, state)
+}
+
+/// The first violation of the clause. `state` and `before` are buffers of the width of the closed states.
+fn first_failing(
+    task: &FdrTask,
+    certificate: &Certificate,
+    state: &mut [u32],
+    before: &mut [u32],
+) -> Option<Violation>
+    requires state { All (λ e. length e.state ≡ length state.old) certificate.now.closed }
+    requires before { All (λ e. length e.state ≡ length before.old) certificate.now.closed }
+    ensures { IsFoundIn task.now certificate.now 5 result }
+{
+    let closed = certificate.closed();
+    for place in 0..closed.len() {
+        if !passes_at(task, closed, place, state, before) {
+            return Some(Violation::ClosedState(place));
+        }
+    }
+    None
+}
+
+/// Returns the first violation of the clause C5: the place of the first closed state that is not a state of the task,
+/// or not lexicographically greater than the one before it. Returns `None` if there is none.
+///
+/// Fails only if allocation fails.
+pub fn first_closed_violation(
+    alloc: Global,
+    task: &FdrTask,
+    certificate: &Certificate,
+) -> Result<Option<Violation>, AllocError>
+    ensures { IfOk result (λ found. IsFoundIn task.now certificate.now 5 found) }
+{
+    let mut state = certificate.closed().buffer(alloc)?;
+    let mut before = certificate.closed().buffer(alloc)?;
+    Ok(first_failing(task, certificate, &mut state, &mut before))
+}

@@ -1,0 +1,96 @@
+-- Rows of transitions: only operators that touch the abstract states need be tried.
+use Rattle.std.proofs.Common.{◌≡◌, ℕ, zero, suc, ◌+◌, ◌-◌, ◌<◌, ◌≤◌, Bool, true, false, List, ◌∷◌, length, get_or, drop, map, Option, Some, None, cond, refl, sym, ap, ◌∙◌, arith, subst, ⊎_elim}
+use Rattle.std.specs.Prelude.{slice_get, IfSome}
+use Rattle.std.specs.Option.{option_map_or}
+use Rattle.std.proofs.lemmas.Bool.{cond_both, cases_eq}
+use Rattle.std.proofs.lemmas.List.{at_drop_more}
+use Rattle.std.proofs.lemmas.Option.{get_or_from_slice_get}
+use Rattle.cost.specs.Distances.{Distance, Finite, Infinite, ◌+ᵈ◌, is_at_most}
+use Rattle.cost.proofs.DistanceLaws.{is_at_most-from, right_at_most_sum}
+use Rattle.abstraction.specs.Abstractions as abstraction
+use Rattle.checker_tables.specs.ShareSums.{IsFirstFailure}
+use Rattle.checker_tables.specs.declared.transitions.Spender.{Spender}
+use Rattle.checker_tables.specs.TableFaults.{falls_within, touching_from, spender_of, first_failing}
+
+-- what a transition and two values tell of a test
+module _ (abs : abstraction.Abstraction) (values : List Distance) (a o share : ℕ) where
+  pub falls_by_values : (b : ℕ) (v w : Distance) → abs.transition a o ≡ Some b → slice_get values a ≡ Some v → slice_get values b ≡ Some w
+      → falls_within abs values a o share ≡ is_at_most v (Finite share +ᵈ w)
+  falls_by_values b v w leads here there =
+      ap (λ (r : Option ℕ). option_map_or (λ c. is_at_most (get_or values a Infinite) (Finite share +ᵈ get_or values c Infinite)) r true) leads
+      ∙ ap (λ (x : Distance). is_at_most x (Finite share +ᵈ get_or values b Infinite)) (get_or_from_slice_get values a v Infinite here)
+      ∙ ap (λ (x : Distance). is_at_most v (Finite share +ᵈ x)) (get_or_from_slice_get values b w Infinite there)
+
+  pub falls_nowhere : abs.transition a o ≡ None → falls_within abs values a o share ≡ true
+  falls_nowhere leads = ap (λ (r : Option ℕ). option_map_or (λ c. is_at_most (get_or values a Infinite) (Finite share +ᵈ get_or values c Infinite)) r true) leads
+
+  -- to itself a value does not fall
+  pub falls_to_itself : IfSome (abs.transition a o) (λ b. b ≡ a) → falls_within abs values a o share ≡ true
+  falls_to_itself same = go (abs.transition a o) same
+    where
+      go : (r : Option ℕ) → IfSome r (λ b. b ≡ a) → option_map_or (λ c. is_at_most (get_or values a Infinite) (Finite share +ᵈ get_or values c Infinite)) r true ≡ true
+      go None s = refl
+      go (Some b) s =
+          ap (λ (c : ℕ). is_at_most (get_or values a Infinite) (Finite share +ᵈ get_or values c Infinite)) s
+          ∙ is_at_most-from _ _ (right_at_most_sum (Finite share) (get_or values a Infinite))
+
+-- one more of the operators that are tried
+module _ (test : Spender → Bool) (ss : List Spender) (i : ℕ) (d : Spender) (l : i < length ss) where
+  pub fails_here : test (get_or ss i d) ≡ false → first_failing test (drop i ss) ≡ Some (get_or ss i d).operator
+  fails_here e =
+      at_drop_more (first_failing test) ss i d l
+      ∙ ap (λ (b : Bool). cond b (first_failing test (drop (i + 1) ss)) (Some (get_or ss i d).operator)) e
+
+  pub passes_here : test (get_or ss i d) ≡ true → first_failing test (drop i ss) ≡ first_failing test (drop (i + 1) ss)
+  passes_here e =
+      at_drop_more (first_failing test) ss i d l
+      ∙ ap (λ (b : Bool). cond b (first_failing test (drop (i + 1) ss)) (Some (get_or ss i d).operator)) e
+
+-- one more of the operators of the task
+module _ (touches : ℕ → Bool) (o n : ℕ) (l : o < n) where
+  rest_is : n - o ≡ suc (n - (o + 1))
+  rest_is = omega arith
+
+  pub touching_here : touches o ≡ true → touching_from touches o (n - o) ≡ o ∷ touching_from touches (o + 1) (n - (o + 1))
+  touching_here e =
+      ap (λ (k : ℕ). touching_from touches o k) rest_is
+      ∙ ap (λ (b : Bool). cond b (o ∷ touching_from touches (o + 1) (n - (o + 1))) (touching_from touches (o + 1) (n - (o + 1)))) e
+
+  pub touching_later : touches o ≡ false → touching_from touches o (n - o) ≡ touching_from touches (o + 1) (n - (o + 1))
+  touching_later e =
+      ap (λ (k : ℕ). touching_from touches o k) rest_is
+      ∙ ap (λ (b : Bool). cond b (o ∷ touching_from touches (o + 1) (n - (o + 1))) (touching_from touches (o + 1) (n - (o + 1)))) e
+
+-- the least number from one on that fails the test, or none
+abbrev IsFirstFrom : (ℕ → Bool) → ℕ → Option ℕ → Type 0
+IsFirstFrom test low None = (m : ℕ) → low ≤ m → test m ≡ true
+IsFirstFrom test low (Some n) = (low ≤ n) × (test n ≡ false) × ((m : ℕ) → low ≤ m → m < n → test m ≡ true)
+
+one_lower : (test : ℕ → Bool) (low : ℕ) (r : Option ℕ) → test low ≡ true → IsFirstFrom test (low + 1) r → IsFirstFrom test low r
+one_lower test low None here rest = λ m l. ⊎_elim (λ (e : low ≡ m). subst (λ (k : ℕ). test k ≡ true) e here) (λ ne. rest m (omega arith)) (cases_eq low m)
+one_lower test low (Some n) here rest =
+    (omega arith, rest.1, λ m l b. ⊎_elim (λ (e : low ≡ m). subst (λ (k : ℕ). test k ≡ true) e here) (λ ne. rest.2 m (omega arith) b) (cases_eq low m))
+
+module _ (test : ℕ → Bool) (tried : Spender → Bool) (share : ℕ → ℕ) (touches : ℕ → Bool) (n : ℕ)
+    (same : (o : ℕ) → o < n → tried (spender_of share o) ≡ test o)
+    (untouched : (o : ℕ) → touches o ≡ false → test o ≡ true)
+    (past : (o : ℕ) → n ≤ o → test o ≡ true) where
+  first_from : (count low : ℕ) → low + count ≡ n → IsFirstFrom test low (first_failing tried (map (spender_of share) (touching_from touches low count)))
+  first_from zero low e = λ m l. past m (omega arith)
+  first_from (suc count) low e =
+      cond_both (touches low) (low ∷ touching_from touches (low + 1) count) (touching_from touches (low + 1) count)
+      (λ os. IsFirstFrom test low (first_failing tried (map (spender_of share) os)))
+      (λ touched.
+      cond_both (tried (spender_of share low)) (first_failing tried (map (spender_of share) (touching_from touches (low + 1) count))) (Some low)
+      (IsFirstFrom test low)
+      (λ passes. one_lower test low _ (sym (same low (omega arith)) ∙ passes) (first_from count (low + 1) (omega arith)))
+      (λ fails. (omega arith, sym (same low (omega arith)) ∙ fails, λ m l b. absurd (omega arith))))
+      (λ skipped. one_lower test low _ (untouched low skipped) (first_from count (low + 1) (omega arith)))
+
+  -- the first of the operators that touch is the first of all
+  pub first_of_touching : IsFirstFailure test (first_failing tried (map (spender_of share) (touching_from touches 0 n)))
+  first_of_touching = go _ (first_from n 0 (omega arith))
+    where
+      go : (r : Option ℕ) → IsFirstFrom test 0 r → IsFirstFailure test r
+      go None f = λ m. f m (omega arith)
+      go (Some o) f = (f.1, λ m l. f.2 m (omega arith) l)

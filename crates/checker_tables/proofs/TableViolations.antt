@@ -1,0 +1,197 @@
+-- The first place at which a table fails, in the first such table of the first such column.
+use Rattle.std.proofs.Common.{◌≡◌, ℕ, ◌<◌, true, false, List, [], ◌∷◌, length, map, Option, Some, None, refl, sym, ap, ◌∙◌, arith, subst, ⊎_elim}
+use Rattle.std.specs.Prelude.{IsSomeAnd, IfSome, slice_get, slice_index, option_and_then}
+use Rattle.std.proofs.lemmas.Bool.{both_ways, cases_lt}
+use Rattle.std.proofs.lemmas.Option.{slice_get_past}
+use Rattle.fdr.specs.Tasks.{FiniteDomainTask, ranges}
+use Rattle.abstraction.specs.Abstractions as abstraction
+use Rattle.abstraction.specs.Abstractions.{IsAbstractionOf}
+use Rattle.abstraction.specs.Projections.{Projection, projection, size_of}
+use Rattle.abstraction.specs.ProjectionLaws.{projection_abstracts}
+use Rattle.cert_value.specs.Certificates.{Table, CertificateValue}
+use Rattle.checker_clauses.specs.declared.violation.Violation.{Violation}
+use Rattle.checker_clauses.specs.declared.violation.Violation.TheVariants as violation
+use Rattle.checker_clauses.specs.Clauses.{has_form, share_of, is_goal_at_zero, falls_within_share, comes_before}
+use Rattle.checker_clauses.specs.Violations as violations
+use Rattle.checker_clauses.specs.Violations.{Violates, IsMet, IsFirstOfClause, clause_of, table_at}
+use Rattle.checker_tables.specs.ShareSums.{IsFirstFailure}
+use Rattle.checker_tables.specs.declared.fault.TableFault.{TableFault}
+use Rattle.checker_tables.specs.declared.fault.TableFault.TheVariants.{Form, Goal, Fall}
+use Rattle.checker_tables.specs.TableFaults.{Fails, IsFirstFault, IsFirstInColumn, IsFirstGoal, IsFirstFall, place_of, violation_at, falls_within, first_fall_at, touching_from, spender_of}
+use Rattle.checker_tables.specs.declared.transitions.Spender.{Spender}
+use Rattle.checker_tables.proofs.FallLaws.{falls_nowhere, falls_to_itself, first_of_touching}
+use Rattle.checker_tables.proofs.PlaceLaws.{no_earlier}
+
+module _ (task : FiniteDomainTask) (t : Table) where
+  pub first_form : has_form task t ≡ false → IsFirstFault task t (Some Form)
+  first_form e = (e, first)
+    where
+      first : (g : TableFault) → Fails task t g → comes_before (place_of g) (place_of Form) ≡ false
+      first Form fails = refl
+      first (Goal a) fails = refl
+      first (Fall a o) fails = refl
+
+  module _ (formed : has_form task t ≡ true) where
+    pub first_goal_fault : (a : ℕ) → a < size_of (ranges task) t.pattern → is_goal_at_zero task t a ≡ false → ((b : ℕ) → b < a → is_goal_at_zero task t b ≡ true)
+        → IsFirstFault task t (Some (Goal a))
+    first_goal_fault a l fails before = ((l, fails), first)
+      where
+        first : (g : TableFault) → Fails task t g → comes_before (place_of g) (place_of (Goal a)) ≡ false
+        first Form f = absurd (both_ways (has_form task t) f formed)
+        first (Goal b) f = no_earlier b a [] [] (λ h. both_ways (is_goal_at_zero task t b) f.1 (before b h)) (λ _. refl)
+        first (Fall b o) f = refl
+
+    module _ (goals : (b : ℕ) → b < size_of (ranges task) t.pattern → is_goal_at_zero task t b ≡ true) where
+      pub first_fall_fault : (a o : ℕ) → a < size_of (ranges task) t.pattern → IsFirstFailure (falls_within_share task t a) (Some o)
+          → ((b : ℕ) → b < a → IsFirstFailure (falls_within_share task t b) None) → IsFirstFault task t (Some (Fall a o))
+      first_fall_fault a o l row before = ((l, row.0), first)
+        where
+          first : (g : TableFault) → Fails task t g → comes_before (place_of g) (place_of (Fall a o)) ≡ false
+          first Form f = absurd (both_ways (has_form task t) f formed)
+          first (Goal b) f = absurd (both_ways (is_goal_at_zero task t b) f.1 (goals b f.0))
+          first (Fall b p) f =
+              no_earlier b a (p ∷ []) (o ∷ []) (λ h. both_ways (falls_within_share task t b p) f.1 (before b h p))
+              (λ q. no_earlier p o [] []
+              (λ h. both_ways (falls_within_share task t b p) f.1 (subst (λ (x : ℕ). falls_within_share task t x p ≡ true) (sym q) (row.1 p h)))
+              (λ _. refl))
+
+      pub no_fault : ((a : ℕ) → a < size_of (ranges task) t.pattern → IsFirstFailure (falls_within_share task t a) None) → IsFirstFault task t None
+      no_fault rows Form f = both_ways (has_form task t) f formed
+      no_fault rows (Goal b) f = both_ways (is_goal_at_zero task t b) f.1 (goals b f.0)
+      no_fault rows (Fall a o) f = both_ways (falls_within_share task t a o) f.1 (rows a f.0 o)
+
+-- the projection that the code has of a table
+module _ (p : Projection) (task : FiniteDomainTask) (t : Table) (of_task : p.task ≡ task) (same : p.pattern ≡ t.pattern) where
+  pub projection_is : projection p.task p.pattern ≡ projection task t.pattern
+  projection_is = ap (λ (u : FiniteDomainTask). projection u p.pattern) of_task ∙ ap (λ (ps : List ℕ). projection task ps) same
+
+  abstracts : IsAbstractionOf task (projection task t.pattern)
+  abstracts =
+      subst (λ (ps : List ℕ). IsAbstractionOf task (projection task ps)) same
+      (subst (λ (u : FiniteDomainTask). IsAbstractionOf u (projection u p.pattern)) of_task (projection_abstracts p.task p.is_task p.pattern p.exist))
+
+  -- what is found among the operators that touch the abstract states is the first of all
+  pub row_first : (sums : List ℕ) → ((o : ℕ) → o < length task.operators → slice_index sums o ≡ share_of t.shares o) → (a : ℕ) → a < size_of (ranges task) t.pattern
+      → IsFirstFailure (falls_within_share task t a)
+      (first_fall_at (projection task t.pattern) t.values (map (spender_of (slice_index sums)) (touching_from (projection task t.pattern).touches 0 (length task.operators))) a)
+  row_first sums shares a l =
+      first_of_touching (falls_within_share task t a) (λ (s : Spender). falls_within (projection task t.pattern) t.values a s.operator s.share)
+      (slice_index sums) (projection task t.pattern).touches (length task.operators)
+      (λ o h. ap (λ (x : ℕ). falls_within (projection task t.pattern) t.values a o x) (shares o h))
+      (λ o e. falls_to_itself (projection task t.pattern) t.values a o (share_of t.shares o) (abstracts.untouched a o l e))
+      (λ o h. falls_nowhere (projection task t.pattern) t.values a o (share_of t.shares o) (abstracts.operators a o h))
+
+  module _ (sums : List ℕ) (shares : (o : ℕ) → o < length task.operators → slice_index sums o ≡ share_of t.shares o)
+      (spenders : List Spender) (are : spenders ≡ map (spender_of (slice_index sums)) (touching_from (projection p.task p.pattern).touches 0 (length task.operators))) where
+    row_is : (a : ℕ) (r : Option ℕ) → a < size_of (ranges task) t.pattern → first_fall_at (projection p.task p.pattern) t.values spenders a ≡ r → IsFirstFailure (falls_within_share task t a) r
+    row_is a r l e =
+        subst (IsFirstFailure (falls_within_share task t a))
+        (sym (ap (λ (abs : abstraction.Abstraction). first_fall_at abs t.values (map (spender_of (slice_index sums)) (touching_from abs.touches 0 (length task.operators))) a) projection_is)
+        ∙ ap (λ (ss : List Spender). first_fall_at (projection p.task p.pattern) t.values ss a) (sym are) ∙ e)
+        (row_first sums shares a l)
+
+    module _ (formed : has_form task t ≡ true) (goals : IsFirstGoal (projection p.task p.pattern) t.values None) where
+      goals_hold : (b : ℕ) → b < size_of (ranges task) t.pattern → is_goal_at_zero task t b ≡ true
+      goals_hold = subst (λ (abs : abstraction.Abstraction). IsFirstGoal abs t.values None) projection_is goals
+
+      pub fall_is_first : (a o : ℕ) → IsFirstFall (projection p.task p.pattern) t.values spenders (Some (a, o)) → IsFirstFault task t (Some (Fall a o))
+      fall_is_first a o fall =
+          let within : a < size_of (ranges task) t.pattern = subst (λ (abs : abstraction.Abstraction). a < abs.size) projection_is fall.0 in
+          first_fall_fault task t formed goals_hold a o within (row_is a (Some o) within fall.1)
+          (λ b l. row_is b None (omega (arith, l, within)) (fall.2 b l))
+
+      pub none_falls : IsFirstFall (projection p.task p.pattern) t.values spenders None → IsFirstFault task t None
+      none_falls none =
+          no_fault task t formed goals_hold (λ a l. row_is a None l (none a (subst (λ (abs : abstraction.Abstraction). a < abs.size) (sym projection_is) l)))
+
+  pub goal_is_first : has_form task t ≡ true → (a : ℕ) → IsFirstGoal (projection p.task p.pattern) t.values (Some a) → IsFirstFault task t (Some (Goal a))
+  goal_is_first formed a goal =
+      let here = subst (λ (abs : abstraction.Abstraction). IsFirstGoal abs t.values (Some a)) projection_is goal in
+      first_goal_fault task t formed a here.0 here.1 here.2
+
+module _ (task : FiniteDomainTask) (c : CertificateValue) where
+  -- each table of the column of that number holds
+  abbrev pub IsSoundAt : ℕ → Type 0
+  IsSoundAt i = IfSome (slice_get c.columns i) (λ column. (j : ℕ) → IfSome (slice_get column j) (λ t. IsFirstFault task t None))
+
+  fault_of : (i j : ℕ) (f : TableFault) → Violates task c (violation_at i j f) → IsSomeAnd (table_at c.columns i j) (λ t. Fails task t f)
+  fault_of i j Form v = v
+  fault_of i j (Goal a) v = v
+  fault_of i j (Fall a o) v = v
+
+  violates : (i j : ℕ) (f : TableFault) → IsSomeAnd (table_at c.columns i j) (λ t. Fails task t f) → Violates task c (violation_at i j f)
+  violates i j Form v = v
+  violates i j (Goal a) v = v
+  violates i j (Fall a o) v = v
+
+  of_clause : (i j : ℕ) (f : TableFault) → clause_of (violation_at i j f) ≡ 4
+  of_clause i j Form = refl
+  of_clause i j (Goal a) = refl
+  of_clause i j (Fall a o) = refl
+
+  place_at : (i j : ℕ) (f : TableFault) → violations.place_of (violation_at i j f) ≡ i ∷ j ∷ place_of f
+  place_at i j Form = refl
+  place_at i j (Goal a) = refl
+  place_at i j (Fall a o) = refl
+
+  -- what holds of the faults of tables holds of the violations of their clause
+  by_faults : (P : Violation → Type 0) → ((i j : ℕ) (f : TableFault) → P (violation_at i j f)) → (w : Violation) → clause_of w ≡ 4 → P w
+  by_faults P all (violation.Shares i o) e = absurd (omega arith)
+  by_faults P all (violation.TableForm i j) e = all i j Form
+  by_faults P all (violation.GoalValue i j a) e = all i j (Goal a)
+  by_faults P all (violation.Fall i j a o) e = all i j (Fall a o)
+  by_faults P all (violation.ClosedState i) e = absurd (omega arith)
+  by_faults P all violation.Start e = absurd (omega arith)
+  by_faults P all (violation.ClosedGoal i) e = absurd (omega arith)
+  by_faults P all (violation.Successor i o) e = absurd (omega arith)
+
+  table_refuted : (f : TableFault) (r : Option Table) → IfSome r (λ t. IsFirstFault task t None) → IsSomeAnd r (λ t. Fails task t f) → ⊥
+  table_refuted f None sound fails = fails
+  table_refuted f (Some t) sound fails = sound f fails
+
+  refuted : (j : ℕ) (f : TableFault) (r : Option (List Table)) → IfSome r (λ column. (k : ℕ) → IfSome (slice_get column k) (λ t. IsFirstFault task t None))
+      → IsSomeAnd (option_and_then (λ column. slice_get column j) r) (λ t. Fails task t f) → ⊥
+  refuted j f None sound fails = fails
+  refuted j f (Some column) sound fails = table_refuted f (slice_get column j) (sound j) fails
+
+  pub sound_met : ((i : ℕ) → i < length c.columns → IsSoundAt i) → IsMet task c 4
+  sound_met sound w e = by_faults (λ v. Violates task c v → ⊥) (λ i j f v. refuted j f (slice_get c.columns i) (at i) (fault_of i j f v)) w e
+    where
+      at : (i : ℕ) → IsSoundAt i
+      at i = ⊎_elim (λ l. sound i l) (λ past. rw (slice_get_past c.columns i past) tt) (cases_lt i (length c.columns))
+
+  module _ (i j : ℕ) (f : TableFault) (column : List Table) (before : (k : ℕ) → k < i → IsSoundAt k) (is : slice_get c.columns i ≡ Some column)
+      (found : IsFirstInColumn task column (Some (j, f))) where
+    table_is : table_at c.columns i j ≡ slice_get column j
+    table_is = ap (λ (r : Option (List Table)). option_and_then (λ ts. slice_get ts j) r) is
+
+    first_place : (g : TableFault) (r : Option Table) → IsSomeAnd r (λ t. IsFirstFault task t (Some f)) → IsSomeAnd r (λ t. Fails task t g) → comes_before (place_of g) (place_of f) ≡ false
+    first_place g None first fails = absurd fails
+    first_place g (Some t) first fails = first.1 g fails
+
+    fails_there : (r : Option Table) → IsSomeAnd r (λ t. IsFirstFault task t (Some f)) → IsSomeAnd r (λ t. Fails task t f)
+    fails_there None first = first
+    fails_there (Some t) first = first.0
+
+    no_earlier_place : (k m : ℕ) (g : TableFault) → IsSomeAnd (table_at c.columns k m) (λ t. Fails task t g) → comes_before (k ∷ m ∷ place_of g) (i ∷ j ∷ place_of f) ≡ false
+    no_earlier_place k m g fails =
+        no_earlier k i (m ∷ place_of g) (j ∷ place_of f)
+        (λ l. refuted m g (slice_get c.columns k) (before k l) fails)
+        (λ q.
+        let here : IsSomeAnd (slice_get column m) (λ t. Fails task t g) =
+        subst (λ (r : Option Table). IsSomeAnd r (λ t. Fails task t g)) (ap (λ (n : ℕ). table_at c.columns n m) q ∙ ap (λ (r : Option (List Table)). option_and_then (λ ts. slice_get ts m) r) is) fails
+        in
+        no_earlier m j (place_of g) (place_of f)
+        (λ l. table_refuted g (slice_get column m) (found.1 m l) here)
+        (λ p. first_place g (slice_get column j) found.0 (subst (λ (n : ℕ). IsSomeAnd (slice_get column n) (λ t. Fails task t g)) p here)))
+
+    pub first_violation : (clause_of (violation_at i j f) ≡ 4) × IsFirstOfClause task c (violation_at i j f)
+    first_violation = (
+      of_clause i j f,
+      record {
+        there = violates i j f (subst (λ (r : Option Table). IsSomeAnd r (λ t. Fails task t f)) (sym table_is) (fails_there (slice_get column j) found.0));
+        first = λ w e.
+            by_faults (λ v. Violates task c v → comes_before (violations.place_of v) (violations.place_of (violation_at i j f)) ≡ false)
+            (λ k m g v. rw (place_at k m g, place_at i j f) (no_earlier_place k m g (fault_of k m g v))) w (e ∙ of_clause i j f);
+      },
+    )

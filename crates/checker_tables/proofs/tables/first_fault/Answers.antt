@@ -1,0 +1,61 @@
+use Rattle.std.proofs.Common.{◌≡◌, ℕ, ◌<◌, true, List, length, map, sym, ap, ◌∙◌, arith}
+use Rattle.std.specs.Prelude.{slice_index}
+use Rattle.fdr.specs.Tasks.{FiniteDomainTask}
+use Rattle.abstraction.specs.Projections.{projection}
+use Rattle.cert_value.specs.declared.table.Share.{Share}
+use Rattle.cert_value.specs.Certificates.{Table}
+use Rattle.cert_value.specs.Views as kept
+use Rattle.checker_clauses.specs.Clauses.{has_form, share_of}
+use Rattle.checker_tables.specs.TableFaults.{touching_from, spender_of}
+use Rattle.checker_tables.proofs.TableViolations.{goal_is_first, fall_is_first, none_falls}
+use Rattle.checker_tables.proofs.tables.first_fault.Goals as goal
+
+pub returns-in-Some-first_goal : goal.returns-in-Some-first_goal
+returns-in-Some-first_goal c =
+    let t = kept.table_of c.args.table.now in
+    let made = rw c.in-Some.is at c.in_ok-projected.ensures in
+    let formed : has_form c.args.task.now t ≡ true =
+    ap (λ (u : FiniteDomainTask). has_form u t) (sym made.0) ∙ ap (λ (x : Table). has_form c.in-Some.projected.task x) (sym made.1) ∙ c.projection-projection.ensures.formed
+    in
+    goal_is_first c.projection-projection.result.now c.args.task.now t (c.projection-projection.ensures.task ∙ made.0) (c.projection-projection.ensures.pattern ∙ ap (λ (x : Table). x.pattern) made.1)
+    formed c.in-Some-first_goal.state (rw c.in-Some-first_goal.is at c.first_goal.ensures)
+
+pub returns-in-Some-first_fall : goal.returns-in-Some-first_fall
+returns-in-Some-first_fall c =
+    let t = kept.table_of c.args.table.now in
+    let made = rw c.in-Some.is at c.in_ok-projected.ensures in
+    let formed : has_form c.args.task.now t ≡ true =
+    ap (λ (u : FiniteDomainTask). has_form u t) (sym made.0) ∙ ap (λ (x : Table). has_form c.in-Some.projected.task x) (sym made.1) ∙ c.projection-projection.ensures.formed
+    in
+    let p = c.projection-projection.result.now in
+    let sums = c.in_ok-shares.shares.sums in
+    let shares : (o : ℕ) → o < length c.args.task.now.operators → slice_index sums o ≡ share_of t.shares o =
+    λ o l. c.in_ok-shares.ensures.shares o (omega (arith, l, c.operator_count.ensures)) ∙ ap (λ (ss : List Share). share_of ss o) c.deref.ensures.value
+    in
+    let are : c.deref-2.result.now ≡ map (spender_of (slice_index sums)) (touching_from (projection p.task p.pattern).touches 0 (length c.args.task.now.operators)) =
+    c.deref-2.ensures.value ∙ c.in_ok-spenders.ensures
+    ∙ ap (λ (n : ℕ). map (spender_of (slice_index sums)) (touching_from (projection p.task p.pattern).touches 0 n)) c.operator_count-2.ensures
+    in
+    fall_is_first p c.args.task.now t (c.projection-projection.ensures.task ∙ made.0) (c.projection-projection.ensures.pattern ∙ ap (λ (x : Table). x.pattern) made.1)
+    sums shares c.deref-2.result.now are formed (rw c.in_default-first_goal.is at c.first_goal.ensures)
+    c.in-Some-first_fall.state c.in-Some-first_fall.operator (rw c.in-Some-first_fall.is at c.first_fall.ensures)
+
+pub returns : goal.returns
+returns c =
+    let t = kept.table_of c.args.table.now in
+    let made = rw c.in-Some.is at c.in_ok-projected.ensures in
+    let formed : has_form c.args.task.now t ≡ true =
+    ap (λ (u : FiniteDomainTask). has_form u t) (sym made.0) ∙ ap (λ (x : Table). has_form c.in-Some.projected.task x) (sym made.1) ∙ c.projection-projection.ensures.formed
+    in
+    let p = c.projection-projection.result.now in
+    let sums = c.in_ok-shares.shares.sums in
+    let shares : (o : ℕ) → o < length c.args.task.now.operators → slice_index sums o ≡ share_of t.shares o =
+    λ o l. c.in_ok-shares.ensures.shares o (omega (arith, l, c.operator_count.ensures)) ∙ ap (λ (ss : List Share). share_of ss o) c.deref.ensures.value
+    in
+    let are : c.deref-2.result.now ≡ map (spender_of (slice_index sums)) (touching_from (projection p.task p.pattern).touches 0 (length c.args.task.now.operators)) =
+    c.deref-2.ensures.value ∙ c.in_ok-spenders.ensures
+    ∙ ap (λ (n : ℕ). map (spender_of (slice_index sums)) (touching_from (projection p.task p.pattern).touches 0 n)) c.operator_count-2.ensures
+    in
+    none_falls p c.args.task.now t (c.projection-projection.ensures.task ∙ made.0) (c.projection-projection.ensures.pattern ∙ ap (λ (x : Table). x.pattern) made.1)
+    sums shares c.deref-2.result.now are formed (rw c.in_default-first_goal.is at c.first_goal.ensures)
+    (rw c.in-None.is at c.first_fall.ensures)

@@ -1,5 +1,0 @@
-pub mod StateLaws
-pub mod FirstPlaces
-pub mod Saturation
-pub mod Successors
-pub mod Searches

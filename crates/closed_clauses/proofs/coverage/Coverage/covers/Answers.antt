@@ -1,9 +1,0 @@
-use Rattle.closed_clauses.proofs.Successors.{next_is_state}
-use Rattle.closed_clauses.proofs.coverage.Coverage.covers.Goals as goal
-
-pub is_covered-requires : goal.is_covered-requires
-is_covered-requires c =
-    let inside = c.self.inside in
-    rw (← c.self.view_is)
-    (next_is_state inside.task.now inside.certificate.now c.args.place c.args.operator c.args.state.now (rw (← c.self.view_is) at c.requires.here)
-    (rw (← c.self.view_is) at c.requires.state) c.self.invariant.well c.apply.new.state (rw c.copy_from_slice.ensures.after at c.apply.ensures.state))

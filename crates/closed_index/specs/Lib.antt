@@ -1,6 +1,0 @@
-pub mod Buckets
-pub mod Links
-pub mod Chains
-pub mod Lists
-pub mod Rooms
-pub mod Indexes

@@ -1,0 +1,86 @@
+//! The goal node of least cost.
+
+ghost use Rattle.std.specs.Prelude.{◌≡◌, ◌<◌, length, slice_get, All, None, Some, IfOk};
+ghost use Rattle.owner_theory.specs.Owners.{Node};
+ghost use Rattle.extract.specs.Goals.{is_cheaper, better, best_from, best_over};
+
+use owner::{Owner, Space};
+use packed_spread::Spread;
+use std::alloc::{AllocError, Global};
+
+/// A node with a goal state: its cost, its worker and its place.
+#[derive(Clone, Copy)]
+pub(crate) struct Found {
+    cost: u64,
+    pub(crate) worker: usize,
+    pub(crate) index: usize,
+}
+
+/// Whether a node of that cost is cheaper than what was found.
+fn is_cheaper(cost: u64, found: Option<Found>) -> bool
+    ensures { result ≡ is_cheaper cost found }
+{
+    match found {
+        Some(found) => cost < found.cost,
+        None => true,
+    }
+}
+
+/// The cheapest goal node after the node at that place of one owner; `state` is a buffer, here and below.
+fn better_entry<S: Spread + Drop>(
+    owner: &Owner<'_, S>,
+    worker: usize,
+    index: usize,
+    state: &mut [u32],
+    found: Option<Found>,
+) -> Option<Found>
+    requires index { index < length owner.now.nodes }
+    requires buffer { length state.old ≡ length owner.now.space.task.value_names }
+    ensures { (n : Node) → slice_get owner.now.nodes index ≡ Some n → result ≡ better owner.now.space.task worker index n found }
+{
+    owner.copy_state(index, state);
+    let cost = owner.entry(index).rank.cost;
+    if owner.space().task().is_goal(state) && is_cheaper(cost, found) {
+        Some(Found {
+            cost,
+            worker,
+            index,
+        })
+    } else {
+        found
+    }
+}
+
+/// The cheapest goal node after the nodes of one owner.
+fn best_of_owner<S: Spread + Drop>(
+    owner: &Owner<'_, S>,
+    worker: usize,
+    state: &mut [u32],
+    found: Option<Found>,
+) -> Option<Found>
+    requires { length state.old ≡ length owner.now.space.task.value_names }
+    ensures { result ≡ best_from owner.now.space.task worker 0 owner.now.nodes found }
+{
+    let mut best = found;
+    for index in 0..owner.len() {
+        best = better_entry(owner, worker, index, state, best);
+    }
+    best
+}
+
+/// The cheapest goal node of these owners, all of this space. Fails only if allocation fails.
+pub(crate) fn best_of_owners<S: Spread + Drop>(
+    alloc: Global,
+    space: &Space<'_, S>,
+    owners: &[Owner<'_, S>],
+) -> Result<Option<Found>, AllocError>
+    requires { All (λ o. o.space ≡ space.now) owners.now }
+    ensures { IfOk result (λ found. found ≡ best_over space.now.task 0 owners.now None) }
+{
+    let mut state = vec![in alloc; 0u32; space.task().variable_count()]?;
+    let mut best = None;
+    for (worker, owner) in owners.iter().enumerate() {
+        best = best_of_owner(owner, worker, &mut state, best);
+    }
+    Ok(best)
+}

@@ -1,0 +1,102 @@
+//! The end of a search.
+
+ghost use Rattle.std.specs.Prelude.{◌≡◌, IfOk};
+ghost use Rattle.owner_theory.specs.Families.{Family, IsSearchSpace, IsLowerBound};
+ghost use Rattle.extract.specs.Ends.{EndOf, IsEndOf, IsSettledAnswer, IsBestGoal, IsForm, space_at};
+ghost use Rattle.extract.specs.Views.{all_packets};
+
+use crate::best::best_of_owners;
+use crate::packet::Packet;
+use crate::settled::settled_bound;
+use cost::Dist;
+use owner::{Owner, Space};
+use packed_spread::Spread;
+use std::alloc::{AllocError, Global};
+use std::collections::VecDeque;
+use std::marker::Model;
+
+/// Owners and the messages not taken, at the end of a lawful family: however the owners' events were interleaved, each
+/// message that was taken had been handed out, and each bound that was seen is at least the least cost that was offered.
+#[derive(Drop)]
+pub struct Joined<'a, S: Spread + Drop> {
+    space: &'a Space<'a, S>,
+    owners: Vec<Owner<'a, S>>,
+    /// The messages not taken, in a queue for each owner, the oldest first.
+    left: Vec<VecDeque<Packet>>,
+    ghost lawful: { ∥ ((family : Family) × IsEndOf S.owner (record { space = space.now; owners = owners.items; left = all_packets left.items }) family) ∥₁ },
+    ghost form: { IsForm (record { space = space.now; owners = owners.items; left = all_packets left.items }) },
+}
+
+impl<'a, S: Spread + Drop> Model for Joined<'a, S> {
+    ghost use Rattle.extract.specs.Ends.{EndOf};
+    ghost use Rattle.extract.specs.Views.{all_packets};
+
+    ghost Value = { EndOf S };
+
+    ghost view = { λ j. record { space = j.space.now; owners = j.owners.items; left = all_packets j.left.items } };
+}
+
+impl<'a, S: Spread + Drop> Joined<'a, S> {
+    /// The end of a lawful family, from the space, the owners and the messages that were not taken.
+    pub fn new(
+        space: &'a Space<'a, S>,
+        owners: Vec<Owner<'a, S>>,
+        left: Vec<VecDeque<Packet>>,
+    ) -> Joined<'a, S>
+        requires lawful { ∥ ((family : Family) × IsEndOf S.owner (record { space = space.now; owners = owners.items; left = all_packets left.items }) family) ∥₁ }
+        requires form { IsForm (record { space = space.now; owners = owners.items; left = all_packets left.items }) }
+        ensures { result ≡ record { space = space.now; owners = owners.entry.items; left = all_packets left.items } }
+    {
+        Joined {
+            space,
+            owners,
+            left,
+        }
+    }
+
+    /// The bound at which the family is settled: the least cost at which a goal state was taken, infinite if none was,
+    /// provided that no pending f-value is below it. `None` if the family is not settled. Fails only if allocation fails.
+    pub fn settled(&self, alloc: Global) -> Result<Option<Dist>, AllocError>
+        ensures { IfOk result (IsSettledAnswer (space_at S.owner self.now) self.now.owners self.now.left) }
+    {
+        settled_bound(alloc, self.space, &self.owners, &self.left)
+    }
+
+    /// The worker and the place of a goal node of least cost: of these the one of the least worker, and there of the
+    /// least place. Both are counted from 0. `None` if there is no goal node. Fails only if allocation fails.
+    pub fn best(&self, alloc: Global) -> Result<Option<(usize, usize)>, AllocError>
+        ensures { IfOk result (IsBestGoal self.now) }
+    {
+        match best_of_owners(alloc, self.space, &self.owners)? {
+            Some(found) => Ok(Some((found.worker, found.index))),
+            None => Ok(None),
+        }
+    }
+
+    /// The space that was searched.
+    pub fn space(&self) -> &'a Space<'a, S>
+        ensures { result.now ≡ self.now.space }
+    {
+        self.space
+    }
+
+    /// The owners, in the order of their numbers.
+    pub fn owners(&self) -> &[Owner<'a, S>]
+        ensures { result.now ≡ self.now.owners }
+    {
+        &self.owners
+    }
+
+    /// What holds of every end, the type's invariant stated as a contract: it is the end of a lawful family, each owner
+    /// has this space and its own number, the space is a search space, and the heuristic of a state is at most the cost
+    /// of any operators that lead from it to a goal state.
+    pub fn recall(&self)
+        ensures lawful { ∥ ((family : Family) × IsEndOf S.owner self.now family) ∥₁ }
+        ensures form { IsForm self.now }
+        ensures space { IsSearchSpace (space_at S.owner self.now) }
+        ensures lower { IsLowerBound self.now.space.task (space_at S.owner self.now).heuristic }
+    {
+        // the type's invariant is available where a field is read
+        self.owners[0].recall();
+    }
+}

@@ -1,0 +1,128 @@
+//! Whether the owners of a search are settled.
+
+ghost use Rattle.std.specs.Prelude.{◌≡◌, length, map, IfOk, All};
+ghost use Rattle.cost.specs.Distances.{lesser, least};
+ghost use Rattle.closed.specs.Tables.{message_of};
+ghost use Rattle.owner.specs.Spaces.{searched};
+ghost use Rattle.extract.specs.Ends.{IsForm, IsSettledAnswer};
+ghost use Rattle.extract.specs.Views.{all_packets};
+ghost use Rattle.extract.specs.Pending.{IsSmallMessage, f_at, least_packet, least_held};
+
+use crate::packet::Packet;
+use cost::Dist;
+use owner::{Message, Owner, Space};
+use packed::StateForm;
+use packed_spread::Spread;
+use std::alloc::{AllocError, Global};
+use std::collections::VecDeque;
+
+/// The f-value of a message; `state` is a buffer, here and below.
+fn f_of<S: Spread + Drop>(space: &Space<'_, S>, message: &Message, state: &mut [u32]) -> Dist
+    requires small { IsSmallMessage space.now.task (message_of message.now) }
+    requires buffer { length state.old ≡ length space.now.task.value_names }
+    ensures { result ≡ f_at space.now (message_of message.now) }
+{
+    message.state.unpack(space.layout(), state);
+    space.f(state, message.rank.cost)
+}
+
+/// The least f-value of these messages, infinite if there is none.
+fn least_of_messages<S: Spread + Drop>(
+    space: &Space<'_, S>,
+    messages: &VecDeque<Message>,
+    state: &mut [u32],
+) -> Dist
+    requires small { All (λ m. IsSmallMessage space.now.task (message_of m)) messages.now.items }
+    requires buffer { length state.old ≡ length space.now.task.value_names }
+    ensures { result ≡ least (map (λ m. f_at space.now (message_of m)) messages.now.items) }
+{
+    let mut least = Dist::inf();
+    for i in 0..messages.len() {
+        least = least.min(f_of(space, &messages[i], state));
+    }
+    least
+}
+
+/// The least f-value of these messages underway, infinite if there is none.
+fn least_of_packets<S: Spread + Drop>(
+    space: &Space<'_, S>,
+    packets: &VecDeque<Packet>,
+    state: &mut [u32],
+) -> Dist
+    requires small { All (λ p. IsSmallMessage space.now.task (message_of p.message)) packets.now.items }
+    requires buffer { length state.old ≡ length space.now.task.value_names }
+    ensures { result ≡ least (map (λ p. f_at space.now (message_of p.message)) packets.now.items) }
+{
+    let mut least = Dist::inf();
+    for i in 0..packets.len() {
+        least = least.min(f_of(space, &packets[i].message, state));
+    }
+    least
+}
+
+/// The least f-value of an owner's nodes that are not expanded and of the messages in its outboxes.
+fn least_of_owner<S: Spread + Drop>(owner: &Owner<'_, S>, owners: usize, state: &mut [u32]) -> Dist
+    requires owners { length owner.now.outboxes ≡ owners }
+    requires buffer { length state.old ≡ length owner.now.space.task.value_names }
+    ensures { result ≡ least_held S.owner owner.now }
+{
+    owner.recall();
+    let mut least = owner.least_open();
+    for to in 0..owners {
+        least = least.min(least_of_messages(owner.space(), owner.outbox(to), state));
+    }
+    least
+}
+
+/// The least pending f-value: of the owners' nodes and outboxes, and of the messages underway.
+fn least_pending<S: Spread + Drop>(
+    space: &Space<'_, S>,
+    owners: &[Owner<'_, S>],
+    left: &[VecDeque<Packet>],
+    state: &mut [u32],
+) -> Dist
+    requires form { IsForm (record { space = space.now; owners = owners.now; left = all_packets left.now }) }
+    requires buffer { length state.old ≡ length space.now.task.value_names }
+    ensures { result ≡ lesser (least (map (least_held S.owner) owners.now)) (least_packet space.now (all_packets left.now)) }
+{
+    let mut least = Dist::inf();
+    for owner in owners {
+        least = least.min(least_of_owner(owner, owners.len(), state));
+    }
+    for queue in left {
+        least = least.min(least_of_packets(space, queue, state));
+    }
+    least
+}
+
+/// The least cost at which any of the owners took a goal state, infinite if none did.
+fn best_goal<S: Spread + Drop>(owners: &[Owner<'_, S>]) -> Dist
+    ensures { result ≡ least (map (λ o. o.best) owners.now) }
+{
+    let mut best = Dist::inf();
+    for owner in owners {
+        best = best.min(owner.best_goal());
+    }
+    best
+}
+
+/// The bound at which the owners of a space are settled, given the messages that were handed out and not taken: the least
+/// cost at which a goal state was taken, infinite if none was, provided that no pending f-value is below it. `None` if
+/// they are not settled. Fails only if allocation fails.
+pub fn settled_bound<'a, S: Spread + Drop>(
+    alloc: Global,
+    space: &Space<'a, S>,
+    owners: &[Owner<'a, S>],
+    left: &[VecDeque<Packet>],
+) -> Result<Option<Dist>, AllocError>
+    requires { IsForm (record { space = space.now; owners = owners.now; left = all_packets left.now }) }
+    ensures { IfOk result (IsSettledAnswer (searched S.owner space.now (length owners.now)) owners.now (all_packets left.now)) }
+{
+    let mut state = vec![in alloc; 0u32; space.task().variable_count()]?;
+    let best = best_goal(owners);
+    if best <= least_pending(space, owners, left, &mut state) {
+        Ok(Some(best))
+    } else {
+        Ok(None)
+    }
+}

@@ -1,8 +1,0 @@
-use Rattle.families.proofs.Closed.{finished, listed_once}
-use Rattle.families.proofs.laws.bounded_family_is_closed.Goals as goal
-
-pub returns-clause-finished : goal.returns-clause-finished
-returns-clause-finished c = finished
-
-pub returns-clause-once : goal.returns-clause-once
-returns-clause-once c space family bound ok law best pending = listed_once space family bound ok law best pending

@@ -1,8 +1,0 @@
-use Rattle.families.proofs.Joins.{joined_lawful, no_misfits}
-use Rattle.families.proofs.laws.joined_workers_are_lawful.Goals as goal
-
-pub returns-clause-lawful : goal.returns-clause-lawful
-returns-clause-lawful c = joined_lawful
-
-pub returns-clause-fit : goal.returns-clause-fit
-returns-clause-fit c = no_misfits

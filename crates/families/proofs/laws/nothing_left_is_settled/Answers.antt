@@ -1,6 +1,0 @@
-use Rattle.families.specs.Worlds.{world_start, world_run}
-use Rattle.families.proofs.Worlds.{run_ok, count_zero}
-use Rattle.families.proofs.laws.nothing_left_is_settled.Goals as goal
-
-pub returns : goal.returns
-returns c = λ space ss ok none. count_zero space (world_run space (world_start space) ss) ok (run_ok space ss ok) none

@@ -1,8 +1,0 @@
-use Rattle.families.proofs.Plans.{settled_finished, settled_once}
-use Rattle.families.proofs.laws.settled_family_is_closed.Goals as goal
-
-pub returns-clause-finished : goal.returns-clause-finished
-returns-clause-finished c = settled_finished
-
-pub returns-clause-once : goal.returns-clause-once
-returns-clause-once c = settled_once

@@ -1,6 +1,0 @@
-use Rattle.families.specs.Worlds.{world_start, world_run}
-use Rattle.families.proofs.Worlds.{run_ok, lawful}
-use Rattle.families.proofs.laws.world_is_lawful.Goals as goal
-
-pub returns : goal.returns
-returns c = λ space ss ok. lawful space (world_run space (world_start space) ss) ok (run_ok space ss ok)

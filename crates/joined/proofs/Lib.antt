@@ -1,5 +1,0 @@
-pub mod Places
-pub mod Leasts
-pub mod Pending
-pub mod BestGoals
-pub mod Families

@@ -1,0 +1,158 @@
+//! Lists of distinct groups.
+
+ghost use Rattle.std.specs.Prelude.{◌≡◌, ◌≢◌, ◌≤◌, ◌<◌, ℕ, ◌&&◌, [], length, slice_get, AllPairs, All, IsTrue, OnOk};
+ghost use Rattle.std.specs.Bool.{OnTrue};
+ghost use Rattle.std.proofs.Common.{rules};
+ghost use Rattle.std.specs.Cmp.Rules.{comparing, hashing};
+ghost use Rattle.std.specs.Hash as fed;
+ghost use Rattle.std.specs.List.{list_all};
+ghost use Rattle.std.specs.List.Sorted.{IsStrictlyIncreasing};
+ghost use Rattle.pddl_task.specs.Atoms.{same_numbers};
+ghost use Rattle.mutex_proposals.specs.Proposals.{is_movable, IsProposal, with_group};
+
+use indexmap::IndexSet;
+use mutex::ActionIndex;
+use std::alloc::{AllocError, Global};
+use std::hash::{Hash, Hasher};
+use std::marker::Model;
+
+/// A group of atoms by their places, counted from 0.
+#[derive(Debug, Drop)]
+pub struct Group {
+    places: Vec<usize>,
+}
+
+impl Model for Group {
+    ghost use Rattle.std.specs.Prelude.{ℕ, List};
+
+    ghost Value = { List ℕ };
+
+    ghost view = { λ g. g.places.items };
+}
+
+impl Group {
+    /// The places, in order.
+    pub fn places(&self) -> &[usize]
+        ensures { result.now ≡ self.now }
+    {
+        self.places.as_slice()
+    }
+}
+
+impl PartialEq for Group {
+    ghost eq = { same_numbers };
+
+    ghost laws = { Prim.search (comparing, rules) };
+
+    fn eq(&self, other: &Group) -> bool {
+        self.places == other.places
+    }
+}
+
+impl Eq for Group {
+    ghost laws = { Prim.search (comparing, rules) };
+}
+
+impl Hash for Group {
+    ghost hash_input = { fed.slice fed.usize };
+
+    ghost respects_eq = { Prim.search (hashing, rules) };
+
+    fn hash<H: Hasher>(&self, state: &mut H) {
+        self.places.hash(state);
+    }
+}
+
+/// Distinct groups, in order.
+#[derive(Drop)]
+pub struct Groups {
+    set: IndexSet<Group>,
+}
+
+impl Model for Groups {
+    ghost use Rattle.std.specs.Prelude.{ℕ, List};
+
+    ghost Value = { List (List ℕ) };
+
+    ghost view = { λ g. g.set.keys };
+}
+
+impl Groups {
+    pub(crate) fn new(alloc: Global) -> Groups
+        ensures { result ≡ [] }
+    {
+        Groups {
+            set: IndexSet::new(alloc),
+        }
+    }
+
+    /// The groups, in order. They are distinct.
+    pub fn as_slice(&self) -> &[Group]
+        ensures groups { result.now ≡ self.now }
+        ensures distinct { AllPairs (λ g h. g ≢ h) self.now }
+    {
+        self.set.as_slice()
+    }
+
+    /// Appends the group if it is not in the list.
+    fn push(&mut self, group: Group) -> Result<(), AllocError>
+        ensures { OnOk result (self.new ≡ with_group self.old group) }
+    {
+        self.set.insert(group)?;
+        Ok(())
+    }
+
+    /// Appends the group of these places if it can be proposed and is not in the list.
+    pub(crate) fn offer(
+        &mut self,
+        alloc: Global,
+        index: &ActionIndex<'_>,
+        places: &[usize],
+    ) -> Result<(), AllocError>
+        requires { All (IsProposal index.now) self.old }
+        ensures { OnOk result (All (IsProposal index.now) self.new) }
+    {
+        if !is_proposal(index, places) {
+            return Ok(());
+        }
+        let places = Vec::from_slice(alloc, places)?;
+        self.push(Group { places })
+    }
+}
+
+/// Whether the places can be proposed: they are two or more, strictly increasing, of atoms that are neither constant
+/// nor excluded, and a usable group.
+fn is_proposal(index: &ActionIndex<'_>, places: &[usize]) -> bool
+    ensures { OnTrue result (IsProposal index.now places.now) }
+{
+    if places.len() < 2 || !is_rising(places) {
+        return false;
+    }
+    are_movable(index, places) && index.is_usable(places)
+}
+
+/// Whether the places are strictly increasing.
+fn is_rising(places: &[usize]) -> bool
+    ensures { OnTrue result (IsStrictlyIncreasing places.now) }
+{
+    for end in 1..places.len() {
+        if places[end] <= places[end - 1] {
+            return false;
+        }
+    }
+    true
+}
+
+/// Whether no atom at the places is constant or excluded.
+fn are_movable(index: &ActionIndex<'_>, places: &[usize]) -> bool
+    ensures { result ≡ list_all (is_movable index.now) places.now }
+{
+    places.iter().all(|place| is_movable(index, *place))
+}
+
+/// Whether the place has an atom, and this is neither constant nor excluded.
+pub(crate) fn is_movable(index: &ActionIndex<'_>, place: usize) -> bool
+    ensures { result ≡ is_movable index.now place }
+{
+    place < index.atoms().len() && !index.is_constant(place) && !index.is_excluded(place)
+}

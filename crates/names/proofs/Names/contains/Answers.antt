@@ -1,9 +1,0 @@
-use Rattle.std.proofs.Common.{ℕ, List, ap, ◌∙◌}
-use Rattle.names.specs.Names.{is_there}
-use Rattle.names.proofs.NameStrings.{list_any-texts}
-use Rattle.names.proofs.Names.contains.Goals as goal
-
-pub returns : goal.returns
-returns c =
-    c.contains.ensures ∙ list_any-texts c.args.name.now c.self.inside.table.keys
-    ∙ ap (λ (l : List (List ℕ)). is_there l c.args.name.now) c.self.view_is

@@ -1,0 +1,24 @@
+use Rattle.std.proofs.Common.{◌≡◌, refl}
+use Rattle.std.specs.Prelude.{codes}
+use Rattle.clap.specs.Matches.{found_of, first_value}
+use Rattle.optplan_solve.specs.Texts.{files_of}
+use Rattle.optplan_command.specs.SolveWords.{operand}
+use Rattle.optplan_command.proofs.Operands.{operand_is, renamed_solves}
+use Rattle.optplan_command.proofs.solve_words.solve_by_words.Goals as goal
+
+pub returns-clause-done : goal.returns-clause-done
+returns-clause-done g c = λ h is same known.
+    let settings = c.in-Ok.settings in
+    let domain = first_value (found_of c.args.words.now) (codes "DOMAIN") in
+    let problem = first_value (found_of c.args.words.now) (codes "PROBLEM") in
+    let d = operand_is c.get_str.result _ c.unwrap_or-domain.result (λ t. t.now) domain c.get_str.ensures c.unwrap_or-domain.ensures refl in
+    let p = operand_is c.get_str-2.result _ c.unwrap_or-problem.result (λ t. t.now) problem c.get_str-2.ensures c.unwrap_or-problem.ensures refl in
+    let done = c.run_solve.ensures.done h is same known in (
+      done.0,
+      done.1,
+      record {
+        settings = settings;
+        asked = c.in-Ok.ensures;
+        solves = renamed_solves h done.0 _ c.unwrap_or-domain.result.now _ c.unwrap_or-problem.result.now settings.options settings.seed (files_of settings) c.run_solve.result d p done.2;
+      },
+    )

@@ -1,0 +1,36 @@
+-- The options of a solve command.
+use Rattle.std.specs.Prelude.{◌≡◌, ℕ, ◌≤◌, ◌<◌, ◌^◌, List, Option, Some, None, codes}
+use Rattle.std.specs.Str.Parse.{IsNumeral, digits_value}
+use Rattle.optplan_sas.specs.Choices.{Choices}
+use Rattle.optplan_solve.specs.declared.settings.Settings.{Settings}
+use Rattle.optplan_solve.specs.Texts.{files_of}
+
+-- the text spells a number with digits only, in this range and below 2^64
+pub record IsNumberIn (least most : ℕ) (text : List ℕ) : Type 0 where
+  pub numeral : IsNumeral 10 text
+  pub fits : digits_value 10 text < 2 ^ 64
+  pub low : least ≤ digits_value 10 text
+  pub high : digits_value 10 text ≤ most
+
+-- the number of an option with this value, if it has one
+abbrev pub IsNumberOf : ℕ → ℕ → Option (List ℕ) → Option ℕ → Type 0
+IsNumberOf least most None number = number ≡ None
+IsNumberOf least most (Some text) number = IsNumberIn least most text × (number ≡ Some (digits_value 10 text))
+
+-- the number of an option with this value, or a default if it has none
+abbrev pub IsNumberOr : ℕ → ℕ → ℕ → Option (List ℕ) → ℕ → Type 0
+IsNumberOr absent least most None number = number ≡ absent
+IsNumberOr absent least most (Some text) number = IsNumberIn least most text × (number ≡ digits_value 10 text)
+
+-- the options of the solver, by the values of the command's options
+pub record AreChoicesOf (value : List ℕ → Option (List ℕ)) (choices : Choices) : Type 0 where
+  pub workers : IsNumberOr 4 1 64 (value (codes "workers")) choices.workers
+  pub table : IsNumberOr 100000 1 16777216 (value (codes "table")) choices.table
+  pub limit : IsNumberOf 0 9223372036854775807 (value (codes "limit")) choices.limit
+  pub steps : IsNumberOr 1000000 0 9223372036854775807 (value (codes "steps")) choices.steps
+
+-- what is requested beside the task, by the values of the command's options
+pub record AreSettingsOf (value : List ℕ → Option (List ℕ)) (settings : Settings) : Type 0 where
+  pub choices : AreChoicesOf value settings.options
+  pub seed : IsNumberOr 0 0 9223372036854775807 (value (codes "simulate")) settings.seed
+  pub files : files_of settings ≡ record { plan = value (codes "plan"); cert = value (codes "cert") }

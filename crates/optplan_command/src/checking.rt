@@ -1,0 +1,85 @@
+//! The command that checks a certificate for a finite-domain task, over any device.
+
+ghost use Rattle.std.specs.Prelude.{◌≡◌, ◌≢◌, ◌≤◌, ◌+◌, ◌++◌, List, Some, IfOk, IfErr, OnOk, codes, string_bytes};
+ghost use Rattle.optplan_device.specs.Events.{Event};
+ghost use Rattle.checker.specs.Verdicts.{verdict_text};
+ghost use Rattle.optplan_replies.specs.Runs.{IsDeviceFault};
+ghost use Rattle.optplan_command.specs.Checking.{check_status, IsCheckAnswer, IsCheckRefusal, check_reads, Checks};
+
+use checker::{Verdict, check_sas_owned};
+use optplan_device::Device;
+use optplan_replies::{Fault, FileWord, read_file, reply, report};
+use std::alloc::{AllocError, Global};
+
+/// The exit status of a verdict: 0 if the certificate is accepted, else 3.
+fn check_status(verdict: &Verdict) -> u8
+    ensures status { result ≡ check_status verdict.now }
+    ensures small { result ≤ 3 }
+{
+    match verdict {
+        Verdict::Accepted(_) => 0,
+        Verdict::Rejected(_) => 3,
+    }
+}
+
+/// The verdict's line, with its line feed. Fails only if allocation fails.
+fn check_line(alloc: Global, verdict: &Verdict) -> Result<String, AllocError>
+    ensures { IfOk result (λ line. string_bytes line ≡ verdict_text verdict.now ++ codes "\n") }
+{
+    let mut line = format!(in alloc; "{verdict}")?;
+    line.push('\n')?;
+    Ok(line)
+}
+
+/// The line that is printed for a certificate's text and a task's, with its line feed, and the exit status: 0 if the
+/// certificate is accepted, else 3. Each text is dropped as soon as it is parsed.
+///
+/// Fails with the first fault of the task's text; if that spells a task, with the first fault of the certificate's; or
+/// with `OutOfMemory`.
+fn check_of<R: AllocGlobal>(rt: &R, sas: Vec<u8>, cert: Vec<u8>) -> Result<(String, u8), Fault>
+    ensures answer { IfOk result (λ r. IsCheckAnswer sas.items cert.items (string_bytes r.0) r.1) }
+    ensures small { IfOk result (λ r. r.1 ≤ 3) }
+    ensures refused { IfErr result (IsCheckRefusal sas.items cert.items) }
+{
+    let verdict = match check_sas_owned(rt, sas, cert) {
+        Ok(verdict) => verdict,
+        Err(fault) => return Err(Fault::from(fault)),
+    };
+    match check_line(rt.alloc(), &verdict) {
+        Ok(line) => Ok((line, check_status(&verdict))),
+        Err(_) => Err(Fault::OutOfMemory),
+    }
+}
+
+/// The bytes of the two files, read in this order. Fails as `read_file` does.
+fn read_texts<D: Device>(
+    alloc: Global,
+    device: &mut D,
+    sas: &str,
+    cert: &str,
+) -> Result<(Vec<u8>, Vec<u8>), Fault>
+    ensures told { (h : List Event) → D.history device.old ≡ Some h →
+        IfOk result (λ t. D.history device.new ≡ Some (h ++ check_reads sas.now t.0.items cert.now t.1.items)) }
+    ensures same { OnOk result (D.failure_count device.new ≡ D.failure_count device.old) }
+    ensures failed { IfErr result (λ e. IsDeviceFault e (D.failure_count device.old) (D.failure_count device.new)) }
+{
+    let sas = read_file(alloc, device, sas, FileWord::Sas)?;
+    let cert = read_file(alloc, device, cert, FileWord::Cert)?;
+    Ok((sas, cert))
+}
+
+/// Checks a certificate for a finite-domain task: reads the two files, and prints the verdict's line or reports the
+/// fault. Returns the exit status.
+pub fn run_check<D: Device, R: AllocGlobal>(rt: &R, device: &mut D, sas: &str, cert: &str) -> u8
+    ensures done { (h : List Event) → D.history device.old ≡ Some h → D.failure_count device.new ≡ D.failure_count device.old → result ≢ 6 →
+        (new : List Event) × (D.history device.new ≡ Some new) × Checks h new sas.now cert.now result }
+    ensures device_failed { result ≡ 7 → D.failure_count device.old + 1 ≤ D.failure_count device.new }
+{
+    match read_texts(rt.alloc(), device, sas, cert) {
+        Ok((sas, cert)) => {
+            let answer = check_of(rt, sas, cert);
+            reply(rt.alloc(), device, &answer)
+        }
+        Err(fault) => report(rt.alloc(), device, &fault),
+    }
+}

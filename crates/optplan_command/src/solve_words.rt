@@ -1,0 +1,222 @@
+//! The words of the commands that solve a task.
+
+ghost use Rattle.std.specs.Prelude.{◌≡◌, ◌≢◌, ◌≤◌, ◌+◌, List, Some, IfOk, OnErr};
+ghost use Rattle.clap.specs.Matches.{found_of, first_value};
+ghost use Rattle.optplan_device.specs.Events.{Event};
+ghost use Rattle.optplan_command.specs.Options.{AreChoicesOf, AreSettingsOf};
+ghost use Rattle.optplan_command.specs.SolveWords.{SolvesByWords, SolvesSasByWords};
+
+use crate::options::{RefusedValue, number_for};
+use clap::{Arg, ArgMatches, Command, Error};
+use optplan_device::Device;
+use optplan_sas::Options;
+use optplan_solve::{Settings, run_solve, run_solve_sas};
+use std::alloc::{AllocError, Global};
+
+const SOLVE_ABOUT: &str = "Finds a plan that no plan is cheaper than, or that there is no plan";
+
+const SOLVE_LONG: &str = "Finds a plan that no plan is cheaper than, or that there is no plan.
+
+Reads a domain and a problem in PDDL 2.1 level 1 with types, negative preconditions and action costs, and prints:
+
+  the plan                    one (name arguments) a step, and a line with its cost (status 0)
+  unsolvable                  there is no plan (status 4)
+  limit                       the search came to --limit or --steps first (status 5)
+
+With the metric minimize (total-cost) an action costs what it increases the total cost by, without it each action costs
+1. The certificate that --cert asks for is what the command check takes, beside the domain and the problem. A text that
+cannot be read is refused with one line on standard error, and so is a task that is too large (status 1).";
+
+const SOLVE_SAS_ABOUT: &str =
+    "Finds a plan of a finite-domain task that no plan is cheaper than, or that there is no plan";
+
+const SOLVE_SAS_LONG: &str =
+    "Finds a plan of a finite-domain task that no plan is cheaper than, or that there is no plan.
+
+Reads a finite-domain task as Fast Downward's translator writes it (output.sas, version 3, without axioms and conditional
+effects), and prints:
+
+  the plan                    one (operator) a step, and a line with its cost (status 0)
+  unsolvable                  there is no plan (status 4)
+  limit                       the search came to --limit or --steps first (status 5)
+
+The certificate that --cert asks for is what the command check-sas takes, beside the task. A text that cannot be read is
+refused with one line on standard error, and so is a task that is too large (status 1).";
+
+/// The greatest number of most options, 2^63 - 1.
+const MOST: u64 = 9_223_372_036_854_775_807;
+
+fn option<'a>(alloc: Global, name: &'a str, value: &'a str, help: &'a str) -> Arg<'a> {
+    Arg::new(alloc, name)
+        .long(name)
+        .value_name(value)
+        .help(help)
+}
+
+/// Adds the options of the search.
+fn with_search_options<'a>(alloc: Global, command: Command<'a>) -> Result<Command<'a>, AllocError> {
+    command
+        .arg(option(
+            alloc,
+            "simulate",
+            "SEED",
+            "Searches by steps that are drawn from this seed",
+        )
+        .required(true))?
+        .arg(option(
+            alloc,
+            "workers",
+            "N",
+            "How many workers share the states, 1 to 64",
+        )
+        .default_value("4"))?
+        .arg(option(
+            alloc,
+            "ring",
+            "N",
+            "How many messages may be underway to a worker, 1 to 65536; a search by drawn steps has no such bound",
+        )
+        .default_value("64"))?
+        .arg(option(
+            alloc,
+            "limit",
+            "N",
+            "How many states each worker may expand",
+        ))?
+        .arg(option(
+            alloc,
+            "table",
+            "N",
+            "How many entries a table of lower bounds may have, 1 to 16777216",
+        )
+        .default_value("100000"))?
+        .arg(option(alloc, "steps", "N", "How many steps may be drawn").default_value("1000000"))
+}
+
+/// Adds the options that name files.
+fn with_file_options<'a>(alloc: Global, command: Command<'a>) -> Result<Command<'a>, AllocError> {
+    command
+        .arg(option(alloc, "plan", "FILE", "Writes the plan to this file too"))?
+        .arg(option(
+            alloc,
+            "cert",
+            "FILE",
+            "Writes a certificate of the answer to this file",
+        ))
+}
+
+/// The command `solve`, by this name. Fails only if allocation fails.
+pub(crate) fn solve_command<'a>(alloc: Global, name: &'a str) -> Result<Command<'a>, AllocError> {
+    let command = Command::new(alloc, name)
+        .about(SOLVE_ABOUT)
+        .long_about(SOLVE_LONG)
+        .arg(
+            Arg::new(alloc, "DOMAIN")
+                .required(true)
+                .help("The domain's file"),
+        )?
+        .arg(
+            Arg::new(alloc, "PROBLEM")
+                .required(true)
+                .help("The problem's file"),
+        )?;
+    with_file_options(alloc, with_search_options(alloc, command)?)
+}
+
+/// The command `solve-sas`, by this name. Fails only if allocation fails.
+pub(crate) fn solve_sas_command<'a>(
+    alloc: Global,
+    name: &'a str,
+) -> Result<Command<'a>, AllocError> {
+    let command = Command::new(alloc, name)
+        .about(SOLVE_SAS_ABOUT)
+        .long_about(SOLVE_SAS_LONG)
+        .arg(
+            Arg::new(alloc, "SAS")
+                .required(true)
+                .help("The task's file"),
+        )?;
+    with_file_options(alloc, with_search_options(alloc, command)?)
+}
+
+/// The options of the search, as in `Options::new` where the words leave them out. Fails with the first value that is
+/// refused.
+fn search_options<'a>(words: &ArgMatches<'a>) -> Result<Options, RefusedValue<'a>>
+    ensures { IfOk result (AreChoicesOf (λ name. first_value (found_of words.now) name)) }
+{
+    let plain = Options::new();
+    let workers = number_for(words, "workers", 1, 64)?.unwrap_or(plain.workers() as u64);
+    let table = number_for(words, "table", 1, 16_777_216)?.unwrap_or(plain.table() as u64);
+    let limit = number_for(words, "limit", 0, MOST)?;
+    let steps = number_for(words, "steps", 0, MOST)?.unwrap_or(plain.steps());
+    number_for(words, "ring", 1, 65_536)?;
+    let options = plain
+        .with_workers(workers as usize)
+        .with_table(table as usize)
+        .with_steps(steps);
+    match limit {
+        Some(limit) => Ok(options.with_limit(limit)),
+        None => Ok(options),
+    }
+}
+
+/// What the words request beside the task. Fails with the first value that is refused.
+fn settings_of<'a>(words: &ArgMatches<'a>) -> Result<Settings<'a>, RefusedValue<'a>>
+    ensures { IfOk result (AreSettingsOf (λ name. first_value (found_of words.now) name)) }
+{
+    let seed = number_for(words, "simulate", 0, MOST)?.unwrap_or(0);
+    let options = search_options(words)?;
+    Ok(Settings {
+        options,
+        seed,
+        plan: words.get_str("plan"),
+        cert: words.get_str("cert"),
+    })
+}
+
+/// Solves a planning task as the words request, and returns the exit status. Fails with the command's error for the first
+/// value that is refused, or if allocation fails.
+pub(crate) fn solve_by_words<D: Device, R: AllocGlobal>(
+    rt: &R,
+    device: &mut D,
+    words: &ArgMatches<'_>,
+) -> Result<u8, Error>
+    ensures done { IfOk result (λ status. (h : List Event) → D.history device.old ≡ Some h → D.failure_count device.new ≡ D.failure_count device.old → status ≢ 6 →
+        (new : List Event) × (D.history device.new ≡ Some new) × SolvesByWords (λ name. first_value (found_of words.now) name) h new status) }
+    ensures counted { IfOk result (λ status. status ≡ 7 → D.failure_count device.old + 1 ≤ D.failure_count device.new) }
+    ensures same { OnErr result (D.failure_count device.new ≡ D.failure_count device.old) }
+{
+    let settings = match settings_of(words) {
+        Ok(settings) => settings,
+        Err(refused) => {
+            let command = solve_command(rt.alloc(), "optplan solve")?;
+            return Err(refused.error(rt.alloc(), command));
+        }
+    };
+    let domain = words.get_str("DOMAIN").unwrap_or("");
+    let problem = words.get_str("PROBLEM").unwrap_or("");
+    Ok(run_solve(rt, device, domain, problem, &settings))
+}
+
+/// Solves a finite-domain task as the words request, and returns the exit status. Fails with the command's error for the
+/// first value that is refused, or if allocation fails.
+pub(crate) fn solve_sas_by_words<D: Device, R: AllocGlobal>(
+    rt: &R,
+    device: &mut D,
+    words: &ArgMatches<'_>,
+) -> Result<u8, Error>
+    ensures done { IfOk result (λ status. (h : List Event) → D.history device.old ≡ Some h → D.failure_count device.new ≡ D.failure_count device.old → status ≢ 6 →
+        (new : List Event) × (D.history device.new ≡ Some new) × SolvesSasByWords (λ name. first_value (found_of words.now) name) h new status) }
+    ensures counted { IfOk result (λ status. status ≡ 7 → D.failure_count device.old + 1 ≤ D.failure_count device.new) }
+    ensures same { OnErr result (D.failure_count device.new ≡ D.failure_count device.old) }
+{
+    let settings = match settings_of(words) {
+        Ok(settings) => settings,
+        Err(refused) => {
+            let command = solve_sas_command(rt.alloc(), "optplan solve-sas")?;
+            return Err(refused.error(rt.alloc(), command));
+        }
+    };
+    let sas = words.get_str("SAS").unwrap_or("");
+    Ok(run_solve_sas(rt, device, sas, &settings))
+}

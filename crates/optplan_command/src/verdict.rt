@@ -1,0 +1,90 @@
+//! The answer for the texts of a domain, a problem and a plan: the line that is printed.
+
+ghost use Rattle.std.specs.Prelude.{◌≡◌, ◌≤◌, ℕ, List, IsTrue, IfOk, IfErr, string_bytes};
+ghost use Rattle.pddl_task.specs.Planning.{PlanningTask, has_small_costs};
+ghost use Rattle.pddl.specs.Texts.{SpellTask};
+ghost use Rattle.validate.specs.PlanTexts.{IsPlanFault};
+ghost use Rattle.validate.specs.Verdicts.{IsVerdict, CostsAtMost};
+ghost use Rattle.validate.specs.Written.{verdict_line_of};
+ghost use Rattle.validate.specs.declared.verdict.Verdict.{Verdict};
+ghost use Rattle.optplan_command.specs.Answers.{IsAnswer, IsRefusal, verdict_status};
+
+use optplan_replies::{Fault, task_fault};
+use pddl::read_task;
+use pddl_task::Task;
+use std::alloc::{AllocError, Global};
+use validate::{Plan, PlanFault, Verdict, read_plan, validate, verdict_line};
+
+/// The exit status of a verdict: 0 if the plan is valid, else 3.
+fn verdict_status(verdict: &Verdict) -> u8
+    ensures status { result ≡ verdict_status verdict.now }
+    ensures small { result ≤ 3 }
+{
+    match verdict {
+        Verdict::Valid(_) => 0,
+        Verdict::NoSuchAction(_) | Verdict::NotApplicable(_, _) | Verdict::GoalOpen(_) => 3,
+    }
+}
+
+/// The plan's fault as the program's.
+fn plan_fault(fault: PlanFault) -> Fault
+    ensures { (domain problem plan : List ℕ) (task : PlanningTask) → SpellTask domain problem task → IsPlanFault plan fault → IsRefusal domain problem plan result }
+{
+    match fault {
+        PlanFault::OutOfMemory => Fault::OutOfMemory,
+        PlanFault::Tree(_) | PlanFault::PlanShape(_) | PlanFault::PlanLimit => Fault::Plan(fault),
+    }
+}
+
+/// The verdict's line, with its line feed, and the exit status. Fails only if allocation fails.
+fn line_of(alloc: Global, task: &Task, plan: &Plan) -> Result<(String, u8), AllocError>
+    requires small { IsTrue (has_small_costs task.now) }
+    requires costs { CostsAtMost task.now 2147483647 }
+    ensures verdict { IfOk result (λ r. (v : Verdict) × IsVerdict task.now plan.now v × (string_bytes r.0 ≡ verdict_line_of task.now v) × (r.1 ≡ verdict_status v)) }
+    ensures small { IfOk result (λ r. r.1 ≤ 3) }
+{
+    let verdict = validate(alloc, task, plan)?;
+    let line = verdict_line(alloc, task, &verdict)?;
+    let status = verdict_status(&verdict);
+    Ok((line, status))
+}
+
+/// The answer for a plan's text: the verdict's line, with its line feed, and the exit status. Fails with the fault of the
+/// plan's text, or with `OutOfMemory`.
+fn answer_of(alloc: Global, task: &Task, plan: &[u8]) -> Result<(String, u8), Fault>
+    requires small { IsTrue (has_small_costs task.now) }
+    requires costs { CostsAtMost task.now 2147483647 }
+    ensures answer { (domain problem : List ℕ) → SpellTask domain problem task.now → IfOk result (λ r. IsAnswer domain problem plan.now (string_bytes r.0) r.1) }
+    ensures small { IfOk result (λ r. r.1 ≤ 3) }
+    ensures refused { (domain problem : List ℕ) → SpellTask domain problem task.now → IfErr result (λ e. IsRefusal domain problem plan.now e) }
+{
+    let plan = match read_plan(alloc, plan) {
+        Ok(plan) => plan,
+        Err(fault) => return Err(plan_fault(fault)),
+    };
+    match line_of(alloc, task, &plan) {
+        Ok(answer) => Ok(answer),
+        Err(_) => Err(Fault::OutOfMemory),
+    }
+}
+
+/// The line that is printed for a plan, with its line feed, and the exit status: 0 if the plan is valid, else 3.
+///
+/// Fails with the fault of the domain and the problem that comes first; if they spell a task, with that of the plan's
+/// text; or with `OutOfMemory`.
+#[tactic(auto, unfolding(validate::specs::Verdicts::CostsAtMost))]
+pub fn verdict_of(
+    alloc: Global,
+    domain: &[u8],
+    problem: &[u8],
+    plan: &[u8],
+) -> Result<(String, u8), Fault>
+    ensures answer { IfOk result (λ r. IsAnswer domain.now problem.now plan.now (string_bytes r.0) r.1) }
+    ensures small { IfOk result (λ r. r.1 ≤ 3) }
+    ensures refused { IfErr result (λ e. IsRefusal domain.now problem.now plan.now e) }
+{
+    match read_task(alloc, domain, problem) {
+        Ok(task) => answer_of(alloc, &task, plan),
+        Err(fault) => Err(task_fault(alloc, fault, domain, problem)),
+    }
+}

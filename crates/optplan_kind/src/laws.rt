@@ -1,0 +1,27 @@
+//! Laws of certificates for translated tasks. Each function states a law as its contract, and its body is empty.
+
+ghost use Rattle.std.specs.Prelude.{◌≡◌, ℕ, List};
+ghost use Rattle.pddl_task.specs.Planning.{PlanningTask};
+ghost use Rattle.pddl.specs.Texts.{SpellTask};
+ghost use Rattle.translate.specs.Translated.{TranslatedTask, IsTranslation};
+ghost use Rattle.cert_value.specs.Certificates.{CertificateValue};
+ghost use Rattle.cert_text.specs.Lawful.{IsLawful, IsLawfulKind};
+ghost use Rattle.cert_text.specs.Spelling.{spelling};
+ghost use Rattle.checker_clauses.specs.Violations.{IsHeld};
+ghost use Rattle.checker_pddl.specs.Answers.{IsAnswer};
+ghost use Rattle.checker_pddl.specs.declared.verdict.PlanningVerdict.TheVariants.{Accepted};
+ghost use Rattle.optplan_kind.specs.Kinds.{translation_kind};
+
+/// The kind of certificates for a translation of a task that texts spell can be written in a text.
+pub fn translation_kind_has_text()
+    ensures { (domain problem : List ℕ) (task : PlanningTask) (t : TranslatedTask) → SpellTask domain problem task → IsTranslation task t →
+        IsLawfulKind (translation_kind task t) }
+{}
+
+/// A certificate of that kind that holds for the translation is accepted, by its text and for its bound, by the checker,
+/// which reads only the texts.
+pub fn held_certificate_is_accepted()
+    ensures { (domain problem text : List ℕ) (task : PlanningTask) (t : TranslatedTask) (c : CertificateValue) →
+        SpellTask domain problem task → IsTranslation task t → c.kind ≡ translation_kind task t → IsHeld t.task c → IsLawful c →
+        text ≡ spelling c → IsAnswer domain problem text (Accepted c.bound) }
+{}

@@ -1,0 +1,76 @@
+//! Preparing a planning task for a search, from its texts.
+
+ghost use Rattle.std.specs.Prelude.{◌≡◌, ◌≤◌, ℕ, List, All, IsTrue, IfOk, IfErr};
+ghost use Rattle.pddl_task.specs.Planning.{IsPlanningTask, IsActionOf, IsAtomOf, has_small_costs, Action};
+ghost use Rattle.pddl_task.specs.Atoms.{Literal};
+ghost use Rattle.pddl.specs.Texts.{SpellTask};
+ghost use Rattle.translate.specs.Translated.{IsTranslation, HasSamePlans};
+ghost use Rattle.optplan_pddl.specs.Prepared.{IsPrepared};
+ghost use Rattle.optplan_pddl.specs.Answers.{IsPlanningRefusal};
+
+use crate::fault::PlanningFault;
+use cert_value::CertificateKind;
+use optplan_kind::translation_kind;
+use pddl::read_task;
+use pddl_task::Task;
+use std::alloc::Global;
+use translate::{Translated, translate};
+use translate_vars::TranslateFault;
+
+/// A task's translation, with the kind of certificates for it.
+#[derive(Drop)]
+pub(crate) struct Prepared {
+    pub(crate) translated: Translated,
+    pub(crate) kind: CertificateKind,
+}
+
+/// The task's translation. Fails if the task or its translation exceeds a limit, or if allocation fails.
+fn translation_of(alloc: Global, task: &Task) -> Result<Translated, PlanningFault>
+    requires small { IsTrue (has_small_costs task.now) }
+    requires costs { (a : Action) → IsActionOf task.now a → a.cost ≤ 2147483647 }
+    requires initial { All (IsAtomOf task.now) task.now.initial }
+    requires goals { All (λ (l : Literal). IsAtomOf task.now l.atom) task.now.goal }
+    requires added { (a : Action) → IsActionOf task.now a → All (IsAtomOf task.now) a.adds }
+    requires well { IsPlanningTask task.now }
+    ensures translation { IfOk result (IsTranslation task.now) }
+    ensures plans { IfOk result (HasSamePlans task.now) }
+    ensures refused { (domain problem : List ℕ) → SpellTask domain problem task.now → IfErr result (IsPlanningRefusal domain problem (λ task e. ⊥)) }
+{
+    match translate(alloc, task) {
+        Ok(translated) => Ok(translated),
+        Err(TranslateFault::GroundLimit) => Err(PlanningFault::GroundLimit),
+        Err(TranslateFault::Limit(table)) => Err(PlanningFault::TaskTooLarge(table)),
+        Err(_) => Err(PlanningFault::OutOfMemory),
+    }
+}
+
+/// The task's translation, with the kind of certificates for it. Fails if the task or its translation exceeds a limit, or
+/// if allocation fails.
+fn prepare_task(alloc: Global, task: &Task) -> Result<Prepared, PlanningFault>
+    requires small { IsTrue (has_small_costs task.now) }
+    requires costs { (a : Action) → IsActionOf task.now a → a.cost ≤ 2147483647 }
+    requires initial { All (IsAtomOf task.now) task.now.initial }
+    requires goals { All (λ (l : Literal). IsAtomOf task.now l.atom) task.now.goal }
+    requires added { (a : Action) → IsActionOf task.now a → All (IsAtomOf task.now) a.adds }
+    requires well { IsPlanningTask task.now }
+    ensures prepared { (domain problem : List ℕ) → SpellTask domain problem task.now → IfOk result (IsPrepared domain problem) }
+    ensures refused { (domain problem : List ℕ) → SpellTask domain problem task.now → IfErr result (IsPlanningRefusal domain problem (λ task e. ⊥)) }
+{
+    let translated = translation_of(alloc, task)?;
+    let kind = translation_kind(alloc, task, &translated)?;
+    Ok(Prepared { translated, kind })
+}
+
+/// The translation of the task that the texts spell, with the kind of certificates for it. Fails with the first fault of
+/// the texts, if the task or its translation exceeds a limit, or if allocation fails.
+pub(crate) fn prepare(
+    alloc: Global,
+    domain: &[u8],
+    problem: &[u8],
+) -> Result<Prepared, PlanningFault>
+    ensures prepared { IfOk result (IsPrepared domain.now problem.now) }
+    ensures refused { IfErr result (IsPlanningRefusal domain.now problem.now (λ task e. ⊥)) }
+{
+    let task = read_task(alloc, domain, problem)?;
+    prepare_task(alloc, &task)
+}

@@ -1,0 +1,45 @@
+//! Laws of plans and translations. Each function states laws as its contract, and its body is empty.
+
+ghost use Rattle.std.specs.Prelude.{◌≡◌, ◌≤◌, ℕ, List, length, map};
+ghost use Rattle.fdr.specs.Tasks.{IsTask, IsWithinLimits, IsPlan, plan_cost};
+ghost use Rattle.pddl_task.specs.Planning.{PlanningTask, Action, IsActionOf};
+ghost use Rattle.pddl_task.specs.Plans.{IsValidPlan, total_cost};
+ghost use Rattle.pddl.specs.Texts.{SpellTask};
+ghost use Rattle.sasfile_writer.specs.Plans.{sas_plan_text};
+ghost use Rattle.sasfile.specs.SasTexts.{SpellsTask};
+ghost use Rattle.sasfile_writer.specs.Written.{written};
+ghost use Rattle.sasfile_writer.specs.TextOrder.{CanBeWritten, in_text_order};
+ghost use Rattle.translate.specs.Translated.{TranslatedTask, IsTranslation, HasSamePlans, AreOperatorsOf};
+ghost use Rattle.validate.specs.Verdicts.{IsVerdict};
+ghost use Rattle.validate.specs.declared.verdict.Verdict.TheVariants.{Valid};
+ghost use Rattle.optplan_plans.specs.Plans.{step_of, text_of_plan};
+
+/// The text of a plan of the translation is the text of the plan of its ground actions.
+pub fn translated_plan_has_same_text()
+    ensures { (task : PlanningTask) (t : TranslatedTask) (actions : List Action) (plan : List ℕ) (cost : ℕ) → IsTranslation task t →
+        AreOperatorsOf task t actions plan → sas_plan_text t.task plan cost ≡ text_of_plan task actions cost }
+{}
+
+/// A plan of the translation is that of a valid plan of the task, of the same cost.
+pub fn translated_plan_is_valid()
+    ensures { (task : PlanningTask) (t : TranslatedTask) (plan : List ℕ) → IsTranslation task t → HasSamePlans task t → IsPlan t.task plan →
+        (actions : List Action) × AreOperatorsOf task t actions plan × IsValidPlan task actions × (total_cost actions ≡ plan_cost t.task plan) }
+{}
+
+/// What `translate` prints can be read again: the names of a spelled task are words, so the names of values and operators
+/// can stand in a text.
+pub fn translation_can_be_written()
+    ensures written { (domain problem : List ℕ) (task : PlanningTask) (t : TranslatedTask) → SpellTask domain problem task → IsTranslation task t →
+        IsTask t.task → IsWithinLimits t.task → ((a : Action) → IsActionOf task a → a.cost ≤ 2147483647) →
+        CanBeWritten t.task (map (λ v. length v.places) t.variables) }
+    ensures read { (domain problem : List ℕ) (task : PlanningTask) (t : TranslatedTask) → SpellTask domain problem task → IsTranslation task t →
+        IsTask t.task → IsWithinLimits t.task → ((a : Action) → IsActionOf task a → a.cost ≤ 2147483647) →
+        SpellsTask (written t.task (map (λ v. length v.places) t.variables)) (in_text_order t.task) }
+{}
+
+/// The steps that name the actions of a valid plan have the verdict `Valid` with the plan's cost, for a task that texts
+/// spell.
+pub fn valid_plan_has_verdict()
+    ensures { (domain problem : List ℕ) (task : PlanningTask) (actions : List Action) → SpellTask domain problem task → IsValidPlan task actions →
+        IsVerdict task (map (step_of task.vocabulary) actions) (Valid (total_cost actions)) }
+{}

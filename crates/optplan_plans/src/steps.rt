@@ -1,0 +1,62 @@
+//! The steps of a plan, from the names of its operators.
+
+ghost use Rattle.std.specs.Prelude.{◌≡◌, ◌<◌, ℕ, List, All, IfOk, length, map};
+ghost use Rattle.fdr.specs.Tasks as spec;
+ghost use Rattle.pddl_names.specs.Names.{texts_of};
+ghost use Rattle.pddl_task.specs.Planning.{PlanningTask, Action};
+ghost use Rattle.pddl.specs.Texts.{SpellTask};
+ghost use Rattle.translate.specs.Translated.{TranslatedTask, IsTranslation, AreOperatorsOf};
+ghost use Rattle.optplan_plans.specs.Plans.{step_of};
+ghost use Rattle.optplan_plans.specs.Steps.{words_of, step_of_words, operator_step};
+
+use fdr::FdrTask;
+use std::alloc::{AllocError, Global};
+use validate::Step;
+
+/// The words of a text that are separated by single blanks. Fails only if allocation fails.
+fn words(alloc: Global, text: &str) -> Result<Vec<String>, AllocError>
+    ensures { IfOk result (λ words. texts_of words.items ≡ words_of text.now) }
+{
+    let mut words = Vec::new(alloc);
+    for word in text.split(' ') {
+        words.push(String::from_str(alloc, word)?)?;
+    }
+    Ok(words)
+}
+
+/// The step whose words, separated by single blanks, are the name of an operator. Fails only if allocation fails.
+fn named_step(alloc: Global, name: &str) -> Result<Step, AllocError>
+    ensures { IfOk result (λ step. step ≡ step_of_words (words_of name.now)) }
+{
+    match name.split_once(' ') {
+        Some((schema, objects)) => Ok(Step {
+            name: String::from_str(alloc, schema)?,
+            arguments: words(alloc, objects)?,
+        }),
+        None => Ok(Step {
+            name: String::from_str(alloc, name)?,
+            arguments: Vec::new(alloc),
+        }),
+    }
+}
+
+/// The steps that name the actions of these operators: each operator's name is that of its schema and those of its
+/// objects, separated by single blanks. Fails only if allocation fails.
+pub fn named_steps(
+    alloc: Global,
+    translated: &FdrTask,
+    plan: &[usize],
+) -> Result<Vec<Step>, AllocError>
+    requires { All (λ o. o < length translated.now.operators) plan.now }
+    ensures { (domain problem : List ℕ) (task : PlanningTask) (t : TranslatedTask) (actions : List Action) → SpellTask domain problem task →
+        IsTranslation task t → t.task ≡ translated.now → AreOperatorsOf task t actions plan.now →
+        IfOk result (λ steps. steps.items ≡ map (step_of task.vocabulary) actions) }
+{
+    let operators = translated.operators();
+    let mut steps = Vec::new(alloc);
+    for operator in plan {
+        let operator = &operators[*operator];
+        steps.push(named_step(alloc, operator.name.as_str())?)?;
+    }
+    Ok(steps)
+}

@@ -1,0 +1,44 @@
+-- What every command does to its device, and its exit status.
+use Rattle.std.specs.Prelude.{◌≡◌, ℕ, ◌+◌, ◌⊎◌, ◌==◌, not, Bool, true, List, [], ◌∷◌}
+use Rattle.optplan_device.specs.Events.{Event, HasRead, HasWritten, HasPut, HasReported}
+use Rattle.optplan_replies.specs.declared.fault.Fault.{Fault}
+use Rattle.optplan_replies.specs.declared.fault.Fault.TheVariants.{OutOfMemory, CannotRead, CannotWrite, Task, Plan, Sas, Cert, GroundLimit, TaskTooLarge, TotalTooLarge}
+use Rattle.optplan_replies.specs.Faults.{fault_status}
+
+-- whether a word is not an option: it does not start with a hyphen
+abbrev pub is_operand : List ℕ → Bool
+is_operand [] = true
+is_operand (b ∷ bs) = not (b == 45)
+
+-- nothing was written to standard output, and at most one report to standard error
+abbrev pub IsQuiet : List Event → Type 0
+IsQuiet [] = Unit {0}
+IsQuiet (HasReported bytes ∷ []) = Unit {0}
+IsQuiet (HasReported bytes ∷ e ∷ events) = ⊥
+IsQuiet (HasRead name bytes ∷ events) = ⊥
+IsQuiet (HasWritten name bytes ∷ events) = ⊥
+IsQuiet (HasPut bytes ∷ events) = ⊥
+
+-- the two files of a planning task were read
+abbrev pub task_reads : List ℕ → List ℕ → List ℕ → List ℕ → List Event
+task_reads domain d problem p = HasRead domain d ∷ HasRead problem p ∷ []
+
+-- what follows the reading of a command's files, and the exit status: the line that answers the texts is written to
+-- standard output, or a text is refused
+abbrev pub Follows : (List ℕ → ℕ → Type 0) → (Fault → Type 0) → List Event → ℕ → Type 0
+Follows IsAnswer IsRefusal events status =
+    ((line : List ℕ) × IsAnswer line status × (events ≡ HasPut line ∷ []))
+    ⊎ ((e : Fault) × IsRefusal e × (status ≡ fault_status e) × IsQuiet events)
+
+-- the fault of a device that changes the count of failures in this way: memory, or a failure that is counted
+abbrev pub IsDeviceFault : Fault → ℕ → ℕ → Type 0
+IsDeviceFault OutOfMemory old new = new ≡ old
+IsDeviceFault (CannotRead file) old new = new ≡ old + 1
+IsDeviceFault (CannotWrite file) old new = new ≡ old + 1
+IsDeviceFault (Task e word) old new = ⊥
+IsDeviceFault (Plan e) old new = ⊥
+IsDeviceFault (Sas e) old new = ⊥
+IsDeviceFault (Cert e) old new = ⊥
+IsDeviceFault GroundLimit old new = ⊥
+IsDeviceFault (TaskTooLarge table) old new = ⊥
+IsDeviceFault TotalTooLarge old new = ⊥

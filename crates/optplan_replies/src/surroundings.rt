@@ -1,0 +1,109 @@
+//! What every command does with its device: it reads files, prints an answer, and reports a fault.
+
+ghost use Rattle.std.specs.Prelude.{◌≡◌, ◌≢◌, ◌≤◌, ◌+◌, ◌∷◌, [], ◌++◌, ◌⊎◌, List, Some, IfOk, IfErr, OnOk, OnErr, string_bytes};
+ghost use Rattle.optplan_device.specs.Events.{Event, HasRead, HasPut, Adds};
+ghost use Rattle.optplan_replies.specs.Faults.{fault_status};
+ghost use Rattle.optplan_replies.specs.declared.fault.Fault.TheVariants.{OutOfMemory, CannotRead, CannotWrite};
+ghost use Rattle.optplan_replies.specs.Runs.{IsDeviceFault, IsQuiet, task_reads};
+
+use crate::fault::{Fault, FileWord};
+use optplan_device::{Device, DeviceFault};
+use std::alloc::{AllocError, Global};
+
+/// The bytes of a file. Fails with `CannotRead(file)` if the device fails, or with `OutOfMemory`.
+pub fn read_file<D: Device>(
+    alloc: Global,
+    device: &mut D,
+    name: &str,
+    file: FileWord,
+) -> Result<Vec<u8>, Fault>
+    ensures told { IfOk result (λ bytes. Adds (D.history device.old) (D.history device.new) (HasRead name.now bytes.items)) }
+    ensures word { IfErr result (λ e. (e ≡ OutOfMemory) ⊎ (e ≡ CannotRead file)) }
+    ensures same { OnOk result (D.failure_count device.new ≡ D.failure_count device.old) }
+    ensures kept { OnErr result (D.history device.new ≡ D.history device.old) }
+    ensures failed { IfErr result (λ e. IsDeviceFault e (D.failure_count device.old) (D.failure_count device.new)) }
+{
+    match device.read(alloc, name) {
+        Ok(bytes) => Ok(bytes),
+        Err(DeviceFault::Memory) => Err(Fault::OutOfMemory),
+        Err(DeviceFault::Failed) => Err(Fault::CannotRead(file)),
+    }
+}
+
+/// The bytes of the two files of a planning task, read in this order. Fails as `read_file` does.
+pub fn read_task_files<D: Device>(
+    alloc: Global,
+    device: &mut D,
+    domain: &str,
+    problem: &str,
+) -> Result<(Vec<u8>, Vec<u8>), Fault>
+    ensures told { (h : List Event) → D.history device.old ≡ Some h →
+        IfOk result (λ t. D.history device.new ≡ Some (h ++ task_reads domain.now t.0.items problem.now t.1.items)) }
+    ensures same { OnOk result (D.failure_count device.new ≡ D.failure_count device.old) }
+    ensures failed { IfErr result (λ e. IsDeviceFault e (D.failure_count device.old) (D.failure_count device.new)) }
+{
+    let domain = read_file(alloc, device, domain, FileWord::Domain)?;
+    let problem = read_file(alloc, device, problem, FileWord::Problem)?;
+    Ok((domain, problem))
+}
+
+/// Writes a text to standard output. Fails if the device fails, or if memory runs out.
+fn put<D: Device>(device: &mut D, text: &[u8]) -> Result<(), Fault>
+    ensures told { OnOk result (Adds (D.history device.old) (D.history device.new) (HasPut text.now)) }
+    ensures word { IfErr result (λ e. (e ≡ OutOfMemory) ⊎ (e ≡ CannotWrite FileWord.Output)) }
+    ensures same { OnOk result (D.failure_count device.new ≡ D.failure_count device.old) }
+    ensures kept { OnErr result (D.history device.new ≡ D.history device.old) }
+    ensures failed { IfErr result (λ e. IsDeviceFault e (D.failure_count device.old) (D.failure_count device.new)) }
+{
+    match device.out(text) {
+        Ok(()) => Ok(()),
+        Err(DeviceFault::Memory) => Err(Fault::OutOfMemory),
+        Err(DeviceFault::Failed) => Err(Fault::CannotWrite(FileWord::Output)),
+    }
+}
+
+/// The line of a fault, with its line feed. Fails only if allocation fails.
+fn fault_line(alloc: Global, fault: &Fault) -> Result<String, AllocError> {
+    format!(in alloc; "optplan: {fault}\n")
+}
+
+/// Reports a fault on standard error, unless that fails or memory runs out, and returns the fault's exit status.
+pub fn report<D: Device>(alloc: Global, device: &mut D, fault: &Fault) -> u8
+    ensures told { (h : List Event) → D.history device.old ≡ Some h →
+        (later : List Event) × (D.history device.new ≡ Some (h ++ later)) × IsQuiet later }
+    ensures counted { D.failure_count device.old ≤ D.failure_count device.new }
+    ensures status { result ≡ fault_status fault.now }
+{
+    if let Ok(line) = fault_line(alloc, fault) {
+        let _ = device.err(line.as_bytes());
+    }
+    fault.status()
+}
+
+/// Writes a text to standard output, and returns this exit status; if that fails, reports the fault, and returns the
+/// fault's status.
+pub fn put_text<D: Device>(alloc: Global, device: &mut D, text: &[u8], status: u8) -> u8
+    ensures told { result ≢ 6 → result ≢ 7 → Adds (D.history device.old) (D.history device.new) (HasPut text.now) }
+    ensures status { result ≢ 6 → result ≢ 7 → result ≡ status }
+    ensures counted { result ≡ 7 → status ≢ 7 → D.failure_count device.old + 1 ≤ D.failure_count device.new }
+{
+    match put(device, text) {
+        Ok(()) => status,
+        Err(fault) => report(alloc, device, &fault),
+    }
+}
+
+/// Prints the answer for the texts of a command's files, or reports their fault, and returns the exit status.
+pub fn reply<D: Device>(alloc: Global, device: &mut D, answer: &Result<(String, u8), Fault>) -> u8
+    ensures answered { result ≢ 6 → result ≢ 7 → IfOk answer.now (λ r. Adds (D.history device.old) (D.history device.new) (HasPut (string_bytes r.0))) }
+    ensures status { result ≢ 6 → result ≢ 7 → IfOk answer.now (λ r. result ≡ r.1) }
+    ensures counted { result ≡ 7 → IfOk answer.now (λ r. r.1 ≢ 7 → D.failure_count device.old + 1 ≤ D.failure_count device.new) }
+    ensures refused { (h : List Event) → D.history device.old ≡ Some h →
+        IfErr answer.now (λ e. (later : List Event) × (D.history device.new ≡ Some (h ++ later)) × IsQuiet later) }
+    ensures refusal { IfErr answer.now (λ e. result ≡ fault_status e) }
+{
+    match answer {
+        Ok((line, status)) => put_text(alloc, device, line.as_bytes(), *status),
+        Err(fault) => report(alloc, device, fault),
+    }
+}

@@ -1,0 +1,130 @@
+//! What a run prints and reports, and its exit status.
+
+ghost use Rattle.std.specs.Prelude.{◌≡◌, IfOk, OnOk, map, ◌++◌, string_bytes};
+ghost use Rattle.optplan_device.specs.Memory.{event_of};
+ghost use Rattle.optplan_runs.specs.declared.outcome.RunFault.TheVariants.{OutOfMemory, NotUtf8};
+ghost use Rattle.optplan_runs.specs.Outcomes.{put_by, reported_by, put_of, reported_of, status_of_verdict, wanted_out, wanted_err, wanted_status};
+
+use optplan_device::Recorded;
+use std::alloc::{AllocError, AllocFailed, Global};
+use std::str::Utf8Error;
+use thiserror::Error;
+
+/// What a run wrote to standard output and to standard error, and its exit status.
+#[derive(Debug, PartialEq, Eq, Drop)]
+pub struct Outcome {
+    pub out: String,
+    pub err: String,
+    pub status: u8,
+}
+
+/// Why there is no outcome.
+#[derive(Clone, Copy, Debug, PartialEq, Eq, Error)]
+pub enum RunFault {
+    /// Memory ran out.
+    #[error("out of memory")]
+    OutOfMemory,
+    /// What was printed or reported is not UTF-8.
+    #[error("what was written is not UTF-8")]
+    NotUtf8,
+}
+
+impl From<AllocError> for RunFault {
+    ghost from_gives = { λ _ e. e ≡ OutOfMemory };
+
+    fn from(_e: AllocError) -> RunFault {
+        RunFault::OutOfMemory
+    }
+}
+
+impl<T: Drop> From<AllocFailed<T>> for RunFault {
+    ghost from_gives = { λ _ e. e ≡ OutOfMemory };
+
+    fn from(_e: AllocFailed<T>) -> RunFault {
+        RunFault::OutOfMemory
+    }
+}
+
+impl From<Utf8Error> for RunFault {
+    ghost from_gives = { λ _ e. e ≡ NotUtf8 };
+
+    fn from(_e: Utf8Error) -> RunFault {
+        RunFault::NotUtf8
+    }
+}
+
+/// Appends what one event printed or reported. Fails if that is not UTF-8, or if allocation fails.
+fn note_event(outcome: &mut Outcome, event: &Recorded) -> Result<(), RunFault>
+    ensures out { OnOk result (string_bytes outcome.new.out ≡ string_bytes outcome.old.out ++ put_by (event_of event.now)) }
+    ensures err { OnOk result (string_bytes outcome.new.err ≡ string_bytes outcome.old.err ++ reported_by (event_of event.now)) }
+    ensures status { outcome.new.status ≡ outcome.old.status }
+{
+    match event {
+        Recorded::Put(bytes) => outcome.out.push_str(std::str::from_utf8(bytes)?)?,
+        Recorded::Reported(bytes) => outcome.err.push_str(std::str::from_utf8(bytes)?)?,
+        Recorded::Read(_, _) | Recorded::Written(_, _) => {}
+    }
+    Ok(())
+}
+
+/// The outcome of a run, from the events that a device in memory recorded. Fails if what was printed or reported is not
+/// UTF-8, or if allocation fails.
+pub fn recorded(alloc: Global, events: &[Recorded], status: u8) -> Result<Outcome, RunFault>
+    ensures out { IfOk result (λ o. string_bytes o.out ≡ put_of (map event_of events.now)) }
+    ensures err { IfOk result (λ o. string_bytes o.err ≡ reported_of (map event_of events.now)) }
+    ensures status { IfOk result (λ o. o.status ≡ status) }
+{
+    let mut outcome = Outcome {
+        out: String::new(alloc),
+        err: String::new(alloc),
+        status,
+    };
+    for event in events {
+        note_event(&mut outcome, event)?;
+    }
+    Ok(outcome)
+}
+
+/// Three texts joined. Fails only if allocation fails.
+fn joined(alloc: Global, before: &str, text: &str, after: &str) -> Result<String, AllocError>
+    ensures { IfOk result (λ s. string_bytes s ≡ before.now ++ text.now ++ after.now) }
+{
+    let mut all = String::from_str(alloc, before)?;
+    all.push_str(text)?;
+    all.push_str(after)?;
+    Ok(all)
+}
+
+/// The exit status of a verdict: 0 if a plan is valid or a certificate is accepted, else 3.
+fn status_of_verdict(answer: &str) -> u8
+    ensures { result ≡ status_of_verdict answer.now }
+{
+    if answer.starts_with("valid ") {
+        return 0;
+    }
+    if answer.starts_with("accepted ") {
+        return 0;
+    }
+    3
+}
+
+/// The outcome that is expected for an answer: a verdict's line on standard output, or a fault's line, with the program's
+/// name, on standard error, and nothing else. A fault's answer starts with `F`. Fails only if allocation fails.
+pub fn wanted(alloc: Global, answer: &str) -> Result<Outcome, AllocError>
+    ensures out { IfOk result (λ o. string_bytes o.out ≡ wanted_out answer.now) }
+    ensures err { IfOk result (λ o. string_bytes o.err ≡ wanted_err answer.now) }
+    ensures status { IfOk result (λ o. o.status ≡ wanted_status answer.now) }
+{
+    if answer.starts_with("F") {
+        return Ok(Outcome {
+            out: String::new(alloc),
+            err: joined(alloc, "optplan: ", answer, "\n")?,
+            status: 1,
+        });
+    }
+    Ok(Outcome {
+        out: joined(alloc, "", answer, "\n")?,
+        err: String::new(alloc),
+        status: status_of_verdict(answer),
+    })
+}

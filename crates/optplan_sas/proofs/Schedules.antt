@@ -1,0 +1,193 @@
+-- Steps that are drawn one after another.
+use Rattle.std.proofs.Common.{◌≡◌, ◌≢◌, ℕ, zero, suc, ◌+◌, ◌<◌, ◌≤◌, ◌%◌, ⊎_elim, min, Some, None, List, [], ◌∷◌, ◌++◌, length, take, length-append, false, refl, sym, ap, subst, ◌∙◌, arith, add-one}
+use Rattle.std.proofs.Math.Nat.{mod-eq_of_lt}
+use Rattle.std.proofs.Math.Seq.{take-append_seam}
+use Rattle.std.proofs.lemmas.List.{take-append-le}
+use Rattle.std.specs.Prelude.{slice_get}
+use Rattle.std.proofs.lemmas.Nat.{mod_below}
+use Rattle.std.proofs.lemmas.Bool.{cases_lt}
+use Rattle.rand_core.specs.Stream.{Stream, next_u64}
+use Rattle.rand_core.specs.Steps.{stream_of, steps_u64_high}
+use Rattle.rand_core.proofs.StepsLemmas.{next_u64-stream_of}
+use Rattle.rand_xoshiro.specs.Xoshiro256.{plus_plus}
+use Rattle.owner_theory.specs.Owners.{At, SearchSpace}
+use Rattle.owner_theory.specs.Worlds as machine
+use Rattle.owner_theory.specs.Worlds.{world_start, IsQuiet}
+use Rattle.owner.specs.Spaces.{SpaceOf, searched}
+use Rattle.owner.specs.declared.fault.OwnerFault.{OwnerFault}
+use Rattle.owner.specs.declared.fault.OwnerFault.TheVariants.{OutOfMemory, TotalTooLarge, LimitReached}
+use Rattle.netcore.specs.declared.step.WorldStep.{WorldStep}
+use Rattle.netcore.specs.Worlds.{WorldOf, Shows, Steps, IsAfter, IsStepRefusal, space_in, world_after_run}
+use Rattle.netcore.proofs.Places.{at_below, at_some, at_read}
+use Rattle.netcore.proofs.Starting.{at_snoc}
+use Rattle.netcore.proofs.Shown.{after_step}
+use Rattle.optplan_sas.specs.Schedules.{state_after, word_of, IsAfterWords, Draws, IsNextDrawn, AreDrawn, IsSimulated, IsSimulationRefusal}
+
+-- ---- words
+
+-- the next word, and the generator behind it
+pub next_word : (seed count word : ℕ) (before after : List ℕ) → IsAfterWords seed count before
+    → (word, stream_of (steps_u64_high plus_plus) after) ≡ next_u64 (stream_of (steps_u64_high plus_plus) before)
+    → (word ≡ word_of seed count) × IsAfterWords seed (count + 1) after
+next_word seed count word before after so_far drawn =
+    let call = drawn ∙ ap (λ (s : Stream). next_u64 s) so_far ∙ next_u64-stream_of (steps_u64_high plus_plus) (state_after seed count) in (
+      ap (λ (p : ℕ × Stream). p.0) call,
+      ap (λ (p : ℕ × Stream). p.1) call
+          ∙ ap (λ (k : ℕ). stream_of (steps_u64_high plus_plus) (state_after seed k)) (sym (add-one count)),
+    )
+
+-- counting up to a greatest number, which no word reaches, draws as counting all
+pub same_number : (n most count word : ℕ) → count ≡ min n most → word < most → word % count ≡ word % n
+same_number n most count word is lt = ⊎_elim
+    (λ (few : n < most). ap (λ k. word % k) (let all : count ≡ n = omega arith in all))
+    (λ (many : most ≤ n).
+    let all : count ≡ most = omega arith in
+    ap (λ k. word % k) all ∙ (mod-eq_of_lt lt ∙ sym (mod-eq_of_lt (let below : word < n = omega arith in below))))
+    (cases_lt n most)
+
+-- what is picked so is picked of all
+pub picked : {X : Type 0} (xs : List X) (most count word : ℕ) (x : X) → count ≡ min (length xs) most → word < most
+    → slice_get xs (word % count) ≡ Some x → slice_get xs (word % length xs) ≡ Some x
+picked xs most count word x is lt here = ap (λ (k : ℕ). slice_get xs k) (sym (same_number (length xs) most count word is lt)) ∙ here
+
+pub some_picked : {X : Type 0} (xs : List X) (most count word : ℕ) → 0 < length xs → 0 < most → count ≡ min (length xs) most
+    → (x : X) × (slice_get xs (word % count) ≡ Some x)
+some_picked xs most count word some positive is =
+    let below = mod_below word count (omega arith) in
+    let (x, at) = at_some xs (word % count) (omega arith) in
+    (x, at_read xs (word % count) x at)
+
+-- ---- steps
+
+module _ {S : Type 0} (owner : S → List ℕ → ℕ → ℕ) (over : SpaceOf S) (n seed : ℕ) where
+  none_drawn : AreDrawn owner over n seed []
+  none_drawn i step at = absurd at
+
+  -- one more of those that are drawn
+  one_drawn : (asked : List WorldStep) (last : WorldStep) → AreDrawn owner over n seed asked → IsNextDrawn owner over n seed asked last
+      → AreDrawn owner over n seed (asked ++ last ∷ [])
+  one_drawn asked last so_far next i step at = ⊎_elim
+      (λ (there : At asked i step).
+      let le : i ≤ length asked = let lt = at_below asked i step there in omega arith in
+      subst (λ (before : List WorldStep). IsNextDrawn owner over n seed before step) (sym (take-append-le i asked (last ∷ []) le)) (so_far i step there))
+      (λ (h : (i ≡ length asked) × (last ≡ step)).
+      let all : take i (asked ++ last ∷ []) ≡ asked =
+      ap (λ (k : ℕ). take k (asked ++ last ∷ [])) h.0 ∙ take-append_seam asked (last ∷ []) in
+      subst (λ (before : List WorldStep). IsNextDrawn owner over n seed before step) (sym all)
+      (subst (IsNextDrawn owner over n seed asked) h.1 next))
+      (at_snoc asked last i step at)
+
+  -- a world of the space after so many steps that are drawn
+  pub record IsUnderWay (taken : ℕ) (w : WorldOf S) : Type 0 where
+    pub asked : List WorldStep
+    pub drawn : AreDrawn owner over n seed asked
+    pub after : IsAfter owner (searched owner over n) asked w
+    pub long : length asked ≡ taken
+    pub space : w.space ≡ over
+    pub owners : length w.owners ≡ n
+    pub whole : w.spent ≡ false
+
+  -- a step that is drawn in a world in which something is left to do
+  pub record IsTurn (taken : ℕ) (old : WorldOf S) (step : WorldStep) : Type 0 where
+    pub left : (world : machine.World) → Shows owner old world → 0 < machine.count (space_in owner old) world
+    pub drawn : Draws owner old (word_of seed taken) step
+
+  pub same_space : (w : WorldOf S) → w.space ≡ over → length w.owners ≡ n → space_in owner w ≡ searched owner over n
+  same_space w space owners = ap (λ (s : SpaceOf S). searched owner s (length w.owners)) space ∙ ap (searched owner over) owners
+
+  -- no step yet
+  pub begun : (w : WorldOf S) → Shows owner w (world_start (searched owner over n)) → w.space ≡ over → length w.owners ≡ n → w.spent ≡ false
+      → IsUnderWay 0 w
+  begun w shows space owners whole = record {
+    asked = [];
+    drawn = none_drawn;
+    after = record { steps = []; run = tt; shown = shows };
+    long = refl;
+    space = space;
+    owners = owners;
+    whole = whole;
+  }
+
+  -- memory ran out before the first step
+  pub not_begun : IsSimulationRefusal owner over n seed OutOfMemory
+  not_begun = ([], none_drawn, tt)
+
+  -- what was drawn with this step
+  all_drawn : (taken : ℕ) (step : WorldStep) (old : WorldOf S) (so_far : IsUnderWay taken old) → IsTurn taken old step
+      → AreDrawn owner over n seed (so_far.asked ++ step ∷ [])
+  all_drawn taken step old so_far turn = one_drawn so_far.asked step so_far.drawn (record {
+    world = old;
+    after = so_far.after;
+    space_is = so_far.space;
+    owners = so_far.owners;
+    left = turn.left;
+    drawn = subst (λ (k : ℕ). Draws owner old (word_of seed k) step) (sym so_far.long) turn.drawn;
+  })
+
+  -- a step more
+  pub one_more : (taken : ℕ) (step : WorldStep) (old new : WorldOf S) → IsUnderWay taken old → IsTurn taken old step
+      → ((world : machine.World) → Shows owner old world → Steps owner old world step new) → new.space ≡ old.space
+      → length new.owners ≡ length old.owners → new.spent ≡ old.spent → IsUnderWay (taken + 1) new
+  one_more taken step old new so_far turn stepped spaces owners_are spents =
+      let same = same_space old so_far.space so_far.owners in
+      record {
+        asked = so_far.asked ++ step ∷ [];
+        drawn = all_drawn taken step old so_far turn;
+        after =
+            subst (λ (sp : SearchSpace). IsAfter owner sp (so_far.asked ++ step ∷ []) new) same
+            (after_step owner old new so_far.asked step stepped (subst (λ (sp : SearchSpace). IsAfter owner sp so_far.asked old) (sym same) so_far.after));
+        long = let more = length-append so_far.asked (step ∷ []) in let long = so_far.long in omega (arith, more, long);
+        space = spaces ∙ so_far.space;
+        owners = owners_are ∙ so_far.owners;
+        whole = spents ∙ so_far.whole;
+      }
+
+  -- a step that is refused
+  pub one_refused : (taken : ℕ) (step : WorldStep) (old new : WorldOf S) (e : OwnerFault) → IsUnderWay taken old → IsTurn taken old step
+      → IsStepRefusal owner old new step e → IsSimulationRefusal owner over n seed e
+  one_refused taken step old new OutOfMemory so_far turn refusal = not_begun
+  one_refused taken step old new LimitReached so_far turn (v, o, b, is, at, seen, why, same) = (
+    so_far.asked ++ step ∷ [],
+    all_drawn taken step old so_far turn,
+    (so_far.asked, step, [], old, refl, so_far.after, (v, o, b, is, at, seen, why, refl)),
+  )
+  one_refused taken step old new TotalTooLarge so_far turn (v, o, b, is, at, seen, why, same) = (
+    so_far.asked ++ step ∷ [],
+    all_drawn taken step old so_far turn,
+    (so_far.asked, step, [], old, refl, so_far.after, (v, o, b, is, at, seen, why, refl)),
+  )
+
+  -- nothing is left to do
+  pub ended : (taken most : ℕ) (w : WorldOf S) → IsUnderWay taken w → taken ≤ most
+      → ((asked : List WorldStep) (after : IsAfter owner (space_in owner w) asked w) → IsQuiet (space_in owner w) (world_after_run (space_in owner w) after.steps))
+      → IsSimulated owner over n seed most (Some w)
+  ended taken most w so_far le quiet =
+      let long = so_far.long in (
+        so_far.asked,
+        so_far.drawn,
+        so_far.after,
+        omega (arith, long, le),
+        so_far.space,
+        so_far.owners,
+        so_far.whole,
+        subst (λ (sp : SearchSpace). (after : IsAfter owner sp so_far.asked w) → IsQuiet sp (world_after_run sp after.steps)) (same_space w so_far.space so_far.owners)
+            (quiet so_far.asked) so_far.after,
+      )
+
+some_left : (n m count : ℕ) → count ≡ min n m → count ≢ 0 → 0 < n
+some_left zero m count is some = absurd (some (is ∙ omega arith))
+some_left (suc n) m count is some = omega arith
+
+-- where the count is not 0, something is left to do
+pub left_of : {S : Type 0} (owner : S → List ℕ → ℕ → ℕ) (m count : ℕ) (w : WorldOf S)
+    → ((world : machine.World) → Shows owner w world → count ≡ min (machine.count (space_in owner w) world) m) → count ≢ 0
+    → (world : machine.World) → Shows owner w world → 0 < machine.count (space_in owner w) world
+left_of owner m count w counted some world shows = some_left (machine.count (space_in owner w) world) m count (counted world shows) some
+
+-- something is left to do after as many steps as may be
+pub cut : {S : Type 0} (owner : S → List ℕ → ℕ → ℕ) (over : SpaceOf S) (n seed taken most m count : ℕ) (w : WorldOf S)
+    → IsUnderWay owner over n seed taken w → taken ≡ most
+    → ((world : machine.World) → Shows owner w world → count ≡ min (machine.count (space_in owner w) world) m) → count ≢ 0
+    → IsSimulated owner over n seed most None
+cut owner over n seed taken most m count w so_far all counted some =
+    (so_far.asked, so_far.drawn, w, so_far.after, so_far.long ∙ all, so_far.space, so_far.owners, left_of owner m count w counted some)

@@ -1,0 +1,45 @@
+-- A certificate that holds is accepted by its text.
+use Rattle.std.proofs.Common.{◌≡◌, ℕ, ◌<◌, ◌≤◌, ◌^◌, List, [], ◌∷◌, ◌++◌, length, sym, ap, subst, arith}
+use Rattle.std.proofs.lemmas.List.{length-append, length-map}
+use Rattle.std.specs.Prelude.{codes}
+use Rattle.cost.specs.Distances.{Distance}
+use Rattle.fdr.specs.Tasks.{FiniteDomainTask}
+use Rattle.sasfile.specs.SasTexts.{SpellsTask}
+use Rattle.checker.specs.Answers.{is_for_finite_domain}
+use Rattle.optplan_sas.specs.Findings.{IsCertificateOf}
+use Rattle.optplan_sas.specs.SasAnswers.{IsAccepted}
+use Rattle.cert_value.specs.Certificates.{FiniteDomain, CertificateValue}
+use Rattle.cert_text.specs.Spelling.{spelling, text_of, line_text, lines, kind_lines, columns_lines, closed_lines, entry_line}
+
+line_has_byte : (words : List (List ℕ)) → 1 ≤ length (line_text words)
+line_has_byte words = let e = length-append (Rattle.cert_text.specs.Pieces.joined 32 words) (10 ∷ []) in omega (arith, e)
+
+-- a text is no shorter than the number of its lines
+as_long_as_lines : (ls : List (List (List ℕ))) → length ls ≤ length (text_of ls)
+as_long_as_lines [] = omega arith
+as_long_as_lines (l ∷ ls) = let e = length-append (line_text l) (text_of ls) in let one = line_has_byte l in let rest = as_long_as_lines ls in omega (arith, e, one, rest)
+
+pub few_entries : (c : CertificateValue) → length (spelling c) ≤ 2 ^ 30 → length c.closed < 2 ^ 32
+few_entries c le =
+    let all = as_long_as_lines (lines c) in
+    let a = length-append (kind_lines c.kind ++ columns_lines c.columns ++ closed_lines c.closed) ((codes "end" ∷ []) ∷ []) in
+    let b = length-append (kind_lines c.kind ++ columns_lines c.columns) (closed_lines c.closed) in
+    let e = length-map c.closed entry_line in
+    omega (arith, all, a, b, e, le)
+
+-- the checker accepts the text of a certificate that holds, and its bound
+pub accepted : (sas : List ℕ) (task : FiniteDomainTask) (bound : Distance) (c : CertificateValue) (text : List ℕ) → SpellsTask sas task → IsCertificateOf task FiniteDomain bound c → text ≡ spelling c → IsAccepted sas text bound
+accepted sas task bound c text spells of is =
+    λ short.
+    record {
+      task = task;
+      spelled = spells;
+      certificate = c;
+      certificate_spelled =
+          record {
+            lawful = of.lawful tt (few_entries c (subst (λ t. length t ≤ 2 ^ 30) is short));
+            spelled = is;
+            kind = ap is_for_finite_domain of.kind_is;
+          };
+      holds = (sym of.bound_is, of.held);
+    }

@@ -1,0 +1,114 @@
+//! Options of the solver.
+
+ghost use Rattle.std.specs.Prelude.{◌≡◌, ◌≤◌, ◌^◌, Some, None};
+
+use std::marker::Model;
+
+/// The greatest number of owners.
+pub const MOST_WORKERS: usize = 64;
+
+/// The greatest number of abstract states of a table, 2^24.
+pub const MOST_TABLE: usize = 16_777_216;
+
+/// How a task is solved: the number of owners (1 to 64), the greatest number of abstract states of a table (1 to 2^24),
+/// the limit on the nodes that each owner expands, if there is one, and the greatest number of steps of a simulation.
+#[derive(Debug, Drop)]
+pub struct Options {
+    workers: usize,
+    table: usize,
+    limit: Option<u64>,
+    steps: u64,
+}
+
+impl Model for Options {
+    ghost use Rattle.std.specs.Prelude.{◌≤◌, ◌^◌};
+    ghost use Rattle.optplan_sas.specs.Choices.{Choices};
+
+    ghost Value = { Choices };
+
+    ghost view = { λ o. record { workers = o.workers; table = o.table; limit = o.limit; steps = o.steps } };
+
+    ghost invariant = { λ o. (1 ≤ o.workers) × (o.workers ≤ 64) × (1 ≤ o.table) × (o.table ≤ 2 ^ 24) };
+}
+
+impl Options {
+    /// The defaults: 4 owners, tables of at most 100,000 abstract states, no limit on expansions, and 1,000,000 steps of
+    /// a simulation.
+    pub fn new() -> Options
+        ensures { result ≡ record { workers = 4; table = 100000; limit = None; steps = 1000000 } }
+    {
+        Options {
+            workers: 4,
+            table: 100_000,
+            limit: None,
+            steps: 1_000_000,
+        }
+    }
+
+    /// These options with this number of owners, 1 to 64.
+    pub fn with_workers(self, workers: usize) -> Options
+        requires some { 1 ≤ workers }
+        requires few { workers ≤ 64 }
+        ensures { result ≡ record self { workers = workers } }
+    {
+        Options { workers, ..self }
+    }
+
+    /// These options with tables of at most this number of abstract states, 1 to 2^24.
+    pub fn with_table(self, table: usize) -> Options
+        requires some { 1 ≤ table }
+        requires few { table ≤ 2 ^ 24 }
+        ensures { result ≡ record self { table = table } }
+    {
+        Options { table, ..self }
+    }
+
+    /// These options with this limit on the number of nodes that each owner expands.
+    pub fn with_limit(self, limit: u64) -> Options
+        ensures { result ≡ record self { limit = Some limit } }
+    {
+        Options {
+            limit: Some(limit),
+            ..self
+        }
+    }
+
+    /// These options with this greatest number of steps of a simulation.
+    pub fn with_steps(self, steps: u64) -> Options
+        ensures { result ≡ record self { steps = steps } }
+    {
+        Options { steps, ..self }
+    }
+
+    /// The number of owners.
+    pub fn workers(&self) -> usize
+        ensures value { result ≡ self.now.workers }
+        ensures some { 1 ≤ result }
+        ensures few { result ≤ 64 }
+    {
+        self.workers
+    }
+
+    /// The greatest number of abstract states of a table.
+    pub fn table(&self) -> usize
+        ensures value { result ≡ self.now.table }
+        ensures some { 1 ≤ result }
+        ensures few { result ≤ 2 ^ 24 }
+    {
+        self.table
+    }
+
+    /// The greatest number of nodes that each owner may expand, if there is a limit.
+    pub fn limit(&self) -> Option<u64>
+        ensures { result ≡ self.now.limit }
+    {
+        self.limit
+    }
+
+    /// The greatest number of steps of a simulation.
+    pub fn steps(&self) -> u64
+        ensures { result ≡ self.now.steps }
+    {
+        self.steps
+    }
+}

@@ -1,0 +1,56 @@
+//! Schedules that are drawn from a seed.
+
+ghost use Rattle.std.specs.Prelude.{◌≡◌, ℕ, ◌<◌, ◌+◌, length, IfOk, IfErr};
+ghost use Rattle.netcore.specs.Possible.{possible_steps};
+ghost use Rattle.optplan_sas.specs.Schedules.{word_of, IsAfterWords, Draws, IsSimulated, IsSimulationRefusal};
+
+use netcore::{World, WorldStep};
+use owner::{OwnerFault, Space};
+use packed_spread::Spread;
+use rand_core::{Rng, SeedableRng};
+use rand_xoshiro::Xoshiro256PlusPlus;
+use std::alloc::Global;
+
+/// The step that the next word draws: of the steps that would change something, the one whose number is the word modulo
+/// their number.
+fn drawn<'a, S: Spread + Drop>(
+    world: &World<'a, S>,
+    generator: &mut Xoshiro256PlusPlus,
+) -> WorldStep
+    requires { 0 < length (possible_steps S.owner world.now) }
+    ensures step { (seed count : ℕ) → IsAfterWords seed count generator.old → Draws S.owner world.now (word_of seed count) result }
+    ensures next { (seed count : ℕ) → IsAfterWords seed count generator.old → IsAfterWords seed (count + 1) generator.new }
+{
+    let word = generator.next_u64() as u128;
+    world.possible_step(word % world.possible_count()).unwrap()
+}
+
+/// A world after steps drawn one after another: each is, of the steps that would change something, in the world's order,
+/// the one whose number is the next word of Xoshiro256++ (Blackman and Vigna 2021) from this seed modulo their number.
+/// The run ends when the world's count is 0; if it is not 0 after `steps` steps, the result is `None`. A fault is that of
+/// a step, or `OutOfMemory`.
+pub fn simulated<'a, S: Spread + Drop>(
+    alloc: Global,
+    space: &'a Space<'a, S>,
+    owners: usize,
+    seed: u64,
+    steps: u64,
+) -> Result<Option<World<'a, S>>, OwnerFault>
+    requires { 0 < owners }
+    ensures run { IfOk result (IsSimulated S.owner space.now owners seed steps) }
+    ensures refused { IfErr result (IsSimulationRefusal S.owner space.now owners seed) }
+{
+    let mut world = World::start(alloc, space, owners)?;
+    let mut generator = Xoshiro256PlusPlus::seed_from_u64(seed);
+    for _ in 0..steps {
+        if world.count() == 0 {
+            return Ok(Some(world));
+        }
+        world.step(drawn(&world, &mut generator))?;
+    }
+    if world.count() == 0 {
+        Ok(Some(world))
+    } else {
+        Ok(None)
+    }
+}

@@ -1,0 +1,82 @@
+//! Searches for a plan of a task, by a schedule that is given or drawn.
+
+ghost use Rattle.std.specs.Prelude.{◌≡◌, IfOk, IfErr};
+ghost use Rattle.cert_value.specs.Views.{kind_of};
+ghost use Rattle.optplan_sas.specs.Findings.{IsFinding};
+ghost use Rattle.optplan_sas.specs.Searches.{IsSettledAfter, IsShortAfter, IsRefusedAfter, IsSettledBySeed, IsShortBySeed, IsRefusedBySeed};
+
+use crate::fault::SearchFault;
+use crate::found::{Found, found_by};
+use crate::options::Options;
+use crate::schedule::simulated;
+use cert_value::CertificateKind;
+use fdr::FdrTask;
+use netcore::{World, WorldStep};
+use owner::{OwnerFault, Space};
+use packed_spread::Zobrist;
+use scp::choose_columns;
+use std::alloc::{AllocError, Global};
+
+/// The search space for a task: columns of tables of the size that the options allow, and a spread of the states by a
+/// hash. Fails only if allocation fails.
+fn space_for<'a>(
+    alloc: Global,
+    task: &'a FdrTask,
+    options: &Options,
+) -> Result<Space<'a, Zobrist<'a>>, AllocError>
+    ensures task { IfOk result (λ s. s.task ≡ task.now) }
+    ensures limit { IfOk result (λ s. s.limit ≡ options.now.limit) }
+{
+    let columns = choose_columns(alloc, task, options.table())?;
+    let spread = Zobrist::new(alloc, task)?;
+    Space::new(alloc, task, columns, spread, options.limit())
+}
+
+/// The finding for the task after these steps of a world of owners: a cheapest plan, or that there is none, with a
+/// certificate of that kind; `Unsettled` if the owners are not settled after the steps, or a step requests an owner to
+/// expand more nodes than its limit allows.
+///
+/// Fails with `TotalTooLarge` if a path would have a cost or a number of operators above 2^62, or if allocation fails.
+pub fn found_after<'a>(
+    alloc: Global,
+    task: &'a FdrTask,
+    options: &Options,
+    steps: &[WorldStep],
+    kind: CertificateKind,
+) -> Result<Found, SearchFault>
+    ensures found { IfOk result (IsFinding task.now (kind_of kind) (IsSettledAfter options.now steps.now task.now) (IsShortAfter options.now steps.now task.now)) }
+    ensures refused { IfErr result (IsRefusedAfter options.now steps.now task.now) }
+{
+    let space: Space<'a, Zobrist<'a>> = space_for(alloc, task, options)?;
+    match World::run(alloc, &space, options.workers(), steps) {
+        Ok(world) => Ok(found_by(alloc, &world.joined(), kind)?),
+        Err(OwnerFault::LimitReached) => Ok(Found::Unsettled),
+        Err(OwnerFault::TotalTooLarge) => Err(SearchFault::TotalTooLarge),
+        Err(OwnerFault::OutOfMemory) => Err(SearchFault::OutOfMemory),
+    }
+}
+
+/// The finding for the task after steps drawn from the seed, at most as many as the options allow: a cheapest plan, or
+/// that there is none, with a certificate of that kind; `Unsettled` if there is work left after the last step, or an
+/// owner is to expand more nodes than its limit allows.
+///
+/// Fails with `TotalTooLarge` if a path would have a cost or a number of operators above 2^62, or if allocation fails.
+pub fn found_by_seed<'a>(
+    alloc: Global,
+    task: &'a FdrTask,
+    options: &Options,
+    seed: u64,
+    kind: CertificateKind,
+) -> Result<Found, SearchFault>
+    ensures found { IfOk result (IsFinding task.now (kind_of kind) (IsSettledBySeed options.now seed task.now) (IsShortBySeed options.now seed task.now)) }
+    ensures refused { IfErr result (IsRefusedBySeed options.now seed task.now) }
+{
+    let space: Space<'a, Zobrist<'a>> = space_for(alloc, task, options)?;
+    match simulated(alloc, &space, options.workers(), seed, options.steps()) {
+        Ok(Some(world)) => Ok(found_by(alloc, &world.joined(), kind)?),
+        Ok(None) => Ok(Found::Unsettled),
+        Err(OwnerFault::LimitReached) => Ok(Found::Unsettled),
+        Err(OwnerFault::TotalTooLarge) => Err(SearchFault::TotalTooLarge),
+        Err(OwnerFault::OutOfMemory) => Err(SearchFault::OutOfMemory),
+    }
+}

@@ -1,0 +1,4 @@
+use Rattle.optplan_solve.proofs.solving.answer_of.Goals as goal
+
+pub returns-in-Err-clause-refused : goal.returns-in-Err-clause-refused
+returns-in-Err-clause-refused g c = c.solve_fault.ensures c.args.settings.now.options c.args.settings.now.seed c.in-Err.ensures.refused

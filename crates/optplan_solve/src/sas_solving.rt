@@ -1,0 +1,80 @@
+//! The command that solves a finite-domain task, over any device.
+
+ghost use Rattle.std.specs.Prelude.{◌≡◌, ◌≢◌, ◌≤◌, ◌+◌, ◌++◌, ℕ, List, Some, IfOk, IfErr};
+ghost use Rattle.optplan_device.specs.Events.{Event};
+ghost use Rattle.optplan_sas.specs.Choices.{Choices};
+ghost use Rattle.optplan_sas.specs.Searches.{IsRefusedBySeed};
+ghost use Rattle.optplan_sas.specs.SasAnswers.{IsSasRefusal};
+ghost use Rattle.optplan_solve.specs.Outputs.{OutputFiles};
+ghost use Rattle.optplan_solve.specs.SasSolving.{sas_outputs, sas_answer_status, IsSasSolveRefusal, SolvesSas};
+ghost use Rattle.optplan_solve.specs.Texts.{files_of, text_outputs, text_status, IsSasAnsweredBy};
+
+use crate::outputs::{AnswerTexts, reply_answer};
+use crate::settings::Settings;
+use optplan_device::Device;
+use optplan_replies::{Fault, FileWord, read_file, report};
+use optplan_sas::{SasAnswer, SasSolveFault, simulate_sas};
+
+/// The texts of an answer.
+fn texts_of(answer: SasAnswer) -> AnswerTexts
+    ensures outputs { (files : OutputFiles) → text_outputs files result ≡ sas_outputs files answer }
+    ensures status { text_status result ≡ sas_answer_status answer }
+{
+    match answer {
+        SasAnswer::Solved(solution) => AnswerTexts::Solved(solution.plan_text, solution.cert),
+        SasAnswer::Unsolvable(cert) => AnswerTexts::Unsolvable(cert),
+        SasAnswer::Limit => AnswerTexts::Limit,
+    }
+}
+
+/// The solver's fault as the program's.
+fn solve_fault(fault: SasSolveFault) -> Fault
+    ensures { (sas : List ℕ) (choices : Choices) (seed : ℕ) → IsSasRefusal sas (IsRefusedBySeed choices seed) fault → IsSasSolveRefusal sas choices seed result }
+{
+    match fault {
+        SasSolveFault::OutOfMemory => Fault::OutOfMemory,
+        SasSolveFault::Sas(fault) => Fault::Sas(fault),
+        SasSolveFault::TotalTooLarge => Fault::TotalTooLarge,
+    }
+}
+
+/// The texts of the answer for the task that the text spells.
+///
+/// Fails with the first fault of the text, with `TotalTooLarge` if a path's total is too large, or with `OutOfMemory`.
+fn answer_of<R: AllocGlobal>(
+    rt: &R,
+    sas: &[u8],
+    settings: &Settings<'_>,
+) -> Result<AnswerTexts, Fault>
+    ensures answer { IfOk result (IsSasAnsweredBy sas.now settings.now.options settings.now.seed) }
+    ensures refused { IfErr result (IsSasSolveRefusal sas.now settings.now.options settings.now.seed) }
+{
+    match simulate_sas(rt, sas, &settings.options, settings.seed) {
+        Ok(answer) => Ok(texts_of(answer)),
+        Err(fault) => Err(solve_fault(fault)),
+    }
+}
+
+/// Solves a finite-domain task by steps drawn from the seed: reads the file; then writes the certificate and the plan, if
+/// requested, and prints the plan, `unsolvable` or `limit`; or reports a fault.
+///
+/// Returns the exit status: 0 with a plan, 4 if there is none, 5 at a limit, or the fault's. For `unsolvable` no plan is
+/// written, and for `limit` no file.
+pub fn run_solve_sas<D: Device, R: AllocGlobal>(
+    rt: &R,
+    device: &mut D,
+    sas: &str,
+    settings: &Settings<'_>,
+) -> u8
+    ensures done { (h : List Event) → D.history device.old ≡ Some h → D.failure_count device.new ≡ D.failure_count device.old → result ≢ 6 →
+        (new : List Event) × (D.history device.new ≡ Some new) × SolvesSas h new sas.now settings.now.options settings.now.seed (files_of settings.now) result }
+    ensures device_failed { result ≡ 7 → D.failure_count device.old + 1 ≤ D.failure_count device.new }
+{
+    match read_file(rt.alloc(), device, sas, FileWord::Sas) {
+        Ok(sas) => {
+            let answer = answer_of(rt, &sas, settings);
+            reply_answer(rt.alloc(), device, &answer, settings)
+        }
+        Err(fault) => report(rt.alloc(), device, &fault),
+    }
+}

@@ -1,0 +1,76 @@
+//! Owners by a hash of the state.
+
+ghost use Rattle.std.specs.Prelude.{◌≡◌, ℕ, ◌+◌, ◌<◌, length, slice_index, sum, IfOk};
+ghost use Rattle.fdr.specs.Tasks as tasks;
+ghost use Rattle.packed_spread.specs.Spreads as spec;
+
+use crate::spread::Spread;
+use crate::words::words_of;
+use fdr::FdrTask;
+use std::alloc::{AllocError, Global};
+use std::marker::Model;
+
+/// The spread by which the owner of a state is the state's hash modulo the number of owners. The hash (Zobrist 1970) is
+/// the exclusive or of one word for each variable's value in the state, and 0 for a task without variables. The words are
+/// those of SplitMix64 (Steele, Lea and Flood 2014) from seed 1, in the order of variables and then of values. A contract
+/// sees the task and the words.
+#[derive(Drop)]
+pub struct Zobrist<'a> {
+    task: &'a FdrTask,
+    words: Vec<u64>,
+    firsts: Vec<usize>,
+}
+
+impl<'a> Model for Zobrist<'a> {
+    ghost Value = { spec.Zobrist };
+
+    ghost view = { λ z. record { task = z.task.now; words = z.words.items } };
+
+    ghost invariant = { λ z.
+        (length z.words.items ≡ sum (tasks.ranges z.task.now)) ×
+        (z.firsts.items ≡ spec.firsts_of (tasks.ranges z.task.now)) };
+}
+
+/// The hash of a state, from all words and the place of each variable's first word.
+fn hash_of(words: &[u64], firsts: &[usize], state: &[u32]) -> u64
+    requires long { length firsts.now ≡ length state.now }
+    requires exist { (v : ℕ) → v < length firsts.now → slice_index firsts.now v + slice_index state.now v < length words.now }
+    ensures { result ≡ spec.hash words.now firsts.now state.now }
+{
+    let mut hash = 0;
+    for variable in 0..firsts.len() {
+        hash ^= words[firsts[variable] + state[variable] as usize];
+    }
+    hash
+}
+
+impl<'a> Zobrist<'a> {
+    /// The spread for the task, with a word of 8 bytes for each value of each variable. Fails only if allocation fails.
+    pub fn new(alloc: Global, task: &'a FdrTask) -> Result<Zobrist<'a>, AllocError>
+        ensures task { IfOk result (λ z. z.task ≡ task.now) }
+        ensures words { IfOk result (λ z. z.words ≡ spec.splitmix_words 1 (sum (tasks.ranges task.now))) }
+    {
+        let made = words_of(alloc, task)?;
+        Ok(Zobrist {
+            task,
+            words: made.words,
+            firsts: made.firsts,
+        })
+    }
+}
+
+impl<'a> Spread for Zobrist<'a> {
+    ghost use Rattle.packed_spread.specs.Spreads.{zobrist_owner};
+    ghost use Rattle.packed_spread.specs.OwnerLaws.{zobrist_owner_is_below};
+
+    ghost ranges = { λ z. tasks.ranges z.task };
+
+    ghost owner = { zobrist_owner };
+
+    ghost is_below = { zobrist_owner_is_below };
+
+    fn owner_of(&self, state: &[u32], owners: usize) -> usize {
+        let hash = hash_of(&self.words, &self.firsts, state);
+        (hash % owners as u64) as usize
+    }
+}

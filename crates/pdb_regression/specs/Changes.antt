@@ -1,0 +1,76 @@
+-- The changes that an operator makes to the values of a pattern's variables, digit by digit.
+use Rattle.std.specs.Prelude.{◌≡◌, ℕ, ◌*◌, ◌/◌, ◌%◌, ◌^◌, ◌<◌, Bool, true, ◌==◌, if◌then◌else◌, List, [], ◌∷◌, Option, Some, None}
+use Rattle.fdr.specs.declared.fact.Fact.{Fact}
+use Rattle.fdr.specs.Tasks.{Operator}
+use Rattle.abstraction.specs.declared.digit.Digit.{Digit}
+use Rattle.abstraction.specs.Digits.{value_of, IsDigitBelow}
+use Rattle.pdb_regression.specs.declared.change.Change.{Change}
+use Rattle.pdb_regression.specs.declared.change.Change.TheVariants.{Kept, Required, Moved, Assigned}
+use Rattle.pdb_regression.specs.declared.change.DigitChange.{DigitChange}
+
+-- the value of the first fact on the variable, if there is one
+abbrev pub value_in : List Fact → ℕ → Option ℕ
+value_in [] v = None
+value_in (f ∷ fs) v = if f.variable == v then Some f.value else value_in fs v
+
+-- the change of a value by the condition and the effect on it, if there are any
+abbrev pub change_by : Option ℕ → Option ℕ → Change
+change_by None None = Kept
+change_by (Some c) None = Required c
+change_by (Some c) (Some e) = Moved c e
+change_by None (Some e) = Assigned e
+
+abbrev pub change_of : Operator → ℕ → Change
+change_of op v = change_by (value_in op.precondition v) (value_in op.effect v)
+
+-- the changes of the values of a pattern, which has these digits
+abbrev pub changes_of : Operator → List Digit → List ℕ → List DigitChange
+changes_of op [] ps = []
+changes_of op (d ∷ ds) [] = []
+changes_of op (d ∷ ds) (p ∷ ps) = record { digit = d; change = change_of op p } ∷ changes_of op ds ps
+
+-- the change leads from the first value to the second
+abbrev pub LeadsAt : Change → ℕ → ℕ → Type 0
+LeadsAt Kept x y = x ≡ y
+LeadsAt (Required c) x y = (x ≡ c) × (y ≡ c)
+LeadsAt (Moved from to) x y = (x ≡ from) × (y ≡ to)
+LeadsAt (Assigned e) x y = y ≡ e
+
+-- each change leads from the value at its place of the first number, the lowest first, to the value of the abstract
+-- state at its digit
+abbrev pub LeadsBy : List DigitChange → ℕ → ℕ → Type 0
+LeadsBy [] i j = i ≡ 0
+LeadsBy (c ∷ cs) i j = LeadsAt c.change (i % c.digit.range) (value_of c.digit j) × LeadsBy cs (i / c.digit.range) j
+
+-- whether the change leads to the value from some value
+abbrev pub enters_at : Change → ℕ → Bool
+enters_at Kept y = true
+enters_at (Required c) y = y == c
+enters_at (Moved from to) y = y == to
+enters_at (Assigned e) y = y == e
+
+abbrev pub enters_digit : ℕ → DigitChange → Bool
+enters_digit j c = enters_at c.change (value_of c.digit j)
+
+-- the value that the effect sets, if there is one
+abbrev pub target : Change → Option ℕ
+target Kept = None
+target (Required c) = None
+target (Moved from to) = Some to
+target (Assigned e) = Some e
+
+-- the values of the effect, and the one before it, are below the range
+abbrev pub FitsIn : ℕ → Change → Type 0
+FitsIn r Kept = Unit {0}
+FitsIn r (Required c) = Unit {0}
+FitsIn r (Moved from to) = (from < r) × (to < r)
+FitsIn r (Assigned e) = e < r
+
+pub record IsFit (c : DigitChange) : Type 0 where
+  pub digit : IsDigitBelow (2 ^ 24) c.digit
+  pub change : FitsIn c.digit.range c.change
+
+-- the product of the ranges
+abbrev pub size_by : List DigitChange → ℕ
+size_by [] = 1
+size_by (c ∷ cs) = c.digit.range * size_by cs

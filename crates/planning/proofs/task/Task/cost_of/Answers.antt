@@ -1,9 +1,0 @@
-use Rattle.std.proofs.Common.{◌≡◌, ◌∙◌, true, sym, ap, rules}
-use Rattle.planning.specs.Planning.{PlanningTask}
-use Rattle.planning.proofs.task.Task.cost_of.Goals as goal
-
-pub returns : goal.returns
-returns c =
-    let metric : c.args.self.now.metric ≡ true = sym (ap (λ (t : PlanningTask). t.metric) c.self.view_is) ∙ c.if-not-self.false in
-    let items : c.deref.result.now ≡ c.args.schema.now.increases = search rules in
-    rw metric (rw items at c.sum_of.ensures)

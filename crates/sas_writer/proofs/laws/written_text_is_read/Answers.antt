@@ -1,5 +1,0 @@
-use Rattle.sas_writer.proofs.WholeLaws.{written_is_read}
-use Rattle.sas_writer.proofs.laws.written_text_is_read.Goals as goal
-
-pub returns : goal.returns
-returns c = written_is_read

@@ -1,9 +1,0 @@
--- Faults of a search as faults of the solver.
-use Rattle.solver.specs.declared.fault.SearchFault.{SearchFault}
-use Rattle.solver.specs.declared.fault.SearchFault.TheVariants.{OutOfMemory, TotalTooLarge}
-use Rattle.solver.specs.declared.fault.SasSolveFault.{SasSolveFault}
-use Rattle.solver.specs.declared.fault.SasSolveFault.TheVariants as solve
-
-abbrev pub fault_of_search : SearchFault → SasSolveFault
-fault_of_search OutOfMemory = solve.OutOfMemory
-fault_of_search TotalTooLarge = solve.TotalTooLarge

@@ -1,9 +1,0 @@
-use Rattle.std.proofs.Common.{◌≡◌, ◌+◌, length}
-use Rattle.spread.specs.Drawn.{IsDrawn}
-use Rattle.spread.proofs.words.draw.Given as goal
-
-abbrev pub invariant-loop : goal.invariant-loop
-invariant-loop l = record {
-  drawn : IsDrawn 1 l.words.items l.generator;
-  count : length l.words.items ≡ length l.initial.words.items + l.counter;
-}

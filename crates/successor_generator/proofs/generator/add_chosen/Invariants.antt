@@ -1,7 +1,0 @@
-use Rattle.std.proofs.Common.{◌≡◌, ◌++◌, take}
-use Rattle.successor_generator.specs.Groups.{found_in_groups}
-use Rattle.successor_generator.proofs.generator.add_chosen.Given as goal
-
-abbrev pub invariant-loop-switch : goal.invariant-loop-switch
-invariant-loop-switch l =
-    l.found.items ≡ l.fn.found.items ++ found_in_groups l.task l.starts l.candidates l.state (take l.switch-index l.switches)

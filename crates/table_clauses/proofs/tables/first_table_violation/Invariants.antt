@@ -1,6 +1,0 @@
-use Rattle.std.proofs.Common.{ℕ, ◌<◌}
-use Rattle.table_clauses.proofs.TableViolations.{IsSoundAt}
-use Rattle.table_clauses.proofs.tables.first_table_violation.Given as goal
-
-abbrev pub invariant-loop-place : goal.invariant-loop-place
-invariant-loop-place l = (k : ℕ) → k < l.place → IsSoundAt l.task l.certificate k

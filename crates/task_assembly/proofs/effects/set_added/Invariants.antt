@@ -1,8 +1,0 @@
-use Rattle.std.proofs.Common.{◌≡◌, take}
-use Rattle.task_assembly.specs.Slots.{look_up}
-use Rattle.task_assembly.specs.Facts.{assigned}
-use Rattle.task_assembly.specs.Operators.{fact_of}
-use Rattle.task_assembly.proofs.effects.set_added.Given as goal
-
-abbrev pub invariant-loop-atom : goal.invariant-loop-atom
-invariant-loop-atom l = l.facts ≡ assigned (fact_of (look_up l.table)) l.fn.facts (take l.atom-index l.adds)

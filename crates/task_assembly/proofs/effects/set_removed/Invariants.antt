@@ -1,8 +1,0 @@
-use Rattle.std.proofs.Common.{◌≡◌, take}
-use Rattle.task_assembly.specs.Slots.{look_up}
-use Rattle.task_assembly.specs.Facts.{assigned}
-use Rattle.task_assembly.specs.Operators.{removed_fact}
-use Rattle.task_assembly.proofs.effects.set_removed.Given as goal
-
-abbrev pub invariant-loop-atom : goal.invariant-loop-atom
-invariant-loop-atom l = l.facts ≡ assigned (removed_fact (look_up l.table) l.condition) l.fn.facts (take l.atom-index l.deletes)

@@ -1,0 +1,158 @@
+//! The choice of variables.
+
+ghost use Rattle.std.specs.Prelude.{◌≡◌, ◌+◌, ◌<◌, All, IfOk, IfSome, OnOk, length};
+ghost use Rattle.translate_theory.specs.Translations.{AreVariables};
+ghost use Rattle.translate_theory.specs.Variables.{IsPlaced, variables_at};
+ghost use Rattle.mutex_proposals.specs.Proposals.{IsProposal};
+ghost use Rattle.mutex.specs.Places.{Indexed};
+ghost use Rattle.std.specs.List.Sorted.{IsNonDecreasingBy};
+ghost use Rattle.translate_choice.specs.Choices.{least_place, IsNext, IsChoice, AddsVariable, is_left, IsDoneBelow};
+
+use crate::flags::{is_set, set};
+use crate::offers::Offers;
+use crate::queue::Queue;
+use mutex::ActionIndex;
+use mutex_proposals::Groups;
+use std::alloc::{AllocError, Global};
+use translate_theory::ListedVariable;
+
+/// For each place whether the atom is taken, and the variables that have taken the atoms.
+#[derive(Drop)]
+struct Choice {
+    taken: Vec<bool>,
+    variables: Vec<ListedVariable>,
+}
+
+impl Choice {
+    /// Makes a choice without variables, over this number of atoms. Fails only if allocation fails.
+    fn new(alloc: Global, count: usize) -> Result<Choice, AllocError>
+        ensures { IfOk result (λ choice. (index : Indexed) → length index.atoms ≡ count → IsChoice index choice) }
+    {
+        Ok(Choice {
+            taken: vec![in alloc; false; count]?,
+            variables: Vec::new(alloc),
+        })
+    }
+
+    /// Adds a variable and marks its atoms as taken. Fails only if allocation fails.
+    fn add(&mut self, variable: ListedVariable) -> Result<(), AllocError>
+        ensures { OnOk result (AddsVariable self.old self.new variable) }
+    {
+        set(&mut self.taken, &variable.places);
+        self.variables.push(variable)?;
+        Ok(())
+    }
+}
+
+/// The variable of the first group in the queue that is fit. Groups before it are removed. Fails only if allocation
+/// fails.
+fn next_variable(
+    alloc: Global,
+    offers: &Offers<'_>,
+    taken: &[bool],
+    queue: &mut Queue,
+) -> Result<Option<ListedVariable>, AllocError>
+    ensures { IfOk result (λ next. IfSome next (IsNext offers.now.index.now taken.now)) }
+{
+    while let Some(group) = queue.pop() {
+        if let Some(variable) = offers.variable(alloc, group, taken)? {
+            return Ok(Some(variable));
+        }
+    }
+    Ok(None)
+}
+
+/// Takes groups as long as one is fit. Fails only if allocation fails.
+fn take_groups(alloc: Global, offers: &Offers<'_>, choice: &mut Choice) -> Result<(), AllocError>
+    requires { IsChoice offers.now.index.now choice.old }
+    ensures { OnOk result (IsChoice offers.now.index.now choice.new) }
+{
+    let mut queue = Queue::new(alloc, choice.taken.len(), offers.groups())?;
+    // Each turn takes at least two atoms, so there are fewer turns than atoms.
+    for _turn in 0..choice.taken.len() {
+        let Some(variable) = next_variable(alloc, offers, &choice.taken, &mut queue)? else {
+            return Ok(());
+        };
+        queue.remove(alloc, &variable.places)?;
+        choice.add(variable)?;
+    }
+    Ok(())
+}
+
+/// Whether the atom is neither taken nor constant.
+fn is_left(index: &ActionIndex<'_>, taken: &[bool], place: usize) -> bool
+    requires { place < length index.now.atoms }
+    ensures { result ≡ is_left index.now taken.now place }
+{
+    !is_set(taken, place) && !index.is_constant(place)
+}
+
+/// Takes the atom as a variable of its own, unless it is taken or constant. Fails only if allocation fails.
+fn take_atom(
+    alloc: Global,
+    index: &ActionIndex<'_>,
+    place: usize,
+    choice: &mut Choice,
+) -> Result<(), AllocError>
+    requires within { place < length index.now.atoms }
+    requires choice { IsChoice index.now choice.old }
+    ensures choice { OnOk result (IsChoice index.now choice.new) }
+    ensures done { OnOk result (IsDoneBelow index.now choice.old place → IsDoneBelow index.now choice.new (place + 1)) }
+{
+    if !is_left(index, &choice.taken, place) {
+        return Ok(());
+    }
+    let places = vec![in alloc; place]?;
+    choice.add(ListedVariable {
+        places,
+        has_none: true,
+    })
+}
+
+/// Takes each atom that is neither taken nor constant as a variable of its own. Fails only if allocation fails.
+fn take_atoms(alloc: Global, index: &ActionIndex<'_>, choice: &mut Choice) -> Result<(), AllocError>
+    requires { IsChoice index.now choice.old }
+    ensures choice { OnOk result (IsChoice index.now choice.new) }
+    ensures done { OnOk result (IsDoneBelow index.now choice.new (length index.now.atoms)) }
+{
+    for place in 0..index.atoms().as_slice().len() {
+        take_atom(alloc, index, place, choice)?;
+    }
+    Ok(())
+}
+
+/// The place of the first atom of the variable.
+fn least_place(variable: &ListedVariable) -> usize
+    ensures { result ≡ least_place variable.now }
+{
+    variable.places.first().copied().unwrap_or(0)
+}
+
+/// Chooses variables over the atoms of the index, in the order of their least atoms (Helmert 2009, the greedy choice of
+/// mutex groups). The groups are considered without the atoms that are already taken. As long as some of them have at
+/// least two atoms, at most one of them a goal, and are usable, the largest of these becomes a variable, and of several
+/// the earliest. Each other atom that is not constant becomes a variable of its own. A variable has the none value
+/// unless it has several atoms and they are a full group. Fails only if allocation fails.
+///
+/// The groups must be those of the index's atoms, none of them constant or excluded, as `mutex_proposals::groups`
+/// returns them. A group is examined again each time that it loses atoms. The contract does not specify which variables
+/// are chosen.
+pub fn choose_variables(
+    alloc: Global,
+    index: &ActionIndex<'_>,
+    groups: &Groups,
+) -> Result<Vec<ListedVariable>, AllocError>
+    requires { All (IsProposal index.now) groups.now }
+    ensures placed { IfOk result (λ variables. All (IsPlaced (length index.now.atoms)) variables.items) }
+    ensures fit { IfOk result (λ variables.
+        AreVariables index.now.task index.now.atoms index.now.actions (variables_at index.now.atoms variables.items)) }
+    ensures ordered { IfOk result (λ variables. IsNonDecreasingBy least_place variables.items) }
+{
+    let mut choice = Choice::new(alloc, index.atoms().as_slice().len())?;
+    let offers = Offers::new(alloc, index, groups)?;
+    take_groups(alloc, &offers, &mut choice)?;
+    take_atoms(alloc, index, &mut choice)?;
+    let mut variables = choice.variables;
+    variables.sort_unstable_by_key(least_place);
+    Ok(variables)
+}

@@ -1,9 +1,0 @@
-use Rattle.translations.proofs.Bounding.{same_plans}
-use Rattle.translations.proofs.SamePlans.{plan_listed}
-use Rattle.translations.proofs.laws.translation_has_same_plans.Goals as goal
-
-pub returns-clause-plans : goal.returns-clause-plans
-returns-clause-plans c = same_plans
-
-pub returns-clause-listed : goal.returns-clause-listed
-returns-clause-listed c = plan_listed

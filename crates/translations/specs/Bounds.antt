@@ -1,9 +1,0 @@
--- Lower bounds on the costs of the plans of a planning task.
-use Rattle.std.specs.Prelude.{List}
-use Rattle.cost.specs.Distances.{Distance, Finite, ◌≤ᵈ◌}
-use Rattle.planning.specs.Planning.{PlanningTask, Action}
-use Rattle.planning.specs.Plans.{IsValidPlan, total_cost}
-
--- every valid plan costs at least the bound; if the bound is infinite, there is no valid plan
-abbrev pub ValidPlansCostAtLeast : PlanningTask → Distance → Type 0
-ValidPlansCostAtLeast task bound = (plan : List Action) → IsValidPlan task plan → bound ≤ᵈ Finite (total_cost plan)

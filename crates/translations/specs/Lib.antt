@@ -1,4 +1,0 @@
-pub mod Names
-pub mod Translations
-pub mod Bounds
-pub mod Worked

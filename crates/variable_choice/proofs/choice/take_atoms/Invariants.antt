@@ -1,5 +1,0 @@
-use Rattle.variable_choice.specs.Choices.{IsChoice, IsDoneBelow}
-use Rattle.variable_choice.proofs.choice.take_atoms.Given as goal
-
-abbrev pub invariant-loop-place : goal.invariant-loop-place
-invariant-loop-place l = record { choice : IsChoice l.index l.choice; done : IsDoneBelow l.index l.choice l.place }

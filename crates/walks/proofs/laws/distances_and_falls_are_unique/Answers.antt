@@ -1,8 +1,0 @@
-use Rattle.walks.proofs.Saturation.{distance_unique, fall_unique}
-use Rattle.walks.proofs.laws.distances_and_falls_are_unique.Goals as goal
-
-pub returns-clause-distance : goal.returns-clause-distance
-returns-clause-distance c = distance_unique
-
-pub returns-clause-fall : goal.returns-clause-fall
-returns-clause-fall c = fall_unique

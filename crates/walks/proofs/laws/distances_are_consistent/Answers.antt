@@ -1,5 +1,0 @@
-use Rattle.walks.proofs.Saturation.{distances_consistent}
-use Rattle.walks.proofs.laws.distances_are_consistent.Goals as goal
-
-pub returns : goal.returns
-returns c = distances_consistent

@@ -1,5 +1,0 @@
-use Rattle.walks.proofs.Saturation.{partition_column}
-use Rattle.walks.proofs.laws.partition_is_column.Goals as goal
-
-pub returns : goal.returns
-returns c = partition_column
