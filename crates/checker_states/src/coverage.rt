@@ -8,9 +8,9 @@ ghost use Rattle.checker_clauses.specs.Clauses.{is_covered};
 ghost use Rattle.checker_clauses.specs.Violations.{IsMet, IsFoundIn};
 ghost use Rattle.checker_states.specs.Places.{passes_successor, IsFirstFailing};
 
+use crate::index::ClosedIndex;
 use cert_value::{Certificate, ClosedList};
 use checker_clauses::Violation;
-use checker_states::ClosedIndex;
 use checker_tables::Heuristic;
 use cost::Dist;
 use fdr::FdrTask;
