@@ -9,6 +9,7 @@ ghost use Rattle.optplan_device.specs.Events.{Event, HasPut, Adds};
 ghost use Rattle.optplan_replies.specs.Faults.{fault_status};
 ghost use Rattle.optplan_replies.specs.Runs.{IsQuiet};
 ghost use Rattle.optplan_command.specs.Translating.{IsTranslationText, IsTranslationRefusal, Translates};
+ghost use Rattle.pddl_task.specs.Limits.{max_cost};
 
 use optplan_device::Device;
 use optplan_replies::{Fault, put_text, read_task_files, report, task_fault};
@@ -43,7 +44,7 @@ fn text_of(alloc: Global, translated: &Translated) -> Result<Vec<u8>, AllocError
 /// allocation fails.
 fn translation_text(alloc: Global, task: &Task) -> Result<Vec<u8>, Fault>
     requires small { IsTrue (has_small_costs task.now) }
-    requires costs { (a : Action) → IsActionOf task.now a → a.cost ≤ 2147483647 }
+    requires costs { (a : Action) → IsActionOf task.now a → a.cost ≤ max_cost }
     requires initial { All (IsAtomOf task.now) task.now.initial }
     requires goals { All (λ (l : Literal). IsAtomOf task.now l.atom) task.now.goal }
     requires added { (a : Action) → IsActionOf task.now a → All (IsAtomOf task.now) a.adds }

@@ -8,6 +8,7 @@ ghost use Rattle.validate.specs.Verdicts.{IsVerdict, CostsAtMost};
 ghost use Rattle.validate.specs.Written.{verdict_line_of};
 ghost use Rattle.validate.specs.declared.verdict.Verdict.{Verdict};
 ghost use Rattle.optplan_command.specs.Answers.{IsAnswer, IsRefusal, verdict_status};
+ghost use Rattle.pddl_task.specs.Limits.{max_cost};
 
 use optplan_replies::{Fault, task_fault};
 use pddl::read_task;
@@ -39,7 +40,7 @@ fn plan_fault(fault: PlanFault) -> Fault
 /// The verdict's line, with its line feed, and the exit status. Fails only if allocation fails.
 fn line_of(alloc: Global, task: &Task, plan: &Plan) -> Result<(String, u8), AllocError>
     requires small { IsTrue (has_small_costs task.now) }
-    requires costs { CostsAtMost task.now 2147483647 }
+    requires costs { CostsAtMost task.now max_cost }
     ensures verdict { IfOk result (λ r. (v : Verdict) × IsVerdict task.now plan.now v × (string_bytes r.0 ≡ verdict_line_of task.now v) × (r.1 ≡ verdict_status v)) }
     ensures small { IfOk result (λ r. r.1 ≤ 3) }
 {
@@ -53,7 +54,7 @@ fn line_of(alloc: Global, task: &Task, plan: &Plan) -> Result<(String, u8), Allo
 /// plan's text, or with `OutOfMemory`.
 fn answer_of(alloc: Global, task: &Task, plan: &[u8]) -> Result<(String, u8), Fault>
     requires small { IsTrue (has_small_costs task.now) }
-    requires costs { CostsAtMost task.now 2147483647 }
+    requires costs { CostsAtMost task.now max_cost }
     ensures answer { (domain problem : List ℕ) → SpellTask domain problem task.now → IfOk result (λ r. IsAnswer domain problem plan.now (string_bytes r.0) r.1) }
     ensures small { IfOk result (λ r. r.1 ≤ 3) }
     ensures refused { (domain problem : List ℕ) → SpellTask domain problem task.now → IfErr result (λ e. IsRefusal domain problem plan.now e) }
