@@ -23,9 +23,11 @@ USAGE = """usage: .ci/run                 the gate: proofs, tests, programs, and
        .ci/run --all           the gate with every edit, whatever is recorded
        .ci/run --edits [NAME..]  outside the gate: the edits that are not recorded, of these crates or of all
 Each takes the last commit, without drafts/, and records in .ci/refused.txt where all edits were refused."""
-# What the gate spends on edits at most, and what an edit takes on average, both in seconds of one processor.
-MOST_SECONDS_OF_EDITS = 3600
-SECONDS_OF_AN_EDIT = 20
+# The seconds in which the gate is to end, and what was measured on four busy processors, in seconds of one processor: all proofs
+# and tests together, and one edit on average.
+SECONDS_OF_A_RUN = 9900
+SECONDS_WITHOUT_EDITS = 16600
+SECONDS_OF_AN_EDIT = 46
 REFUSED = re.compile(r"rt: must-fail (\w+)/(\S+): refused, as it must be(.*)")
 BY_NAME_ONLY = "only because a proof file names"
 
@@ -77,6 +79,11 @@ def missing_edits(repository, record, names, tries_all):
     return [it for it in names if tries_all or not record.holds(repository, it)]
 
 
+def most_edits(processors):
+    """For how many edits a run has time beside the proofs and tests."""
+    return max(0, SECONDS_OF_A_RUN * processors - SECONDS_WITHOUT_EDITS) // SECONDS_OF_AN_EDIT
+
+
 def count_of_edits(repository, names):
     return sum(len(repository.edits(it)) for it in names)
 
@@ -120,7 +127,7 @@ def gate(tries_all):
         tried = missing_edits(repository, record, names, tries_all)
         edits, missing = count_of_edits(repository, names), count_of_edits(repository, tried)
         say(f"of {edits} must-fail edits {edits - missing} are recorded as refused, and {missing}, of {len(tried)} crates, are tried now")
-        most = MOST_SECONDS_OF_EDITS * len(os.sched_getaffinity(0)) // SECONDS_OF_AN_EDIT
+        most = most_edits(len(os.sched_getaffinity(0)))
         if unfit or (missing > most and not tries_all):
             if missing > most:
                 say(f"that is more than the {most} for which there is time: call .ci/run --edits, which records what is refused, first")

@@ -1,0 +1,125 @@
+#!/usr/bin/env python3
+"""Proves crates side by side over what earlier runs kept in their `out/`, each once what it stands on is proved: for work on crates
+whose lower layers are not yet built here. It gives no verdict: `.ci/run` does.
+
+usage: .ci/prove.py [--jobs N] [NAME..]    these crates and all that they stand on, or every crate; what no crate stands on is checked
+                                           with its tests. The toolchain's report of a crate is crates/NAME/out/proved.txt
+"""
+
+import functools
+import importlib.machinery
+import importlib.util
+import os
+import shutil
+import sys
+import threading
+import time
+
+TOP = os.path.dirname(os.path.dirname(os.path.abspath(__file__)))
+
+
+def toolchain():
+    """The toolchain's library, which lies beside the command `rt`. It has no public interface for this."""
+    sys.dont_write_bytecode = True
+    path = os.path.join(os.path.dirname(os.path.realpath(shutil.which("rt"))), "rtlib.py")
+    loader = importlib.machinery.SourceFileLoader("rtlib", path)
+    made = importlib.util.module_from_spec(importlib.util.spec_from_loader("rtlib", loader))
+    sys.modules["rtlib"] = made
+    loader.exec_module(made)
+    return made
+
+
+def remembered(method):
+    """A method of crates whose answer stays the same while nothing is edited, and is found anew for each path otherwise."""
+    answers = {}
+
+    @functools.wraps(method)
+    def answer(crate):
+        if crate.folder not in answers:
+            answers[crate.folder] = method(crate)
+        return answers[crate.folder]
+
+    return answer
+
+
+class Side:
+    """Crates that are proved by some threads, the longest way up first."""
+
+    def __init__(self, crates):
+        self.crates = crates
+        self.used = {it for crate in crates for it in crate.deps}
+        self.started, self.proved, self.failed = set(), set(), set()
+        self.turn = threading.Condition()
+
+    @functools.lru_cache(maxsize=None)
+    def height(self, crate):
+        """How many crates stand on one another above this one."""
+        return 1 + max((self.height(it) for it in self.crates if crate in it.deps), default=0)
+
+    def next(self):
+        """The crate to prove now, or None where all are started. Waits until one is ready."""
+        with self.turn:
+            while True:
+                for it in self.crates:
+                    if it not in self.started and self.failed.intersection(it.below()):
+                        self.started.add(it)
+                        self.failed.add(it)
+                rest = [it for it in self.crates if it not in self.started]
+                ready = [it for it in rest if self.proved.issuperset(it.deps)]
+                if ready:
+                    crate = max(ready, key=self.height)
+                    self.started.add(crate)
+                    return crate
+                if not rest:
+                    return None
+                self.turn.wait()
+
+    def prove(self, crate):
+        """Whether the crate is proved: built for the crates above it, or checked with its tests where there is none."""
+        os.makedirs(f"{crate.folder}/out", exist_ok=True)
+        with open(f"{crate.folder}/out/proved.txt", "w", encoding="utf-8") as crate.out:
+            if crate in self.used:
+                return crate.is_built() or not crate.build_rlib(["--jobs", "1"], anew=False)
+            return not crate.check(["--test"] * crate.has_tests() + ["--jobs", "1"])
+
+    def work(self):
+        while crate := self.next():
+            started = time.time()
+            is_proved = False
+            try:
+                is_proved = self.prove(crate)
+            finally:
+                with self.turn:
+                    (self.proved if is_proved else self.failed).add(crate)
+                    self.turn.notify_all()
+            print(f"{crate.name}: {'proved' if is_proved else 'NOT PROVED'}, {time.time() - started:.0f} s, "
+                  f"{len(self.proved)} of {len(self.crates)}", flush=True)
+
+
+def main(words):
+    jobs = len(os.sched_getaffinity(0))
+    if words[:1] == ["--jobs"]:
+        jobs, words = int(words[1]), words[2:]
+    if any(it.startswith("-") for it in words):
+        print(__doc__)
+        return 0 if words == ["--help"] else 2
+    os.chdir(TOP)
+    library = toolchain()
+    library.Crate.stamp, library.Crate.below = remembered(library.Crate.stamp), remembered(library.Crate.below)
+    library.guarded()
+    crates = library.crates_below(TOP)
+    if words:
+        kept = {it for crate in crates if crate.name in words for it in [*crate.below(), crate]}
+        crates = [it for it in crates if it in kept]
+    side = Side(crates)
+    threads = [threading.Thread(target=side.work) for _ in range(jobs)]
+    for it in threads:
+        it.start()
+    for it in threads:
+        it.join()
+    print(f"not proved: {' '.join(sorted(it.name for it in side.failed)) or 'none'}")
+    return int(bool(side.failed))
+
+
+if __name__ == "__main__":
+    sys.exit(main(sys.argv[1:]))
