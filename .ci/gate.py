@@ -4,6 +4,7 @@ An edit changes its answer only where its crate, or something below it, changed.
 a crate all its edits were refused, and the gate tries those of the crates whose state is not recorded.
 """
 
+import concurrent.futures
 import contextlib
 import os
 import re
@@ -22,7 +23,8 @@ RECORD = f"{TOP}/.ci/refused.txt"
 USAGE = """usage: .ci/run                 the gate: proofs, tests, programs, and the edits of crates whose state is not recorded
        .ci/run --all           the gate with every edit, whatever is recorded
        .ci/run --edits [NAME..]  outside the gate: the edits that are not recorded, of these crates or of all
-Each takes the last commit, without drafts/, and records in .ci/refused.txt where all edits were refused."""
+Each takes the last commit, and records in .ci/refused.txt where all edits were refused. --edits works in the work tree, over what
+earlier runs kept there, and may be ended at any time."""
 # The seconds in which the gate is to end, and what was measured on four busy processors, in seconds of one processor: all proofs
 # and tests together, and one edit on average.
 SECONDS_OF_A_RUN = 9900
@@ -94,25 +96,21 @@ def try_crates(repository, record, tried):
     for name in repository.with_edits():
         if name not in tried:
             shutil.rmtree(f"{repository.folder(name)}/must-fail")
-    lines, refused, weak, started = [""], set(), [], time.time()
+    lines, started = [""], time.time()
 
     def tell(line):
         # The last line stays behind what is said here.
-        sys.stdout.write(lines.pop())
+        sys.stdout.write(lines[-1])
         lines.append(line)
-        found = REFUSED.match(line)
-        if found:
-            edit = f"{repository.folder(found[1])}/must-fail/{found[2]}"
-            weak.append(edit) if BY_NAME_ONLY in found[3] else refused.add(edit)
 
     status, seconds = run_toolchain(repository.top, tell)
+    refused, weak = sorted_edits(repository.top, lines)
     print("\n".join(seconds.table()))
     say(f"{(time.time() - started) / 60:.1f} minutes on {len(os.sched_getaffinity(0))} processors")
-    for it in weak:
-        say(f"{os.path.relpath(it, repository.top)} is refused only over a name in a proof: change a value, and keep the names")
+    tell_weak(weak)
     record.add(repository, [it for it in tried if refused.issuperset(repository.edits(it))])
     # (the toolchain's count is the last line)
-    print(lines.pop(), end="", flush=True)
+    print(lines[-1], end="", flush=True)
     return status or int(bool(weak))
 
 
@@ -140,17 +138,54 @@ def gate(tries_all):
 
 
 def edits_alone(names):
-    """Tries the edits that are not recorded, of these crates or of all, over what these crates stand on."""
-    record = Record(RECORD)
-    with last_commit() as copy:
-        repository = Repository(copy)
-        unknown = [it for it in names if it not in repository.uses]
-        if unknown:
-            raise SystemExit(f"gate: there is no crate {unknown[0]}")
-        tried = missing_edits(repository, record, names or repository.with_edits(), False)
-        say(f"{count_of_edits(repository, tried)} edits, of {len(tried)} crates, are not recorded")
-        keep_crates(repository, repository.closure(tried))
-        return try_crates(Repository(copy), record, tried) if tried else 0
+    """Tries the edits that are not recorded, of these crates or of all, over what earlier runs kept in the work tree, and records each
+    crate as soon as all its edits were refused."""
+    record, repository = Record(RECORD), Repository(TOP)
+    unknown = [it for it in names if it not in repository.uses]
+    if unknown:
+        raise SystemExit(f"gate: there is no crate {unknown[0]}")
+    if not is_tree_committed():
+        raise SystemExit("gate: the crates are not those of the last commit")
+    tried = missing_edits(repository, record, names or repository.with_edits(), False)
+    say(f"{count_of_edits(repository, tried)} edits, of {len(tried)} crates, are not recorded")
+    below = {used for it in tried for used in repository.below(it)}
+    if below and subprocess.run([f"{TOP}/.ci/prove.py", *sorted(below)], check=False).returncode:
+        return 1
+    processors = len(os.sched_getaffinity(0))
+    with concurrent.futures.ThreadPoolExecutor(processors) as pool:
+        runs = {pool.submit(edits_of_one, it): it for it in tried}
+        for run in concurrent.futures.as_completed(runs):
+            refused, weak, said = run.result()
+            print(said, end="")
+            tell_weak(weak)
+            if refused.issuperset(repository.edits(runs[run])):
+                record.add(repository, [runs[run]])
+    missing = missing_edits(repository, record, tried, False)
+    say(f"not all refused: {' '.join(missing) or 'none'}")
+    return int(bool(missing))
+
+
+def edits_of_one(name):
+    """Tries a crate's edits: those that were refused, those that were refused only over a name in a proof, and what was printed."""
+    run = subprocess.run(["rt", "must-fail", name], cwd=TOP, stdin=subprocess.DEVNULL, stdout=subprocess.PIPE, stderr=subprocess.STDOUT,
+                         text=True, errors="replace", check=False)
+    return *sorted_edits(TOP, run.stdout.split("\n")), run.stdout
+
+
+def sorted_edits(top, lines):
+    """The paths of the edits that these lines of the toolchain say to be refused, and of those refused only over a name in a proof."""
+    refused, weak = set(), []
+    for line in lines:
+        found = REFUSED.match(line)
+        if found:
+            edit = f"{top}/crates/{found[1]}/must-fail/{found[2]}"
+            weak.append(edit) if BY_NAME_ONLY in found[3] else refused.add(edit)
+    return refused, weak
+
+
+def tell_weak(weak):
+    for it in weak:
+        say(f"{os.path.basename(it)} is refused only over a name in a proof: change a value, and keep the names")
 
 
 def is_tree_committed():
