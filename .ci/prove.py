@@ -45,9 +45,8 @@ def remembered(method):
 class Side:
     """Crates that are proved by some threads, the longest way up first."""
 
-    def __init__(self, crates):
-        self.crates = crates
-        self.used = {it for crate in crates for it in crate.deps}
+    def __init__(self, crates, used):
+        self.crates, self.used = crates, used
         self.started, self.proved, self.failed = set(), set(), set()
         self.turn = threading.Condition()
 
@@ -108,10 +107,11 @@ def main(words):
     library.Crate.stamp, library.Crate.below = remembered(library.Crate.stamp), remembered(library.Crate.below)
     library.guarded()
     crates = library.crates_below(TOP)
+    used = {it for crate in crates for it in crate.deps}
     if words:
         kept = {it for crate in crates if crate.name in words for it in [*crate.below(), crate]}
         crates = [it for it in crates if it in kept]
-    side = Side(crates)
+    side = Side(crates, used)
     threads = [threading.Thread(target=side.work) for _ in range(jobs)]
     for it in threads:
         it.start()
