@@ -19,10 +19,10 @@ use std::alloc::{AllocError, Global};
 use std::process::ExitCode;
 
 /// The greatest number of owners.
-const MOST_OWNERS: usize = 64;
+const MAX_OWNERS: usize = 64;
 
 /// The greatest number of abstract states of a table.
-const MOST_TABLE: usize = 16_777_216;
+const MAX_TABLE: usize = 16_777_216;
 
 /// The size of a search: the number of owners, the number of steps, and the greatest number of abstract states of a
 /// table.
@@ -64,7 +64,7 @@ fn answer(alloc: Global, text: &[u8], amounts: Amounts) -> Result<Option<String>
     let Ok(task) = read_sas(alloc, text) else {
         return Ok(None);
     };
-    if amounts.owners < 1 || amounts.owners > MOST_OWNERS || amounts.table > MOST_TABLE {
+    if amounts.owners < 1 || amounts.owners > MAX_OWNERS || amounts.table > MAX_TABLE {
         return Ok(None);
     }
     Ok(Some(searched(alloc, &task, amounts)?))

@@ -21,7 +21,7 @@ use Rattle.owner_theory.proofs.Closed.{listed_once}
 use Rattle.owner_theory.proofs.Plans.{best_node, settled_finished}
 use Rattle.scp.specs.Partitions.{AreCostPartitioned}
 use Rattle.owner.specs.Spaces.{SpaceOf}
-use Rattle.owner.specs.Owned.{OwnerOf, IsKept, most_total}
+use Rattle.owner.specs.Owned.{OwnerOf, IsKept, max_total}
 use Rattle.extract.specs.Ends.{EndOf, IsForm, IsEndOf, IsSettledAt, space_at}
 use Rattle.extract.proofs.Places.{at_some, each_at, all_at}
 use Rattle.extract.proofs.Families.{as_family}
@@ -88,10 +88,10 @@ closed_by_place (o ∷ os) logs same =
 -- ---- costs
 
 abbrev IsCheapNode : Node → Type 0
-IsCheapNode n = n.cost ≤ most_total
+IsCheapNode n = n.cost ≤ max_total
 
 abbrev IsCheap : Entry → Type 0
-IsCheap e = e.cost ≤ most_total
+IsCheap e = e.cost ≤ max_total
 
 abbrev HasCheapNodes : {S : Type 0} → OwnerOf S → Type 0
 HasCheapNodes o = All IsCheapNode o.nodes
@@ -159,7 +159,7 @@ module _ {S : Type 0} (owner : S → List ℕ → ℕ → ℕ) (e : EndOf S) whe
           let (w, i, found) = best_node Searched family ok ends.lawful b (sym ((as_family owner e family ends (Finite b)).0 settled).best) in
           let (n, low, at, goal, cost) = found in
           let (o, at_o) = at_some e.owners w low in
-          let most : n.cost ≤ most_total = each_at IsCheapNode o.nodes i n (each_at HasCheapNodes e.owners w o cheap at_o) (subst (λ (ns : List Node). At ns i n) (ends.nodes w o at_o) at) in
+          let most : n.cost ≤ max_total = each_at IsCheapNode o.nodes i n (each_at HasCheapNodes e.owners w o cheap at_o) (subst (λ (ns : List Node). At ns i n) (ends.nodes w o at_o) at) in
           omega (arith, most, cost)
 
     module _ (ends : ∥ ((family : Family) × IsEndOf owner e family) ∥₁) where

@@ -2,7 +2,7 @@
 
 ghost use Rattle.std.specs.Prelude.{◌≡◌, ◌≤◌, ◌++◌, length, All, IfOk, OnOk};
 ghost use Rattle.owner_theory.specs.Families.{expanded_of};
-ghost use Rattle.owner.specs.Owned.{most_total};
+ghost use Rattle.owner.specs.Owned.{max_total};
 ghost use Rattle.cert.specs.Expanded.{closed_in, listed, IsLong};
 
 use owner::Owner;
@@ -52,7 +52,7 @@ pub(crate) fn expanded_states<S: Spread + Drop>(
     requires { All (λ o. length o.space.task.value_names ≡ width) owners.now }
     ensures states { IfOk result (λ states. listed width states ≡ closed_in owners.now) }
     ensures long { IfOk result (IsLong width) }
-    ensures cheap { OnOk result (All (λ o. All (λ n. n.cost ≤ most_total) o.nodes) owners.now) }
+    ensures cheap { OnOk result (All (λ o. All (λ n. n.cost ≤ max_total) o.nodes) owners.now) }
 {
     let mut state = vec![in alloc; 0u32; width]?;
     let mut states = ExpandedStates {

@@ -12,6 +12,7 @@ ghost use Rattle.pddl.specs.Texts.{SpellTask};
 ghost use Rattle.checker_pddl.specs.declared.verdict.PlanningVerdict.TheVariants.{Accepted};
 ghost use Rattle.checker_pddl.specs.Judgements.{IsPlanningVerdict};
 ghost use Rattle.checker_pddl.specs.Answers.{IsAnswer, IsRefusal, IsRefusedTask, IsRefusedCertificate, IsUnanswered};
+ghost use Rattle.pddl_task.specs.Limits.{max_cost};
 
 use crate::fault::PlanningCheckFault;
 use crate::judging::judge;
@@ -33,7 +34,7 @@ fn read_planning_task(
 ) -> Result<Task, PlanningCheckFault>
     ensures found { IfOk result (λ task. SpellTask domain.now problem.now task) }
     ensures small { IfOk result (λ task. IsTrue (has_small_costs task)) }
-    ensures costs { IfOk result (λ task. (a : Action) → IsActionOf task a → a.cost ≤ 2147483647) }
+    ensures costs { IfOk result (λ task. (a : Action) → IsActionOf task a → a.cost ≤ max_cost) }
     ensures fault { IfErr result (IsRefusedTask domain.now problem.now) }
 {
     match read_task(alloc, domain, problem) {
@@ -63,7 +64,7 @@ fn answer<R: AllocGlobal>(
     certificate: &Certificate,
 ) -> Result<PlanningVerdict, PlanningCheckFault>
     requires small { IsTrue (has_small_costs task.now) }
-    requires costs { (a : Action) → IsActionOf task.now a → a.cost ≤ 2147483647 }
+    requires costs { (a : Action) → IsActionOf task.now a → a.cost ≤ max_cost }
     requires lawful { IsLawful certificate.now }
     ensures verdict { (words : List (List (List ℕ))) (variables : List Variable) → certificate.now.kind ≡ Planning words variables →
         IfOk result (IsPlanningVerdict (record { task = task.now; words = words; variables = variables }) certificate.now) }
@@ -86,7 +87,7 @@ fn answer_to<R: AllocGlobal>(
     cert: &[u8],
 ) -> Result<PlanningVerdict, PlanningCheckFault>
     requires small { IsTrue (has_small_costs task.now) }
-    requires costs { (a : Action) → IsActionOf task.now a → a.cost ≤ 2147483647 }
+    requires costs { (a : Action) → IsActionOf task.now a → a.cost ≤ max_cost }
     ensures answer { (domain problem : List ℕ) → SpellTask domain problem task.now → IfOk result (IsAnswer domain problem cert.now) }
     ensures refused { (domain problem : List ℕ) → SpellTask domain problem task.now → IfErr result (IsRefusal domain problem cert.now) }
     ensures bound { (bound : Distance) → IsPlanningTask task.now →
@@ -103,7 +104,7 @@ fn answer_to_owned<R: AllocGlobal>(
     cert: Vec<u8>,
 ) -> Result<PlanningVerdict, PlanningCheckFault>
     requires small { IsTrue (has_small_costs task.now) }
-    requires costs { (a : Action) → IsActionOf task.now a → a.cost ≤ 2147483647 }
+    requires costs { (a : Action) → IsActionOf task.now a → a.cost ≤ max_cost }
     ensures answer { (domain problem : List ℕ) → SpellTask domain problem task.now → IfOk result (IsAnswer domain problem cert.items) }
     ensures refused { (domain problem : List ℕ) → SpellTask domain problem task.now → IfErr result (IsRefusal domain problem cert.items) }
 {

@@ -11,6 +11,7 @@ ghost use Rattle.cert_text.specs.Lawful.{ArePlanningParts};
 ghost use Rattle.checker_pddl.specs.declared.verdict.PlanningVerdict.TheVariants.{Accepted};
 ghost use Rattle.checker_pddl.specs.Judgements.{IsPlanningVerdict, IsFiniteDomainVerdict, IsPlaceOf, IsListedText, judged_of, atoms_of, placed_of};
 ghost use Rattle.checker_pddl.specs.Answers.{IsUnjudged};
+ghost use Rattle.pddl_task.specs.Limits.{max_cost};
 
 use crate::fault::PlanningCheckFault;
 use crate::naming::{atom_text, listed_variables, named_atoms, words_text};
@@ -119,7 +120,7 @@ pub fn judge<R: AllocGlobal>(
     certificate: &Certificate,
 ) -> Result<PlanningVerdict, PlanningCheckFault>
     requires small { IsTrue (has_small_costs task.now) }
-    requires costs { (a : Action) → IsActionOf task.now a → a.cost ≤ 2147483647 }
+    requires costs { (a : Action) → IsActionOf task.now a → a.cost ≤ max_cost }
     requires lawful { ArePlanningParts (map atom_of parts.now.atoms.items) (map variable_of parts.now.variables.items) }
     ensures verdict { IfOk result (IsPlanningVerdict (judged_of task.now parts.now) certificate.now) }
     ensures bound { (bound : Distance) → IsPlanningTask task.now →

@@ -6,7 +6,7 @@ use Rattle.fdr.specs.Tasks.{ranges, IsState, is_goal_state}
 use Rattle.owner_theory.specs.Owners.{At, SearchSpace, Node, Packet, Message, f_value}
 use Rattle.owner_theory.specs.Families.{Family, IsLawful}
 use Rattle.owner.specs.Spaces.{SpaceOf, searched}
-use Rattle.owner.specs.Owned.{OwnerOf, most_total}
+use Rattle.owner.specs.Owned.{OwnerOf, max_total}
 use Rattle.extract.specs.declared.answer.SearchAnswer.{SearchAnswer}
 use Rattle.extract.specs.declared.answer.SearchAnswer.TheVariants.{Solved, Unsolvable}
 
@@ -24,7 +24,7 @@ space_at owner e = searched owner e.space (length e.owners)
 pub record IsForm {S : Type 0} (e : EndOf S) : Type 0 where
   pub some : 0 < length e.owners
   pub each : (v : ℕ) (o : OwnerOf S) → At e.owners v o → (o.space ≡ e.space) × (o.worker ≡ v) × (length o.outboxes ≡ length e.owners)
-  pub left : All (λ p. IsState (ranges e.space.task) p.message.state × (p.message.cost ≤ most_total)) e.left
+  pub left : All (λ p. IsState (ranges e.space.task) p.message.state × (p.message.cost ≤ max_total)) e.left
 
 -- a lawful family ends with these owners and leaves these messages
 pub record IsEndOf {S : Type 0} (owner : S → List ℕ → ℕ → ℕ) (e : EndOf S) (family : Family) : Type 0 where

@@ -5,11 +5,11 @@ use Rattle.checker_clauses.specs.Clauses.{heuristic_of}
 use Rattle.fdr.specs.Tasks.{FiniteDomainTask, ranges, IsState}
 use Rattle.owner_theory.specs.Owners.{Message, Packet}
 use Rattle.owner.specs.Spaces.{SpaceOf}
-use Rattle.owner.specs.Owned.{OwnerOf, space_of, most_total, least_open}
+use Rattle.owner.specs.Owned.{OwnerOf, space_of, max_total, least_open}
 
 -- the message's state is a state of the task, and its cost is at most 2^62
 abbrev pub IsSmallMessage : FiniteDomainTask → Message → Type 0
-IsSmallMessage task m = IsState (ranges task) m.state × (m.cost ≤ most_total)
+IsSmallMessage task m = IsState (ranges task) m.state × (m.cost ≤ max_total)
 
 -- the f-value of a message
 abbrev pub f_at : {S : Type 0} → SpaceOf S → Message → Distance

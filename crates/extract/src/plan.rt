@@ -3,7 +3,7 @@ ghost use Rattle.cost.specs.Distances.{Finite};
 ghost use Rattle.fdr.specs.Tasks.{IsPlan, plan_cost};
 ghost use Rattle.owner_theory.specs.Owners.{At, Node};
 ghost use Rattle.closed.specs.Tables.{node_with};
-ghost use Rattle.owner.specs.Owned.{OwnerOf, most_total};
+ghost use Rattle.owner.specs.Owned.{OwnerOf, max_total};
 ghost use Rattle.extract.specs.Ends.{space_at, IsSettledAt, IsBestGoal, IsGoalNodeAt};
 
 use crate::joined::Joined;
@@ -16,7 +16,7 @@ fn entry_at<S: Spread + Drop>(owners: &[Owner<'_, S>], worker: usize, index: usi
     requires worker { worker < length owners.now }
     requires index { (o : OwnerOf S) → At owners.now worker o → index < length o.nodes }
     ensures entry { (o : OwnerOf S) (n : Node) → At owners.now worker o → At o.nodes index n → n ≡ node_with n.state result }
-    ensures small { result.rank.steps ≤ most_total }
+    ensures small { result.rank.steps ≤ max_total }
 {
     let owner = &owners[worker];
     owner.recall();

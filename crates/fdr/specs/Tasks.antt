@@ -8,6 +8,7 @@ use Rattle.cost.specs.Distances.{Distance, Finite, ◌≤ᵈ◌}
 use Rattle.fdr.specs.declared.fact.Fact.{Fact}
 use Rattle.fdr.specs.declared.task.TaskLimit.{TaskLimit}
 use Rattle.fdr.specs.declared.task.TaskLimit.TheVariants.{Variables, Values, Operators}
+use Rattle.fdr.specs.Limits.{max_variables, max_values, max_operators}
 
 pub record Operator : Type 0 where
   pub name : List ℕ
@@ -61,22 +62,22 @@ pub record IsTask (task : FiniteDomainTask) : Type 0 where
   pub goal : IsAssignment (ranges task) task.goal
   pub operators : All (IsOperator (ranges task)) task.operators
 
--- whether a variable has more than 65536 values
+-- whether a variable has too many values
 abbrev pub has_long_range : List (List (List ℕ)) → Bool
-has_long_range value_names = list_any (λ names. nat_lt 65536 (length names)) value_names
+has_long_range value_names = list_any (λ names. nat_lt max_values (length names)) value_names
 
 -- the task passes no limit on variables, values of a variable, or operators
 pub record IsWithinLimits (task : FiniteDomainTask) : Type 0 where
-  pub variables : length task.value_names ≤ 65536
+  pub variables : length task.value_names ≤ max_variables
   pub values : has_long_range task.value_names ≡ false
-  pub operators : length task.operators ≤ 4294967295
+  pub operators : length task.operators ≤ max_operators
 
 -- the limit is the first one that the task passes
 abbrev pub IsPastLimit : FiniteDomainTask → TaskLimit → Type 0
-IsPastLimit task Variables = 65536 < length task.value_names
-IsPastLimit task Values = (length task.value_names ≤ 65536) × (has_long_range task.value_names ≡ true)
+IsPastLimit task Variables = max_variables < length task.value_names
+IsPastLimit task Values = (length task.value_names ≤ max_variables) × (has_long_range task.value_names ≡ true)
 IsPastLimit task Operators =
-    (length task.value_names ≤ 65536) × (has_long_range task.value_names ≡ false) × (4294967295 < length task.operators)
+    (length task.value_names ≤ max_variables) × (has_long_range task.value_names ≡ false) × (max_operators < length task.operators)
 
 -- the bytes of the names, from their representation in memory
 abbrev pub names_in : {Y Z : Type 0} → List (Vec (String Z) Y) → List (List (List ℕ))

@@ -7,4 +7,4 @@ mod task;
 
 pub use fact::Fact;
 pub use operator::Operator;
-pub use task::{FdrTask, TaskLimit};
+pub use task::{FdrTask, MAX_OPERATORS, MAX_VALUES, MAX_VARIABLES, TaskLimit};

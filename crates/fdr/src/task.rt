@@ -10,13 +10,13 @@ use cost::Cost;
 use std::marker::Model;
 
 /// The greatest number of variables of a task.
-const MAX_VARIABLES: usize = 65_536;
+pub const MAX_VARIABLES: usize = 65_536;
 
 /// The greatest number of values of a variable.
-const MAX_VALUES: usize = 65_536;
+pub const MAX_VALUES: usize = 65_536;
 
 /// The greatest number of operators of a task.
-const MAX_OPERATORS: usize = 4_294_967_295;
+pub const MAX_OPERATORS: usize = 4_294_967_295;
 
 /// The limit that a task passes.
 #[derive(Clone, Copy, Debug, PartialEq, Eq)]

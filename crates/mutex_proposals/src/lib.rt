@@ -7,4 +7,4 @@ mod parts;
 mod proposals;
 
 pub use group_list::{Group, Groups};
-pub use proposals::{MOST_CANDIDATES, groups};
+pub use proposals::{MAX_CANDIDATES, groups};

@@ -10,7 +10,7 @@ use mutex::ActionIndex;
 use std::alloc::{AllocError, Global};
 
 /// The largest number of candidates that are tried.
-pub const MOST_CANDIDATES: usize = 4096;
+pub const MAX_CANDIDATES: usize = 4096;
 
 /// Offers the places of the members of each object as a group. The members are ordered by object.
 fn offer_members(
@@ -88,7 +88,7 @@ pub fn groups(alloc: Global, index: &ActionIndex<'_>) -> Result<Groups, AllocErr
 {
     let mut groups = Groups::new(alloc);
     let bound = bound_parts(alloc, index)?;
-    let room = offer_parts(alloc, index, &bound, MOST_CANDIDATES, &mut groups)?;
+    let room = offer_parts(alloc, index, &bound, MAX_CANDIDATES, &mut groups)?;
     let free = free_parts(alloc, index)?;
     offer_parts(alloc, index, &free, room, &mut groups)?;
     Ok(groups)

@@ -16,7 +16,7 @@ use Rattle.owner_theory.specs.Owners.{At, SearchSpace, Packet}
 use Rattle.owner_theory.specs.Families.{IsSearchSpace, Family}
 use Rattle.owner_theory.specs.Worlds.{World, family_of}
 use Rattle.owner_theory.proofs.Worlds.{run_ok, lawful}
-use Rattle.owner.specs.Owned.{OwnerOf, IsMessageTo, most_total}
+use Rattle.owner.specs.Owned.{OwnerOf, IsMessageTo, max_total}
 use Rattle.extract.specs.Views.{packets_in, all_packets}
 use Rattle.extract.specs.Ends.{EndOf, IsForm, IsEndOf}
 use Rattle.netcore.specs.declared.step.WorldStep.{WorldStep}
@@ -103,9 +103,9 @@ module _ {S : Type 0} (owner : S → List ℕ → ℕ → ℕ) where
   form_of w is = record {
     some = is.some;
     each = λ v o at. (is.spaces v o at, is.workers v o at, is.outboxes v o at);
-    left = all_joined (λ p. IsState (ranges w.space.task) p.message.state × (p.message.cost ≤ most_total)) w.underway
+    left = all_joined (λ p. IsState (ranges w.space.task) p.message.state × (p.message.cost ≤ max_total)) w.underway
         (λ v ps at. all_weaker (λ p. IsMessageTo (space_in owner w) v p.message)
-        (λ p. IsState (ranges w.space.task) p.message.state × (p.message.cost ≤ most_total))
+        (λ p. IsState (ranges w.space.task) p.message.state × (p.message.cost ≤ max_total))
         (λ p ok. (ok.state, ok.cost)) ps (is.messages v ps at));
   }
 

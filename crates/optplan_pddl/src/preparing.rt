@@ -7,6 +7,7 @@ ghost use Rattle.pddl.specs.Texts.{SpellTask};
 ghost use Rattle.translate.specs.Translated.{IsTranslation, HasSamePlans};
 ghost use Rattle.optplan_pddl.specs.Prepared.{IsPrepared};
 ghost use Rattle.optplan_pddl.specs.Answers.{IsPlanningRefusal};
+ghost use Rattle.pddl_task.specs.Limits.{max_cost};
 
 use crate::fault::PlanningFault;
 use cert_value::CertificateKind;
@@ -27,7 +28,7 @@ pub(crate) struct Prepared {
 /// The task's translation. Fails if the task or its translation exceeds a limit, or if allocation fails.
 fn translation_of(alloc: Global, task: &Task) -> Result<Translated, PlanningFault>
     requires small { IsTrue (has_small_costs task.now) }
-    requires costs { (a : Action) → IsActionOf task.now a → a.cost ≤ 2147483647 }
+    requires costs { (a : Action) → IsActionOf task.now a → a.cost ≤ max_cost }
     requires initial { All (IsAtomOf task.now) task.now.initial }
     requires goals { All (λ (l : Literal). IsAtomOf task.now l.atom) task.now.goal }
     requires added { (a : Action) → IsActionOf task.now a → All (IsAtomOf task.now) a.adds }
@@ -48,7 +49,7 @@ fn translation_of(alloc: Global, task: &Task) -> Result<Translated, PlanningFaul
 /// if allocation fails.
 fn prepare_task(alloc: Global, task: &Task) -> Result<Prepared, PlanningFault>
     requires small { IsTrue (has_small_costs task.now) }
-    requires costs { (a : Action) → IsActionOf task.now a → a.cost ≤ 2147483647 }
+    requires costs { (a : Action) → IsActionOf task.now a → a.cost ≤ max_cost }
     requires initial { All (IsAtomOf task.now) task.now.initial }
     requires goals { All (λ (l : Literal). IsAtomOf task.now l.atom) task.now.goal }
     requires added { (a : Action) → IsActionOf task.now a → All (IsAtomOf task.now) a.adds }

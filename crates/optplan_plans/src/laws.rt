@@ -13,6 +13,7 @@ ghost use Rattle.translate.specs.Translated.{TranslatedTask, IsTranslation, HasS
 ghost use Rattle.validate.specs.Verdicts.{IsVerdict};
 ghost use Rattle.validate.specs.declared.verdict.Verdict.TheVariants.{Valid};
 ghost use Rattle.optplan_plans.specs.Plans.{step_of, text_of_plan};
+ghost use Rattle.pddl_task.specs.Limits.{max_cost};
 
 /// The text of a plan of the translation is the text of the plan of its ground actions.
 pub fn translated_plan_has_same_text()
@@ -30,10 +31,10 @@ pub fn translated_plan_is_valid()
 /// can stand in a text.
 pub fn translation_can_be_written()
     ensures written { (domain problem : List ℕ) (task : PlanningTask) (t : TranslatedTask) → SpellTask domain problem task → IsTranslation task t →
-        IsTask t.task → IsWithinLimits t.task → ((a : Action) → IsActionOf task a → a.cost ≤ 2147483647) →
+        IsTask t.task → IsWithinLimits t.task → ((a : Action) → IsActionOf task a → a.cost ≤ max_cost) →
         CanBeWritten t.task (map (λ v. length v.places) t.variables) }
     ensures read { (domain problem : List ℕ) (task : PlanningTask) (t : TranslatedTask) → SpellTask domain problem task → IsTranslation task t →
-        IsTask t.task → IsWithinLimits t.task → ((a : Action) → IsActionOf task a → a.cost ≤ 2147483647) →
+        IsTask t.task → IsWithinLimits t.task → ((a : Action) → IsActionOf task a → a.cost ≤ max_cost) →
         SpellsTask (written t.task (map (λ v. length v.places) t.variables)) (in_text_order t.task) }
 {}
 

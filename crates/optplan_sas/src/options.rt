@@ -5,10 +5,10 @@ ghost use Rattle.std.specs.Prelude.{◌≡◌, ◌≤◌, ◌^◌, Some, None};
 use std::marker::Model;
 
 /// The greatest number of owners.
-pub const MOST_WORKERS: usize = 64;
+pub const MAX_WORKERS: usize = 64;
 
 /// The greatest number of abstract states of a table, 2^24.
-pub const MOST_TABLE: usize = 16_777_216;
+pub const MAX_TABLE: usize = 16_777_216;
 
 /// How a task is solved: the number of owners (1 to 64), the greatest number of abstract states of a table (1 to 2^24),
 /// the limit on the nodes that each owner expands, if there is one, and the greatest number of steps of a simulation.

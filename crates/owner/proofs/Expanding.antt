@@ -16,7 +16,7 @@ use Rattle.owner_theory.proofs.Successors.{successors_by_applicable}
 use Rattle.openlist.specs.declared.entry.Rank.{Rank}
 use Rattle.openlist.specs.declared.entry.OpenEntry.{OpenEntry}
 use Rattle.closed.specs.Tables.{fresh}
-use Rattle.owner.specs.Owned.{OwnerOf, space_of, under, most_total, HasSmallSuccessors, HasLargeSuccessor, Expands}
+use Rattle.owner.specs.Owned.{OwnerOf, space_of, under, max_total, HasSmallSuccessors, HasLargeSuccessor, Expands}
 use Rattle.owner.specs.Queues.{IsLeast, h_of}
 use Rattle.owner.specs.Held.{IsOwner, IsSmallStep}
 use Rattle.owner.proofs.Outcomes.{at_below}
@@ -63,7 +63,7 @@ all_not test P (x ∷ xs) h none =
 
 -- an operator leads from the rank to one that is too great
 abbrev pub is_large : FiniteDomainTask → Rank → ℕ → Bool
-is_large task rank o = nat_lt most_total (rank.cost + cost_of task o) || nat_lt most_total (rank.steps + 1)
+is_large task rank o = nat_lt max_total (rank.cost + cost_of task o) || nat_lt max_total (rank.steps + 1)
 
 large_or : (a b m : ℕ) → (nat_lt m a || nat_lt m b) ≡ true → (m < a) ⊎ (m < b)
 large_or a b m h = ⊎_elim (λ (p : nat_lt m a ≡ true). let q : m < a = grind (arith, nat_tests) in inl q)
@@ -81,7 +81,7 @@ all_apply task s os is =
 pub all_small : (task : FiniteDomainTask) (rank : Rank) (os : List ℕ) → list_any (is_large task rank) os ≡ false → All (IsSmallStep task rank) os
 all_small task rank os none =
     all_not (is_large task rank) (IsSmallStep task rank) os
-    (λ o h. small_and (rank.cost + cost_of task o) (rank.steps + 1) most_total h) none
+    (λ o h. small_and (rank.cost + cost_of task o) (rank.steps + 1) max_total h) none
 
 pub large_successor : (task : FiniteDomainTask) (s : List ℕ) (os : List ℕ) (rank : Rank) (n : Node) → os ≡ applicable_operators task s
     → s ≡ n.state → n.cost ≡ rank.cost → n.steps ≡ rank.steps → list_any (is_large task rank) os ≡ true → HasLargeSuccessor task n
@@ -91,9 +91,9 @@ large_successor task s os rank n is same cost steps h =
       o,
       ap (applies_at task o) (sym same) ∙ applies,
       ⊎_elim
-          (λ (p : most_total < rank.cost + cost_of task o). inl (subst (λ k. most_total < k + cost_of task o) (sym cost) p))
-          (λ (p : most_total < rank.steps + 1). inr (subst (λ k. most_total < k) (add-one rank.steps ∙ ap suc (sym steps)) p))
-          (large_or (rank.cost + cost_of task o) (rank.steps + 1) most_total large),
+          (λ (p : max_total < rank.cost + cost_of task o). inl (subst (λ k. max_total < k + cost_of task o) (sym cost) p))
+          (λ (p : max_total < rank.steps + 1). inr (subst (λ k. max_total < k) (add-one rank.steps ∙ ap suc (sym steps)) p))
+          (large_or (rank.cost + cost_of task o) (rank.steps + 1) max_total large),
     )
 
 small_successors : (task : FiniteDomainTask) (s : List ℕ) (os : List ℕ) (rank : Rank) (n : Node) → os ≡ applicable_operators task s
@@ -103,11 +103,11 @@ small_successors task s os rank n is same cost steps h o applies =
     let (t, leads) = applied_step task s o applies' in
     let lt = step_there task s t o leads in
     let (i, at) = in_range 0 (length task.operators) o (omega arith) (omega arith) in
-    let small = small_and (rank.cost + cost_of task o) (rank.steps + 1) most_total
+    let small = small_and (rank.cost + cost_of task o) (rank.steps + 1) max_total
     (none_in (λ k. applies_at task k s) (is_large task rank) (range_with_len 0 (length task.operators)) i o at applies'
     (ap (list_any (is_large task rank)) (sym is) ∙ h)) in (
-      subst (λ k. k + cost_of task o ≤ most_total) (sym cost) small.0,
-      subst (λ k. k ≤ most_total) (add-one rank.steps ∙ ap suc (sym steps)) small.1,
+      subst (λ k. k + cost_of task o ≤ max_total) (sym cost) small.0,
+      subst (λ k. k ≤ max_total) (add-one rank.steps ∙ ap suc (sym steps)) small.1,
     )
 
 -- ---- the successors

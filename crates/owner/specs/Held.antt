@@ -3,7 +3,7 @@ use Rattle.std.specs.Prelude.{ℕ, ◌+◌, ◌<◌, ◌≤◌, List, length, Al
 use Rattle.fdr.specs.Tasks.{FiniteDomainTask, cost_of}
 use Rattle.owner_theory.specs.Owners.{At, Node, list_at}
 use Rattle.openlist.specs.declared.entry.Rank.{Rank}
-use Rattle.owner.specs.Owned.{OwnerOf, space_of, most_total, IsKept, IsMessageTo}
+use Rattle.owner.specs.Owned.{OwnerOf, space_of, max_total, IsKept, IsMessageTo}
 
 -- the owner is one of several, its nodes are its own, its messages are in the outboxes of their owners, and no more nodes
 -- were expanded than the limit allows
@@ -15,4 +15,4 @@ pub record IsOwner {S : Type 0} (owner : S → List ℕ → ℕ → ℕ) (o : Ow
 
 -- the operator leads from this rank to a cost and a number of operators of at most 2^62
 abbrev pub IsSmallStep : FiniteDomainTask → Rank → ℕ → Type 0
-IsSmallStep task rank o = (rank.cost + cost_of task o ≤ most_total) × (rank.steps + 1 ≤ most_total)
+IsSmallStep task rank o = (rank.cost + cost_of task o ≤ max_total) × (rank.steps + 1 ≤ max_total)

@@ -28,16 +28,16 @@ abbrev pub under : {S : Type 0} → OwnerOf S → Distance → Owner
 under o bound = record { nodes = o.nodes; outboxes = o.outboxes; bound = bound; best = o.best }
 
 -- the greatest cost of a path, and the greatest number of operators on it
-abbrev pub most_total : ℕ
-most_total = 2 ^ 62
+abbrev pub max_total : ℕ
+max_total = 2 ^ 62
 
 -- a message that may be handed to this owner: its state is a state of the task and this owner's, and its cost and number
 -- of operators are at most 2^62
 pub record IsMessageTo (space : SearchSpace) (to : ℕ) (m : Message) : Type 0 where
   pub state : IsState (ranges space.task) m.state
   pub owner : space.owner_of m.state ≡ to
-  pub cost : m.cost ≤ most_total
-  pub steps : m.steps ≤ most_total
+  pub cost : m.cost ≤ max_total
+  pub steps : m.steps ≤ max_total
 
 -- ---- the next node
 
@@ -63,13 +63,13 @@ pub record IsNext (space : SearchSpace) (nodes : List Node) (bound : Distance) (
 -- the cost and the number of operators of each successor of the node are at most 2^62
 abbrev pub HasSmallSuccessors : FiniteDomainTask → Node → Type 0
 HasSmallSuccessors task n =
-    (o : ℕ) → applies_at task o n.state ≡ true → (n.cost + cost_of task o ≤ most_total) × (suc n.steps ≤ most_total)
+    (o : ℕ) → applies_at task o n.state ≡ true → (n.cost + cost_of task o ≤ max_total) × (suc n.steps ≤ max_total)
 
 -- the cost or the number of operators of some successor of the node is above 2^62
 abbrev pub HasLargeSuccessor : FiniteDomainTask → Node → Type 0
 HasLargeSuccessor task n =
     (o : ℕ) × (applies_at task o n.state ≡ true)
-    × ((most_total < n.cost + cost_of task o) ⊎ (most_total < suc n.steps))
+    × ((max_total < n.cost + cost_of task o) ⊎ (max_total < suc n.steps))
 
 -- ---- expanding it
 
@@ -114,5 +114,5 @@ least_open space (n ∷ ns) =
 pub record IsKept (space : SearchSpace) (worker : ℕ) (n : Node) : Type 0 where
   pub state : IsState (ranges space.task) n.state
   pub owner : space.owner_of n.state ≡ worker
-  pub cost : n.cost ≤ most_total
-  pub steps : n.steps ≤ most_total
+  pub cost : n.cost ≤ max_total
+  pub steps : n.steps ≤ max_total

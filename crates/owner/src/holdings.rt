@@ -9,7 +9,7 @@ ghost use Rattle.owner_theory.specs.Worlds.{idle, no_open, waiting};
 ghost use Rattle.openlist.specs.declared.entry.OpenEntry.{OpenEntry as EntryOf};
 ghost use Rattle.closed.specs.Tables.{message_of, node_with};
 ghost use Rattle.owner.specs.Spaces.{searched};
-ghost use Rattle.owner.specs.Owned.{space_of, under, most_total, IsMessageTo, IsNext, least_open};
+ghost use Rattle.owner.specs.Owned.{space_of, under, max_total, IsMessageTo, IsNext, least_open};
 ghost use Rattle.owner.specs.Queues.{h_of, message_at, IsLeast};
 ghost use Rattle.owner.specs.Outboxes.{count_in_use};
 ghost use Rattle.owner.specs.Held.{IsOwner};
@@ -142,8 +142,8 @@ impl<'a, S: Spread + Drop> Holdings<'a, S> {
         parent: Parent,
     ) -> Result<bool, AllocError>
         requires state { IsState (ranges self.old.space.task) state.now }
-        requires cost { rank.cost ≤ most_total }
-        requires steps { rank.steps ≤ most_total }
+        requires cost { rank.cost ≤ max_total }
+        requires steps { rank.steps ≤ max_total }
         ensures treated { OnOk result (under self.new bound ≡ treat (space_of S.owner self.old) self.old.worker (under self.old bound) (message_at state.now rank parent)) }
         ensures posted { IfOk result (λ posted. waiting self.new.outboxes ≡ waiting self.old.outboxes + (if posted then 1 else 0)) }
         ensures owners { length self.new.outboxes ≡ length self.old.outboxes }

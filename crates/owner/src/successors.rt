@@ -6,7 +6,7 @@ ghost use Rattle.fdr.specs.Tasks.{ranges, IsState, applies_at, cost_of, step};
 ghost use Rattle.owner_theory.specs.Owners.{treat, treat_all, successor_by, message_to};
 ghost use Rattle.owner_theory.specs.Worlds.{waiting};
 ghost use Rattle.closed.specs.Tables.{fresh};
-ghost use Rattle.owner.specs.Owned.{space_of, under, most_total};
+ghost use Rattle.owner.specs.Owned.{space_of, under, max_total};
 ghost use Rattle.owner.specs.Held.{IsSmallStep};
 
 use crate::holdings::Holdings;
@@ -18,16 +18,16 @@ use packed_spread::Spread;
 use std::alloc::{AllocError, Global};
 
 /// The greatest cost of a path, and the greatest number of operators on it: 2^62.
-const MOST_TOTAL: u64 = 4_611_686_018_427_387_904;
+const MAX_TOTAL: u64 = 4_611_686_018_427_387_904;
 
 /// Whether the successor by one of these operators would have a cost or a number of operators above 2^62.
 pub(crate) fn has_large_successor(task: &FdrTask, operators: &[usize], rank: Rank) -> bool
-    requires cost { rank.cost ≤ most_total }
-    requires steps { rank.steps ≤ most_total }
-    ensures { result ≡ list_any (λ o. nat_lt most_total (rank.cost + cost_of task.now o) || nat_lt most_total (rank.steps + 1)) operators.now }
+    requires cost { rank.cost ≤ max_total }
+    requires steps { rank.steps ≤ max_total }
+    ensures { result ≡ list_any (λ o. nat_lt max_total (rank.cost + cost_of task.now o) || nat_lt max_total (rank.steps + 1)) operators.now }
 {
     operators.iter().any(|operator| {
-        rank.cost + task.cost(*operator).get() > MOST_TOTAL || rank.steps + 1 > MOST_TOTAL
+        rank.cost + task.cost(*operator).get() > MAX_TOTAL || rank.steps + 1 > MAX_TOTAL
     })
 }
 

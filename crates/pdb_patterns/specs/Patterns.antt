@@ -10,9 +10,13 @@ pub record IsPattern (task : FiniteDomainTask) (limit : ℕ) (pattern : List ℕ
   pub exist : AllExist (ranges task) pattern
   pub within : size_of (ranges task) pattern ≤ limit
 
--- at most 64 distinct patterns, none of them empty
+-- the greatest number of patterns
+abbrev pub max_patterns : ℕ
+max_patterns = 64
+
+-- few distinct patterns, none of them empty
 pub record ArePatterns (task : FiniteDomainTask) (limit : ℕ) (patterns : List (List ℕ)) : Type 0 where
   pub each : All (IsPattern task limit) patterns
   pub some : All (λ p. p ≢ []) patterns
   pub distinct : AllPairs (λ p q. p ≢ q) patterns
-  pub few : length patterns ≤ 64
+  pub few : length patterns ≤ max_patterns

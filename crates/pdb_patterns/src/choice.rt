@@ -12,7 +12,7 @@ use fdr::FdrTask;
 use std::alloc::{AllocError, Global};
 
 /// The greatest number of patterns that are chosen.
-pub const MOST_PATTERNS: usize = 64;
+pub const MAX_PATTERNS: usize = 64;
 
 /// For each variable, whether the goal names it.
 fn goal_variables(alloc: Global, task: &FdrTask) -> Result<Vec<bool>, AllocError>
@@ -64,7 +64,7 @@ pub fn choose_patterns(
     let named = goal_variables(alloc, task)?;
     let mut patterns = Vec::new(alloc);
     for first in 0..task.variable_count() {
-        if patterns.len() >= MOST_PATTERNS {
+        if patterns.len() >= MAX_PATTERNS {
             break;
         }
         if named[first] && task.range(first) <= limit {

@@ -5,4 +5,4 @@ mod choice;
 mod effects;
 mod growth;
 
-pub use choice::{MOST_PATTERNS, choose_patterns};
+pub use choice::{MAX_PATTERNS, choose_patterns};

@@ -7,6 +7,7 @@ use Rattle.pddl_task.specs.Planning.{Schema, FunctionValue}
 use Rattle.pddl_syntax.specs.declared.fault.Fault.{Fault}
 use Rattle.pddl_syntax.specs.declared.fault.FaultKind.TheVariants.{CostRange}
 use Rattle.pddl_syntax.specs.Faults.{fault, faults_if}
+use Rattle.pddl_task.specs.Limits.{max_cost}
 
 -- the value, if it is one of this function and is greater than the known one, otherwise that one
 abbrev pub greater_of : ℕ → FunctionValue → ℕ → ℕ
@@ -41,7 +42,7 @@ abbrev pub sum_faults : (Increase → ℕ) → List Schema → List ℕ → List
 sum_faults most [] places = []
 sum_faults most (s ∷ schemas) [] = []
 sum_faults most (s ∷ schemas) (at ∷ places) =
-    faults_if (nat_lt 2147483647 (sum_by most s.increases)) (fault CostRange at) (sum_faults most schemas places)
+    faults_if (nat_lt max_cost (sum_by most s.increases)) (fault CostRange at) (sum_faults most schemas places)
 
 -- the same by these initial values
 unfoldable pub stated_sum_faults : List FunctionValue → List Schema → List ℕ → List Fault

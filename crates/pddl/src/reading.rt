@@ -9,6 +9,7 @@ ghost use Rattle.pddl_task.specs.Planning.{PlanningTask, Action, IsActionOf, has
 ghost use Rattle.pddl.specs.declared.fault.PddlFault.{PddlFault};
 ghost use Rattle.pddl.specs.Assembled.{task_in};
 ghost use Rattle.pddl.specs.Texts.{SpellTask, IsTaskRefusal, IsTree, IsTreeFault, sums_pass};
+ghost use Rattle.pddl_task.specs.Limits.{max_cost};
 
 use crate::domain::{Domain, read_domain};
 use crate::fault::PddlFault;
@@ -147,7 +148,7 @@ pub fn read_task(alloc: Global, domain: &[u8], problem: &[u8]) -> Result<Task, P
     // No cost reaches 2^63.
     ensures small { IfOk result (λ t. IsTrue (has_small_costs t)) }
     // The bound on an action's cost.
-    ensures costs { IfOk result (λ t. (a : Action) → IsActionOf t a → a.cost ≤ 2147483647) }
+    ensures costs { IfOk result (λ t. (a : Action) → IsActionOf t a → a.cost ≤ max_cost) }
     // An error is the first fault, or that allocation failed.
     ensures fault { IfErr result (λ e. IsTaskRefusal domain.now problem.now e) }
 {

@@ -4,6 +4,7 @@ ghost use Rattle.std.specs.Prelude.{◌≡◌, ◌==◌, ◌&&◌, if◌then◌e
 ghost use Rattle.pddl_syntax.specs.Faults.{first_of};
 ghost use Rattle.pddl_problem.specs.Initial.{values_of};
 ghost use Rattle.pddl.specs.Sums as spec;
+ghost use Rattle.pddl_task.specs.Limits.{max_cost};
 
 use indexmap::IndexMap;
 use pddl_syntax::{Fault, FaultKind, blame_if};
@@ -59,7 +60,7 @@ fn most_of(greatest: &GreatestValues, increase: &Increase) -> u64
 
 /// Whether the increases may add up to more than an action may cost. No sum above that bound is computed.
 fn cost_too_much(greatest: &GreatestValues, increases: &[Increase]) -> bool
-    ensures { result ≡ nat_lt 2147483647 (sum_by (spec.most_known greatest.now.entries) increases.now) }
+    ensures { result ≡ nat_lt max_cost (sum_by (spec.most_known greatest.now.entries) increases.now) }
 {
     let mut left = MAX_COST;
     for increase in increases {

@@ -20,6 +20,7 @@ use Rattle.pddl_effect.specs.Conditions.{conditions, conditions_faults}
 use Rattle.pddl_effect.specs.Effects.{effects, increases, effects_faults}
 use Rattle.pddl_effect.specs.Literals.{literal_places, increase_places}
 use Rattle.pddl_action.specs.Keywords.{KeywordPart, parts, value_of, keyword_faults, none_seen}
+use Rattle.pddl_action.specs.Limits.{max_schemas, max_literals, max_increases}
 
 -- the declarations that are visible in an action with these parameters
 abbrev pub scope_of : Declarations → List (List ℕ) → Scope
@@ -80,7 +81,7 @@ abbrev pub past_faults : LimitedTable → ℕ → List ℕ → List Fault
 past_faults table limit places = past_fault table (slice_get places limit)
 
 abbrev pub limit_faults : List KeywordPart → List Fault
-limit_faults ps = past_faults Literals 256 (all_literals ps) ++ past_faults Increases 16 (all_increases ps)
+limit_faults ps = past_faults Literals max_literals (all_literals ps) ++ past_faults Increases max_increases (all_increases ps)
 
 -- the schema, from the expressions behind the name
 unfoldable pub schema_behind : Declarations → Forms → Schema
@@ -137,4 +138,4 @@ each_faults d names [] = []
 each_faults d names (a ∷ actions) = action_faults d names a ++ each_faults d (with_action_name names a.inside) actions
 
 abbrev pub actions_faults : Declarations → List Part → List Fault
-actions_faults d sections = each_faults d [] sections ++ past_faults Schemas 512 (map (λ a. a.at) sections)
+actions_faults d sections = each_faults d [] sections ++ past_faults Schemas max_schemas (map (λ a. a.at) sections)

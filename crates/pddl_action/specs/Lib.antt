@@ -1,3 +1,4 @@
+pub mod Limits
 pub mod Domains
 pub mod Keywords
 pub mod Actions

@@ -10,6 +10,7 @@ ghost use Rattle.pddl_effect.specs.Conditions.{conditions};
 ghost use Rattle.pddl_effect.specs.Effects.{effects, increases};
 ghost use Rattle.pddl_action.specs.Keywords as keywords;
 ghost use Rattle.pddl_action.specs.Actions as spec;
+ghost use Rattle.pddl_action.specs.Limits.{max_schemas};
 
 use crate::keyword::{Keyword, Part, find_part, items_of, parts};
 use crate::scope::Declarations;
@@ -24,10 +25,13 @@ use pddl_terms::{Scope, Setting};
 use sexp::Tree;
 use std::alloc::{AllocError, Global};
 
+/// The greatest number of schemas.
 const MAX_SCHEMAS: usize = 512;
 
+/// The greatest number of literals of a schema.
 const MAX_LITERALS: usize = 256;
 
+/// The greatest number of increases of a schema.
 const MAX_INCREASES: usize = 16;
 
 /// The actions of a domain, in the order of the text.
@@ -404,7 +408,7 @@ impl Actions {
 /// Records the first section past those that a domain may have, if there is one.
 #[tactic(auto, unfolding(pddl_syntax::specs::Faults::first_of))]
 fn blame_sections(sections: &[Section], first: &mut Option<Fault>)
-    ensures { first.new ≡ first_of first.old (spec.past_faults LimitedTable.Schemas 512 (map (λ a. a.at) (map part_of sections.now))) }
+    ensures { first.new ≡ first_of first.old (spec.past_faults LimitedTable.Schemas max_schemas (map (λ a. a.at) (map part_of sections.now))) }
 {
     if let Some(section) = sections.get(MAX_SCHEMAS) {
         blame(first, section.at, FaultKind::Limit(LimitedTable::Schemas));

@@ -13,6 +13,7 @@ use Rattle.pddl_syntax.specs.Words.{word_kind}
 use Rattle.pddl_syntax.specs.Heads.{Heads, with_head}
 use Rattle.pddl_syntax.specs.Typed.{declared, type_group_faults}
 use Rattle.pddl_syntax.specs.Parameters.{parameters_faults}
+use Rattle.pddl_domain.specs.Limits.{max_heads}
 
 -- ---- an item, `(HEAD PARAMETERS)`
 
@@ -23,7 +24,7 @@ with_item kind heads t parameters = heads
 
 -- the fault of an item that follows `count` others, if it is past the limit
 abbrev pub past_limit : LimitedTable → ℕ → ℕ → List Fault → List Fault
-past_limit table count at fs = faults_if (nat_le 512 count) (fault (Limit table) at) fs
+past_limit table count at fs = faults_if (nat_le max_heads count) (fault (Limit table) at) fs
 
 -- the faults of an item at the place `at`, whose head is a word at the place `head_at`
 abbrev pub item_faults : (List ℕ → Bool) → LimitedTable → Heads → ℕ → ℕ → ℕ → WordKind → List ℕ → Forms → List Fault

@@ -1,3 +1,4 @@
+pub mod Limits
 pub mod Cycles
 pub mod Types
 pub mod Objects

@@ -10,6 +10,7 @@ use Rattle.pddl_syntax.specs.declared.fault.LimitedTable.TheVariants.{Objects as
 use Rattle.pddl_syntax.specs.Faults.{fault, faults_if}
 use Rattle.pddl_syntax.specs.Typed.{Declared, declared, typed_faults}
 use Rattle.pddl_domain.specs.Types.{with_parent}
+use Rattle.pddl_domain.specs.Limits.{max_objects}
 
 -- The names of the objects, the number of each one's type at its first declaration, the names of types that follow
 -- objects, and for each object the place of its type's name among these, if it can be read.
@@ -71,7 +72,7 @@ AreTexts texts firsts = All (λ first. IfSome first (λ n. n < length texts)) fi
 abbrev pub declaration_faults : Objects → Declared → List Fault → List Fault
 declaration_faults o d rest =
     faults_if (differs_text (first_type o d.name) d.parent) (fault TwiceDeclared d.at)
-    (faults_if (not (is_there o.names d.name) && nat_le 4096 (length o.names)) (fault (Limit TooManyObjects) d.at) rest)
+    (faults_if (not (is_there o.names d.name) && nat_le max_objects (length o.names)) (fault (Limit TooManyObjects) d.at) rest)
 
 -- the faults of declarations that follow those of the objects
 abbrev pub object_faults : List (List ℕ) → Objects → List Declared → List Fault

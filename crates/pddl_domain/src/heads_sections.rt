@@ -19,6 +19,7 @@ use pddl_syntax::{
 use sexp::Tree;
 use std::alloc::{AllocError, Global};
 
+/// The greatest number of predicates, and of functions.
 const MAX_HEADS: usize = 512;
 
 /// An item `(HEAD PARAMETERS)` whose head is a word, with the bytes at which the item and its head begin, counted from

@@ -17,6 +17,7 @@ use sexp::Tree;
 use std::alloc::{AllocError, Global};
 use std::marker::Model;
 
+/// The greatest number of objects, constants and those of the problem together.
 const MAX_OBJECTS: usize = 4096;
 
 /// The objects of a task, in the order of their first declarations, each with the type that it has there.

@@ -24,6 +24,7 @@ use Rattle.pddl_terms.specs.Terms.{Scope, lifted, lifted_faults, is_total_cost, 
 use Rattle.pddl_terms.specs.Beginnings.{beginning}
 use Rattle.pddl_problem.specs.declared.initial.ItemKind.{ItemKind}
 use Rattle.pddl_problem.specs.declared.initial.ItemKind.TheVariants.{TrueAtom, Value, Negated, NotRead, Nothing}
+use Rattle.pddl_problem.specs.Limits.{max_items}
 
 -- ---- the meaning
 
@@ -247,7 +248,7 @@ is_restated values (Some v) = option_map_or (λ w. not (w.value == v.value)) (va
 
 -- the fault of the item at the place s if it follows 1,000,000 others, and other faults
 abbrev pub past_limit : ℕ → ℕ → List Fault → List Fault
-past_limit n s fs = faults_if (n == 1000000) (fault (Limit Init) s) fs
+past_limit n s fs = faults_if (n == max_items) (fault (Limit Init) s) fs
 
 -- the faults of items that follow n others, which stated these values
 abbrev pub initial_faults : Scope → ℕ → List FunctionValue → Forms → List Fault

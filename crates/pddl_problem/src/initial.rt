@@ -17,7 +17,7 @@ use sexp::Tree;
 use std::alloc::{AllocError, Global};
 
 /// The largest number of items of the section.
-const MOST_ITEMS: usize = 1_000_000;
+const MAX_ITEMS: usize = 1_000_000;
 
 /// The kind of an item of the section, by its head and the rest of it.
 #[derive(Clone, Copy, Debug, PartialEq, Eq)]
@@ -272,7 +272,7 @@ fn read_items(
     for (count, item) in items.iter().enumerate() {
         read_item(alloc, scope, item, state, first)?;
         blame_if(
-            count == MOST_ITEMS,
+            count == MAX_ITEMS,
             first,
             item.span().start,
             FaultKind::Limit(LimitedTable::Init),

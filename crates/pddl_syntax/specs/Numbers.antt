@@ -3,12 +3,13 @@ use Rattle.std.specs.Prelude.{ℕ, ◌+◌, ◌*◌, ◌-◌, ◌==◌, ◌&&◌
 use Rattle.std.specs.List.{list_all}
 use Rattle.pddl_syntax.specs.declared.number.Number.{Number}
 use Rattle.pddl_syntax.specs.declared.number.Number.TheVariants.{Whole, Fraction, OutOfRange, NoNumber}
+use Rattle.pddl_syntax.specs.Limits.{max_number}
 
 abbrev pub is_digit : ℕ → Bool
 is_digit b = nat_le 48 b && nat_le b 57
 
 abbrev pub in_range : ℕ → Number
-in_range n = if nat_le n 2147483647 then Whole n else OutOfRange
+in_range n = if nat_le n max_number then Whole n else OutOfRange
 
 abbrev pub by_zeros : Bool → Bool → ℕ → Number
 by_zeros true digits n = in_range n

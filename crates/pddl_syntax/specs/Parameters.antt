@@ -9,6 +9,7 @@ use Rattle.pddl_syntax.specs.declared.fault.LimitedTable.TheVariants.{Arguments}
 use Rattle.pddl_syntax.specs.Faults.{fault, faults_if}
 use Rattle.pddl_syntax.specs.declared.typed.Run.{Run}
 use Rattle.pddl_syntax.specs.Typed.{Declared, declared, typed_faults, parent_text}
+use Rattle.pddl_syntax.specs.Limits.{max_arguments}
 
 -- the names, with those of the declarations added
 abbrev pub names_with : List (List ℕ) → List Declared → List (List ℕ)
@@ -24,7 +25,7 @@ abbrev pub variable_faults : List (List ℕ) → ℕ → List Declared → List 
 variable_faults names count [] = []
 variable_faults names count (d ∷ ds) =
     faults_if (is_there names d.name) (fault TwiceDeclared d.at)
-    (faults_if (nat_le 16 count) (fault (Limit Arguments) d.at) (variable_faults (with_name names d.name) (count + 1) ds))
+    (faults_if (nat_le max_arguments count) (fault (Limit Arguments) d.at) (variable_faults (with_name names d.name) (count + 1) ds))
 
 -- the faults of typed variables in the list at `home`
 abbrev pub parameters_faults : (List ℕ → Bool) → ℕ → Forms → List Fault

@@ -4,7 +4,8 @@ ghost use Rattle.std.specs.Prelude.{◌≡◌, ◌==◌, ◌≤◌};
 ghost use Rattle.std.specs.List.{list_all};
 ghost use Rattle.pddl_syntax.specs.Numbers.{is_digit, in_range, after_point, after_digits, unsigned, number_of};
 
-const MAX: u64 = 2_147_483_647;
+/// The greatest number of a text, 2^31 - 1.
+const MAX_NUMBER: u64 = 2_147_483_647;
 
 /// What a word means where a number is expected.
 #[derive(Clone, Copy, Debug, PartialEq, Eq)]
@@ -22,7 +23,7 @@ pub enum Number {
 fn in_range(n: u64) -> Number
     ensures { result ≡ in_range n }
 {
-    if n <= MAX {
+    if n <= MAX_NUMBER {
         Number::Whole(n)
     } else {
         Number::OutOfRange
@@ -67,7 +68,7 @@ fn after_digits(digits: u64, bytes: &[u8]) -> Number
         let b = *b;
         if is_digit(b) {
             // Past the limit every number has the same answer.
-            if n <= MAX {
+            if n <= MAX_NUMBER {
                 n = n * 10 + u64::from(b - b'0');
             }
         } else if b == b'.' {

@@ -14,6 +14,7 @@ use pddl_names::Names;
 use sexp::Tree;
 use std::alloc::{AllocError, Global};
 
+/// The greatest number of arguments of a predicate, a function or a schema.
 const MAX_ARGUMENTS: usize = 16;
 
 /// The parameters of an action, a predicate or a function.

@@ -1,3 +1,4 @@
+pub mod Limits
 pub mod Atoms
 pub mod Examples
 pub mod Lifted

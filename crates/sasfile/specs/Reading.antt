@@ -12,6 +12,8 @@ use Rattle.sasfile.specs.declared.number.Number.TheVariants.{Natural, Negative}
 use Rattle.sasfile.specs.declared.effects.Change.{Change}
 use Rattle.sasfile.specs.declared.effects.Quadruple.{Quadruple}
 use Rattle.sasfile.specs.Lines.{lines, words, is_text_byte, is_digit, minus}
+use Rattle.fdr.specs.Limits.{max_variables, max_values, max_operators}
+use Rattle.cost.specs.Limits.{max_cost}
 
 -- reading fails with this error, unless allocation fails
 abbrev pub Fails : {Y : Type 0} → SasFault → Result Y SasFault → Type 0
@@ -150,7 +152,7 @@ layer_at r = do
 unfoldable pub range_at : Remaining → Result (ℕ × Remaining) SasFault
 range_at r = do
   range ← count_at r
-  if range.0 == 0 then Err (fault.Range r.number) else (if nat_lt 65536 range.0 then Err (fault.Limit limit.Values) else Ok range)
+  if range.0 == 0 then Err (fault.Range r.number) else (if nat_lt max_values range.0 then Err (fault.Limit limit.Values) else Ok range)
 
 abbrev pub text_step : List (List ℕ) → Remaining → Result (List (List ℕ) × Remaining) SasFault
 text_step texts r = text_at r >>= λ text. Ok (texts ++ text.0 ∷ [], text.1)
@@ -172,7 +174,7 @@ variable_step variables r = variable_at r >>= λ variable. Ok (variables ++ vari
 unfoldable pub variables_at : Remaining → Result (List (List (List ℕ)) × Remaining) SasFault
 variables_at r = do
   count ← count_at r
-  if nat_lt 65536 count.0 then Err (fault.Limit limit.Variables) else repeated variable_step count.0 [] count.1
+  if nat_lt max_variables count.0 then Err (fault.Limit limit.Variables) else repeated variable_step count.0 [] count.1
 
 -- ---- values of variables
 
@@ -347,7 +349,7 @@ change_step ranges h r = do
 unfoldable pub cost_at : Remaining → Result (ℕ × Remaining) SasFault
 cost_at r = do
   cost ← count_at r
-  if nat_lt 2147483647 cost.0 then Err (fault.Range r.number) else Ok cost
+  if nat_lt max_cost cost.0 then Err (fault.Range r.number) else Ok cost
 
 -- precondition and effect of an operator
 unfoldable pub halves_at : List ℕ → Remaining → Result (Halves × Remaining) SasFault
@@ -371,7 +373,7 @@ operator_step ranges operators r = operator_at ranges r >>= λ operator. Ok (ope
 unfoldable pub operators_at : List ℕ → Remaining → Result (List Operator × Remaining) SasFault
 operators_at ranges r = do
   count ← count_at r
-  if nat_lt 4294967295 count.0 then Err (fault.Limit limit.Operators) else repeated (operator_step ranges) count.0 [] count.1
+  if nat_lt max_operators count.0 then Err (fault.Limit limit.Operators) else repeated (operator_step ranges) count.0 [] count.1
 
 -- ---- the whole text
 

@@ -7,6 +7,8 @@ use Rattle.sasfile.specs.declared.number.Number.{Number}
 use Rattle.sasfile.specs.declared.number.Number.TheVariants.{Natural, Negative}
 use Rattle.sasfile.specs.declared.effects.Change.{Change}
 use Rattle.sasfile.specs.Lines.{lines, words, number, is_text_byte}
+use Rattle.fdr.specs.Limits.{max_variables, max_values, max_operators}
+use Rattle.cost.specs.Limits.{max_cost}
 
 -- ---- lines
 
@@ -84,7 +86,7 @@ pub record SpellsVariable (ls : List (List ℕ)) (texts : List (List ℕ)) : Typ
   pub layer_is : SpellsNumbers layer (Negative 1 ∷ [])
   pub range_is : SpellsCount range (length texts)
   pub some : 0 < length texts
-  pub few : length texts ≤ 65536
+  pub few : length texts ≤ max_values
   pub texts_are : AllByRecursion IsText texts
 
 -- ---- mutex groups, initial state and goal
@@ -157,7 +159,7 @@ pub record SpellsOperator (ranges : List ℕ) (ls : List (List ℕ)) (op : Opera
   pub prevail_are : SpellsLines (SpellsFact ranges) prevail_lines prevail
   pub changes_are : SpellsLines (SpellsChange ranges) change_lines changes
   pub cost_is : SpellsCount cost op.cost
-  pub cheap : op.cost ≤ 2147483647
+  pub cheap : op.cost ≤ max_cost
   pub distinct : are_distinct (prevail ++ map after_of changes) ≡ true
   pub precondition_is : op.precondition ≡ prevail ++ conditions_of changes
   pub effect_is : op.effect ≡ map after_of changes
@@ -180,12 +182,12 @@ pub record Spells (ls : List (List ℕ)) (task : FiniteDomainTask) : Type 0 wher
   pub version_is : SpellsVersion version_lines
   pub metric_is : SpellsMetric metric_lines task.metric
   pub variables_are : SpellsList SpellsVariable variable_lines task.value_names
-  pub few_variables : length task.value_names ≤ 65536
+  pub few_variables : length task.value_names ≤ max_variables
   pub groups_are : SpellsList (SpellsGroup (ranges task)) group_lines groups
   pub state_is : SpellsState (ranges task) state_lines task.initial
   pub goal_is : SpellsGoal (ranges task) goal_lines task.goal
   pub operators_are : SpellsList (SpellsOperator (ranges task)) operator_lines task.operators
-  pub few_operators : length task.operators ≤ 4294967295
+  pub few_operators : length task.operators ≤ max_operators
   pub no_axioms : SpellsCount axioms 0
   pub ending_is : AllByRecursion (λ l. l ≡ []) ending
 

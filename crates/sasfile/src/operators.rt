@@ -15,7 +15,7 @@ use fdr::{Operator, TaskLimit};
 use std::alloc::Global;
 
 /// The greatest number of operators of a task.
-const MAX_OPERATORS: u64 = 4_294_967_295;
+const MAX_OPERATORS: u64 = fdr::MAX_OPERATORS as u64;
 
 /// Reads the cost of an operator.
 #[tactic(auto, unfolding(crate::specs::Reading::cost_at))]

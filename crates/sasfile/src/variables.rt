@@ -3,6 +3,7 @@
 ghost use Rattle.std.specs.Prelude.{◌≡◌, ◌+◌, ◌≤◌, [], length, map, IfOk, OnOk, vec_len, string_bytes};
 ghost use Rattle.sasfile.specs.Reading.{Gives, repeated, text_at, text_step, layer_at, range_at, variable_at, variable_step, variables_at};
 ghost use Rattle.sasfile.specs.Remains.{remaining, names_of, ranges_of};
+ghost use Rattle.fdr.specs.Limits.{max_values};
 
 use crate::fault::SasFault;
 use crate::line_forms::{count_line, keyword, number_line, text_line};
@@ -12,10 +13,10 @@ use fdr::TaskLimit;
 use std::alloc::Global;
 
 /// The greatest number of variables of a task.
-const MAX_VARIABLES: u64 = 65_536;
+const MAX_VARIABLES: u64 = fdr::MAX_VARIABLES as u64;
 
 /// The greatest number of values of a variable.
-const MAX_VALUES: u64 = 65_536;
+const MAX_VALUES: u64 = fdr::MAX_VALUES as u64;
 
 /// The variables of a task that have been read.
 #[derive(Drop)]
@@ -80,7 +81,7 @@ fn layer_line(lines: Lines<'_>) -> Result<Lines<'_>, SasFault>
 #[tactic(auto, unfolding(crate::specs::Reading::range_at))]
 fn range_line(lines: Lines<'_>) -> Result<(u64, Lines<'_>), SasFault>
     ensures range { Gives (λ x. (x.0, remaining x.1)) result (range_at (remaining lines.entry)) }
-    ensures bound { IfOk result (λ x. x.0 ≤ 65536) }
+    ensures bound { IfOk result (λ x. x.0 ≤ max_values) }
 {
     let (range, rest) = count_line(lines)?;
     if range == 0 {
@@ -96,7 +97,7 @@ fn range_line(lines: Lines<'_>) -> Result<(u64, Lines<'_>), SasFault>
 #[tactic(auto, unfolding(crate::specs::Reading::variable_at))]
 fn variable(alloc: Global, lines: Lines<'_>) -> Result<(Vec<String>, Lines<'_>), SasFault>
     ensures names { Gives (λ x. (map string_bytes x.0.items, remaining x.1)) result (variable_at (remaining lines.entry)) }
-    ensures bound { IfOk result (λ x. vec_len x.0 ≤ 65536) }
+    ensures bound { IfOk result (λ x. vec_len x.0 ≤ max_values) }
 {
     let lines = keyword(lines, b"begin_variable")?;
     let (_, lines) = text_line(lines)?;

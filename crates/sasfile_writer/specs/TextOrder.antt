@@ -6,6 +6,7 @@ use Rattle.fdr.specs.declared.fact.Fact.{Fact}
 use Rattle.fdr.specs.Tasks.{FiniteDomainTask, Operator, IsTask, IsWithinLimits}
 use Rattle.sasfile.specs.Lines.{is_text_byte, trimmed}
 use Rattle.sasfile_writer.specs.Written.{prevail, value_of}
+use Rattle.cost.specs.Limits.{max_cost}
 
 -- the facts of the precondition on variables of the effect, in the order of the effect
 abbrev pub changed : Operator → List Fact
@@ -28,6 +29,6 @@ pub record CanBeWritten (task : FiniteDomainTask) (sizes : List ℕ) : Type 0 wh
   pub within : IsWithinLimits task
   pub values : All (λ names. All IsName names) task.value_names
   pub operators : All (λ op. IsName op.name) task.operators
-  pub costs : All (λ op. op.cost ≤ 2147483647) task.operators
+  pub costs : All (λ op. op.cost ≤ max_cost) task.operators
   pub as_many : length sizes ≡ length task.value_names
   pub in_range : (v size : ℕ) (names : List (List ℕ)) → slice_get sizes v ≡ Some size → slice_get task.value_names v ≡ Some names → size ≤ length names

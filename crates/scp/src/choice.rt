@@ -9,7 +9,7 @@ use pdb_patterns::choose_patterns;
 use std::alloc::{AllocError, Global};
 
 /// The greatest number of columns that `choose_columns` makes.
-pub const MOST_COLUMNS: usize = 8;
+pub const MAX_COLUMNS: usize = 8;
 
 /// All patterns, from the place `first` to the end, followed by those before it.
 fn cyclic_order(
@@ -39,7 +39,7 @@ fn cyclic_order(
 }
 
 /// The orders of patterns, one for each column: the k-th starts with the k-th pattern. There are at most
-/// `MOST_COLUMNS`.
+/// `MAX_COLUMNS`.
 fn orders_of(
     alloc: Global,
     task: &FdrTask,
@@ -55,7 +55,7 @@ fn orders_of(
     ensures none_empty { IfOk result (λ orders. All (λ order. order.items ≢ []) orders.items) }
 {
     let mut orders = Vec::new(alloc);
-    for first in 0..patterns.len().min(MOST_COLUMNS) {
+    for first in 0..patterns.len().min(MAX_COLUMNS) {
         orders.push(cyclic_order(alloc, task, patterns, first)?)?;
     }
     Ok(orders)

@@ -8,7 +8,7 @@ mod columns;
 mod shares;
 mod table;
 
-pub use choice::{MOST_COLUMNS, choose_columns};
+pub use choice::{MAX_COLUMNS, choose_columns};
 pub use column::make_column;
 pub use columns::{Columns, make_columns};
 pub use table::ColumnTable;

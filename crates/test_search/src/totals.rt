@@ -19,7 +19,7 @@ use std::process::Abort;
 use std::test::Fail;
 
 /// The greatest total, 2^62.
-const MOST_TOTAL: u64 = 4_611_686_018_427_387_904;
+const MAX_TOTAL: u64 = 4_611_686_018_427_387_904;
 
 /// The message with which the second of two owners is handed the state 1, at the greatest cost.
 fn message_at_most_total<'a>(
@@ -35,7 +35,7 @@ fn message_at_most_total<'a>(
     Ok(Message {
         state: Plain::pack(alloc, space.layout(), &state)?,
         rank: Rank {
-            cost: MOST_TOTAL,
+            cost: MAX_TOTAL,
             steps: 1,
         },
         parent: Parent {
@@ -55,7 +55,7 @@ fn refuse_total<'a>(
     let mut second = Owner::start(alloc, space, 1, 2)?;
     let message = message_at_most_total(rt, alloc, space)?;
     assert!(rt; second.take(message).is_ok(), "memory");
-    let open = Dist::fin(MOST_TOTAL).ok_or("a distance")?;
+    let open = Dist::fin(MAX_TOTAL).ok_or("a distance")?;
     assert_eq!(rt; second.least_open(), open);
     assert_eq!(rt; second.expand(Dist::inf()), Err(OwnerFault::TotalTooLarge));
     assert_eq!(rt; (second.least_open(), second.len()), (open, 1));

@@ -11,8 +11,8 @@ use Rattle.fdr.specs.declared.task.TaskLimit.TheVariants as limit
 use Rattle.pddl_task.specs.Atoms.{Atom, contains}
 use Rattle.pddl_task.specs.Planning.{PlanningTask, Vocabulary, Action}
 use Rattle.ground_theory.specs.Grounding.{actions_over}
-use Rattle.ground_bindings.specs.Search.{most_actions}
-use Rattle.ground.specs.Rounds.{most_atoms}
+use Rattle.ground_bindings.specs.Search.{max_actions}
+use Rattle.ground.specs.Rounds.{max_atoms}
 use Rattle.mutex.specs.Places.{atoms_at}
 use Rattle.translate_theory.specs.Translations.{Variable, translation, value_names_of, range_of, carried, has_operator}
 use Rattle.translate_theory.proofs.Ranges.{ranges_are}
@@ -56,7 +56,7 @@ pub same_count : (names : Vocabulary) (atoms : List Atom) (variables : List Plac
 same_count names atoms variables = length-map (variables_at atoms variables) (value_names_of names) ∙ length-map variables (variable_at atoms)
 
 module _ (task : PlanningTask) (atoms : List Atom) (actions : List Action) (variables : List PlacedVariable) (placed : All (IsPlaced (length atoms)) variables) where
-  pub within_from : length atoms ≤ most_atoms → IsWithinLimits (translation task (variables_at atoms variables) actions) → AreWithinLimits atoms variables
+  pub within_from : length atoms ≤ max_atoms → IsWithinLimits (translation task (variables_at atoms variables) actions) → AreWithinLimits atoms variables
   within_from few limits =
       record {
         few_atoms = few;

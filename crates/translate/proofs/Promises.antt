@@ -9,8 +9,8 @@ use Rattle.pddl_task.specs.Planning.{PlanningTask, IsPlanningTask, Action, IsAct
 use Rattle.pddl_task.specs.Plans.{IsValidPlan, total_cost, HasNoValidPlan}
 use Rattle.pddl_task.proofs.Lists.{Mem, all_mem}
 use Rattle.ground_theory.specs.Grounding.{AreListedAtoms, AreListedActions, IsLeastClosedSet, actions_over}
-use Rattle.ground_bindings.specs.Search.{most_actions}
-use Rattle.ground.specs.Rounds.{most_atoms}
+use Rattle.ground_bindings.specs.Search.{max_actions}
+use Rattle.ground.specs.Rounds.{max_atoms}
 use Rattle.ground_theory.proofs.Binding.{over_listed}
 use Rattle.translate_theory.specs.Bounds.{ValidPlansCostAtLeast}
 use Rattle.translate_theory.specs.Translations.{AreVariables, translation, carried}
@@ -29,8 +29,8 @@ listed_actions task atoms actions e = subst (AreListedActions task atoms) (sym e
 
 -- a task is the translation over atoms and variables, given the actions over the atoms
 module _ (task : PlanningTask) (t : TranslatedTask) (placed : All (IsPlaced (length t.atoms)) t.variables) (listed : AreListedAtoms task t.atoms)
-    (few : length t.atoms ≤ most_atoms) where
-  translation_over : length (actions_of task t) ≤ most_actions → AreVariables task t.atoms (actions_of task t) (variables_at t.atoms t.variables)
+    (few : length t.atoms ≤ max_atoms) where
+  translation_over : length (actions_of task t) ≤ max_actions → AreVariables task t.atoms (actions_of task t) (variables_at t.atoms t.variables)
       → t.task ≡ translation task (variables_at t.atoms t.variables) (actions_of task t)
       → operator_actions task t ≡ carried (variables_at t.atoms t.variables) (actions_of task t) → IsWithinLimits t.task → IsTranslation task t
   translation_over few_actions chosen is are limits =
@@ -46,12 +46,12 @@ module _ (task : PlanningTask) (t : TranslatedTask) (placed : All (IsPlaced (len
         actions_are = are;
       }
 
-  pub translation_from : (actions : List Action) → actions ≡ actions_of task t → length actions ≤ most_actions
+  pub translation_from : (actions : List Action) → actions ≡ actions_of task t → length actions ≤ max_actions
       → AreVariables task t.atoms actions (variables_at t.atoms t.variables) → t.task ≡ translation task (variables_at t.atoms t.variables) actions
       → filter_map (slice_get actions) t.places ≡ carried (variables_at t.atoms t.variables) actions → IsWithinLimits t.task → IsTranslation task t
   translation_from actions same few_actions chosen is are limits =
       translation_over
-      (subst (λ (listed_ : List Action). length listed_ ≤ most_actions) same few_actions)
+      (subst (λ (listed_ : List Action). length listed_ ≤ max_actions) same few_actions)
       (subst (λ (listed_ : List Action). AreVariables task t.atoms listed_ (variables_at t.atoms t.variables)) same chosen)
       (subst (λ (listed_ : List Action). t.task ≡ translation task (variables_at t.atoms t.variables) listed_) same is)
       (subst (λ (listed_ : List Action). filter_map (slice_get listed_) t.places ≡ carried (variables_at t.atoms t.variables) listed_) same are)

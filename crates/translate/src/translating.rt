@@ -5,12 +5,13 @@ ghost use Rattle.pddl_task.specs.Atoms.{Literal, contains};
 ghost use Rattle.pddl_task.specs.Planning.{IsPlanningTask, IsActionOf, IsAtomOf, has_small_costs, Action};
 ghost use Rattle.ground_theory.specs.Grounding.{actions_over, AreListedAtoms, AreListedActions, IsLeastClosedSet};
 ghost use Rattle.ground_atoms.specs.Order.{AreDistinct};
-ghost use Rattle.ground_bindings.specs.Search.{most_actions};
-ghost use Rattle.ground.specs.Rounds.{most_atoms};
+ghost use Rattle.ground_bindings.specs.Search.{max_actions};
+ghost use Rattle.ground.specs.Rounds.{max_atoms};
 ghost use Rattle.translate_theory.specs.Translations.{AreVariables};
 ghost use Rattle.translate_theory.specs.Variables.{IsPlaced, variables_at};
 ghost use Rattle.translate_vars.specs.Faults.{IsFirstFault};
 ghost use Rattle.translate.specs.Translated.{IsTranslation, HasSamePlans, IsTooLarge, IsUntranslated};
+ghost use Rattle.pddl_task.specs.Limits.{max_cost};
 
 use crate::translated::Translated;
 use ground::{GroundFault, Grounded, ground};
@@ -32,12 +33,12 @@ fn translated(
     parts: ListedParts,
     variables: Vec<ListedVariable>,
 ) -> Result<Translated, TranslateFault>
-    requires costs { (a : Action) → IsActionOf task.now a → a.cost ≤ 2147483647 }
+    requires costs { (a : Action) → IsActionOf task.now a → a.cost ≤ max_cost }
     requires placed { All (IsPlaced (length parts.atoms)) variables.items }
     requires listed { AreListedAtoms task.now parts.atoms }
-    requires few_atoms { length parts.atoms ≤ most_atoms }
+    requires few_atoms { length parts.atoms ≤ max_atoms }
     requires over { parts.actions.items ≡ actions_over task.now (contains parts.atoms) }
-    requires few_actions { length parts.actions.items ≤ most_actions }
+    requires few_actions { length parts.actions.items ≤ max_actions }
     requires fit { AreVariables task.now parts.atoms parts.actions.items (variables_at parts.atoms variables.items) }
     ensures atoms { IfOk result (λ t. t.atoms ≡ parts.atoms) }
     ensures variables { IfOk result (λ t. t.variables ≡ variables.items) }
@@ -72,7 +73,7 @@ pub fn with_variables(
     variables: Vec<ListedVariable>,
 ) -> Result<Translated, TranslateFault>
     requires small { IsTrue (has_small_costs task.now) }
-    requires costs { (a : Action) → IsActionOf task.now a → a.cost ≤ 2147483647 }
+    requires costs { (a : Action) → IsActionOf task.now a → a.cost ≤ max_cost }
     requires placed { All (IsPlaced (length atoms.now)) variables.items }
     ensures atoms { IfOk result (λ t. t.atoms ≡ atoms.now) }
     ensures variables { IfOk result (λ t. t.variables ≡ variables.items) }
@@ -89,9 +90,9 @@ pub fn with_variables(
 fn grounded(alloc: Global, task: &Task) -> Result<Grounded, TranslateFault>
     requires small { IsTrue (has_small_costs task.now) }
     ensures least { IfOk result (λ g. IsLeastClosedSet task.now (contains g.atoms)) }
-    ensures few_atoms { IfOk result (λ g. length g.atoms ≤ most_atoms) }
+    ensures few_atoms { IfOk result (λ g. length g.atoms ≤ max_atoms) }
     ensures actions { IfOk result (λ g. g.actions.items ≡ actions_over task.now (contains g.atoms)) }
-    ensures few_actions { IfOk result (λ g. length g.actions.items ≤ most_actions) }
+    ensures few_actions { IfOk result (λ g. length g.actions.items ≤ max_actions) }
     ensures distinct { IfOk result (λ g. AreDistinct g.atoms) }
     ensures fault { IfErr result (IsUntranslated task.now) }
 {
@@ -128,7 +129,7 @@ fn chosen(
 /// too many variables, values of a variable or operators, or if allocation fails.
 pub fn translate(alloc: Global, task: &Task) -> Result<Translated, TranslateFault>
     requires small { IsTrue (has_small_costs task.now) }
-    requires costs { (a : Action) → IsActionOf task.now a → a.cost ≤ 2147483647 }
+    requires costs { (a : Action) → IsActionOf task.now a → a.cost ≤ max_cost }
     requires initial { All (IsAtomOf task.now) task.now.initial }
     requires goals { All (λ (l : Literal). IsAtomOf task.now l.atom) task.now.goal }
     requires added { (a : Action) → IsActionOf task.now a → All (IsAtomOf task.now) a.adds }

@@ -10,18 +10,15 @@ ghost use Rattle.translate_theory.specs.Translations.{AreVariables, translation,
 ghost use Rattle.translate_theory.specs.Variables.{IsPlaced, variables_at};
 ghost use Rattle.translate_assembly.specs.Limits.{is_long, IsPastLimitAt};
 ghost use Rattle.translate_assembly.specs.declared.assembly.AssemblyFault.TheVariants.{OutOfMemory, Limit};
+ghost use Rattle.pddl_task.specs.Limits.{max_cost};
+ghost use Rattle.fdr.specs.Limits.{max_values};
 
 use crate::parts::parts_of;
-use fdr::{FdrTask, TaskLimit};
+use fdr::{FdrTask, MAX_VALUES, MAX_VARIABLES, TaskLimit};
 use ground_atoms::Atoms;
 use pddl_task::{GroundAction, Task};
 use std::alloc::{AllocError, AllocFailed, Global};
 use translate_theory::ListedVariable;
-
-/// The greatest number of variables of a task.
-const MAX_VARIABLES: usize = 65_536;
-
-const MAX_VALUES: usize = 65_536;
 
 /// Why no task was made.
 #[derive(Clone, Copy, Debug, PartialEq, Eq)]
@@ -82,7 +79,7 @@ pub fn assemble(
     requires listed { AreListedAtoms task.now atoms.now }
     requires complete { AreListedActions task.now atoms.now actions.now }
     requires fit { AreVariables task.now atoms.now actions.now (variables_at atoms.now variables.now) }
-    requires costs { All (λ a. a.cost ≤ 2147483647) actions.now }
+    requires costs { All (λ a. a.cost ≤ max_cost) actions.now }
     ensures task { IfOk result (λ t. t.task ≡ translation task.now (variables_at atoms.now variables.now) actions.now) }
     ensures carried { IfOk result (λ t.
         filter_map (slice_get actions.now) t.carried.items ≡ carried (variables_at atoms.now variables.now) actions.now) }
@@ -107,7 +104,7 @@ pub fn assemble(
 
 /// Checks the limits on variables and on the values of a variable. Fails with the first one that is passed.
 fn check_limits(variables: &[ListedVariable]) -> Result<(), TaskLimit>
-    ensures short { OnOk result (All (λ v. length v.places ≤ 65536) variables.now) }
+    ensures short { OnOk result (All (λ v. length v.places ≤ max_values) variables.now) }
     ensures past { IfErr result (IsPastLimitAt variables.now) }
 {
     if variables.len() > MAX_VARIABLES {

@@ -2,6 +2,7 @@
 
 ghost use Rattle.std.specs.Prelude.{◌≡◌, ◌≤◌, All, length, map, IfOk};
 ghost use Rattle.translate_assembly.specs.Slots.{with_slot, values_of, look_up};
+ghost use Rattle.fdr.specs.Limits.{max_values};
 
 use crate::slot::Slot;
 use crate::table::Table;
@@ -16,7 +17,7 @@ pub(crate) fn initial_state(
     variables: &[ListedVariable],
     atoms: &[GroundAtom],
 ) -> Result<Vec<u32>, AllocError>
-    requires { All (λ v. length v.places ≤ 65536) variables.now }
+    requires { All (λ v. length v.places ≤ max_values) variables.now }
     ensures { IfOk result (λ state. state.items
         ≡ values_of (look_up table.now) (map (λ v. length v.places) variables.now) atoms.now) }
 {
@@ -29,7 +30,7 @@ pub(crate) fn initial_state(
 
 /// The none value of each variable: its number of atoms. Fails only if allocation fails.
 fn none_values(alloc: Global, variables: &[ListedVariable]) -> Result<Vec<u32>, AllocError>
-    requires { All (λ v. length v.places ≤ 65536) variables.now }
+    requires { All (λ v. length v.places ≤ max_values) variables.now }
     ensures { IfOk result (λ values. values.items ≡ map (λ v. length v.places) variables.now) }
 {
     let mut values = Vec::new(alloc);

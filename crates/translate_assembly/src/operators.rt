@@ -4,6 +4,7 @@ ghost use Rattle.std.specs.Prelude.{◌≡◌, ◌≤◌, ◌++◌, [], ◌∷�
 ghost use Rattle.std.specs.List.{filter_map, cons_option};
 ghost use Rattle.translate_assembly.specs.Slots.{look_up};
 ghost use Rattle.translate_assembly.specs.Operators.{made_operator, places_where};
+ghost use Rattle.pddl_task.specs.Limits.{max_cost};
 
 use crate::conditions::{are_consistent, condition};
 use crate::effects::effect;
@@ -29,7 +30,7 @@ impl CarriedOperators {
         table: &Table<'_>,
         actions: &[GroundAction],
     ) -> Result<CarriedOperators, AllocError>
-        requires { All (λ a. a.cost ≤ 2147483647) actions.now }
+        requires { All (λ a. a.cost ≤ max_cost) actions.now }
         ensures operators { IfOk result (λ r. r.operators.items
             ≡ filter_map (made_operator (look_up table.now) vocabulary.now) actions.now) }
         ensures carried { IfOk result (λ r. r.carried.items
@@ -67,7 +68,7 @@ fn operator(
     table: &Table<'_>,
     action: &GroundAction,
 ) -> Result<Option<Operator>, AllocError>
-    requires { action.now.cost ≤ 2147483647 }
+    requires { action.now.cost ≤ max_cost }
     ensures { IfOk result (λ o. o ≡ made_operator (look_up table.now) vocabulary.now action.now) }
 {
     let condition = condition(alloc, table, &action.precondition)?;

@@ -7,6 +7,8 @@ ghost use Rattle.translate_theory.specs.Translations.{value_names_of};
 ghost use Rattle.translate_theory.specs.Variables.{variables_at};
 ghost use Rattle.translate_assembly.specs.Slots.{slot_of, values_of};
 ghost use Rattle.translate_assembly.specs.Operators.{condition_facts, made_operator, places_where};
+ghost use Rattle.pddl_task.specs.Limits.{max_cost};
+ghost use Rattle.fdr.specs.Limits.{max_values};
 
 use crate::conditions::condition;
 use crate::initial::initial_state;
@@ -47,8 +49,8 @@ pub fn parts_of(
     variables: &[ListedVariable],
 ) -> Result<Parts, AllocError>
     requires within { All (λ v. All (λ p. p < length atoms.now) v.places) variables.now }
-    requires short { All (λ v. length v.places ≤ 65536) variables.now }
-    requires costs { All (λ a. a.cost ≤ 2147483647) actions.now }
+    requires short { All (λ v. length v.places ≤ max_values) variables.now }
+    requires costs { All (λ a. a.cost ≤ max_cost) actions.now }
     ensures value_names { IfOk result (λ r. names_in r.value_names.items
         ≡ map (value_names_of task.now.vocabulary) (variables_at atoms.now variables.now)) }
     ensures initial { IfOk result (λ r. r.initial.items

@@ -5,6 +5,7 @@ ghost use Rattle.std.specs.Option.{option_or};
 ghost use Rattle.translate_theory.specs.Variables.{variables_at};
 ghost use Rattle.translate_assembly.specs.Slots.{first_slot, slots_from, slot_of, look_up};
 ghost use Rattle.pddl_task.specs.Atoms.{Atom};
+ghost use Rattle.fdr.specs.Limits.{max_values};
 
 use crate::slot::Slot;
 use ground_atoms::Atoms;
@@ -37,7 +38,7 @@ impl<'a> Table<'a> {
         variables: &[ListedVariable],
     ) -> Result<Table<'a>, AllocError>
         requires within { All (λ v. All (λ p. p < length atoms.now) v.places) variables.now }
-        requires short { All (λ v. length v.places ≤ 65536) variables.now }
+        requires short { All (λ v. length v.places ≤ max_values) variables.now }
         ensures { IfOk result (λ table. (p : Atom) → look_up table p ≡ slot_of (variables_at atoms.now variables.now) p) }
     {
         let count = atoms.as_slice().len();
@@ -61,7 +62,7 @@ fn slots(
     variables: &[ListedVariable],
 ) -> Result<Vec<Option<Slot>>, AllocError>
     requires within { All (λ v. All (λ p. p < count) v.places) variables.now }
-    requires short { All (λ v. length v.places ≤ 65536) variables.now }
+    requires short { All (λ v. length v.places ≤ max_values) variables.now }
     ensures { IfOk result (λ slots. (q : ℕ) →
         slice_index_or slots.items q None ≡ slots_from (λ p. p == q) 0 (map (λ v. v.places) variables.now)) }
 {
@@ -75,7 +76,7 @@ fn slots(
 /// Sets the slots of the places to the values of this variable, where they have none yet.
 fn mark(slots: &mut [Option<Slot>], variable: usize, places: &[usize])
     requires within { All (λ p. p < length slots.old) places.now }
-    requires short { length places.now ≤ 65536 }
+    requires short { length places.now ≤ max_values }
     ensures { (q : ℕ) → slice_index_or slots.new q None
         ≡ option_or (slice_index_or slots.old q None) (first_slot (λ p. p == q) variable (length places.now) 0 places.now) }
 {

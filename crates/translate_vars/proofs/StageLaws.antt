@@ -11,8 +11,8 @@ use Rattle.pddl_task.proofs.Lists.{mem_get, all_at, any_from}
 use Rattle.pddl_task.proofs.AtomLaws.{contains_mem}
 use Rattle.ground_theory.specs.Grounding.{actions_over, IsClosed}
 use Rattle.ground_theory.proofs.Binding.{closed_forth}
-use Rattle.ground_bindings.specs.Search.{most_actions}
-use Rattle.ground.specs.Rounds.{most_atoms}
+use Rattle.ground_bindings.specs.Search.{max_actions}
+use Rattle.ground.specs.Rounds.{max_atoms}
 use Rattle.ground.specs.Closing.{is_open}
 use Rattle.translate_theory.specs.Translations.{Variable}
 use Rattle.translate_theory.specs.Variables.{PlacedVariable, variables_at}
@@ -50,11 +50,11 @@ module _ (task : PlanningTask) (atoms : List Atom) (variables : List PlacedVaria
       (First (IsClosed task (contains atoms)) (IsOpenAt task atoms) FromVariables))
 
   abbrev FromAtoms : TranslateFault → Type 0
-  FromAtoms = First (AreAtomsOf task atoms) (IsBad task atoms) (First (length over ≤ most_actions) (λ e. e ≡ fault.GroundLimit) FromClosing)
+  FromAtoms = First (AreAtomsOf task atoms) (IsBad task atoms) (First (length over ≤ max_actions) (λ e. e ≡ fault.GroundLimit) FromClosing)
 
   abbrev FromLimits : TranslateFault → Type 0
   FromLimits =
-      First (length atoms ≤ most_atoms) (λ e. e ≡ fault.GroundLimit)
+      First (length atoms ≤ max_atoms) (λ e. e ≡ fault.GroundLimit)
       (First (length variables ≤ 65536) (λ e. e ≡ fault.Limit limit.Variables)
       (First (has_long_range variables ≡ false) (λ e. e ≡ fault.Limit limit.Values) FromAtoms))
 

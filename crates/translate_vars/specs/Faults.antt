@@ -8,8 +8,8 @@ use Rattle.pddl_task.specs.Atoms.{Atom, State, contains, at_most_one, wants, has
 use Rattle.pddl_task.specs.Planning.{PlanningTask, Action, IsAtomOf}
 use Rattle.ground_theory.specs.Grounding.{actions_over, IsClosedSet}
 use Rattle.ground_atoms.specs.Order.{AreDistinct}
-use Rattle.ground_bindings.specs.Search.{most_actions}
-use Rattle.ground.specs.Rounds.{most_atoms, wanted_atoms}
+use Rattle.ground_bindings.specs.Search.{max_actions}
+use Rattle.ground.specs.Rounds.{max_atoms, wanted_atoms}
 use Rattle.ground.specs.Closing.{IsLeastMissing, IsFirstOpen}
 use Rattle.mutex.specs.Groups.{is_excluded, is_constant, is_usable, is_full}
 use Rattle.translate_theory.specs.Translations.{Variable}
@@ -17,11 +17,12 @@ use Rattle.translate_theory.specs.Variables.{PlacedVariable, variables_at}
 use Rattle.translate_vars.specs.declared.fault.TranslateFault.{TranslateFault}
 use Rattle.translate_vars.specs.declared.fault.TranslateFault.TheVariants as fault
 use Rattle.translate_vars.specs.Parts.{has_long_range, AreWithinLimits}
+use Rattle.fdr.specs.Limits.{max_variables}
 
 -- the first of the limits that is passed
 abbrev pub IsPassed : List Atom → List PlacedVariable → TaskLimit → Type 0
-IsPassed atoms variables limit.Variables = (length atoms ≤ most_atoms) × (65536 < length variables)
-IsPassed atoms variables limit.Values = (length atoms ≤ most_atoms) × (length variables ≤ 65536) × (has_long_range variables ≡ true)
+IsPassed atoms variables limit.Variables = (length atoms ≤ max_atoms) × (max_variables < length variables)
+IsPassed atoms variables limit.Values = (length atoms ≤ max_atoms) × (length variables ≤ max_variables) × (has_long_range variables ≡ true)
 IsPassed atoms variables limit.Operators = ⊥
 
 -- distinct atoms of the task
@@ -44,7 +45,7 @@ IsMissing task atoms p =
 -- the atoms are a closed set of distinct atoms of the task, with few enough actions over them
 pub record AreGrounded (task : PlanningTask) (atoms : List Atom) : Type 0 where
   pub known : AreAtomsOf task atoms
-  pub few : length (actions_over task (contains atoms)) ≤ most_actions
+  pub few : length (actions_over task (contains atoms)) ≤ max_actions
   pub is_closed : IsClosedSet task (contains atoms)
 
 -- whether there is more than one atom
@@ -93,14 +94,14 @@ module _ (task : PlanningTask) (actions : List Action) where
 abbrev pub IsFirstFault : PlanningTask → List Atom → List PlacedVariable → TranslateFault → Type 0
 IsFirstFault task atoms variables fault.OutOfMemory = ⊤
 IsFirstFault task atoms variables fault.GroundLimit =
-    (most_atoms < length atoms)
-    ⊎ (AreWithinLimits atoms variables × AreAtomsOf task atoms × (most_actions < length (actions_over task (contains atoms))))
+    (max_atoms < length atoms)
+    ⊎ (AreWithinLimits atoms variables × AreAtomsOf task atoms × (max_actions < length (actions_over task (contains atoms))))
 IsFirstFault task atoms variables (fault.Limit l) = IsPassed atoms variables l
 IsFirstFault task atoms variables (fault.BadAtom k) = AreWithinLimits atoms variables × IsBadAtom task atoms k
 IsFirstFault task atoms variables (fault.Missing p) =
-    AreWithinLimits atoms variables × AreAtomsOf task atoms × (length (actions_over task (contains atoms)) ≤ most_actions) × IsMissing task atoms p
+    AreWithinLimits atoms variables × AreAtomsOf task atoms × (length (actions_over task (contains atoms)) ≤ max_actions) × IsMissing task atoms p
 IsFirstFault task atoms variables (fault.NotClosed p) =
-    AreWithinLimits atoms variables × AreAtomsOf task atoms × (length (actions_over task (contains atoms)) ≤ most_actions)
+    AreWithinLimits atoms variables × AreAtomsOf task atoms × (length (actions_over task (contains atoms)) ≤ max_actions)
     × (list_all (contains atoms) task.initial ≡ true) × (has_wanted (contains atoms) task.goal ≡ true)
     × ((a : Action) × IsFirstOpen task (contains atoms) a p)
 IsFirstFault task atoms variables (fault.Uncovered k) =

@@ -5,7 +5,7 @@ ghost use Rattle.std.specs.List.{list_all};
 ghost use Rattle.std.specs.Option.{option_copied};
 ghost use Rattle.pddl_task.specs.Atoms.{contains, has_wanted};
 ghost use Rattle.ground_theory.specs.Grounding.{IsClosedSet, actions_over};
-ghost use Rattle.ground_bindings.specs.Search.{most_actions};
+ghost use Rattle.ground_bindings.specs.Search.{max_actions};
 ghost use Rattle.ground.specs.Rounds.{wanted_atoms};
 ghost use Rattle.translate_theory.specs.Variables.{PlacedVariable};
 ghost use Rattle.translate_vars.specs.Parts.{AreWithinLimits};
@@ -35,7 +35,7 @@ fn check_first_atoms(alloc: Global, task: &Task, atoms: &Atoms) -> Result<(), Tr
     ensures initial { OnOk result (list_all (contains atoms.now) task.now.initial ≡ true) }
     ensures goal { OnOk result (has_wanted (contains atoms.now) task.now.goal ≡ true) }
     ensures fault { (variables : List PlacedVariable) → AreWithinLimits atoms.now variables → AreAtomsOf task.now atoms.now →
-        length (actions_over task.now (contains atoms.now)) ≤ most_actions →
+        length (actions_over task.now (contains atoms.now)) ≤ max_actions →
         IfErr result (IsFirstFault task.now atoms.now variables) }
 {
     if let Some(atom) = least_missing(atoms, &task.initial) {
@@ -58,7 +58,7 @@ pub(crate) fn check_closed(
     requires { actions.now ≡ actions_over task.now (contains atoms.now) }
     ensures closed { OnOk result (IsClosedSet task.now (contains atoms.now)) }
     ensures fault { (variables : List PlacedVariable) → AreWithinLimits atoms.now variables → AreAtomsOf task.now atoms.now →
-        length (actions_over task.now (contains atoms.now)) ≤ most_actions →
+        length (actions_over task.now (contains atoms.now)) ≤ max_actions →
         IfErr result (IsFirstFault task.now atoms.now variables) }
 {
     check_first_atoms(alloc, task, atoms)?;

@@ -4,27 +4,22 @@ ghost use Rattle.std.specs.Prelude.{◌≡◌, nat_lt, OnOk, IfErr};
 ghost use Rattle.pddl_task.specs.Planning.{PlanningTask};
 ghost use Rattle.translate_vars.specs.Parts.{value_count, has_long_range, AreWithinLimits};
 ghost use Rattle.translate_vars.specs.Faults.{IsFirstFault};
+ghost use Rattle.fdr.specs.Limits.{max_values};
 
 use crate::fault::TranslateFault;
-use fdr::TaskLimit;
-use ground::MOST_ATOMS;
+use fdr::{MAX_VALUES, MAX_VARIABLES, TaskLimit};
+use ground::MAX_ATOMS;
 use pddl_task::GroundAtom;
 use translate_theory::ListedVariable;
 
-/// The greatest number of variables.
-const MOST_VARIABLES: usize = 65_536;
-
-/// The greatest number of values of a variable.
-const MOST_VALUES: usize = 65_536;
-
-/// Whether the variable has more than `MOST_VALUES` values: its atoms, and the none value if it has one.
+/// Whether the variable has more than `MAX_VALUES` values: its atoms, and the none value if it has one.
 fn is_long(variable: &ListedVariable) -> bool
-    ensures { result ≡ nat_lt 65536 (value_count variable.now) }
+    ensures { result ≡ nat_lt max_values (value_count variable.now) }
 {
     if variable.has_none {
-        MOST_VALUES <= variable.places.len()
+        MAX_VALUES <= variable.places.len()
     } else {
-        MOST_VALUES < variable.places.len()
+        MAX_VALUES < variable.places.len()
     }
 }
 
@@ -42,10 +37,10 @@ pub(crate) fn check_limits(
     ensures within { OnOk result (AreWithinLimits atoms.now variables.now) }
     ensures fault { (task : PlanningTask) → IfErr result (IsFirstFault task atoms.now variables.now) }
 {
-    if MOST_ATOMS < atoms.len() {
+    if MAX_ATOMS < atoms.len() {
         return Err(TranslateFault::GroundLimit);
     }
-    if MOST_VARIABLES < variables.len() {
+    if MAX_VARIABLES < variables.len() {
         return Err(TranslateFault::Limit(TaskLimit::Variables));
     }
     if has_long_range(variables) {

@@ -12,7 +12,7 @@ use Rattle.sexp.proofs.Promises.{no_fault_is, one_reading_is, spelled_or_not_is}
 use Rattle.validate.specs.Steps.{Step}
 use Rattle.validate.specs.declared.plan.PlanFault.{PlanFault}
 use Rattle.validate.specs.declared.plan.PlanFault.TheVariants.{OutOfMemory, Tree, PlanShape, PlanLimit}
-use Rattle.validate.specs.PlanTexts.{SpellsPlan, IsPlanFault, GivesPlan, step_limit, first_of_places, lists_in, list_faults, shape_faults, step_of, steps_of, with_step}
+use Rattle.validate.specs.PlanTexts.{SpellsPlan, IsPlanFault, GivesPlan, max_steps, first_of_places, lists_in, list_faults, shape_faults, step_of, steps_of, with_step}
 
 pub ruleset appending = (append_assoc, map-append)
 
@@ -63,7 +63,7 @@ steps_of_trees ts e = steps_count (views ts) (no_place (shape_faults (views ts))
 
 -- what is read is spelled so
 pub plan_spelled : (bytes : List ℕ) (ts : List Expression) (steps : List Step) → SpellsAll bytes (views ts) → first_of_places (shape_faults (views ts)) ≡ None
-    → length ts ≤ step_limit → steps ≡ steps_of (views ts) → SpellsPlan bytes steps
+    → length ts ≤ max_steps → steps ≡ steps_of (views ts) → SpellsPlan bytes steps
 plan_spelled bytes ts steps h shape few is = record {
   forms = views ts;
   spelled = h;
@@ -99,7 +99,7 @@ gives_plan bytes (Err (PlanShape at)) h k plan p = plan_clean bytes plan (PlanSh
 gives_plan bytes (Err PlanLimit) h k plan p = plan_clean bytes plan PlanLimit p (λ w. absurd cc) k
 
 -- more trees than a plan has steps, and no fault of shape
-pub over_limit : (bytes : List ℕ) (ts : List Expression) → SpellsAll bytes (views ts) → first_of_places (shape_faults (views ts)) ≡ None → step_limit < length ts → IsPlanFault bytes PlanLimit
+pub over_limit : (bytes : List ℕ) (ts : List Expression) → SpellsAll bytes (views ts) → first_of_places (shape_faults (views ts)) ≡ None → max_steps < length ts → IsPlanFault bytes PlanLimit
 over_limit bytes ts h shape lt = (views ts, h, no_place (shape_faults (views ts)) shape, omega (arith, steps_of_trees ts shape))
 
 -- a text spells one plan
@@ -114,7 +114,7 @@ of_forms bytes f h None e =
     ⊎_elim
     (λ many. inr (PlanLimit, (λ w. absurd cc), (f, h, no_place (shape_faults f) e, many)))
     (λ few. inl (steps_of f, record { forms = f; spelled = h; lists_of_words = no_place (shape_faults f) e; steps_are = refl; few = few }))
-    (cases_lt step_limit (length (steps_of f)))
+    (cases_lt max_steps (length (steps_of f)))
 
 pub plan_or_fault : (bytes : List ℕ) → ((plan : List Step) × SpellsPlan bytes plan) ⊎ ((e : PlanFault) × (e ≢ OutOfMemory) × IsPlanFault bytes e)
 plan_or_fault bytes =

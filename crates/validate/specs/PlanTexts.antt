@@ -50,8 +50,8 @@ shape_faults (word s e t f) = s ∷ shape_faults f
 shape_faults (group s e i f) = list_faults s i ++ shape_faults f
 
 -- the largest number of steps of a plan
-abbrev pub step_limit : ℕ
-step_limit = 1048576
+abbrev pub max_steps : ℕ
+max_steps = 1048576
 
 abbrev pub first_of_places : List ℕ → Option ℕ
 first_of_places [] = None
@@ -63,14 +63,14 @@ pub record SpellsPlan (bytes : List ℕ) (steps : List Step) : Type 0 where
   pub spelled : SpellsAll bytes forms
   pub lists_of_words : shape_faults forms ≡ []
   pub steps_are : steps ≡ steps_of forms
-  pub few : length steps ≤ step_limit
+  pub few : length steps ≤ max_steps
 
 -- the fault of the text: that of its trees, its first place that is at fault, or the number of its steps
 abbrev pub IsPlanFault : List ℕ → PlanFault → Type 0
 IsPlanFault bytes OutOfMemory = Unit {0}
 IsPlanFault bytes (Tree e) = IsFirstFault false bytes e
 IsPlanFault bytes (PlanShape at) = (f : Forms) × SpellsAll bytes f × (first_of_places (shape_faults f) ≡ Some at)
-IsPlanFault bytes PlanLimit = (f : Forms) × SpellsAll bytes f × (shape_faults f ≡ []) × (step_limit < length (steps_of f))
+IsPlanFault bytes PlanLimit = (f : Forms) × SpellsAll bytes f × (shape_faults f ≡ []) × (max_steps < length (steps_of f))
 
 -- the steps were read, unless allocation failed
 abbrev pub GivesPlan : Result (List Step) PlanFault → List Step → Type 0

@@ -2,6 +2,7 @@
 
 ghost use Rattle.std.specs.Prelude.{◌≡◌, ◌≤◌, length};
 ghost use Rattle.validate.specs.declared.plan.PlanFault.TheVariants.{OutOfMemory};
+ghost use Rattle.validate.specs.PlanTexts.{max_steps};
 
 use sexp::SexpFault;
 use std::alloc::{AllocError, AllocFailed};
@@ -35,13 +36,12 @@ pub struct Plan {
 impl Model for Plan {
     ghost use Rattle.std.specs.Prelude.{List, ◌≤◌, length};
     ghost use Rattle.validate.specs.Steps.{Step as Words};
-    ghost use Rattle.validate.specs.PlanTexts.{step_limit};
 
     ghost Value = { List Words };
 
     ghost view = { λ p. p.steps.items };
 
-    ghost invariant = { λ p. length p.steps.items ≤ step_limit };
+    ghost invariant = { λ p. length p.steps.items ≤ max_steps };
 }
 
 /// Why a text is not a plan.
@@ -77,9 +77,9 @@ impl<T: Drop> From<AllocFailed<T>> for PlanFault {
 }
 
 impl Plan {
-    /// The plan with these steps, at most 1,048,576.
+    /// The plan with these steps, of which there are at most `MAX_STEPS`.
     pub fn new(steps: Vec<Step>) -> Plan
-        requires { length steps.items ≤ 1048576 }
+        requires { length steps.items ≤ max_steps }
         ensures { result ≡ steps.items }
     {
         Plan { steps }
@@ -88,7 +88,7 @@ impl Plan {
     /// The steps, in order.
     pub fn steps(&self) -> &[Step]
         ensures steps { result.now ≡ self.now }
-        ensures few { length self.now ≤ 1048576 }
+        ensures few { length self.now ≤ max_steps }
     {
         &self.steps
     }

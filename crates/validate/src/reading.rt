@@ -12,6 +12,7 @@ use crate::plan::{Plan, PlanFault, Step};
 use sexp::{SexpFault, Tree, read_all};
 use std::alloc::{AllocError, Global};
 
+/// The greatest number of steps of a plan.
 const MAX_STEPS: usize = 1_048_576;
 
 // ---- something else than lists of words

@@ -7,6 +7,7 @@ ghost use Rattle.pddl_task.specs.Planning.{has_small_costs};
 ghost use Rattle.validate.specs.Steps.{numbers_of, action_named};
 ghost use Rattle.validate.specs.Validation.{verdict_of};
 ghost use Rattle.validate.specs.Verdicts.{IsVerdict, CostsAtMost};
+ghost use Rattle.pddl_task.specs.Limits.{max_cost};
 
 use crate::plan::{Plan, Step};
 use crate::state::AtomSet;
@@ -64,7 +65,7 @@ fn action_named(alloc: Global, task: &Task, step: &Step) -> Result<Option<Ground
 /// The verdict on a plan, by applying its steps one after the other.
 fn verdict_of(alloc: Global, task: &Task, plan: &Plan) -> Result<Verdict, AllocError>
     requires small { IsTrue (has_small_costs task.now) }
-    requires costs { CostsAtMost task.now 2147483647 }
+    requires costs { CostsAtMost task.now max_cost }
     ensures { IfOk result (λ verdict. verdict ≡ verdict_of task.now plan.now) }
 {
     let mut state = AtomSet::of(alloc, &task.initial)?;
@@ -92,7 +93,7 @@ fn verdict_of(alloc: Global, task: &Task, plan: &Plan) -> Result<Verdict, AllocE
 /// Fails only if allocation fails.
 pub fn validate(alloc: Global, task: &Task, plan: &Plan) -> Result<Verdict, AllocError>
     requires small { IsTrue (has_small_costs task.now) }
-    requires costs { CostsAtMost task.now 2147483647 }
+    requires costs { CostsAtMost task.now max_cost }
     ensures { IfOk result (λ verdict. IsVerdict task.now plan.now verdict) }
 {
     verdict_of(alloc, task, plan)

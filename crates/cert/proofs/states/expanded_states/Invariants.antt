@@ -1,5 +1,5 @@
 use Rattle.std.proofs.Common.{◌≡◌, ◌≤◌, length, take, All}
-use Rattle.owner.specs.Owned.{most_total}
+use Rattle.owner.specs.Owned.{max_total}
 use Rattle.cert.specs.Expanded.{closed_in, listed, IsLong}
 use Rattle.cert.proofs.states.expanded_states.Given as goal
 
@@ -8,5 +8,5 @@ invariant-loop-owner g l = record {
   states : listed l.width l.states ≡ closed_in (take l.owner-index l.owners);
   long : IsLong l.width l.states;
   wide : length l.state.items ≡ l.width;
-  cheap : All (λ o. All (λ n. n.cost ≤ most_total) o.nodes) (take l.owner-index l.owners);
+  cheap : All (λ o. All (λ n. n.cost ≤ max_total) o.nodes) (take l.owner-index l.owners);
 }

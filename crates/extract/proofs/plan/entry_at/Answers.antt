@@ -1,7 +1,7 @@
 use Rattle.std.proofs.Common.{◌≡◌, ◌≤◌, subst}
 use Rattle.owner_theory.specs.Owners.{At, Node}
 use Rattle.owner_theory.proofs.Lists as lists
-use Rattle.owner.specs.Owned.{OwnerOf, most_total, IsKept, space_of}
+use Rattle.owner.specs.Owned.{OwnerOf, max_total, IsKept, space_of}
 use Rattle.extract.proofs.Places.{at_read, at_some, at_get, each_at}
 use Rattle.extract.proofs.plan.entry_at.Goals as goal
 
@@ -25,5 +25,5 @@ returns-clause-small g c =
     let (n, at) = at_some c.index-owners-worker.result.nodes c.args.index (c.requires.index c.index-owners-worker.result here) in
     let kept = each_at (IsKept (space_of g.S.Spread.owner c.index-owners-worker.result) c.index-owners-worker.result.worker)
     c.index-owners-worker.result.nodes c.args.index n c.recall.ensures.nodes at in
-    subst (λ (x : Node). x.steps ≤ most_total)
+    subst (λ (x : Node). x.steps ≤ max_total)
     (c.entry.ensures n (at_get c.index-owners-worker.result.nodes c.args.index n at)) kept.steps

@@ -2,7 +2,7 @@ use Rattle.std.proofs.Common.{◌≡◌, ◌≤◌, ◌∙◌, ◌++◌, ℕ, Li
 use Rattle.fdr.specs.Tasks.{IsPlan, plan_cost}
 use Rattle.owner_theory.specs.Owners.{Node}
 use Rattle.owner_theory.specs.Families.{IsBelow}
-use Rattle.owner.specs.Owned.{most_total}
+use Rattle.owner.specs.Owned.{max_total}
 use Rattle.extract.proofs.Following.{FollowsParent, parent_in, goal_stands, worker_within, index_within, entry_there, next_node, leads_on, all_followed, rank_falls, follows_plan, follows_at_most, follows_exact}
 use Rattle.extract.proofs.plan.plan_of.Goals as goal
 
@@ -53,7 +53,7 @@ loop-entry-smaller g c =
     c.loop-entry.entry c.in-Some.parent c.loop-entry.invariant.there c.in-Some.is in
     let is = entry_there c.args.joined.now c.owners-owners.result.now c.owners-owners.ensures c.in-Some.parent.worker
     c.in-Some.parent.index origin at c.entry_at-entry-in-Some.result c.entry_at-entry-in-Some.ensures.entry in
-    let small : c.entry_at-entry-in-Some.result.rank.steps ≤ most_total = c.entry_at-entry-in-Some.ensures.small in
+    let small : c.entry_at-entry-in-Some.result.rank.steps ≤ max_total = c.entry_at-entry-in-Some.ensures.small in
     rank_falls 18446744073709551616 c.entry_at-entry-in-Some.result.rank.cost c.entry_at-entry-in-Some.result.rank.steps
     c.loop-entry.entry.rank.cost c.loop-entry.entry.rank.steps (omega arith)
     (subst (λ (x : Node). IsBelow x.cost x.steps c.loop-entry.entry.rank.cost c.loop-entry.entry.rank.steps) is below)

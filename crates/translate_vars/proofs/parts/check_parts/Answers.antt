@@ -1,7 +1,7 @@
 use Rattle.std.proofs.Common.{rules, ◌≤◌, length}
 use Rattle.pddl_task.specs.Atoms.{contains}
 use Rattle.ground_theory.specs.Grounding.{IsClosedSet, actions_over}
-use Rattle.ground_bindings.specs.Search.{most_actions}
+use Rattle.ground_bindings.specs.Search.{max_actions}
 use Rattle.ground_bindings.proofs.SearchLaws.{fault_passed}
 use Rattle.translate_theory.specs.Translations.{AreVariables}
 use Rattle.translate_theory.specs.Variables.{variables_at}
@@ -17,7 +17,7 @@ pub returns-clause-fit : goal.returns-clause-fit
 returns-clause-fit c =
     let known : AreAtomsOf c.args.task.now c.args.atoms.now = search rules in
     let closed : IsClosedSet c.args.task.now (contains c.args.atoms.now) = search rules in
-    let few : length (actions_over c.args.task.now (contains c.args.atoms.now)) ≤ most_actions = search rules in
+    let few : length (actions_over c.args.task.now (contains c.args.atoms.now)) ≤ max_actions = search rules in
     let chosen : AreVariables c.args.task.now c.args.atoms.now (actions_over c.args.task.now (contains c.args.atoms.now)) (variables_at c.args.atoms.now c.args.variables.now) = search rules in
     record {
       within = c.in_ok-check_limits.ensures.within;
