@@ -14,22 +14,9 @@ use crate::sorting::sorted_list;
 use crate::states::expanded_states;
 use crate::tables::copied_columns;
 use cert_value::{Certificate, CertificateKind};
-use cost::Dist;
-use extract::Joined;
-use owner::Owner;
+use extract::{Joined, best_goal};
 use packed_spread::Spread;
 use std::alloc::{AllocError, Global};
-
-/// The least cost at which any of the owners took a goal state, infinite if none did.
-fn best_of_owners<S: Spread + Drop>(owners: &[Owner<'_, S>]) -> Dist
-    ensures { result ≡ least (map (λ o. o.best) owners.now) }
-{
-    let mut best = Dist::inf();
-    for owner in owners {
-        best = best.min(owner.best_goal());
-    }
-    best
-}
 
 /// The certificate of a search. Its bound is the least cost at which a goal state was taken, infinite if none was; its
 /// columns are those of the heuristic; its closed states are those that the owners expanded at their present ranks, in
@@ -61,6 +48,6 @@ pub fn cert_of<'a, S: Spread + Drop>(
     let states = expanded_states(alloc, width, joined.owners())?;
     let closed = sorted_list(alloc, width, &states.costs, &states.values)?;
     let columns = copied_columns(alloc, space.columns().tables())?;
-    let bound = best_of_owners(joined.owners());
+    let bound = best_goal(joined.owners());
     Ok(Certificate::new(kind, bound, columns, closed))
 }

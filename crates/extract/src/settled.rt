@@ -96,7 +96,7 @@ fn least_pending<S: Spread + Drop>(
 }
 
 /// The least cost at which any of the owners took a goal state, infinite if none did.
-fn best_goal<S: Spread + Drop>(owners: &[Owner<'_, S>]) -> Dist
+pub fn best_goal<S: Spread + Drop>(owners: &[Owner<'_, S>]) -> Dist
     ensures { result ≡ least (map (λ o. o.best) owners.now) }
 {
     let mut best = Dist::inf();

@@ -17,8 +17,12 @@ kept true d s e h = refl
 kept false true s e h = absurd (true≢false h)
 kept false false s e h = rw e
 
+-- an atom that is added is true
+pub next_added : (state : State) (a : Action) (p : Atom) → contains a.adds p ≡ true → next_state state a p ≡ true
+next_added state a p h = or_left _ _ h
+
 -- an atom that is true and not removed stays true
-next_kept : (state : State) (a : Action) (p : Atom) → state p ≡ true → removes a p ≡ false → next_state state a p ≡ true
+pub next_kept : (state : State) (a : Action) (p : Atom) → state p ≡ true → removes a p ≡ false → next_state state a p ≡ true
 next_kept state a p h e = kept (contains a.adds p) (contains a.deletes p) (state p) h e
 
 -- what each step by one of the actions keeps holds at the end
@@ -35,19 +39,19 @@ kept_by actions P step (a ∷ plan) s t here listed run = go (is_applicable s a)
     go false e run ih = cc run
 
 -- a full group keeps a true atom
-some_after : (state : State) (a : Action) (g : List Atom)
+pub some_after : (state : State) (a : Action) (g : List Atom)
     → cond (list_any (removes a) g) (list_any (contains a.adds) g) true ≡ true → list_any state g ≡ true → list_any (next_state state a) g ≡ true
 some_after state a g full some =
     let p = any_at state g some in
     ⊎_elim
     (λ e. let q = any_at (contains a.adds) g (if_at _ _ full (any_from (removes a) g p.0 p.1 e)) in
-    any_from (next_state state a) g q.0 q.1 (or_left _ _ q.2))
+    any_from (next_state state a) g q.0 q.1 (next_added state a q.0 q.2))
     (λ e. any_from (next_state state a) g p.0 p.1 (next_kept state a p.0 p.2 e))
     (cases_Bool (removes a p.0))
 
 module _ (state : State) (a : Action) (app : is_applicable state a ≡ true) (g : List Atom) (one : at_most_one state g ≡ true) where
   -- where it adds one, what is true after the step is what it adds
-  after_adding : takes_over g a ≡ true → list_any (contains a.adds) g ≡ true → (q : Atom) → Mem q g → next_state state a q ≡ true → contains a.adds q ≡ true
+  pub after_adding : takes_over g a ≡ true → list_any (contains a.adds) g ≡ true → (q : Atom) → Mem q g → next_state state a q ≡ true → contains a.adds q ≡ true
   after_adding over some q mq h = ⊎_elim (λ e. e) (λ e. go e.0 e.1) (next_was state a q h)
     where
       go : state q ≡ true → contains a.deletes q ≡ false → contains a.adds q ≡ true
@@ -64,11 +68,11 @@ module _ (state : State) (a : Action) (app : is_applicable state a ≡ true) (g 
           (or_cases (same_atom r.0 p.0) (removes a r.0) parts.1)
 
   -- where it adds none, what is true was true
-  after_removing : list_any (contains a.adds) g ≡ false → (q : Atom) → Mem q g → next_state state a q ≡ true → state q ≡ true
+  pub after_removing : list_any (contains a.adds) g ≡ false → (q : Atom) → Mem q g → next_state state a q ≡ true → state q ≡ true
   after_removing none q mq h =
       ⊎_elim (λ e. absurd (both_ways (contains a.adds q) (none_at (contains a.adds) g q none mq) e)) (λ e. e.0) (next_was state a q h)
 
-  one_after : at_most_one (contains a.adds) g ≡ true → takes_over g a ≡ true → at_most_one (next_state state a) g ≡ true
+  pub one_after : at_most_one (contains a.adds) g ≡ true → takes_over g a ≡ true → at_most_one (next_state state a) g ≡ true
   one_after adds over =
       ⊎_elim
       (λ some. one_less (contains a.adds) (next_state state a) g adds (after_adding over some))

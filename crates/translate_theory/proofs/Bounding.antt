@@ -16,8 +16,8 @@ use Rattle.mutex.specs.Groups.{is_usable}
 use Rattle.translate_theory.specs.Translations.{Variable, AreVariables, value_in, translation, AreOperatorsOf}
 use Rattle.pddl_task.proofs.Lists.{Mem, mem_from_contains, mem_get, all_mem}
 use Rattle.pddl_task.proofs.AtomLaws.{one_of, one_single}
-use Rattle.translate_theory.proofs.Runs.{IsInside, kept_along, step_inside, initial_inside, applies_over}
-use Rattle.translate_theory.proofs.GroupLaws.{one_after}
+use Rattle.ground_theory.proofs.Runs.{IsInside, kept_along, step_inside, initial_inside, applies_over}
+use Rattle.mutex.proofs.GroupLaws.{one_after}
 use Rattle.translate_theory.proofs.Following.{group_initially, adds_one, over_at, variable_cases, variable_at}
 use Rattle.translate_theory.proofs.SamePlans.{plans_same, costs_same, operators_of_plan, actions_of_plan}
 

@@ -14,8 +14,9 @@ use Rattle.mutex.specs.Groups.{takes_over, starts_inside, is_group, is_usable}
 use Rattle.translate_theory.specs.Translations.{Variable, IsGroupVariable, IsVariableOf, IsVariableOver, AreVariables, value_in, condition_on, target_on, is_single}
 use Rattle.pddl_task.proofs.Lists.{Mem, mem_from_contains, all_mem, bool_same, all_at, any_at, any_from, none_at, same_position, position_none, position_below, common_first}
 use Rattle.pddl_task.proofs.AtomLaws.{contains_mem, one_of, one_single, wanted_holds, excluded_fails, satisfied_from, not_both, wanted_in}
-use Rattle.translate_theory.proofs.Runs.{IsInside, next_kept, step_inside, initial_inside, applies_over}
-use Rattle.translate_theory.proofs.GroupLaws.{one_after, group_value, single_value}
+use Rattle.ground_theory.proofs.Runs.{IsInside, step_inside, initial_inside, applies_over}
+use Rattle.mutex.proofs.GroupLaws.{next_kept, one_after}
+use Rattle.translate_theory.proofs.ValueLaws.{group_value, single_value}
 
 -- some element passes if not none do
 counted : {X : Type 0} (p : X → Bool) (xs : List X) (n : ℕ) → count_by p xs ≡ suc n → (x : X) × Mem x xs × (p x ≡ true)

@@ -1,6 +1,5 @@
 pub mod FactLaws
-pub mod Runs
-pub mod GroupLaws
+pub mod ValueLaws
 pub mod Following
 pub mod SamePlans
 pub mod Ranges

@@ -23,7 +23,7 @@ returns g c =
     let ok = c.recall.ensures.space in
     let ends = c.recall.ensures.lawful in
     let is : c.new.result ≡ record { kind = kind_of c.args.kind; bound = least (map (λ o. o.best) c.args.joined.now.owners); columns = c.args.joined.now.space.columns; closed = c.in_ok-closed.closed } =
-    rw (c.best_of_owners-bound.ensures, c.owners-2.ensures, c.in_ok-columns.ensures, c.tables.ensures, c.columns-2.ensures, c.space-space.ensures) at c.new.ensures in
+    rw (c.best_goal-bound.ensures, c.owners-2.ensures, c.in_ok-columns.ensures, c.tables.ensures, c.columns-2.ensures, c.space-space.ensures) at c.new.ensures in
     let moved : IsPermutation (closed_in c.args.joined.now.owners) c.in_ok-closed.closed =
     rw (c.deref.ensures.value, c.deref-2.ensures.value, c.in_ok-states.ensures.states, c.owners.ensures) at c.in_ok-closed.ensures.permutation in
     let made : IsMade g.S.Spread.owner c.args.joined.now c.recall.ensures.space c.recall.ensures.lawful (kind_of c.args.kind) c.in_ok-closed.closed c.new.result =

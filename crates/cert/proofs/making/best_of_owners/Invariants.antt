@@ -1,6 +1,0 @@
-use Rattle.std.proofs.Common.{◌≡◌, map, take}
-use Rattle.cost.specs.Distances.{least}
-use Rattle.cert.proofs.making.best_of_owners.Given as goal
-
-abbrev pub invariant-loop-owner : goal.invariant-loop-owner
-invariant-loop-owner g l = l.best ≡ least (map (λ o. o.best) (take l.owner-index l.owners))
