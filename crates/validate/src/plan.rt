@@ -21,6 +21,7 @@ impl Model for Step {
     ghost use Rattle.std.specs.Prelude.{string_bytes};
     ghost use Rattle.pddl_names.specs.Names.{texts_of};
     ghost use Rattle.validate.specs.Steps.{Step as Words};
+    ghost use Rattle.validate.specs.PlanTexts.{max_steps};
 
     ghost Value = { Words };
 
@@ -36,6 +37,7 @@ pub struct Plan {
 impl Model for Plan {
     ghost use Rattle.std.specs.Prelude.{List, ◌≤◌, length};
     ghost use Rattle.validate.specs.Steps.{Step as Words};
+    ghost use Rattle.validate.specs.PlanTexts.{max_steps};
 
     ghost Value = { List Words };
 
