@@ -21,7 +21,6 @@ impl Model for Step {
     ghost use Rattle.std.specs.Prelude.{string_bytes};
     ghost use Rattle.pddl_names.specs.Names.{texts_of};
     ghost use Rattle.validate.specs.Steps.{Step as Words};
-    ghost use Rattle.validate.specs.PlanTexts.{max_steps};
 
     ghost Value = { Words };
 
