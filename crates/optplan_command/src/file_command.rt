@@ -125,7 +125,7 @@ pub(crate) fn run_files<D: Device, R: AllocGlobal>(
     command: FileCommand<'_>,
 ) -> Status
     ensures done { (h : List Event) → D.history device.old ≡ Some h → D.failure_count device.new ≡ D.failure_count device.old → result ≢ Status.OutOfMemory →
-        (new : List Event) × (D.history device.new ≡ Some new) × DoesCommand h new command result }
+        (new : List Event) × (D.history device.new ≡ Some new) × DoesCommand h new command.entry result }
     ensures device_failed { result ≡ Status.DeviceFailed → D.failure_count device.old + 1 ≤ D.failure_count device.new }
 {
     match command {
