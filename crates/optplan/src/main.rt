@@ -2,7 +2,7 @@
 //! certificate that the separate checker provably accepts, if the certificate's text has at most 2^30 bytes.
 #![tactic(auto)]
 
-use optplan_command::run;
+use optplan_command::{Status, run};
 use optplan_device::ProcessDevice;
 use std::alloc::AllocError;
 use std::process::ExitCode;
@@ -11,11 +11,11 @@ fn main(rt: HostRuntime) -> ExitCode {
     let words: Vec<String> = match std::env::args(&rt) {
         Ok(args) => match args.collect(rt.alloc()) {
             Ok(words) => words,
-            Err(_) => return ExitCode::from(6),
+            Err(_) => return ExitCode::from(Status::OutOfMemory.code()),
         },
-        Err(_) => return ExitCode::from(6),
+        Err(_) => return ExitCode::from(Status::OutOfMemory.code()),
     };
     let mut device = ProcessDevice::new(&rt);
     let status = run(&words, &mut device, &rt);
-    ExitCode::from(status)
+    ExitCode::from(status.code())
 }

@@ -3,5 +3,6 @@ pub mod Validations
 pub mod Checks
 pub mod PlanningChecks
 pub mod Translations
-pub mod AskedWords
+pub mod FileCommands
+pub mod PlainWords
 pub mod Operands

@@ -11,19 +11,21 @@ use Rattle.validate.specs.Written.{verdict_line_of}
 use Rattle.validate.specs.declared.verdict.Verdict.{Verdict}
 use Rattle.validate.specs.declared.verdict.Verdict.TheVariants.{Valid, NoSuchAction, NotApplicable, GoalOpen}
 use Rattle.validate.specs.declared.plan.PlanFault.TheVariants as plan_fault
+use Rattle.optplan_replies.specs.declared.status.Status.{Status}
+use Rattle.optplan_replies.specs.declared.status.Status.TheVariants as exit
 use Rattle.optplan_replies.specs.Words.{word_of_fault}
 use Rattle.optplan_replies.specs.declared.fault.Fault.{Fault}
 use Rattle.optplan_replies.specs.declared.fault.Fault.TheVariants.{OutOfMemory, CannotRead, CannotWrite, Task, Plan, Sas, Cert, GroundLimit, TaskTooLarge, TotalTooLarge}
 
 -- the exit status of a verdict
-abbrev pub verdict_status : Verdict → ℕ
-verdict_status (Valid cost) = 0
-verdict_status (NoSuchAction number) = 3
-verdict_status (NotApplicable number l) = 3
-verdict_status (GoalOpen l) = 3
+abbrev pub verdict_status : Verdict → Status
+verdict_status (Valid cost) = exit.Done
+verdict_status (NoSuchAction number) = exit.Rejected
+verdict_status (NotApplicable number l) = exit.Rejected
+verdict_status (GoalOpen l) = exit.Rejected
 
 -- the texts spell a task and a plan, and the line and the status are those of the verdict on the plan
-pub record IsAnswer (domain problem plan line : List ℕ) (status : ℕ) : Type 0 where
+pub record IsAnswer (domain problem plan line : List ℕ) (status : Status) : Type 0 where
   pub task : PlanningTask
   pub spelled : SpellTask domain problem task
   pub steps : List Step

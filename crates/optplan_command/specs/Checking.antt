@@ -8,6 +8,8 @@ use Rattle.checker.specs.declared.verdict.Verdict.{Verdict}
 use Rattle.checker.specs.declared.verdict.Verdict.TheVariants.{Accepted, Rejected}
 use Rattle.checker.specs.declared.fault.CheckFault.{CheckFault}
 use Rattle.optplan_replies.specs.declared.fault.Fault.{Fault}
+use Rattle.optplan_replies.specs.declared.status.Status.{Status}
+use Rattle.optplan_replies.specs.declared.status.Status.TheVariants as exit
 use Rattle.optplan_replies.specs.Faults.{fault_of_check}
 use Rattle.optplan_replies.specs.Runs.{is_operand, Follows}
 
@@ -19,12 +21,12 @@ pub record AskForCheck (words : List (List ℕ)) (sas cert : List ℕ) : Type 0 
   pub cert_is : is_operand cert ≡ true
 
 -- the exit status of a verdict on a certificate
-abbrev pub check_status : Verdict → ℕ
-check_status (Accepted bound) = 0
-check_status (Rejected violation) = 3
+abbrev pub check_status : Verdict → Status
+check_status (Accepted bound) = exit.Done
+check_status (Rejected violation) = exit.Rejected
 
 -- the texts spell a task and a certificate, and the line and the status are those of the verdict on the certificate
-pub record IsCheckAnswer (sas cert line : List ℕ) (status : ℕ) : Type 0 where
+pub record IsCheckAnswer (sas cert line : List ℕ) (status : Status) : Type 0 where
   pub verdict : Verdict
   pub holds : IsAnswer sas cert verdict
   pub line_is : line ≡ verdict_text verdict ++ codes "\n"
@@ -41,7 +43,7 @@ abbrev pub check_reads : List ℕ → List ℕ → List ℕ → List ℕ → Lis
 check_reads sas s cert c = HasRead sas s ∷ HasRead cert c ∷ []
 
 -- the two files are read, in this order; then the verdict's line is printed, or one of the texts is refused
-pub record Checks (old new : List Event) (sas cert : List ℕ) (status : ℕ) : Type 0 where
+pub record Checks (old new : List Event) (sas cert : List ℕ) (status : Status) : Type 0 where
   pub sas_text : List ℕ
   pub cert_text : List ℕ
   pub later : List Event

@@ -5,3 +5,4 @@ pub mod PlanningChecking
 pub mod Translating
 pub mod Options
 pub mod SolveWords
+pub mod FileCommands

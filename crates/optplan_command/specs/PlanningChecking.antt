@@ -7,6 +7,8 @@ use Rattle.checker_pddl.specs.Answers as checked
 use Rattle.checker_pddl.specs.declared.verdict.PlanningVerdict.{PlanningVerdict}
 use Rattle.checker_pddl.specs.declared.verdict.PlanningVerdict.TheVariants.{Accepted, Rejected}
 use Rattle.checker_pddl.specs.declared.fault.PlanningCheckFault.TheVariants as check
+use Rattle.optplan_replies.specs.declared.status.Status.{Status}
+use Rattle.optplan_replies.specs.declared.status.Status.TheVariants as exit
 use Rattle.optplan_replies.specs.Reports.{IsTaskReport}
 use Rattle.optplan_replies.specs.Runs.{is_operand, Follows}
 use Rattle.optplan_command.specs.Validation.{reads}
@@ -14,12 +16,12 @@ use Rattle.optplan_replies.specs.declared.fault.Fault.{Fault}
 use Rattle.optplan_replies.specs.declared.fault.Fault.TheVariants.{OutOfMemory, CannotRead, CannotWrite, Task, Plan, Sas, Cert, GroundLimit, TaskTooLarge, TotalTooLarge}
 
 -- the exit status of a verdict on a certificate
-abbrev pub planning_check_status : PlanningVerdict → ℕ
-planning_check_status (Accepted bound) = 0
-planning_check_status (Rejected violation) = 3
+abbrev pub planning_check_status : PlanningVerdict → Status
+planning_check_status (Accepted bound) = exit.Done
+planning_check_status (Rejected violation) = exit.Rejected
 
 -- the texts spell a task and a certificate, and the line and the status are those of the verdict on the certificate
-pub record IsPlanningCheckAnswer (domain problem cert line : List ℕ) (status : ℕ) : Type 0 where
+pub record IsPlanningCheckAnswer (domain problem cert line : List ℕ) (status : Status) : Type 0 where
   pub verdict : PlanningVerdict
   pub holds : checked.IsAnswer domain problem cert verdict
   pub line_is : line ≡ verdict_text verdict ++ codes "\n"
@@ -47,7 +49,7 @@ pub record AskForPlanningCheck (words : List (List ℕ)) (domain problem cert : 
   pub cert_is : is_operand cert ≡ true
 
 -- the three files are read, in this order; then the verdict's line is printed, or one of the texts is refused
-pub record ChecksPlanning (old new : List Event) (domain problem cert : List ℕ) (status : ℕ) : Type 0 where
+pub record ChecksPlanning (old new : List Event) (domain problem cert : List ℕ) (status : Status) : Type 0 where
   pub domain_text : List ℕ
   pub problem_text : List ℕ
   pub cert_text : List ℕ

@@ -1,6 +1,7 @@
 -- What a solve command does by its words.
 use Rattle.std.specs.Prelude.{ℕ, List, [], Option, codes, unwrap_or}
 use Rattle.optplan_device.specs.Events.{Event}
+use Rattle.optplan_replies.specs.declared.status.Status.{Status}
 use Rattle.optplan_solve.specs.declared.settings.Settings.{Settings}
 use Rattle.optplan_solve.specs.Solving.{Solves}
 use Rattle.optplan_solve.specs.SasSolving.{SolvesSas}
@@ -12,13 +13,13 @@ abbrev pub operand : (List ℕ → Option (List ℕ)) → List ℕ → List ℕ
 operand value name = unwrap_or (value name) []
 
 -- the planning task of these files is solved as the options request
-pub record SolvesByWords (value : List ℕ → Option (List ℕ)) (old new : List Event) (status : ℕ) : Type 0 where
+pub record SolvesByWords (value : List ℕ → Option (List ℕ)) (old new : List Event) (status : Status) : Type 0 where
   pub settings : Settings
   pub asked : AreSettingsOf value settings
   pub solves : Solves old new (operand value (codes "DOMAIN")) (operand value (codes "PROBLEM")) settings.options settings.seed (files_of settings) status
 
 -- the finite-domain task of this file is solved as the options request
-pub record SolvesSasByWords (value : List ℕ → Option (List ℕ)) (old new : List Event) (status : ℕ) : Type 0 where
+pub record SolvesSasByWords (value : List ℕ → Option (List ℕ)) (old new : List Event) (status : Status) : Type 0 where
   pub settings : Settings
   pub asked : AreSettingsOf value settings
   pub solves : SolvesSas old new (operand value (codes "SAS")) settings.options settings.seed (files_of settings) status

@@ -6,6 +6,8 @@ use Rattle.pddl.specs.Texts.{SpellTask}
 use Rattle.translate.specs.Translated.{TranslatedTask, IsTranslation, HasSamePlans, IsUntranslated}
 use Rattle.translate_vars.specs.declared.fault.TranslateFault.TheVariants as translating
 use Rattle.sasfile_writer.specs.Written.{written}
+use Rattle.optplan_replies.specs.declared.status.Status.{Status}
+use Rattle.optplan_replies.specs.declared.status.Status.TheVariants.{Done}
 use Rattle.optplan_replies.specs.Reports.{IsTaskReport}
 use Rattle.optplan_replies.specs.Runs.{is_operand, Follows, task_reads}
 use Rattle.optplan_replies.specs.declared.fault.Fault.{Fault}
@@ -41,12 +43,12 @@ pub record AskForTranslation (words : List (List ℕ)) (domain problem : List �
   pub domain_is : is_operand domain ≡ true
   pub problem_is : is_operand problem ≡ true
 
--- the text is that of a translation, and the status is 0
-abbrev pub IsTranslationAnswer : List ℕ → List ℕ → List ℕ → ℕ → Type 0
-IsTranslationAnswer domain problem text status = IsTranslationText domain problem text × (status ≡ 0)
+-- the text is that of a translation, and the status is `Done`
+abbrev pub IsTranslationAnswer : List ℕ → List ℕ → List ℕ → Status → Type 0
+IsTranslationAnswer domain problem text status = IsTranslationText domain problem text × (status ≡ Done)
 
 -- the two files are read, in this order; then the text of a translation is printed, or one of the texts is refused
-pub record Translates (old new : List Event) (domain problem : List ℕ) (status : ℕ) : Type 0 where
+pub record Translates (old new : List Event) (domain problem : List ℕ) (status : Status) : Type 0 where
   pub domain_text : List ℕ
   pub problem_text : List ℕ
   pub later : List Event

@@ -1,6 +1,7 @@
 -- The validation of a plan: the words that request it, and what the command does.
 use Rattle.std.specs.Prelude.{◌≡◌, ℕ, true, List, [], ◌∷◌, ◌++◌, codes}
 use Rattle.optplan_device.specs.Events.{Event, HasRead}
+use Rattle.optplan_replies.specs.declared.status.Status.{Status}
 use Rattle.optplan_replies.specs.Runs.{is_operand, Follows}
 use Rattle.optplan_command.specs.Answers.{IsAnswer, IsRefusal}
 
@@ -17,7 +18,7 @@ abbrev pub reads : List ℕ → List ℕ → List ℕ → List ℕ → List ℕ 
 reads domain d problem p plan l = HasRead domain d ∷ HasRead problem p ∷ HasRead plan l ∷ []
 
 -- the three files are read, in this order; then the verdict's line is printed, or one of the texts is refused
-pub record Validates (old new : List Event) (domain problem plan : List ℕ) (status : ℕ) : Type 0 where
+pub record Validates (old new : List Event) (domain problem plan : List ℕ) (status : Status) : Type 0 where
   pub domain_text : List ℕ
   pub problem_text : List ℕ
   pub plan_text : List ℕ

@@ -4,21 +4,22 @@ ghost use Rattle.std.specs.Prelude.{◌≡◌, ◌≢◌, ◌≤◌, ◌+◌, �
 ghost use Rattle.optplan_device.specs.Events.{Event};
 ghost use Rattle.checker.specs.Verdicts.{verdict_text};
 ghost use Rattle.optplan_replies.specs.Runs.{IsDeviceFault};
+ghost use Rattle.optplan_replies.specs.Statuses.{IsOfVerdict};
 ghost use Rattle.optplan_command.specs.Checking.{check_status, IsCheckAnswer, IsCheckRefusal, check_reads, Checks};
 
 use checker::{Verdict, check_sas_owned};
 use optplan_device::Device;
-use optplan_replies::{Fault, FileWord, read_file, reply, report};
+use optplan_replies::{Fault, FileWord, Status, read_file, reply, report};
 use std::alloc::{AllocError, Global};
 
-/// The exit status of a verdict: 0 if the certificate is accepted, else 3.
-fn check_status(verdict: &Verdict) -> u8
+/// The exit status of a verdict: `Done` if the certificate is accepted, else `Rejected`.
+fn check_status(verdict: &Verdict) -> Status
     ensures status { result ≡ check_status verdict.now }
-    ensures small { result ≤ 3 }
+    ensures judged { IsOfVerdict result }
 {
     match verdict {
-        Verdict::Accepted(_) => 0,
-        Verdict::Rejected(_) => 3,
+        Verdict::Accepted(_) => Status::Done,
+        Verdict::Rejected(_) => Status::Rejected,
     }
 }
 
@@ -31,14 +32,14 @@ fn check_line(alloc: Global, verdict: &Verdict) -> Result<String, AllocError>
     Ok(line)
 }
 
-/// The line that is printed for a certificate's text and a task's, with its line feed, and the exit status: 0 if the
-/// certificate is accepted, else 3. Each text is dropped as soon as it is parsed.
+/// The line that is printed for a certificate's text and a task's, with its line feed, and the exit status: `Done` if the
+/// certificate is accepted, else `Rejected`. Each text is dropped as soon as it is parsed.
 ///
 /// Fails with the first fault of the task's text; if that spells a task, with the first fault of the certificate's; or
 /// with `OutOfMemory`.
-fn check_of<R: AllocGlobal>(rt: &R, sas: Vec<u8>, cert: Vec<u8>) -> Result<(String, u8), Fault>
+fn check_of<R: AllocGlobal>(rt: &R, sas: Vec<u8>, cert: Vec<u8>) -> Result<(String, Status), Fault>
     ensures answer { IfOk result (λ r. IsCheckAnswer sas.items cert.items (string_bytes r.0) r.1) }
-    ensures small { IfOk result (λ r. r.1 ≤ 3) }
+    ensures judged { IfOk result (λ r. IsOfVerdict r.1) }
     ensures refused { IfErr result (IsCheckRefusal sas.items cert.items) }
 {
     let verdict = match check_sas_owned(rt, sas, cert) {
@@ -70,10 +71,10 @@ fn read_texts<D: Device>(
 
 /// Checks a certificate for a finite-domain task: reads the two files, and prints the verdict's line or reports the
 /// fault. Returns the exit status.
-pub fn run_check<D: Device, R: AllocGlobal>(rt: &R, device: &mut D, sas: &str, cert: &str) -> u8
-    ensures done { (h : List Event) → D.history device.old ≡ Some h → D.failure_count device.new ≡ D.failure_count device.old → result ≢ 6 →
+pub fn run_check<D: Device, R: AllocGlobal>(rt: &R, device: &mut D, sas: &str, cert: &str) -> Status
+    ensures done { (h : List Event) → D.history device.old ≡ Some h → D.failure_count device.new ≡ D.failure_count device.old → result ≢ Status.OutOfMemory →
         (new : List Event) × (D.history device.new ≡ Some new) × Checks h new sas.now cert.now result }
-    ensures device_failed { result ≡ 7 → D.failure_count device.old + 1 ≤ D.failure_count device.new }
+    ensures device_failed { result ≡ Status.DeviceFailed → D.failure_count device.old + 1 ≤ D.failure_count device.new }
 {
     match read_texts(rt.alloc(), device, sas, cert) {
         Ok((sas, cert)) => {

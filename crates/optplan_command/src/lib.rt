@@ -3,6 +3,8 @@
 
 mod checking;
 mod command_line;
+mod file_command;
+mod file_words;
 mod options;
 mod planning_check;
 mod solve_words;
@@ -11,4 +13,5 @@ mod validation;
 mod verdict;
 
 pub use command_line::run;
+pub use optplan_replies::Status;
 pub use verdict::verdict_of;

@@ -6,21 +6,22 @@ ghost use Rattle.checker_pddl.specs.Answers as checked;
 ghost use Rattle.optplan_device.specs.Events.{Event};
 ghost use Rattle.optplan_command.specs.Validation.{reads};
 ghost use Rattle.optplan_replies.specs.Runs.{IsDeviceFault};
+ghost use Rattle.optplan_replies.specs.Statuses.{IsOfVerdict};
 ghost use Rattle.optplan_command.specs.PlanningChecking.{planning_check_status, IsPlanningCheckAnswer, IsPlanningCheckRefusal, ChecksPlanning};
 
 use checker_pddl::{PlanningCheckFault, PlanningVerdict, check_pddl};
 use optplan_device::Device;
-use optplan_replies::{Fault, FileWord, read_file, reply, report, task_fault};
+use optplan_replies::{Fault, FileWord, Status, read_file, reply, report, task_fault};
 use std::alloc::{AllocError, Global};
 
-/// The exit status of a verdict: 0 if the certificate is accepted, else 3.
-fn planning_check_status(verdict: &PlanningVerdict) -> u8
+/// The exit status of a verdict: `Done` if the certificate is accepted, else `Rejected`.
+fn planning_check_status(verdict: &PlanningVerdict) -> Status
     ensures status { result ≡ planning_check_status verdict.now }
-    ensures small { result ≤ 3 }
+    ensures judged { IsOfVerdict result }
 {
     match verdict {
-        PlanningVerdict::Accepted(_) => 0,
-        PlanningVerdict::Rejected(_) => 3,
+        PlanningVerdict::Accepted(_) => Status::Done,
+        PlanningVerdict::Rejected(_) => Status::Rejected,
     }
 }
 
@@ -55,7 +56,7 @@ fn planning_check_fault(
 }
 
 /// The line that is printed for a certificate's text and the texts of a domain and a problem, with its line feed, and the
-/// exit status: 0 if the certificate is accepted, else 3.
+/// exit status: `Done` if the certificate is accepted, else `Rejected`.
 ///
 /// Fails with the fault of the domain and the problem that comes first, with the first fault of the certificate, with the
 /// limit that is exceeded, or with `OutOfMemory`.
@@ -64,9 +65,9 @@ fn planning_check_of<R: AllocGlobal>(
     domain: &[u8],
     problem: &[u8],
     cert: &[u8],
-) -> Result<(String, u8), Fault>
+) -> Result<(String, Status), Fault>
     ensures answer { IfOk result (λ r. IsPlanningCheckAnswer domain.now problem.now cert.now (string_bytes r.0) r.1) }
-    ensures small { IfOk result (λ r. r.1 ≤ 3) }
+    ensures judged { IfOk result (λ r. IsOfVerdict r.1) }
     ensures refused { IfErr result (IsPlanningCheckRefusal domain.now problem.now cert.now) }
 {
     let verdict = match check_pddl(rt, domain, problem, cert) {
@@ -118,10 +119,10 @@ pub fn run_planning_check<D: Device, R: AllocGlobal>(
     domain: &str,
     problem: &str,
     cert: &str,
-) -> u8
-    ensures done { (h : List Event) → D.history device.old ≡ Some h → D.failure_count device.new ≡ D.failure_count device.old → result ≢ 6 →
+) -> Status
+    ensures done { (h : List Event) → D.history device.old ≡ Some h → D.failure_count device.new ≡ D.failure_count device.old → result ≢ Status.OutOfMemory →
         (new : List Event) × (D.history device.new ≡ Some new) × ChecksPlanning h new domain.now problem.now cert.now result }
-    ensures device_failed { result ≡ 7 → D.failure_count device.old + 1 ≤ D.failure_count device.new }
+    ensures device_failed { result ≡ Status.DeviceFailed → D.failure_count device.old + 1 ≤ D.failure_count device.new }
 {
     match read_texts(rt.alloc(), device, domain, problem, cert) {
         Ok(texts) => {

@@ -6,10 +6,12 @@ ghost use Rattle.optplan_device.specs.Events.{Event};
 ghost use Rattle.optplan_command.specs.Options.{AreChoicesOf, AreSettingsOf};
 ghost use Rattle.optplan_command.specs.SolveWords.{SolvesByWords, SolvesSasByWords};
 
+use crate::file_words::file;
 use crate::options::{RefusedValue, number_for};
 use clap::{Arg, ArgMatches, Command, Error};
 use optplan_device::Device;
-use optplan_sas::Options;
+use optplan_replies::Status;
+use optplan_sas::{MAX_TABLE, MAX_WORKERS, Options};
 use optplan_solve::{Settings, run_solve, run_solve_sas};
 use std::alloc::{AllocError, Global};
 
@@ -44,7 +46,10 @@ The certificate that --cert asks for is what the command check-sas takes, beside
 refused with one line on standard error, and so is a task that is too large (status 1).";
 
 /// The greatest number of most options, 2^63 - 1.
-const MOST: u64 = 9_223_372_036_854_775_807;
+const MAX_NUMBER: u64 = 9_223_372_036_854_775_807;
+
+/// The greatest number of messages that may be underway to a worker.
+const MAX_RING: u64 = 65_536;
 
 fn option<'a>(alloc: Global, name: &'a str, value: &'a str, help: &'a str) -> Arg<'a> {
     Arg::new(alloc, name)
@@ -110,16 +115,8 @@ pub(crate) fn solve_command<'a>(alloc: Global, name: &'a str) -> Result<Command<
     let command = Command::new(alloc, name)
         .about(SOLVE_ABOUT)
         .long_about(SOLVE_LONG)
-        .arg(
-            Arg::new(alloc, "DOMAIN")
-                .required(true)
-                .help("The domain's file"),
-        )?
-        .arg(
-            Arg::new(alloc, "PROBLEM")
-                .required(true)
-                .help("The problem's file"),
-        )?;
+        .arg(file(alloc, "DOMAIN", "The domain's file"))?
+        .arg(file(alloc, "PROBLEM", "The problem's file"))?;
     with_file_options(alloc, with_search_options(alloc, command)?)
 }
 
@@ -131,11 +128,7 @@ pub(crate) fn solve_sas_command<'a>(
     let command = Command::new(alloc, name)
         .about(SOLVE_SAS_ABOUT)
         .long_about(SOLVE_SAS_LONG)
-        .arg(
-            Arg::new(alloc, "SAS")
-                .required(true)
-                .help("The task's file"),
-        )?;
+        .arg(file(alloc, "SAS", "The task's file"))?;
     with_file_options(alloc, with_search_options(alloc, command)?)
 }
 
@@ -145,11 +138,13 @@ fn search_options<'a>(words: &ArgMatches<'a>) -> Result<Options, RefusedValue<'a
     ensures { IfOk result (AreChoicesOf (λ name. first_value (found_of words.now) name)) }
 {
     let plain = Options::new();
-    let workers = number_for(words, "workers", 1, 64)?.unwrap_or(plain.workers() as u64);
-    let table = number_for(words, "table", 1, 16_777_216)?.unwrap_or(plain.table() as u64);
-    let limit = number_for(words, "limit", 0, MOST)?;
-    let steps = number_for(words, "steps", 0, MOST)?.unwrap_or(plain.steps());
-    number_for(words, "ring", 1, 65_536)?;
+    let workers = number_for(words, "workers", 1, MAX_WORKERS as u64)?.unwrap_or(
+        plain.workers() as u64,
+    );
+    let table = number_for(words, "table", 1, MAX_TABLE as u64)?.unwrap_or(plain.table() as u64);
+    let limit = number_for(words, "limit", 0, MAX_NUMBER)?;
+    let steps = number_for(words, "steps", 0, MAX_NUMBER)?.unwrap_or(plain.steps());
+    number_for(words, "ring", 1, MAX_RING)?;
     let options = plain
         .with_workers(workers as usize)
         .with_table(table as usize)
@@ -164,7 +159,7 @@ fn search_options<'a>(words: &ArgMatches<'a>) -> Result<Options, RefusedValue<'a
 fn settings_of<'a>(words: &ArgMatches<'a>) -> Result<Settings<'a>, RefusedValue<'a>>
     ensures { IfOk result (AreSettingsOf (λ name. first_value (found_of words.now) name)) }
 {
-    let seed = number_for(words, "simulate", 0, MOST)?.unwrap_or(0);
+    let seed = number_for(words, "simulate", 0, MAX_NUMBER)?.unwrap_or(0);
     let options = search_options(words)?;
     Ok(Settings {
         options,
@@ -180,10 +175,10 @@ pub(crate) fn solve_by_words<D: Device, R: AllocGlobal>(
     rt: &R,
     device: &mut D,
     words: &ArgMatches<'_>,
-) -> Result<u8, Error>
-    ensures done { IfOk result (λ status. (h : List Event) → D.history device.old ≡ Some h → D.failure_count device.new ≡ D.failure_count device.old → status ≢ 6 →
+) -> Result<Status, Error>
+    ensures done { IfOk result (λ status. (h : List Event) → D.history device.old ≡ Some h → D.failure_count device.new ≡ D.failure_count device.old → status ≢ Status.OutOfMemory →
         (new : List Event) × (D.history device.new ≡ Some new) × SolvesByWords (λ name. first_value (found_of words.now) name) h new status) }
-    ensures counted { IfOk result (λ status. status ≡ 7 → D.failure_count device.old + 1 ≤ D.failure_count device.new) }
+    ensures counted { IfOk result (λ status. status ≡ Status.DeviceFailed → D.failure_count device.old + 1 ≤ D.failure_count device.new) }
     ensures same { OnErr result (D.failure_count device.new ≡ D.failure_count device.old) }
 {
     let settings = match settings_of(words) {
@@ -204,10 +199,10 @@ pub(crate) fn solve_sas_by_words<D: Device, R: AllocGlobal>(
     rt: &R,
     device: &mut D,
     words: &ArgMatches<'_>,
-) -> Result<u8, Error>
-    ensures done { IfOk result (λ status. (h : List Event) → D.history device.old ≡ Some h → D.failure_count device.new ≡ D.failure_count device.old → status ≢ 6 →
+) -> Result<Status, Error>
+    ensures done { IfOk result (λ status. (h : List Event) → D.history device.old ≡ Some h → D.failure_count device.new ≡ D.failure_count device.old → status ≢ Status.OutOfMemory →
         (new : List Event) × (D.history device.new ≡ Some new) × SolvesSasByWords (λ name. first_value (found_of words.now) name) h new status) }
-    ensures counted { IfOk result (λ status. status ≡ 7 → D.failure_count device.old + 1 ≤ D.failure_count device.new) }
+    ensures counted { IfOk result (λ status. status ≡ Status.DeviceFailed → D.failure_count device.old + 1 ≤ D.failure_count device.new) }
     ensures same { OnErr result (D.failure_count device.new ≡ D.failure_count device.old) }
 {
     let settings = match settings_of(words) {

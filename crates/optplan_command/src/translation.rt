@@ -12,7 +12,7 @@ ghost use Rattle.optplan_command.specs.Translating.{IsTranslationText, IsTransla
 ghost use Rattle.pddl_task.specs.Limits.{max_cost};
 
 use optplan_device::Device;
-use optplan_replies::{Fault, put_text, read_task_files, report, task_fault};
+use optplan_replies::{Fault, Status, put_text, read_task_files, report, task_fault};
 use pddl::read_task;
 use pddl_task::Task;
 use sasfile_writer::write_sas;
@@ -78,26 +78,31 @@ fn translation_of(alloc: Global, domain: &[u8], problem: &[u8]) -> Result<Vec<u8
 }
 
 /// Prints the text of a translation, or reports the fault of the texts, and returns the exit status.
-fn reply_text<D: Device>(alloc: Global, device: &mut D, answer: &Result<Vec<u8>, Fault>) -> u8
-    ensures answered { result ≢ 6 → result ≢ 7 → IfOk answer.now (λ text. Adds (D.history device.old) (D.history device.new) (HasPut text.items)) }
-    ensures status { result ≢ 6 → result ≢ 7 → IfOk answer.now (λ _. result ≡ 0) }
-    ensures counted { result ≡ 7 → IfOk answer.now (λ _. D.failure_count device.old + 1 ≤ D.failure_count device.new) }
+fn reply_text<D: Device>(alloc: Global, device: &mut D, answer: &Result<Vec<u8>, Fault>) -> Status
+    ensures answered { result ≢ Status.OutOfMemory → result ≢ Status.DeviceFailed → IfOk answer.now (λ text. Adds (D.history device.old) (D.history device.new) (HasPut text.items)) }
+    ensures status { result ≢ Status.OutOfMemory → result ≢ Status.DeviceFailed → IfOk answer.now (λ _. result ≡ Status.Done) }
+    ensures counted { result ≡ Status.DeviceFailed → IfOk answer.now (λ _. D.failure_count device.old + 1 ≤ D.failure_count device.new) }
     ensures refused { (h : List Event) → D.history device.old ≡ Some h →
         IfErr answer.now (λ e. (later : List Event) × (D.history device.new ≡ Some (h ++ later)) × IsQuiet later) }
     ensures refusal { IfErr answer.now (λ e. result ≡ fault_status e) }
 {
     match answer {
-        Ok(text) => put_text(alloc, device, text, 0),
+        Ok(text) => put_text(alloc, device, text, Status::Done),
         Err(fault) => report(alloc, device, fault),
     }
 }
 
 /// Translates a planning task: reads the two files, and prints the text of its translation or reports the fault. Returns
 /// the exit status.
-pub fn run_translation<D: Device>(alloc: Global, device: &mut D, domain: &str, problem: &str) -> u8
-    ensures done { (h : List Event) → D.history device.old ≡ Some h → D.failure_count device.new ≡ D.failure_count device.old → result ≢ 6 →
+pub fn run_translation<D: Device>(
+    alloc: Global,
+    device: &mut D,
+    domain: &str,
+    problem: &str,
+) -> Status
+    ensures done { (h : List Event) → D.history device.old ≡ Some h → D.failure_count device.new ≡ D.failure_count device.old → result ≢ Status.OutOfMemory →
         (new : List Event) × (D.history device.new ≡ Some new) × Translates h new domain.now problem.now result }
-    ensures device_failed { result ≡ 7 → D.failure_count device.old + 1 ≤ D.failure_count device.new }
+    ensures device_failed { result ≡ Status.DeviceFailed → D.failure_count device.old + 1 ≤ D.failure_count device.new }
 {
     match read_task_files(alloc, device, domain, problem) {
         Ok((domain, problem)) => {

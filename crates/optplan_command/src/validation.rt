@@ -7,7 +7,7 @@ ghost use Rattle.optplan_command.specs.Validation.{reads, Validates};
 
 use crate::verdict::verdict_of;
 use optplan_device::Device;
-use optplan_replies::{Fault, FileWord, read_file, reply, report};
+use optplan_replies::{Fault, FileWord, Status, read_file, reply, report};
 use std::alloc::Global;
 
 /// The texts of a domain, a problem and a plan.
@@ -48,10 +48,10 @@ pub fn run_validation<D: Device>(
     domain: &str,
     problem: &str,
     plan: &str,
-) -> u8
-    ensures done { (h : List Event) → D.history device.old ≡ Some h → D.failure_count device.new ≡ D.failure_count device.old → result ≢ 6 →
+) -> Status
+    ensures done { (h : List Event) → D.history device.old ≡ Some h → D.failure_count device.new ≡ D.failure_count device.old → result ≢ Status.OutOfMemory →
         (new : List Event) × (D.history device.new ≡ Some new) × Validates h new domain.now problem.now plan.now result }
-    ensures device_failed { result ≡ 7 → D.failure_count device.old + 1 ≤ D.failure_count device.new }
+    ensures device_failed { result ≡ Status.DeviceFailed → D.failure_count device.old + 1 ≤ D.failure_count device.new }
 {
     match read_texts(alloc, device, domain, problem, plan) {
         Ok(texts) => {

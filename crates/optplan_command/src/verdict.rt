@@ -7,23 +7,25 @@ ghost use Rattle.validate.specs.PlanTexts.{IsPlanFault};
 ghost use Rattle.validate.specs.Verdicts.{IsVerdict, CostsAtMost};
 ghost use Rattle.validate.specs.Written.{verdict_line_of};
 ghost use Rattle.validate.specs.declared.verdict.Verdict.{Verdict};
+ghost use Rattle.optplan_replies.specs.Statuses.{IsOfVerdict};
 ghost use Rattle.optplan_command.specs.Answers.{IsAnswer, IsRefusal, verdict_status};
 ghost use Rattle.pddl_task.specs.Limits.{max_cost};
 
-use optplan_replies::{Fault, task_fault};
+use optplan_replies::{Fault, Status, task_fault};
 use pddl::read_task;
 use pddl_task::Task;
 use std::alloc::{AllocError, Global};
 use validate::{Plan, PlanFault, Verdict, read_plan, validate, verdict_line};
 
-/// The exit status of a verdict: 0 if the plan is valid, else 3.
-fn verdict_status(verdict: &Verdict) -> u8
+/// The exit status of a verdict: `Done` if the plan is valid, else `Rejected`.
+fn verdict_status(verdict: &Verdict) -> Status
     ensures status { result ≡ verdict_status verdict.now }
-    ensures small { result ≤ 3 }
+    ensures judged { IsOfVerdict result }
 {
     match verdict {
-        Verdict::Valid(_) => 0,
-        Verdict::NoSuchAction(_) | Verdict::NotApplicable(_, _) | Verdict::GoalOpen(_) => 3,
+        Verdict::Valid(_) => Status::Done,
+        Verdict::NoSuchAction(_) | Verdict::NotApplicable(_, _) | Verdict::GoalOpen(_) =>
+            Status::Rejected,
     }
 }
 
@@ -38,11 +40,11 @@ fn plan_fault(fault: PlanFault) -> Fault
 }
 
 /// The verdict's line, with its line feed, and the exit status. Fails only if allocation fails.
-fn line_of(alloc: Global, task: &Task, plan: &Plan) -> Result<(String, u8), AllocError>
+fn line_of(alloc: Global, task: &Task, plan: &Plan) -> Result<(String, Status), AllocError>
     requires small { IsTrue (has_small_costs task.now) }
     requires costs { CostsAtMost task.now max_cost }
     ensures verdict { IfOk result (λ r. (v : Verdict) × IsVerdict task.now plan.now v × (string_bytes r.0 ≡ verdict_line_of task.now v) × (r.1 ≡ verdict_status v)) }
-    ensures small { IfOk result (λ r. r.1 ≤ 3) }
+    ensures judged { IfOk result (λ r. IsOfVerdict r.1) }
 {
     let verdict = validate(alloc, task, plan)?;
     let line = verdict_line(alloc, task, &verdict)?;
@@ -52,11 +54,11 @@ fn line_of(alloc: Global, task: &Task, plan: &Plan) -> Result<(String, u8), Allo
 
 /// The answer for a plan's text: the verdict's line, with its line feed, and the exit status. Fails with the fault of the
 /// plan's text, or with `OutOfMemory`.
-fn answer_of(alloc: Global, task: &Task, plan: &[u8]) -> Result<(String, u8), Fault>
+fn answer_of(alloc: Global, task: &Task, plan: &[u8]) -> Result<(String, Status), Fault>
     requires small { IsTrue (has_small_costs task.now) }
     requires costs { CostsAtMost task.now max_cost }
     ensures answer { (domain problem : List ℕ) → SpellTask domain problem task.now → IfOk result (λ r. IsAnswer domain problem plan.now (string_bytes r.0) r.1) }
-    ensures small { IfOk result (λ r. r.1 ≤ 3) }
+    ensures judged { IfOk result (λ r. IsOfVerdict r.1) }
     ensures refused { (domain problem : List ℕ) → SpellTask domain problem task.now → IfErr result (λ e. IsRefusal domain problem plan.now e) }
 {
     let plan = match read_plan(alloc, plan) {
@@ -69,7 +71,7 @@ fn answer_of(alloc: Global, task: &Task, plan: &[u8]) -> Result<(String, u8), Fa
     }
 }
 
-/// The line that is printed for a plan, with its line feed, and the exit status: 0 if the plan is valid, else 3.
+/// The line that is printed for a plan, with its line feed, and the exit status: `Done` if the plan is valid, else `Rejected`.
 ///
 /// Fails with the fault of the domain and the problem that comes first; if they spell a task, with that of the plan's
 /// text; or with `OutOfMemory`.
@@ -79,9 +81,9 @@ pub fn verdict_of(
     domain: &[u8],
     problem: &[u8],
     plan: &[u8],
-) -> Result<(String, u8), Fault>
+) -> Result<(String, Status), Fault>
     ensures answer { IfOk result (λ r. IsAnswer domain.now problem.now plan.now (string_bytes r.0) r.1) }
-    ensures small { IfOk result (λ r. r.1 ≤ 3) }
+    ensures judged { IfOk result (λ r. IsOfVerdict r.1) }
     ensures refused { IfErr result (λ e. IsRefusal domain.now problem.now plan.now e) }
 {
     match read_task(alloc, domain, problem) {

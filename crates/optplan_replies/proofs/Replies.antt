@@ -4,11 +4,14 @@ use Rattle.std.specs.Prelude.{Option, Some, Result, Ok, Err, String, IfOk, IfErr
 use Rattle.std.specs.Option.{option_map}
 use Rattle.optplan_device.specs.Events.{Event, HasPut, Adds}
 use Rattle.optplan_replies.specs.declared.fault.Fault.{Fault}
+use Rattle.optplan_replies.specs.declared.status.Status.{Status}
+use Rattle.optplan_replies.specs.declared.status.Status.TheVariants.{DeviceFailed}
+use Rattle.optplan_replies.specs.Statuses.{IsOfVerdict}
 use Rattle.optplan_replies.specs.Faults.{fault_status}
 use Rattle.optplan_replies.specs.Runs.{IsQuiet, Follows, task_reads}
 
 -- what follows the reading of files, where no call of the device failed
-pub replied : {Z : Type 0} (Answers : List ℕ → ℕ → Type 0) (Refuses : Fault → Type 0) (answer : Result (String Z × ℕ) Fault) (mid new : Option (List Event)) (h : List Event) (status : ℕ)
+pub replied : {Z : Type 0} (Answers : List ℕ → Status → Type 0) (Refuses : Fault → Type 0) (answer : Result (String Z × Status) Fault) (mid new : Option (List Event)) (h : List Event) (status : Status)
     → mid ≡ Some h
     → IfOk answer (λ r. Answers (string_bytes r.0) r.1) → IfErr answer (λ e. Refuses e)
     → IfOk answer (λ r. Adds mid new (HasPut (string_bytes r.0))) → IfOk answer (λ r. status ≡ r.1)
@@ -17,19 +20,24 @@ pub replied : {Z : Type 0} (Answers : List ℕ → ℕ → Type 0) (Refuses : Fa
 replied Answers Refuses (Ok r) mid new h status mid_is answered refused put status_is reported fault_is = (
   HasPut (string_bytes r.0) ∷ [],
   put ∙ ap (λ (o : Option (List Event)). option_map (λ es. es ++ HasPut (string_bytes r.0) ∷ []) o) mid_is,
-  inl (string_bytes r.0, subst (λ (n : ℕ). Answers (string_bytes r.0) n) (sym status_is) answered, refl),
+  inl (string_bytes r.0, subst (λ (s : Status). Answers (string_bytes r.0) s) (sym status_is) answered, refl),
 )
 replied Answers Refuses (Err e) mid new h status mid_is answered refused put status_is reported fault_is =
     (reported.0, reported.1, inr (e, refused, fault_is, reported.2))
 
--- the status 7 of a reply comes of a failure that is counted, where no text is refused with it
-pub reply_failed : {Z : Type 0} (Refuses : Fault → Type 0) (answer : Result (String Z × ℕ) Fault) (status old new : ℕ)
-    → ((e : Fault) → Refuses e → fault_status e ≢ 7)
-    → IfOk answer (λ r. r.1 ≤ 3) → IfErr answer (λ e. Refuses e)
-    → (status ≡ 7 → IfOk answer (λ r. r.1 ≢ 7 → old + 1 ≤ new)) → IfErr answer (λ e. status ≡ fault_status e)
-    → status ≡ 7 → old + 1 ≤ new
-reply_failed Refuses (Ok r) status old new other small refused counted fault_is seven = counted seven (λ is. absurd (omega arith))
-reply_failed Refuses (Err e) status old new other small refused counted fault_is seven = absurd (other e refused (sym fault_is ∙ seven))
+-- a verdict is no failure of the device
+of_verdict : (status : Status) → IsOfVerdict status → status ≢ DeviceFailed
+of_verdict status (inl done) = λ failed. cc
+of_verdict status (inr rejected) = λ failed. cc
+
+-- a reply ends with `DeviceFailed` only after a failure that is counted, where no text is refused with it
+pub reply_failed : {Z : Type 0} (Refuses : Fault → Type 0) (answer : Result (String Z × Status) Fault) (status : Status) (old new : ℕ)
+    → ((e : Fault) → Refuses e → fault_status e ≢ DeviceFailed)
+    → IfOk answer (λ r. IsOfVerdict r.1) → IfErr answer (λ e. Refuses e)
+    → (status ≡ DeviceFailed → IfOk answer (λ r. r.1 ≢ DeviceFailed → old + 1 ≤ new)) → IfErr answer (λ e. status ≡ fault_status e)
+    → status ≡ DeviceFailed → old + 1 ≤ new
+reply_failed Refuses (Ok r) status old new other verdict refused counted fault_is failed = counted failed (of_verdict r.1 verdict)
+reply_failed Refuses (Err e) status old new other verdict refused counted fault_is failed = absurd (other e refused (sym fault_is ∙ failed))
 
 -- two files were read
 pub task_reads_same : (mid : Option (List Event)) (h : List Event) (domain d d' problem p p' : List ℕ) → d' ≡ d → p' ≡ p

@@ -1,5 +1,4 @@
 -- Faults and their exit statuses.
-use Rattle.std.specs.Prelude.{ℕ}
 use Rattle.sasfile.specs.declared.fault.SasFault.{SasFault}
 use Rattle.sasfile.specs.declared.fault.SasFault.TheVariants as sas
 use Rattle.cert_text.specs.declared.fault.CertFault.{CertFault}
@@ -8,19 +7,21 @@ use Rattle.checker.specs.declared.fault.CheckFault.{CheckFault}
 use Rattle.checker.specs.declared.fault.CheckFault.TheVariants as check
 use Rattle.optplan_replies.specs.declared.fault.Fault.{Fault}
 use Rattle.optplan_replies.specs.declared.fault.Fault.TheVariants.{OutOfMemory, CannotRead, CannotWrite, Task, Plan, Sas, Cert, GroundLimit, TaskTooLarge, TotalTooLarge}
+use Rattle.optplan_replies.specs.declared.status.Status.{Status}
+use Rattle.optplan_replies.specs.declared.status.Status.TheVariants as exit
 
 -- the exit status of a fault
-abbrev pub fault_status : Fault → ℕ
-fault_status OutOfMemory = 6
-fault_status (CannotRead file) = 7
-fault_status (CannotWrite file) = 7
-fault_status (Task e word) = 1
-fault_status (Plan e) = 1
-fault_status (Sas e) = 1
-fault_status (Cert e) = 1
-fault_status GroundLimit = 1
-fault_status (TaskTooLarge table) = 1
-fault_status TotalTooLarge = 1
+abbrev pub fault_status : Fault → Status
+fault_status OutOfMemory = exit.OutOfMemory
+fault_status (CannotRead file) = exit.DeviceFailed
+fault_status (CannotWrite file) = exit.DeviceFailed
+fault_status (Task e word) = exit.Refused
+fault_status (Plan e) = exit.Refused
+fault_status (Sas e) = exit.Refused
+fault_status (Cert e) = exit.Refused
+fault_status GroundLimit = exit.Refused
+fault_status (TaskTooLarge table) = exit.Refused
+fault_status TotalTooLarge = exit.Refused
 
 -- a fault of the text of a finite-domain task as the program's
 abbrev pub fault_of_sas : SasFault → Fault

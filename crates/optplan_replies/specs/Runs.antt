@@ -3,6 +3,7 @@ use Rattle.std.specs.Prelude.{◌≡◌, ℕ, ◌+◌, ◌⊎◌, ◌==◌, not,
 use Rattle.optplan_device.specs.Events.{Event, HasRead, HasWritten, HasPut, HasReported}
 use Rattle.optplan_replies.specs.declared.fault.Fault.{Fault}
 use Rattle.optplan_replies.specs.declared.fault.Fault.TheVariants.{OutOfMemory, CannotRead, CannotWrite, Task, Plan, Sas, Cert, GroundLimit, TaskTooLarge, TotalTooLarge}
+use Rattle.optplan_replies.specs.declared.status.Status.{Status}
 use Rattle.optplan_replies.specs.Faults.{fault_status}
 
 -- whether a word is not an option: it does not start with a hyphen
@@ -25,7 +26,7 @@ task_reads domain d problem p = HasRead domain d ∷ HasRead problem p ∷ []
 
 -- what follows the reading of a command's files, and the exit status: the line that answers the texts is written to
 -- standard output, or a text is refused
-abbrev pub Follows : (List ℕ → ℕ → Type 0) → (Fault → Type 0) → List Event → ℕ → Type 0
+abbrev pub Follows : (List ℕ → Status → Type 0) → (Fault → Type 0) → List Event → Status → Type 0
 Follows IsAnswer IsRefusal events status =
     ((line : List ℕ) × IsAnswer line status × (events ≡ HasPut line ∷ []))
     ⊎ ((e : Fault) × IsRefusal e × (status ≡ fault_status e) × IsQuiet events)

@@ -5,6 +5,7 @@ ghost use Rattle.optplan_replies.specs.declared.fault.Fault.TheVariants.{OutOfMe
 ghost use Rattle.optplan_replies.specs.Faults.{fault_status, fault_of_sas, fault_of_cert, fault_of_check};
 ghost use Rattle.optplan_replies.specs.Words.{file_text, table_text, task_table_text};
 
+use crate::status::Status;
 use cert_text::CertFault;
 use checker::CheckFault;
 use fdr::TaskLimit;
@@ -116,17 +117,17 @@ impl From<CheckFault> for Fault {
 }
 
 impl Fault {
-    /// The exit status: 6 if memory ran out, 7 for a file that cannot be read or written, and 1 for a text or a task that
-    /// is refused.
-    pub fn status(&self) -> u8
+    /// The exit status: `OutOfMemory` if memory ran out, `DeviceFailed` for a file that cannot be read or written, and
+    /// `Refused` for a text or a task that is refused.
+    pub fn status(&self) -> Status
         ensures { result ≡ fault_status self.now }
     {
         match self {
-            Fault::OutOfMemory => 6,
-            Fault::CannotRead(_) | Fault::CannotWrite(_) => 7,
-            Fault::Task(_, _) | Fault::Plan(_) => 1,
-            Fault::Sas(_) | Fault::Cert(_) => 1,
-            Fault::GroundLimit | Fault::TaskTooLarge(_) | Fault::TotalTooLarge => 1,
+            Fault::OutOfMemory => Status::OutOfMemory,
+            Fault::CannotRead(_) | Fault::CannotWrite(_) => Status::DeviceFailed,
+            Fault::Task(_, _) | Fault::Plan(_) => Status::Refused,
+            Fault::Sas(_) | Fault::Cert(_) => Status::Refused,
+            Fault::GroundLimit | Fault::TaskTooLarge(_) | Fault::TotalTooLarge => Status::Refused,
         }
     }
 }

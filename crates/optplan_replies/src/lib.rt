@@ -3,8 +3,10 @@
 
 mod fault;
 mod reports;
+mod status;
 mod surroundings;
 
 pub use fault::{Fault, FileWord};
 pub use reports::task_fault;
+pub use status::Status;
 pub use surroundings::{put_text, read_file, read_task_files, reply, report};

@@ -7,6 +7,7 @@ ghost use Rattle.optplan_replies.specs.declared.fault.Fault.TheVariants.{OutOfMe
 ghost use Rattle.optplan_replies.specs.Runs.{IsDeviceFault, IsQuiet, task_reads};
 
 use crate::fault::{Fault, FileWord};
+use crate::status::Status;
 use optplan_device::{Device, DeviceFault};
 use std::alloc::{AllocError, Global};
 
@@ -68,7 +69,7 @@ fn fault_line(alloc: Global, fault: &Fault) -> Result<String, AllocError> {
 }
 
 /// Reports a fault on standard error, unless that fails or memory runs out, and returns the fault's exit status.
-pub fn report<D: Device>(alloc: Global, device: &mut D, fault: &Fault) -> u8
+pub fn report<D: Device>(alloc: Global, device: &mut D, fault: &Fault) -> Status
     ensures told { (h : List Event) → D.history device.old ≡ Some h →
         (later : List Event) × (D.history device.new ≡ Some (h ++ later)) × IsQuiet later }
     ensures counted { D.failure_count device.old ≤ D.failure_count device.new }
@@ -82,10 +83,10 @@ pub fn report<D: Device>(alloc: Global, device: &mut D, fault: &Fault) -> u8
 
 /// Writes a text to standard output, and returns this exit status; if that fails, reports the fault, and returns the
 /// fault's status.
-pub fn put_text<D: Device>(alloc: Global, device: &mut D, text: &[u8], status: u8) -> u8
-    ensures told { result ≢ 6 → result ≢ 7 → Adds (D.history device.old) (D.history device.new) (HasPut text.now) }
-    ensures status { result ≢ 6 → result ≢ 7 → result ≡ status }
-    ensures counted { result ≡ 7 → status ≢ 7 → D.failure_count device.old + 1 ≤ D.failure_count device.new }
+pub fn put_text<D: Device>(alloc: Global, device: &mut D, text: &[u8], status: Status) -> Status
+    ensures told { result ≢ Status.OutOfMemory → result ≢ Status.DeviceFailed → Adds (D.history device.old) (D.history device.new) (HasPut text.now) }
+    ensures status { result ≢ Status.OutOfMemory → result ≢ Status.DeviceFailed → result ≡ status }
+    ensures counted { result ≡ Status.DeviceFailed → status ≢ Status.DeviceFailed → D.failure_count device.old + 1 ≤ D.failure_count device.new }
 {
     match put(device, text) {
         Ok(()) => status,
@@ -94,10 +95,14 @@ pub fn put_text<D: Device>(alloc: Global, device: &mut D, text: &[u8], status: u
 }
 
 /// Prints the answer for the texts of a command's files, or reports their fault, and returns the exit status.
-pub fn reply<D: Device>(alloc: Global, device: &mut D, answer: &Result<(String, u8), Fault>) -> u8
-    ensures answered { result ≢ 6 → result ≢ 7 → IfOk answer.now (λ r. Adds (D.history device.old) (D.history device.new) (HasPut (string_bytes r.0))) }
-    ensures status { result ≢ 6 → result ≢ 7 → IfOk answer.now (λ r. result ≡ r.1) }
-    ensures counted { result ≡ 7 → IfOk answer.now (λ r. r.1 ≢ 7 → D.failure_count device.old + 1 ≤ D.failure_count device.new) }
+pub fn reply<D: Device>(
+    alloc: Global,
+    device: &mut D,
+    answer: &Result<(String, Status), Fault>,
+) -> Status
+    ensures answered { result ≢ Status.OutOfMemory → result ≢ Status.DeviceFailed → IfOk answer.now (λ r. Adds (D.history device.old) (D.history device.new) (HasPut (string_bytes r.0))) }
+    ensures status { result ≢ Status.OutOfMemory → result ≢ Status.DeviceFailed → IfOk answer.now (λ r. result ≡ r.1) }
+    ensures counted { result ≡ Status.DeviceFailed → IfOk answer.now (λ r. r.1 ≢ Status.DeviceFailed → D.failure_count device.old + 1 ≤ D.failure_count device.new) }
     ensures refused { (h : List Event) → D.history device.old ≡ Some h →
         IfErr answer.now (λ e. (later : List Event) × (D.history device.new ≡ Some (h ++ later)) × IsQuiet later) }
     ensures refusal { IfErr answer.now (λ e. result ≡ fault_status e) }

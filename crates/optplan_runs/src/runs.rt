@@ -31,7 +31,7 @@ pub fn run_over<R: AllocGlobal>(
     let words = program_words(rt.alloc(), words)?;
     let mut device = MemoryDevice::new(rt.alloc(), files, CALLS_OF_A_RUN);
     let status = run(&words, &mut device, rt);
-    recorded(rt.alloc(), device.events(), status)
+    recorded(rt.alloc(), device.events(), status.code())
 }
 
 /// The outcome of a plan's validation over these texts.

@@ -11,7 +11,7 @@ mod searching;
 
 pub use fault::{SasSolveFault, SearchFault};
 pub use found::{Found, Solution, found_by};
-pub use options::Options;
+pub use options::{MAX_TABLE, MAX_WORKERS, Options};
 pub use sas::{SasAnswer, SasSolution, simulate_sas, solve_sas_steps};
 pub use schedule::simulated;
 pub use searching::{found_after, found_by_seed};

@@ -8,6 +8,8 @@ use Rattle.optplan_sas.specs.SasAnswers.{IsSasAnswer, IsSasRefusal}
 use Rattle.optplan_sas.specs.declared.fault.SasSolveFault.TheVariants as solve
 use Rattle.optplan_sas.specs.declared.sas.SasAnswer.{SasAnswer}
 use Rattle.optplan_sas.specs.declared.sas.SasAnswer.TheVariants.{Solved, Unsolvable, Limit}
+use Rattle.optplan_replies.specs.declared.status.Status.{Status}
+use Rattle.optplan_replies.specs.declared.status.Status.TheVariants as exit
 use Rattle.optplan_replies.specs.Faults.{fault_status}
 use Rattle.optplan_replies.specs.Runs.{IsQuiet}
 use Rattle.optplan_replies.specs.declared.fault.Fault.{Fault}
@@ -21,10 +23,10 @@ sas_outputs files (Unsolvable cert) = writes files.cert cert.items ++ HasPut (co
 sas_outputs files Limit = HasPut (codes "limit\n") ∷ []
 
 -- the exit status of an answer
-abbrev pub sas_answer_status : SasAnswer → ℕ
-sas_answer_status (Solved s) = 0
-sas_answer_status (Unsolvable cert) = 4
-sas_answer_status Limit = 5
+abbrev pub sas_answer_status : SasAnswer → Status
+sas_answer_status (Solved s) = exit.Done
+sas_answer_status (Unsolvable cert) = exit.Unsolvable
+sas_answer_status Limit = exit.Limited
 
 -- the text is refused as the solver refuses it, with the program's fault
 abbrev pub IsSasSolveRefusal : List ℕ → Choices → ℕ → Fault → Type 0
@@ -40,7 +42,7 @@ IsSasSolveRefusal sas choices seed (TaskTooLarge table) = ⊥
 IsSasSolveRefusal sas choices seed TotalTooLarge = IsSasRefusal sas (IsRefusedBySeed choices seed) solve.TotalTooLarge
 
 -- the file is read; then an answer is written and printed, or the text is refused
-pub record SolvesSas (old new : List Event) (sas : List ℕ) (choices : Choices) (seed : ℕ) (files : OutputFiles) (status : ℕ) : Type 0 where
+pub record SolvesSas (old new : List Event) (sas : List ℕ) (choices : Choices) (seed : ℕ) (files : OutputFiles) (status : Status) : Type 0 where
   pub sas_text : List ℕ
   pub later : List Event
   pub events : new ≡ old ++ (HasRead sas sas_text ∷ later)

@@ -8,6 +8,8 @@ use Rattle.optplan_pddl.specs.Answers.{IsPlanningAnswer, IsPlanningRefusal}
 use Rattle.optplan_pddl.specs.declared.fault.PlanningFault.TheVariants as planning
 use Rattle.optplan_pddl.specs.declared.solving.PlanningAnswer.{PlanningAnswer}
 use Rattle.optplan_pddl.specs.declared.solving.PlanningAnswer.TheVariants.{Solved, Unsolvable, Limit}
+use Rattle.optplan_replies.specs.declared.status.Status.{Status}
+use Rattle.optplan_replies.specs.declared.status.Status.TheVariants as exit
 use Rattle.optplan_replies.specs.Faults.{fault_status}
 use Rattle.optplan_replies.specs.Reports.{IsTaskReport}
 use Rattle.optplan_replies.specs.Runs.{IsQuiet, task_reads}
@@ -22,10 +24,10 @@ outputs files (Unsolvable cert) = writes files.cert cert.items ++ HasPut (codes 
 outputs files Limit = HasPut (codes "limit\n") ∷ []
 
 -- the exit status of an answer
-abbrev pub answer_status : PlanningAnswer → ℕ
-answer_status (Solved s) = 0
-answer_status (Unsolvable cert) = 4
-answer_status Limit = 5
+abbrev pub answer_status : PlanningAnswer → Status
+answer_status (Solved s) = exit.Done
+answer_status (Unsolvable cert) = exit.Unsolvable
+answer_status Limit = exit.Limited
 
 -- the texts are refused as the planner refuses them, with the program's fault
 abbrev pub IsSolveRefusal : List ℕ → List ℕ → Choices → ℕ → Fault → Type 0
@@ -41,7 +43,7 @@ IsSolveRefusal domain problem choices seed (TaskTooLarge table) = IsPlanningRefu
 IsSolveRefusal domain problem choices seed TotalTooLarge = IsPlanningRefusal domain problem (IsRefusedBySeed choices seed) planning.TotalTooLarge
 
 -- the two files are read, in this order; then an answer is written and printed, or one of the texts is refused
-pub record Solves (old new : List Event) (domain problem : List ℕ) (choices : Choices) (seed : ℕ) (files : OutputFiles) (status : ℕ) : Type 0 where
+pub record Solves (old new : List Event) (domain problem : List ℕ) (choices : Choices) (seed : ℕ) (files : OutputFiles) (status : Status) : Type 0 where
   pub domain_text : List ℕ
   pub problem_text : List ℕ
   pub later : List Event

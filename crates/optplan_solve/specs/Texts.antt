@@ -9,6 +9,8 @@ use Rattle.optplan_sas.specs.SasAnswers.{IsSasAnswer}
 use Rattle.optplan_sas.specs.declared.sas.SasAnswer.{SasAnswer}
 use Rattle.optplan_pddl.specs.Answers.{IsPlanningAnswer}
 use Rattle.optplan_pddl.specs.declared.solving.PlanningAnswer.{PlanningAnswer}
+use Rattle.optplan_replies.specs.declared.status.Status.{Status}
+use Rattle.optplan_replies.specs.declared.status.Status.TheVariants as exit
 use Rattle.optplan_solve.specs.declared.outputs.AnswerTexts.{AnswerTexts}
 use Rattle.optplan_solve.specs.declared.outputs.AnswerTexts.TheVariants.{Solved, Unsolvable, Limit}
 use Rattle.optplan_solve.specs.declared.settings.Settings.{Settings}
@@ -37,10 +39,10 @@ abbrev pub text_outputs : OutputFiles → AnswerTexts → List Event
 text_outputs files texts = text_writes files texts ++ HasPut (text_line texts) ∷ []
 
 -- the exit status
-abbrev pub text_status : AnswerTexts → ℕ
-text_status (Solved plan cert) = 0
-text_status (Unsolvable cert) = 4
-text_status Limit = 5
+abbrev pub text_status : AnswerTexts → Status
+text_status (Solved plan cert) = exit.Done
+text_status (Unsolvable cert) = exit.Unsolvable
+text_status Limit = exit.Limited
 
 -- these are the texts of an answer for a planning task
 pub record IsAnsweredBy (domain problem : List ℕ) (choices : Choices) (seed : ℕ) (texts : AnswerTexts) : Type 0 where

@@ -10,7 +10,7 @@ ghost use Rattle.optplan_solve.specs.Texts.{files_of, text_writes, text_line, te
 
 use crate::settings::Settings;
 use optplan_device::{Device, DeviceFault};
-use optplan_replies::{Fault, FileWord, put_text, report};
+use optplan_replies::{Fault, FileWord, Status, put_text, report};
 use std::alloc::Global;
 
 /// The texts of an answer.
@@ -37,14 +37,14 @@ impl AnswerTexts {
     }
 
     /// The exit status.
-    fn status(&self) -> u8
+    fn status(&self) -> Status
         ensures status { result ≡ text_status self.now }
-        ensures small { result ≤ 5 }
+        ensures answered { (result ≢ Status.OutOfMemory) × (result ≢ Status.DeviceFailed) }
     {
         match self {
-            AnswerTexts::Solved(_, _) => 0,
-            AnswerTexts::Unsolvable(_) => 4,
-            AnswerTexts::Limit => 5,
+            AnswerTexts::Solved(_, _) => Status::Done,
+            AnswerTexts::Unsolvable(_) => Status::Unsolvable,
+            AnswerTexts::Limit => Status::Limited,
         }
     }
 }
@@ -99,11 +99,11 @@ fn put_answer<D: Device>(
     device: &mut D,
     answer: &AnswerTexts,
     settings: &Settings<'_>,
-) -> u8
-    ensures told { (h : List Event) → D.history device.old ≡ Some h → result ≢ 6 → result ≢ 7 →
+) -> Status
+    ensures told { (h : List Event) → D.history device.old ≡ Some h → result ≢ Status.OutOfMemory → result ≢ Status.DeviceFailed →
         D.history device.new ≡ Some (h ++ text_outputs (files_of settings.now) answer.now) }
-    ensures status { result ≢ 6 → result ≢ 7 → result ≡ text_status answer.now }
-    ensures counted { result ≡ 7 → D.failure_count device.old + 1 ≤ D.failure_count device.new }
+    ensures status { result ≢ Status.OutOfMemory → result ≢ Status.DeviceFailed → result ≡ text_status answer.now }
+    ensures counted { result ≡ Status.DeviceFailed → D.failure_count device.old + 1 ≤ D.failure_count device.new }
 {
     match write_files(device, answer, settings) {
         Ok(()) => put_text(alloc, device, answer.line(), answer.status()),
@@ -117,11 +117,11 @@ pub(crate) fn reply_answer<D: Device>(
     device: &mut D,
     answer: &Result<AnswerTexts, Fault>,
     settings: &Settings<'_>,
-) -> u8
-    ensures answered { (h : List Event) → D.history device.old ≡ Some h → result ≢ 6 → result ≢ 7 →
+) -> Status
+    ensures answered { (h : List Event) → D.history device.old ≡ Some h → result ≢ Status.OutOfMemory → result ≢ Status.DeviceFailed →
         IfOk answer.now (λ t. D.history device.new ≡ Some (h ++ text_outputs (files_of settings.now) t)) }
-    ensures status { result ≢ 6 → result ≢ 7 → IfOk answer.now (λ t. result ≡ text_status t) }
-    ensures counted { result ≡ 7 → IfOk answer.now (λ t. D.failure_count device.old + 1 ≤ D.failure_count device.new) }
+    ensures status { result ≢ Status.OutOfMemory → result ≢ Status.DeviceFailed → IfOk answer.now (λ t. result ≡ text_status t) }
+    ensures counted { result ≡ Status.DeviceFailed → IfOk answer.now (λ t. D.failure_count device.old + 1 ≤ D.failure_count device.new) }
     ensures refused { (h : List Event) → D.history device.old ≡ Some h →
         IfErr answer.now (λ e. (later : List Event) × (D.history device.new ≡ Some (h ++ later)) × IsQuiet later) }
     ensures refusal { IfErr answer.now (λ e. result ≡ fault_status e) }

@@ -12,7 +12,7 @@ ghost use Rattle.optplan_solve.specs.Texts.{files_of, text_outputs, text_status,
 use crate::outputs::{AnswerTexts, reply_answer};
 use crate::settings::Settings;
 use optplan_device::Device;
-use optplan_replies::{Fault, FileWord, read_file, report};
+use optplan_replies::{Fault, FileWord, Status, read_file, report};
 use optplan_sas::{SasAnswer, SasSolveFault, simulate_sas};
 
 /// The texts of an answer.
@@ -58,17 +58,17 @@ fn answer_of<R: AllocGlobal>(
 /// Solves a finite-domain task by steps drawn from the seed: reads the file; then writes the certificate and the plan, if
 /// requested, and prints the plan, `unsolvable` or `limit`; or reports a fault.
 ///
-/// Returns the exit status: 0 with a plan, 4 if there is none, 5 at a limit, or the fault's. For `unsolvable` no plan is
-/// written, and for `limit` no file.
+/// Returns the exit status: `Done` with a plan, `Unsolvable` if there is none, `Limited` at a limit, or the fault's. For
+/// `unsolvable` no plan is written, and for `limit` no file.
 pub fn run_solve_sas<D: Device, R: AllocGlobal>(
     rt: &R,
     device: &mut D,
     sas: &str,
     settings: &Settings<'_>,
-) -> u8
-    ensures done { (h : List Event) → D.history device.old ≡ Some h → D.failure_count device.new ≡ D.failure_count device.old → result ≢ 6 →
+) -> Status
+    ensures done { (h : List Event) → D.history device.old ≡ Some h → D.failure_count device.new ≡ D.failure_count device.old → result ≢ Status.OutOfMemory →
         (new : List Event) × (D.history device.new ≡ Some new) × SolvesSas h new sas.now settings.now.options settings.now.seed (files_of settings.now) result }
-    ensures device_failed { result ≡ 7 → D.failure_count device.old + 1 ≤ D.failure_count device.new }
+    ensures device_failed { result ≡ Status.DeviceFailed → D.failure_count device.old + 1 ≤ D.failure_count device.new }
 {
     match read_file(rt.alloc(), device, sas, FileWord::Sas) {
         Ok(sas) => {

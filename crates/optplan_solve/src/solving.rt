@@ -13,7 +13,7 @@ use crate::outputs::{AnswerTexts, reply_answer};
 use crate::settings::Settings;
 use optplan_device::Device;
 use optplan_pddl::{PlanningAnswer, PlanningFault, simulate};
-use optplan_replies::{Fault, read_task_files, report, task_fault};
+use optplan_replies::{Fault, Status, read_task_files, report, task_fault};
 use std::alloc::Global;
 
 /// The texts of an answer.
@@ -66,19 +66,19 @@ fn answer_of<R: AllocGlobal>(
 /// Solves a planning task by steps drawn from the seed: reads the two files; then writes the certificate and the plan, if
 /// requested, and prints the plan, `unsolvable` or `limit`; or reports a fault.
 ///
-/// Returns the exit status: 0 with a plan, 4 if there is none, 5 at a limit, or the fault's. For `unsolvable` no plan is
-/// written, and for `limit` no file.
+/// Returns the exit status: `Done` with a plan, `Unsolvable` if there is none, `Limited` at a limit, or the fault's. For
+/// `unsolvable` no plan is written, and for `limit` no file.
 pub fn run_solve<D: Device, R: AllocGlobal>(
     rt: &R,
     device: &mut D,
     domain: &str,
     problem: &str,
     settings: &Settings<'_>,
-) -> u8
-    ensures done { (h : List Event) → D.history device.old ≡ Some h → D.failure_count device.new ≡ D.failure_count device.old → result ≢ 6 →
+) -> Status
+    ensures done { (h : List Event) → D.history device.old ≡ Some h → D.failure_count device.new ≡ D.failure_count device.old → result ≢ Status.OutOfMemory →
         (new : List Event) × (D.history device.new ≡ Some new)
         × Solves h new domain.now problem.now settings.now.options settings.now.seed (files_of settings.now) result }
-    ensures device_failed { result ≡ 7 → D.failure_count device.old + 1 ≤ D.failure_count device.new }
+    ensures device_failed { result ≡ Status.DeviceFailed → D.failure_count device.old + 1 ≤ D.failure_count device.new }
 {
     match read_task_files(rt.alloc(), device, domain, problem) {
         Ok((domain, problem)) => {

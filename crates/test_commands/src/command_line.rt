@@ -1,4 +1,4 @@
-//! Help, words that are no command, and files with unusual names.
+//! Help, the version, words that are no command, and files with unusual names.
 
 use optplan_runs::run_over;
 use optplan_runs::texts::{ROAD_CERTIFICATE, ROAD_DOMAIN, ROAD_PROBLEM, ROAD_SAS};
@@ -55,6 +55,20 @@ fn shows_help<R: Abort + AllocGlobal>(rt: &R, words: &[&str], texts: &[&str]) ->
 fn help(rt: HostRuntime) -> Result<(), Fail> {
     for (words, texts) in HELP_ROWS {
         shows_help(&rt, words, texts)?;
+    }
+    Ok(())
+}
+
+/// Words that request the version.
+const VERSION_ROWS: &[&[&str]] = &[&["--version"], &["-V"]];
+
+#[test]
+fn version(rt: HostRuntime) -> Result<(), Fail> {
+    for words in VERSION_ROWS {
+        let outcome = run_over(&rt, words, &[])?;
+        assert_eq!(rt; outcome.out.as_str(), "optplan 0.1.0\n", "at {words:?}");
+        assert_eq!(rt; outcome.err.as_str(), "", "at {words:?}");
+        assert_eq!(rt; outcome.status, 0, "at {words:?}");
     }
     Ok(())
 }

@@ -30,7 +30,10 @@ pub(crate) fn solved<R: AllocGlobal>(
     let mut device = MemoryDevice::new(rt.alloc(), files, CALLS_OF_A_RUN);
     let status = run(&words, &mut device, rt);
     let written = written_names(rt.alloc(), device.events())?;
-    Ok((recorded(rt.alloc(), device.events(), status)?, written))
+    Ok((
+        recorded(rt.alloc(), device.events(), status.code())?,
+        written,
+    ))
 }
 
 /// Checks that the words give this text on standard output, this status and these files, and no report.

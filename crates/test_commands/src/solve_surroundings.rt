@@ -155,7 +155,7 @@ fn does<R: Abort + AllocGlobal>(rt: &R, row: &Row, fault: DeviceFault) -> Result
     let mut device = FaultyDevice::new(rt.alloc(), &files, *calls_before, fault);
     let given = run(&program_words(rt.alloc(), words)?, &mut device, rt);
     let names = written_names(rt.alloc(), device.events())?;
-    let outcome = recorded(rt.alloc(), device.events(), given)?;
+    let outcome = recorded(rt.alloc(), device.events(), given.code())?;
     assert_eq!(rt; outcome.out.as_str(), *out, "at {words:?} {calls_before}");
     assert_eq!(rt; outcome.err.as_str(), *err, "at {words:?} {calls_before}");
     assert_eq!(rt; outcome.status, *status, "at {words:?} {calls_before}");

@@ -131,7 +131,7 @@ fn run_with_fault<R: AllocGlobal>(
     let words = program_words(rt.alloc(), words)?;
     let mut device = FaultyDevice::new(rt.alloc(), &files, calls_before, fault);
     let status = run(&words, &mut device, rt);
-    Ok(recorded(rt.alloc(), device.events(), status)?)
+    Ok(recorded(rt.alloc(), device.events(), status.code())?)
 }
 
 /// The words after the program's name, the plan, the number of calls before the fault, and the expected outcome.
@@ -257,7 +257,7 @@ fn every_call_fails_from_one_on(rt: HostRuntime) -> Result<(), Fail> {
     for (calls, status) in ALL_FAIL_ROWS {
         let mut device = MemoryDevice::new(rt.alloc(), &files, *calls);
         let given = run(&words, &mut device, &rt);
-        let outcome = recorded(rt.alloc(), device.events(), given)?;
+        let outcome = recorded(rt.alloc(), device.events(), given.code())?;
         assert_eq!(rt;
             outcome,
             wanted(rt.alloc(), ("", "", *status))?,

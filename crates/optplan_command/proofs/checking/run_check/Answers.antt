@@ -1,4 +1,5 @@
 use Rattle.std.proofs.Common.{◌≡◌, ◌≢◌, ◌≤◌, ◌+◌, ◌++◌, arith, append_assoc}
+use Rattle.optplan_replies.specs.declared.status.Status.TheVariants.{DeviceFailed}
 use Rattle.optplan_command.specs.Checking.{IsCheckAnswer, IsCheckRefusal, check_reads}
 use Rattle.optplan_replies.proofs.Replies.{replied, reply_failed}
 use Rattle.optplan_command.proofs.Checks.{check_refusal_status}
@@ -13,8 +14,8 @@ returns-in-Ok-clause-done g c = λ h is same known.
     let mid = g.D.Device.failure_count c.read_texts.new.device in
     let new = g.D.Device.failure_count c.reply.new.device in
     let read : mid ≡ old = c.in-Ok.ensures.same in
-    let well : status ≢ 7 = λ seven.
-    let failed : mid + 1 ≤ new = reply_failed (IsCheckRefusal s t) answer status mid new (check_refusal_status s t) c.check_of-answer.ensures.small c.check_of-answer.ensures.refused c.reply.ensures.counted c.reply.ensures.refusal seven in
+    let well : status ≢ DeviceFailed = λ device_failed.
+    let failed : mid + 1 ≤ new = reply_failed (IsCheckRefusal s t) answer status mid new (check_refusal_status s t) c.check_of-answer.ensures.judged c.check_of-answer.ensures.refused c.reply.ensures.counted c.reply.ensures.refusal device_failed in
     omega (arith, failed, same, read) in
     let before = c.in-Ok.ensures.told h is in
     let told = h ++ check_reads sas s cert t in

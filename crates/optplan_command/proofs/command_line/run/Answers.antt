@@ -1,24 +1,54 @@
-use Rattle.optplan_command.proofs.Validations.{something}
-use Rattle.optplan_command.proofs.PlanningChecks.{renamed_planning}
-use Rattle.optplan_command.proofs.Translations.{renamed_translates}
+use Rattle.optplan_command.proofs.FileCommands.{something, validated, planning_checked, checked, translated}
 use Rattle.optplan_command.proofs.command_line.run.Goals as goal
+
+pub returns-in-Some-clause-validates : goal.returns-in-Some-clause-validates
+returns-in-Some-clause-validates g c = λ h domain problem plan is asks same known.
+    let done = c.run_files.ensures.done h is same known in
+    (done.0, done.1, validated h done.0 domain problem plan c.in-Some.command c.run_files.result (c.in-Some.ensures.validates domain problem plan asks) done.2)
+
+pub returns-in-Some-clause-checks : goal.returns-in-Some-clause-checks
+returns-in-Some-clause-checks g c = λ h sas cert is asks same known.
+    let done = c.run_files.ensures.done h is same known in
+    (done.0, done.1, checked h done.0 sas cert c.in-Some.command c.run_files.result (c.in-Some.ensures.checks_sas sas cert asks) done.2)
 
 pub returns-in-Some-clause-checks_planning : goal.returns-in-Some-clause-checks_planning
 returns-in-Some-clause-checks_planning g c = λ h domain problem cert is asks same known.
-    let files = c.in-Some.ensures.found domain problem cert asks in
-    let done = c.run_planning_check.ensures.done h is same known in
-    (done.0, done.1, renamed_planning h done.0 domain c.in-Some.domain.now problem c.in-Some.problem.now cert c.in-Some.cert.now c.run_planning_check.result files.0 files.1 files.2 done.2)
+    let done = c.run_files.ensures.done h is same known in
+    (done.0, done.1, planning_checked h done.0 domain problem cert c.in-Some.command c.run_files.result (c.in-Some.ensures.checks domain problem cert asks) done.2)
 
-pub returns-in-Some-plain_translation-clause-translates : goal.returns-in-Some-plain_translation-clause-translates
-returns-in-Some-plain_translation-clause-translates g c = λ h domain problem is asks same known.
-    let files = c.in-Some-plain_translation.ensures.found domain problem asks in
-    let done = c.run_translation.ensures.done h is same known in
-    (done.0, done.1, renamed_translates h done.0 domain c.in-Some-plain_translation.domain.now problem c.in-Some-plain_translation.problem.now c.run_translation.result files.0 files.1 done.2)
+pub returns-in-Some-clause-translates : goal.returns-in-Some-clause-translates
+returns-in-Some-clause-translates g c = λ h domain problem is asks same known.
+    let done = c.run_files.ensures.done h is same known in
+    (done.0, done.1, translated h done.0 domain problem c.in-Some.command c.run_files.result (c.in-Some.ensures.translates domain problem asks) done.2)
 
-pub returns-clause-checks_planning : goal.returns-clause-checks_planning
-returns-clause-checks_planning g c = λ h domain problem cert is asks same known.
-    absurd (something c.plain_planning_check.result _ (c.plain_planning_check.ensures.found domain problem cert asks) c.in_default.not-Some)
+pub returns-in-Ok-clause-validates : goal.returns-in-Ok-clause-validates
+returns-in-Ok-clause-validates g c = λ h domain problem plan is asks same known.
+    absurd (something c.plain_command.result _ (c.plain_command.ensures.validates domain problem plan asks) c.in_default.not-Some)
 
-pub returns-clause-translates : goal.returns-clause-translates
-returns-clause-translates g c = λ h domain problem is asks same known.
-    absurd (something c.plain_translation.result _ (c.plain_translation.ensures.found domain problem asks) c.in_default-plain_translation.not-Some)
+pub returns-in-Ok-clause-checks : goal.returns-in-Ok-clause-checks
+returns-in-Ok-clause-checks g c = λ h sas cert is asks same known.
+    absurd (something c.plain_command.result _ (c.plain_command.ensures.checks_sas sas cert asks) c.in_default.not-Some)
+
+pub returns-in-Ok-clause-checks_planning : goal.returns-in-Ok-clause-checks_planning
+returns-in-Ok-clause-checks_planning g c = λ h domain problem cert is asks same known.
+    absurd (something c.plain_command.result _ (c.plain_command.ensures.checks domain problem cert asks) c.in_default.not-Some)
+
+pub returns-in-Ok-clause-translates : goal.returns-in-Ok-clause-translates
+returns-in-Ok-clause-translates g c = λ h domain problem is asks same known.
+    absurd (something c.plain_command.result _ (c.plain_command.ensures.translates domain problem asks) c.in_default.not-Some)
+
+pub returns-in-Err-clause-validates : goal.returns-in-Err-clause-validates
+returns-in-Err-clause-validates g c = λ h domain problem plan is asks same known.
+    absurd (something c.plain_command.result _ (c.plain_command.ensures.validates domain problem plan asks) c.in_default.not-Some)
+
+pub returns-in-Err-clause-checks : goal.returns-in-Err-clause-checks
+returns-in-Err-clause-checks g c = λ h sas cert is asks same known.
+    absurd (something c.plain_command.result _ (c.plain_command.ensures.checks_sas sas cert asks) c.in_default.not-Some)
+
+pub returns-in-Err-clause-checks_planning : goal.returns-in-Err-clause-checks_planning
+returns-in-Err-clause-checks_planning g c = λ h domain problem cert is asks same known.
+    absurd (something c.plain_command.result _ (c.plain_command.ensures.checks domain problem cert asks) c.in_default.not-Some)
+
+pub returns-in-Err-clause-translates : goal.returns-in-Err-clause-translates
+returns-in-Err-clause-translates g c = λ h domain problem is asks same known.
+    absurd (something c.plain_command.result _ (c.plain_command.ensures.translates domain problem asks) c.in_default.not-Some)

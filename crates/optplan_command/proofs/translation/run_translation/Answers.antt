@@ -1,4 +1,5 @@
 use Rattle.std.proofs.Common.{◌≡◌, ◌≢◌, ◌≤◌, ◌+◌, ◌++◌, arith, append_assoc}
+use Rattle.optplan_replies.specs.declared.status.Status.TheVariants.{DeviceFailed}
 use Rattle.optplan_replies.specs.Runs.{task_reads}
 use Rattle.optplan_replies.proofs.Replies.{task_reads_same}
 use Rattle.optplan_command.specs.Translating.{IsTranslationText, IsTranslationRefusal}
@@ -14,8 +15,8 @@ returns-in-Ok-clause-done g c = λ h is same known.
     let mid = g.D.Device.failure_count c.read_task_files.new.device in
     let new = g.D.Device.failure_count c.reply_text.new.device in
     let read : mid ≡ old = c.in-Ok.ensures.same in
-    let well : status ≢ 7 = λ seven.
-    let failed : mid + 1 ≤ new = text_reply_failed (IsTranslationRefusal d p) answer status mid new (translation_refusal_status d p) c.translation_of-answer.ensures.refused c.reply_text.ensures.counted c.reply_text.ensures.refusal seven in
+    let well : status ≢ DeviceFailed = λ device_failed.
+    let failed : mid + 1 ≤ new = text_reply_failed (IsTranslationRefusal d p) answer status mid new (translation_refusal_status d p) c.translation_of-answer.ensures.refused c.reply_text.ensures.counted c.reply_text.ensures.refusal device_failed in
     omega (arith, failed, same, read) in
     let before = task_reads_same (g.D.Device.history c.read_task_files.new.device) h domain c.in-Ok.domain.items d problem c.in-Ok.problem.items p
     c.deref.ensures.value c.deref-in-Ok.ensures.value (c.in-Ok.ensures.told h is) in

@@ -1,4 +1,5 @@
 use Rattle.std.proofs.Common.{◌≡◌, ◌≢◌, ◌≤◌, ◌+◌, ◌++◌, arith, append_assoc}
+use Rattle.optplan_replies.specs.declared.status.Status.TheVariants.{DeviceFailed}
 use Rattle.optplan_command.specs.Answers.{IsAnswer, IsRefusal}
 use Rattle.optplan_command.specs.Validation.{reads}
 use Rattle.optplan_replies.proofs.Replies.{replied, reply_failed}
@@ -14,8 +15,8 @@ returns-in-Ok-clause-done g c = λ h is same known.
     let mid = g.D.Device.failure_count c.read_texts.new.device in
     let new = g.D.Device.failure_count c.reply.new.device in
     let read : mid ≡ old = c.in-Ok.ensures.same in
-    let well : status ≢ 7 = λ seven.
-    let failed : mid + 1 ≤ new = reply_failed (IsRefusal d p l) answer status mid new (refusal_status d p l) c.verdict_of-answer.ensures.small c.verdict_of-answer.ensures.refused c.reply.ensures.counted c.reply.ensures.refusal seven in
+    let well : status ≢ DeviceFailed = λ device_failed.
+    let failed : mid + 1 ≤ new = reply_failed (IsRefusal d p l) answer status mid new (refusal_status d p l) c.verdict_of-answer.ensures.judged c.verdict_of-answer.ensures.refused c.reply.ensures.counted c.reply.ensures.refusal device_failed in
     omega (arith, failed, same, read) in
     let before = reads_same (g.D.Device.history c.read_texts.new.device) h domain t.domain.items d problem t.problem.items p plan t.plan.items l
     c.deref.ensures.value c.deref-in-Ok.ensures.value c.deref-in-Ok-2.ensures.value (c.in-Ok.ensures.told h is) in

@@ -3,6 +3,7 @@ use Rattle.std.specs.Prelude.{ℕ, List, Some}
 use Rattle.optplan_device.specs.Events.{HasRead}
 use Rattle.optplan_solve.specs.SasSolving.{IsSasSolveRefusal}
 use Rattle.optplan_solve.specs.Texts.{files_of, IsSasAnsweredBy}
+use Rattle.optplan_replies.specs.declared.status.Status.TheVariants.{DeviceFailed}
 use Rattle.optplan_solve.proofs.Replying.{added, text_replied, text_reply_failed}
 use Rattle.optplan_solve.proofs.Refusals.{sas_refusal_status, replied_sas}
 use Rattle.optplan_solve.proofs.sas_solving.run_solve_sas.Goals as goal
@@ -16,8 +17,8 @@ returns-in-Ok-clause-done g c = λ h is same known.
     let mid = g.D.Device.failure_count c.read_file.new.device in
     let new = g.D.Device.failure_count c.reply_answer.new.device in
     let read : mid ≡ old = c.in-Ok.ensures.same in
-    let well : status ≢ 7 = λ seven.
-    let failed : mid + 1 ≤ new = text_reply_failed (IsSasSolveRefusal text choices seed) answer status mid new (sas_refusal_status text choices seed) c.answer_of-answer.ensures.refused c.reply_answer.ensures.counted c.reply_answer.ensures.refusal seven in
+    let well : status ≢ DeviceFailed = λ device_failed.
+    let failed : mid + 1 ≤ new = text_reply_failed (IsSasSolveRefusal text choices seed) answer status mid new (sas_refusal_status text choices seed) c.answer_of-answer.ensures.refused c.reply_answer.ensures.counted c.reply_answer.ensures.refusal device_failed in
     omega (arith, failed, same, read) in
     let before = added (g.D.Device.history c.args.device.now) (g.D.Device.history c.read_file.new.device) h (HasRead sas c.in-Ok.sas.items) is c.in-Ok.ensures.told
     ∙ ap (λ (x : List ℕ). Some (h ++ HasRead sas x ∷ [])) (sym c.deref.ensures.value) in

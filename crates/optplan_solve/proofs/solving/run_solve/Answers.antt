@@ -3,6 +3,7 @@ use Rattle.optplan_replies.specs.Runs.{task_reads}
 use Rattle.optplan_replies.proofs.Replies.{task_reads_same}
 use Rattle.optplan_solve.specs.Solving.{IsSolveRefusal}
 use Rattle.optplan_solve.specs.Texts.{files_of, IsAnsweredBy}
+use Rattle.optplan_replies.specs.declared.status.Status.TheVariants.{DeviceFailed}
 use Rattle.optplan_solve.proofs.Replying.{text_replied, text_reply_failed}
 use Rattle.optplan_solve.proofs.Refusals.{solve_refusal_status, replied_answers}
 use Rattle.optplan_solve.proofs.solving.run_solve.Goals as goal
@@ -17,8 +18,8 @@ returns-in-Ok-clause-done g c = λ h is same known.
     let mid = g.D.Device.failure_count c.read_task_files.new.device in
     let new = g.D.Device.failure_count c.reply_answer.new.device in
     let read : mid ≡ old = c.in-Ok.ensures.same in
-    let well : status ≢ 7 = λ seven.
-    let failed : mid + 1 ≤ new = text_reply_failed (IsSolveRefusal d p choices seed) answer status mid new (solve_refusal_status d p choices seed) c.answer_of-answer.ensures.refused c.reply_answer.ensures.counted c.reply_answer.ensures.refusal seven in
+    let well : status ≢ DeviceFailed = λ device_failed.
+    let failed : mid + 1 ≤ new = text_reply_failed (IsSolveRefusal d p choices seed) answer status mid new (solve_refusal_status d p choices seed) c.answer_of-answer.ensures.refused c.reply_answer.ensures.counted c.reply_answer.ensures.refusal device_failed in
     omega (arith, failed, same, read) in
     let before = task_reads_same (g.D.Device.history c.read_task_files.new.device) h domain c.in-Ok.domain.items d problem c.in-Ok.problem.items p
     c.deref.ensures.value c.deref-in-Ok.ensures.value (c.in-Ok.ensures.told h is) in

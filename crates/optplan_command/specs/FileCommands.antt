@@ -1,0 +1,60 @@
+-- The commands that work on files alone: the words that request each, and what each does.
+use Rattle.std.specs.Prelude.{◌≡◌, ℕ, List, Option, IfSome, IsSomeAnd}
+use Rattle.optplan_device.specs.Events.{Event}
+use Rattle.optplan_replies.specs.declared.status.Status.{Status}
+use Rattle.optplan_command.specs.Validation.{AskForValidation, Validates}
+use Rattle.optplan_command.specs.Checking.{AskForCheck, Checks}
+use Rattle.optplan_command.specs.PlanningChecking.{AskForPlanningCheck, ChecksPlanning}
+use Rattle.optplan_command.specs.Translating.{AskForTranslation, Translates}
+use Rattle.optplan_command.specs.declared.file_command.FileCommand.{FileCommand}
+use Rattle.optplan_command.specs.declared.file_command.FileCommand.TheVariants.{Validate, Check, CheckSas, Translate}
+
+-- the command validates the plan of these files
+abbrev pub IsValidation : List ℕ → List ℕ → List ℕ → FileCommand → Type 0
+IsValidation d p l (Validate domain problem plan) = (domain.now ≡ d) × (problem.now ≡ p) × (plan.now ≡ l)
+IsValidation d p l (Check domain problem cert) = ⊥
+IsValidation d p l (CheckSas sas cert) = ⊥
+IsValidation d p l (Translate domain problem) = ⊥
+
+-- the command checks the certificate of these files for a planning task
+abbrev pub IsPlanningCheck : List ℕ → List ℕ → List ℕ → FileCommand → Type 0
+IsPlanningCheck d p c (Validate domain problem plan) = ⊥
+IsPlanningCheck d p c (Check domain problem cert) = (domain.now ≡ d) × (problem.now ≡ p) × (cert.now ≡ c)
+IsPlanningCheck d p c (CheckSas sas cert) = ⊥
+IsPlanningCheck d p c (Translate domain problem) = ⊥
+
+-- the command checks the certificate of these files for a finite-domain task
+abbrev pub IsCheck : List ℕ → List ℕ → FileCommand → Type 0
+IsCheck s c (Validate domain problem plan) = ⊥
+IsCheck s c (Check domain problem cert) = ⊥
+IsCheck s c (CheckSas sas cert) = (sas.now ≡ s) × (cert.now ≡ c)
+IsCheck s c (Translate domain problem) = ⊥
+
+-- the command translates the planning task of these files
+abbrev pub IsTranslation : List ℕ → List ℕ → FileCommand → Type 0
+IsTranslation d p (Validate domain problem plan) = ⊥
+IsTranslation d p (Check domain problem cert) = ⊥
+IsTranslation d p (CheckSas sas cert) = ⊥
+IsTranslation d p (Translate domain problem) = (domain.now ≡ d) × (problem.now ≡ p)
+
+-- the words request this command
+abbrev pub AskFor : List (List ℕ) → FileCommand → Type 0
+AskFor words (Validate domain problem plan) = AskForValidation words domain.now problem.now plan.now
+AskFor words (Check domain problem cert) = AskForPlanningCheck words domain.now problem.now cert.now
+AskFor words (CheckSas sas cert) = AskForCheck words sas.now cert.now
+AskFor words (Translate domain problem) = AskForTranslation words domain.now problem.now
+
+-- the command is the one that the words request, and there is none only if they request none
+pub record IsRequested (words : List (List ℕ)) (command : Option FileCommand) : Type 0 where
+  pub asked : IfSome command (AskFor words)
+  pub validates : (domain problem plan : List ℕ) → AskForValidation words domain problem plan → IsSomeAnd command (IsValidation domain problem plan)
+  pub checks : (domain problem cert : List ℕ) → AskForPlanningCheck words domain problem cert → IsSomeAnd command (IsPlanningCheck domain problem cert)
+  pub checks_sas : (sas cert : List ℕ) → AskForCheck words sas cert → IsSomeAnd command (IsCheck sas cert)
+  pub translates : (domain problem : List ℕ) → AskForTranslation words domain problem → IsSomeAnd command (IsTranslation domain problem)
+
+-- the events of a run of the command, and its exit status
+abbrev pub DoesCommand : List Event → List Event → FileCommand → Status → Type 0
+DoesCommand old new (Validate domain problem plan) status = Validates old new domain.now problem.now plan.now status
+DoesCommand old new (Check domain problem cert) status = ChecksPlanning old new domain.now problem.now cert.now status
+DoesCommand old new (CheckSas sas cert) status = Checks old new sas.now cert.now status
+DoesCommand old new (Translate domain problem) status = Translates old new domain.now problem.now status

@@ -1,0 +1,147 @@
+//! The commands that work on files alone.
+
+ghost use Rattle.std.specs.Prelude.{◌≡◌, ◌≢◌, ◌≤◌, ◌+◌, ℕ, List, [], ◌∷◌, Some};
+ghost use Rattle.pddl_names.specs.Names.{texts_of};
+ghost use Rattle.optplan_device.specs.Events.{Event};
+ghost use Rattle.optplan_replies.specs.Runs.{is_operand};
+ghost use Rattle.optplan_command.specs.FileCommands.{IsRequested, DoesCommand};
+
+use crate::checking::run_check;
+use crate::planning_check::run_planning_check;
+use crate::translation::run_translation;
+use crate::validation::run_validation;
+use optplan_device::Device;
+use optplan_replies::Status;
+
+/// A command that works on files alone, with their names.
+#[derive(Clone, Copy, Debug)]
+pub(crate) enum FileCommand<'a> {
+    /// Validates a plan.
+    Validate {
+        domain: &'a str,
+        problem: &'a str,
+        plan: &'a str,
+    },
+    /// Checks a certificate for a planning task.
+    Check {
+        domain: &'a str,
+        problem: &'a str,
+        cert: &'a str,
+    },
+    /// Checks a certificate for a finite-domain task.
+    CheckSas {
+        sas: &'a str,
+        cert: &'a str,
+    },
+    /// Translates a planning task.
+    Translate {
+        domain: &'a str,
+        problem: &'a str,
+    },
+}
+
+/// Whether the word does not start an option.
+fn is_operand(word: &str) -> bool
+    ensures { result ≡ is_operand word.now }
+{
+    match word.as_bytes() {
+        [b'-', ..] => false,
+        _ => true,
+    }
+}
+
+/// The command of this name on three files, none of which starts with a hyphen, if there is one.
+fn plain_on_three<'a>(
+    command: &str,
+    first: &'a str,
+    second: &'a str,
+    third: &'a str,
+) -> Option<FileCommand<'a>>
+    ensures { (program : List ℕ) → IsRequested (program ∷ command.now ∷ first.now ∷ second.now ∷ third.now ∷ []) result }
+{
+    if !is_operand(first) || !is_operand(second) || !is_operand(third) {
+        return None;
+    }
+    match command {
+        "validate" => Some(FileCommand::Validate {
+            domain: first,
+            problem: second,
+            plan: third,
+        }),
+        "check" => Some(FileCommand::Check {
+            domain: first,
+            problem: second,
+            cert: third,
+        }),
+        _ => None,
+    }
+}
+
+/// The command of this name on two files, none of which starts with a hyphen, if there is one.
+fn plain_on_two<'a>(command: &str, first: &'a str, second: &'a str) -> Option<FileCommand<'a>>
+    ensures { (program : List ℕ) → IsRequested (program ∷ command.now ∷ first.now ∷ second.now ∷ []) result }
+{
+    if !is_operand(first) || !is_operand(second) {
+        return None;
+    }
+    match command {
+        "check-sas" => Some(FileCommand::CheckSas {
+            sas: first,
+            cert: second,
+        }),
+        "translate" => Some(FileCommand::Translate {
+            domain: first,
+            problem: second,
+        }),
+        _ => None,
+    }
+}
+
+/// The command that plain words request: the program, the command and its files, none of which starts with a hyphen, and
+/// nothing else.
+pub(crate) fn plain_command(words: &[String]) -> Option<FileCommand<'_>>
+    ensures { IsRequested (texts_of words.now) result }
+{
+    match words {
+        [_, command, first, second, third] => {
+            plain_on_three(
+                command.as_str(),
+                first.as_str(),
+                second.as_str(),
+                third.as_str(),
+            )
+        }
+        [_, command, first, second] => {
+            plain_on_two(command.as_str(), first.as_str(), second.as_str())
+        }
+        _ => None,
+    }
+}
+
+/// Runs the command, and returns the exit status.
+pub(crate) fn run_files<D: Device, R: AllocGlobal>(
+    rt: &R,
+    device: &mut D,
+    command: FileCommand<'_>,
+) -> Status
+    ensures done { (h : List Event) → D.history device.old ≡ Some h → D.failure_count device.new ≡ D.failure_count device.old → result ≢ Status.OutOfMemory →
+        (new : List Event) × (D.history device.new ≡ Some new) × DoesCommand h new command.entry result }
+    ensures device_failed { result ≡ Status.DeviceFailed → D.failure_count device.old + 1 ≤ D.failure_count device.new }
+{
+    match command {
+        FileCommand::Validate {
+            domain,
+            problem,
+            plan,
+        } => run_validation(rt.alloc(), device, domain, problem, plan),
+        FileCommand::Check {
+            domain,
+            problem,
+            cert,
+        } => run_planning_check(rt, device, domain, problem, cert),
+        FileCommand::CheckSas { sas, cert } => run_check(rt, device, sas, cert),
+        FileCommand::Translate { domain, problem } => {
+            run_translation(rt.alloc(), device, domain, problem)
+        }
+    }
+}

@@ -1,0 +1,45 @@
+//! Exit statuses.
+
+ghost use Rattle.std.specs.Prelude.{◌≡◌};
+ghost use Rattle.optplan_replies.specs.Statuses.{status_code};
+
+/// How a command ended.
+#[derive(Clone, Copy, Debug, PartialEq, Eq)]
+pub enum Status {
+    /// What was asked for was done: a plan is valid, a certificate accepted, a task translated or solved, or help or the
+    /// version was printed.
+    Done,
+    /// A text or a task is refused.
+    Refused,
+    /// The words are not a command.
+    Misused,
+    /// The plan is not valid, or the certificate is rejected.
+    Rejected,
+    /// There is no plan.
+    Unsolvable,
+    /// A search came to a limit.
+    Limited,
+    /// Memory ran out.
+    OutOfMemory,
+    /// The device failed to read or to write.
+    DeviceFailed,
+}
+
+impl Status {
+    /// The number with which the program ends: that of the variant by its place, from 0 for `Done` to 7 for
+    /// `DeviceFailed`.
+    pub fn code(self) -> u8
+        ensures { result ≡ status_code self }
+    {
+        match self {
+            Status::Done => 0,
+            Status::Refused => 1,
+            Status::Misused => 2,
+            Status::Rejected => 3,
+            Status::Unsolvable => 4,
+            Status::Limited => 5,
+            Status::OutOfMemory => 6,
+            Status::DeviceFailed => 7,
+        }
+    }
+}
