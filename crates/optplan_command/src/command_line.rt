@@ -41,6 +41,7 @@ fn with_solving<'a>(alloc: Global, command: Command<'a>) -> Result<Command<'a>, 
         .subcommand(solve_sas_command(alloc, "solve-sas")?)
 }
 
+/// The program as `clap` sees it: its commands, help and version. Fails only if allocation fails.
 fn program_command<'a>(alloc: Global) -> Result<Command<'a>, AllocError> {
     let command = Command::new(alloc, "optplan")
         .about(ABOUT)
