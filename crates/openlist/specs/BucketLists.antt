@@ -1,0 +1,62 @@
+-- What a contract sees of an open list as a row of buckets by f, with one heap for the entries of great f.
+use Rattle.std.specs.Prelude.{ℕ, ◌+◌, ◌<◌, ◌≤◌, ◌≡◌, ◌==◌, nat_le, List, [], ◌∷◌, ◌++◌, length, map, All, count_by, slice_index, slice_index_or}
+use Rattle.openlist.specs.declared.entry.OpenEntry.{OpenEntry}
+use Rattle.openlist.specs.declared.bucket.BucketEntry.{BucketEntry}
+use Rattle.openlist.specs.declared.row.TheConstants.{FAR}
+use Rattle.openlist.specs.Heaps.{Held}
+
+-- a bucket: its entries, in the heap's own order, how many more entries fit without an allocation, and for how many the last
+-- call of reserve has asked
+pub record BucketHeld : Type 0 where
+  pub entries : List BucketEntry
+  pub spare : ℕ
+  pub asked : ℕ
+
+-- an open list as buckets: the entries of each bucket, how many more fit in each, the place in the row from which the least
+-- entry is sought, and the heap of the entries of great f
+pub record BucketsHeld : Type 0 where
+  pub row : List (List BucketEntry)
+  pub spares : List ℕ
+  pub least : ℕ
+  pub far : Held
+
+-- the open list of these buckets, this place and this heap
+abbrev pub held_of : List BucketHeld → ℕ → Held → BucketsHeld
+held_of buckets least far =
+    record { row = map (λ b. b.entries) buckets; spares = map (λ b. b.spare) buckets; least = least; far = far }
+
+-- the entry with this f-value
+abbrev pub with_f : ℕ → BucketEntry → OpenEntry
+with_f f e = record { f = f; rank = e.rank; index = e.index }
+
+-- the entries of a row of buckets, of which the first is that of this f-value
+abbrev pub row_entries : ℕ → List (List BucketEntry) → List OpenEntry
+row_entries f [] = []
+row_entries f (b ∷ bs) = map (with_f f) b ++ row_entries (f + 1) bs
+
+-- all entries: those of the buckets, and those of great f
+abbrev pub all_entries : BucketsHeld → List OpenEntry
+all_entries held = row_entries 0 held.row ++ held.far.entries
+
+-- no bucket below this place has an entry
+abbrev pub IsEmptyBelow : ℕ → List (List BucketEntry) → Type 0
+IsEmptyBelow place row = (f : ℕ) → f < place → slice_index_or row f [] ≡ []
+
+-- only f-values below FAR have buckets, no bucket below the place has an entry, and only entries of great f are in the heap
+pub record IsInOrder (held : BucketsHeld) : Type 0 where
+  pub near : length held.row ≤ FAR
+  pub below : IsEmptyBelow held.least held.row
+  pub far : All (λ e. FAR ≤ e.f) held.far.entries
+
+-- how often this f-value stands in the list
+abbrev pub count_of : ℕ → List ℕ → ℕ
+count_of f fs = count_by (λ g. g == f) fs
+
+-- how many f-values of the list have no bucket
+abbrev pub far_count : List ℕ → ℕ
+far_count fs = count_by (λ g. nat_le FAR g) fs
+
+-- each bucket has room for as many entries as its f-value stands in the list, and so has the heap for those of great f
+pub record HasRoomIn (held : BucketsHeld) (fs : List ℕ) : Type 0 where
+  pub near : (f : ℕ) → f < FAR → count_of f fs ≤ slice_index held.spares f
+  pub far : far_count fs ≤ held.far.spare

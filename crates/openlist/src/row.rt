@@ -1,0 +1,74 @@
+//! A row of buckets: the bucket in place i has the entries of f-value i.
+
+ghost use Rattle.std.specs.Prelude.{◌≡◌, ◌≢◌, ℕ, ◌+◌, ◌<◌, ◌≤◌, List, [], ◌++◌, All, length, map, slice_index, slice_index_or, vec_len, IfSome, IfNone, OnOk};
+ghost use Rattle.openlist.specs.BucketLists.{count_of, far_count};
+
+use crate::bucket::Bucket;
+use std::alloc::{AllocError, Global};
+
+/// The least f-value that has no bucket: entries of this f-value or of a greater one stand in one heap.
+pub const FAR: u64 = 65_536;
+
+/// The place of this f-value's bucket, or `None` if the f-value has none.
+pub fn bucket_of(f: u64) -> Option<usize>
+    ensures near { IfSome result (λ place. place ≡ f) }
+    ensures below { IfSome result (λ place. place < FAR) }
+    ensures far { IfNone result (FAR ≤ f) }
+{
+    if f < FAR { Some(f as usize) } else { None }
+}
+
+/// How many of these f-values have no bucket.
+pub fn count_far(fs: &[u64]) -> usize
+    ensures { result ≡ far_count fs.now }
+{
+    fs.iter().filter(|f| **f >= FAR).count()
+}
+
+/// The first place at or above `from` whose bucket has an entry, or one at or above the row's length if there is none.
+pub fn first_filled(row: &[Bucket], from: usize) -> usize
+    ensures above { from ≤ result }
+    ensures empty { (place : ℕ) → from ≤ place → place < result →
+        slice_index_or (map (λ b. b.entries) row.now) place [] ≡ [] }
+    ensures filled { result < length row.now → slice_index_or (map (λ b. b.entries) row.now) result [] ≢ [] }
+{
+    let mut place = from;
+    while place < row.len() && row[place].is_empty() {
+        place += 1;
+    }
+    place
+}
+
+/// Adds empty buckets at the row's end until there is one in this place. Fails only if allocation fails, and may then have
+/// added some of them. Each new bucket takes constant time on average, since a `Vec` doubles its capacity.
+pub fn grow(row: &mut Vec<Bucket>, alloc: Global, place: usize) -> Result<(), AllocError> {
+    while row.len() <= place {
+        row.push(Bucket::new(alloc))?;
+    }
+    Ok(())
+}
+
+/// Makes a bucket for each of these f-values that can have one, and begins to count for how many entries it is asked. Fails
+/// only if allocation fails.
+pub fn start_asking(row: &mut Vec<Bucket>, alloc: Global, fs: &[u64]) -> Result<(), AllocError> {
+    for f in fs {
+        if let Some(place) = bucket_of(*f) {
+            grow(row, alloc, place)?;
+            row[place].start_asking();
+        }
+    }
+    Ok(())
+}
+
+/// Makes room in each bucket for as many entries as its f-value stands in `fs`. Fails only if allocation fails.
+///
+/// Each occurrence asks its bucket for one entry more than the occurrences before it, so the whole takes linear time and the
+/// room is for no more entries than are in `fs`, where room for `fs.len()` entries in each bucket could be quadratic.
+pub fn ask(row: &mut Vec<Bucket>, fs: &[u64]) -> Result<(), AllocError> {
+    for f in fs {
+        if let Some(place) = bucket_of(*f) {
+            row[place].ask_for_one_more()?;
+        }
+    }
+    Ok(())
+}
