@@ -56,14 +56,13 @@ impl Buckets {
 }
 
 impl OpenList for Buckets {
-    ghost use Rattle.openlist.specs.BucketLists.{all_entries, HasRoomIn};
-    ghost use Rattle.openlist.proofs.Rooms.{HasRoomIn-fewer};
+    ghost use Rattle.openlist.specs.BucketLists.{all_entries, HasRoomIn, has_room_in_fewer};
 
     ghost entries = { all_entries };
 
     ghost HasRoom = { HasRoomIn };
 
-    ghost fewer = { HasRoomIn-fewer };
+    ghost fewer = { has_room_in_fewer };
 
     fn reserve(&mut self, fs: &[u64]) -> Result<(), AllocError> {
         start_asking(&mut self.row, self.alloc, fs)?;

@@ -1,7 +1,7 @@
 //! A row of buckets: the bucket in place i has the entries of f-value i.
 
-ghost use Rattle.std.specs.Prelude.{◌≡◌, ◌≢◌, ℕ, ◌+◌, ◌<◌, ◌≤◌, List, [], ◌++◌, All, length, map, slice_index, slice_index_or, vec_len, IfSome, IfNone, OnOk};
-ghost use Rattle.openlist.specs.BucketLists.{count_of, far_count};
+ghost use Rattle.std.specs.Prelude.{◌≡◌, ◌≢◌, ℕ, ◌+◌, max, ◌<◌, ◌≤◌, List, [], ◌++◌, All, length, map, slice_index, slice_index_or, vec_len, IfSome, IfNone, OnOk};
+ghost use Rattle.openlist.specs.BucketLists.{far_count, HasBuckets, HasRoomNear, HasSameEntries, KeepsRoom, row_of, spares_of};
 
 use crate::bucket::Bucket;
 use std::alloc::{AllocError, Global};
@@ -29,8 +29,8 @@ pub fn count_far(fs: &[u64]) -> usize
 pub fn first_filled(row: &[Bucket], from: usize) -> usize
     ensures above { from ≤ result }
     ensures empty { (place : ℕ) → from ≤ place → place < result →
-        slice_index_or (map (λ b. b.entries) row.now) place [] ≡ [] }
-    ensures filled { result < length row.now → slice_index_or (map (λ b. b.entries) row.now) result [] ≢ [] }
+        slice_index_or (row_of row.now) place [] ≡ [] }
+    ensures filled { result < length row.now → slice_index_or (row_of row.now) result [] ≢ [] }
 {
     let mut place = from;
     while place < row.len() && row[place].is_empty() {
@@ -41,7 +41,13 @@ pub fn first_filled(row: &[Bucket], from: usize) -> usize
 
 /// Adds empty buckets at the row's end until there is one in this place. Fails only if allocation fails, and may then have
 /// added some of them. Each new bucket takes constant time on average, since a `Vec` doubles its capacity.
-pub fn grow(row: &mut Vec<Bucket>, alloc: Global, place: usize) -> Result<(), AllocError> {
+pub fn grow(row: &mut Vec<Bucket>, alloc: Global, place: usize) -> Result<(), AllocError>
+    ensures entries { HasSameEntries (row_of row.old.items) (row_of row.new.items) }
+    ensures room { KeepsRoom (spares_of row.old.items) (spares_of row.new.items) }
+    ensures long { OnOk result (place < vec_len row.new) }
+    ensures len { vec_len row.old ≤ vec_len row.new }
+    ensures bound { vec_len row.new ≤ max (vec_len row.old) (place + 1) }
+{
     while row.len() <= place {
         row.push(Bucket::new(alloc))?;
     }
@@ -50,7 +56,12 @@ pub fn grow(row: &mut Vec<Bucket>, alloc: Global, place: usize) -> Result<(), Al
 
 /// Makes a bucket for each of these f-values that can have one, and begins to count for how many entries it is asked. Fails
 /// only if allocation fails.
-pub fn start_asking(row: &mut Vec<Bucket>, alloc: Global, fs: &[u64]) -> Result<(), AllocError> {
+pub fn start_asking(row: &mut Vec<Bucket>, alloc: Global, fs: &[u64]) -> Result<(), AllocError>
+    requires { vec_len row.old ≤ FAR }
+    ensures entries { HasSameEntries (row_of row.old.items) (row_of row.new.items) }
+    ensures bound { vec_len row.new ≤ FAR }
+    ensures long { OnOk result (HasBuckets fs.now (vec_len row.new)) }
+{
     for f in fs {
         if let Some(place) = bucket_of(*f) {
             grow(row, alloc, place)?;
@@ -64,7 +75,12 @@ pub fn start_asking(row: &mut Vec<Bucket>, alloc: Global, fs: &[u64]) -> Result<
 ///
 /// Each occurrence asks its bucket for one entry more than the occurrences before it, so the whole takes linear time and the
 /// room is for no more entries than are in `fs`, where room for `fs.len()` entries in each bucket could be quadratic.
-pub fn ask(row: &mut Vec<Bucket>, fs: &[u64]) -> Result<(), AllocError> {
+pub fn ask(row: &mut Vec<Bucket>, fs: &[u64]) -> Result<(), AllocError>
+    requires { HasBuckets fs.now (vec_len row.old) }
+    ensures entries { HasSameEntries (row_of row.old.items) (row_of row.new.items) }
+    ensures len { vec_len row.new ≡ vec_len row.old }
+    ensures room { OnOk result (HasRoomNear (spares_of row.new.items) fs.now) }
+{
     for f in fs {
         if let Some(place) = bucket_of(*f) {
             row[place].ask_for_one_more()?;
