@@ -1,9 +1,9 @@
 -- Rows of buckets: the entries of all buckets in a row, and the first of them.
 use Rattle.std.specs.Prelude.{Contains, IsPermutation, All}
-use Rattle.std.proofs.Common.{◌≡◌, ℕ, zero, suc, ◌+◌, ◌-◌, ◌<◌, ◌≤◌, List, [], ◌∷◌, ◌++◌, length, map, get_or, set, refl, sym, ap, ◌∙◌, subst, arith, true}
+use Rattle.std.proofs.Common.{◌≡◌, ◌≢◌, ℕ, zero, suc, ◌+◌, ◌-◌, ◌<◌, ◌≤◌, List, [], ◌∷◌, ◌++◌, length, map, get_or, set, refl, sym, ap, ◌∙◌, subst, arith, true}
 use Rattle.std.proofs.Common.{below_more}
 use Rattle.std.proofs.Math.Seq.{map-set_same}
-use Rattle.std.proofs.lemmas.List.{get_or-map}
+use Rattle.std.proofs.lemmas.List.{get_or-map, get_or-set_other, length-map, map-set}
 use Rattle.std.proofs.lemmas.List.Elements.{All-nil, All-cons, All-append, All-tail, All-get_or, Contains-append_left, Contains-append_right}
 use Rattle.std.proofs.lemmas.List.Sorted.{IsPermutation-append_left, IsPermutation-append_right, IsPermutation-middle, IsPermutation-sym, IsPermutation-trans}
 use Rattle.openlist.specs.declared.entry.OpenEntry.{OpenEntry}
@@ -146,3 +146,29 @@ pub empty_more : (buckets : List BucketHeld) (from place : ℕ) (b : BucketHeld)
 empty_more buckets from place b inside is empty before p above below =
     below_more (λ q. from ≤ q → get_or (row_of buckets) q [] ≡ []) place (λ q under over. before q over under)
     (λ over. get_or-row_of buckets place b inside is ∙ empty) p below above
+
+-- a bucket that is changed changes no other bucket
+pub row_of-set_other : (buckets : List BucketHeld) (place f : ℕ) (new : BucketHeld) → f ≢ place →
+    get_or (row_of (set buckets place new)) f [] ≡ get_or (row_of buckets) f []
+row_of-set_other buckets place f new other =
+    rw (map-set (λ b. b.entries) buckets place new) (get_or-set_other (row_of buckets) place f new.entries [] other)
+
+-- one entry more in a bucket is one entry more in the row
+pub row_entries-put : (x : OpenEntry) (before : Row) (buckets : List BucketHeld) (place : ℕ) (old new : BucketHeld) →
+    HasSameEntries before (row_of buckets) → place < length buckets → old ≡ get_or buckets place old → place ≡ x.f →
+    IsPermutation (x ∷ map (with_f x.f) old.entries) (map (with_f x.f) new.entries) →
+    IsPermutation (x ∷ row_entries 0 before) (row_entries 0 (row_of (set buckets place new)))
+row_entries-put x before buckets place old new same there is at pushed =
+    rw (map-set (λ b. b.entries) buckets place new, ← row_entries-same 0 before (row_of buckets) same)
+    (row_entries-push x 0 place x.f (row_of buckets) new.entries (rw length-map there) (omega arith)
+    (rw (get_or-row_of buckets place old there is) pushed))
+
+-- an entry that leaves a bucket leaves the row
+pub row_entries-take : (x : OpenEntry) (buckets : List BucketHeld) (place : ℕ) (old new : BucketHeld) →
+    place < length buckets → old ≡ get_or buckets place old →
+    IsPermutation (map (with_f place) old.entries) (x ∷ map (with_f place) new.entries) →
+    IsPermutation (row_entries 0 (row_of buckets)) (x ∷ row_entries 0 (row_of (set buckets place new)))
+row_entries-take x buckets place old new there is popped =
+    rw (map-set (λ b. b.entries) buckets place new)
+    (row_entries-pop x 0 place place (row_of buckets) new.entries (rw length-map there) (omega arith)
+    (rw (get_or-row_of buckets place old there is) popped))

@@ -89,7 +89,7 @@ pub record HasRoomIn (held : BucketsHeld) (fs : List ℕ) : Type 0 where
   pub far : far_count fs ≤ held.far.spare
 
 -- a test passes no less often where there is one element more
-count_by-tail : (p : ℕ → Bool) (x : ℕ) (xs : List ℕ) → count_by p xs ≤ count_by p (x ∷ xs)
+pub count_by-tail : (p : ℕ → Bool) (x : ℕ) (xs : List ℕ) → count_by p xs ≤ count_by p (x ∷ xs)
 count_by-tail p x xs = omega (arith, sum_by-cons (λ y. cond (p y) 1 0) x xs)
 
 -- room for a list of f-values is room for its tail

@@ -6,7 +6,7 @@ use crate::bucket::Bucket;
 use crate::entry::OpenEntry;
 use crate::heap::Heap;
 use crate::open_list::OpenList;
-use crate::row::{ask, bucket_of, count_far, first_filled, grow, start_asking};
+use crate::row::{ask, bucket_of, count_far, first_filled, push_near, start_asking};
 use std::alloc::{AllocError, Global};
 use std::marker::Model;
 
@@ -74,8 +74,7 @@ impl OpenList for Buckets {
         let Some(place) = bucket_of(entry.f) else {
             return self.far.push(entry);
         };
-        grow(&mut self.row, self.alloc, place)?;
-        self.row[place].push(entry)?;
+        push_near(&mut self.row, self.alloc, place, entry)?;
         self.least = self.least.min(place);
         Ok(())
     }

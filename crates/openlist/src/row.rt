@@ -1,9 +1,10 @@
 //! A row of buckets: the bucket in place i has the entries of f-value i.
 
-ghost use Rattle.std.specs.Prelude.{◌≡◌, ◌≢◌, ℕ, ◌+◌, max, ◌<◌, ◌≤◌, List, [], ◌++◌, All, length, map, slice_index, slice_index_or, vec_len, IfSome, IfNone, OnOk};
-ghost use Rattle.openlist.specs.BucketLists.{far_count, HasBuckets, HasRoomNear, HasSameEntries, KeepsRoom, row_of, spares_of};
+ghost use Rattle.std.specs.Prelude.{◌≡◌, ◌≢◌, ℕ, ◌+◌, max, ◌<◌, ◌≤◌, List, [], ◌∷◌, ◌++◌, IsOk, IsPermutation, OnErr, All, length, map, slice_index, slice_index_or, vec_len, IfSome, IfNone, OnOk};
+ghost use Rattle.openlist.specs.BucketLists.{far_count, HasBuckets, HasRoomNear, HasSameEntries, KeepsRoom, row_entries, row_of, spares_of};
 
 use crate::bucket::Bucket;
+use crate::entry::OpenEntry;
 use std::alloc::{AllocError, Global};
 
 /// The least f-value that has no bucket: entries of this f-value or of a greater one stand in one heap.
@@ -45,6 +46,7 @@ pub fn grow(row: &mut Vec<Bucket>, alloc: Global, place: usize) -> Result<(), Al
     ensures entries { HasSameEntries (row_of row.old.items) (row_of row.new.items) }
     ensures room { KeepsRoom (spares_of row.old.items) (spares_of row.new.items) }
     ensures long { OnOk result (place < vec_len row.new) }
+    ensures succeeds { place < vec_len row.old → IsOk result }
     ensures len { vec_len row.old ≤ vec_len row.new }
     ensures bound { vec_len row.new ≤ max (vec_len row.old) (place + 1) }
 {
@@ -52,6 +54,30 @@ pub fn grow(row: &mut Vec<Bucket>, alloc: Global, place: usize) -> Result<(), Al
         row.push(Bucket::new(alloc))?;
     }
     Ok(())
+}
+
+/// Adds the entry to the bucket in this place, which is that of the entry's f-value; makes the bucket if there is none. Fails
+/// only if allocation fails.
+pub fn push_near(
+    row: &mut Vec<Bucket>,
+    alloc: Global,
+    place: usize,
+    entry: OpenEntry,
+) -> Result<(), AllocError>
+    requires value { place ≡ entry.f }
+    requires near { place < FAR }
+    ensures pushed { OnOk result (IsPermutation (entry ∷ row_entries 0 (row_of row.old.items))
+        (row_entries 0 (row_of row.new.items))) }
+    ensures below { (f : ℕ) → f < place →
+        slice_index_or (row_of row.new.items) f [] ≡ slice_index_or (row_of row.old.items) f [] }
+    ensures unchanged { OnErr result (HasSameEntries (row_of row.old.items) (row_of row.new.items)) }
+    ensures bound { vec_len row.new ≤ max (vec_len row.old) (place + 1) }
+    ensures succeeds { (fs : List ℕ) → HasRoomNear (spares_of row.old.items) (entry.f ∷ fs) → IsOk result }
+    ensures room { (fs : List ℕ) → HasRoomNear (spares_of row.old.items) (entry.f ∷ fs) →
+        HasRoomNear (spares_of row.new.items) fs }
+{
+    grow(row, alloc, place)?;
+    row[place].push(entry)
 }
 
 /// Makes a bucket for each of these f-values that can have one, and begins to count for how many entries it is asked. Fails
