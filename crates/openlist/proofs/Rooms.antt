@@ -91,8 +91,11 @@ spare_after : (buckets : List BucketHeld) (place f : ℕ) (new : BucketHeld) →
 spare_after buckets place f new there =
     rw (map-set (λ x. x.spare) buckets place new)
     (⊎_elim
-    (λ yes. inl (yes, subst (λ g. get_or (set (spares_of buckets) place new.spare) g 0 ≡ new.spare) yes
-      (get_or-set_same (spares_of buckets) place new.spare 0 (rw length-map there))))
+    (λ yes. inl (
+      yes,
+      subst (λ g. get_or (set (spares_of buckets) place new.spare) g 0 ≡ new.spare) yes
+          (get_or-set_same (spares_of buckets) place new.spare 0 (rw length-map there)),
+    ))
     (λ no. inr (no, get_or-set_other (spares_of buckets) place f new.spare 0 (λ e. no (sym e))))
     (cases_eq place f))
 
@@ -104,9 +107,9 @@ HasRoomNear-set buckets place old new fs there is kept room = λ f near.
     let before : count_of f fs ≤ get_or (spares_of buckets) f 0 = room f near in
     ⊎_elim
     (λ (own_place, after).
-      let own : get_or (spares_of buckets) f 0 ≡ old.spare =
-        subst (λ g. get_or (spares_of buckets) g 0 ≡ old.spare) own_place (get_or-spares_of buckets place old there is) in
-      omega arith)
+    let own : get_or (spares_of buckets) f 0 ≡ old.spare =
+    subst (λ g. get_or (spares_of buckets) g 0 ≡ old.spare) own_place (get_or-spares_of buckets place old there is) in
+    omega arith)
     (λ (other_place, after). omega arith)
     (spare_after buckets place f new there)
 
@@ -120,8 +123,8 @@ HasRoomNear-push before buckets place old new fs keeps there is kept room = λ f
     let tail : count_of f fs ≤ count_of f (place ∷ fs) = count_by-tail (λ g. g == f) place fs in
     ⊎_elim
     (λ (own_place, after).
-      let own : get_or (spares_of buckets) f 0 ≡ old.spare =
-        subst (λ g. get_or (spares_of buckets) g 0 ≡ old.spare) own_place (get_or-spares_of buckets place old there is) in
-      omega (arith, count_of-same f place fs own_place))
+    let own : get_or (spares_of buckets) f 0 ≡ old.spare =
+    subst (λ g. get_or (spares_of buckets) g 0 ≡ old.spare) own_place (get_or-spares_of buckets place old there is) in
+    omega (arith, count_of-same f place fs own_place))
     (λ (other_place, after). omega arith)
     (spare_after buckets place f new there)

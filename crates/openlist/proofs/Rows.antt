@@ -3,7 +3,7 @@ use Rattle.std.specs.Prelude.{Contains, IsPermutation, All}
 use Rattle.std.proofs.Common.{◌≡◌, ◌≢◌, ℕ, zero, suc, ◌+◌, ◌-◌, ◌<◌, ◌≤◌, List, [], ◌∷◌, ◌++◌, length, map, get_or, set, refl, sym, ap, ◌∙◌, subst, arith, true}
 use Rattle.std.proofs.Common.{below_more}
 use Rattle.std.proofs.Math.Seq.{map-set_same}
-use Rattle.std.proofs.lemmas.List.{get_or-map, get_or-set_other, length-map, map-set}
+use Rattle.std.proofs.lemmas.List.{get_or-map, get_or-set_other, length-map, length-set, map-set}
 use Rattle.std.proofs.lemmas.List.Elements.{All-nil, All-cons, All-append, All-tail, All-get_or, Contains-append_left, Contains-append_right}
 use Rattle.std.proofs.lemmas.List.Sorted.{IsPermutation-append_left, IsPermutation-append_right, IsPermutation-middle, IsPermutation-sym, IsPermutation-trans}
 use Rattle.openlist.specs.declared.entry.OpenEntry.{OpenEntry}
@@ -12,7 +12,8 @@ use Rattle.openlist.specs.OpenLists.{comes_first, IsFirst}
 use Rattle.openlist.specs.BucketLists.{BucketHeld, with_f, row_of, spares_of, row_entries, IsEmptyBelow, HasSameEntries, KeepsRoom}
 use Rattle.openlist.proofs.Order.{lower_f-comes_first}
 
-abbrev Row : Type 0
+-- the entries of each bucket of a row
+abbrev pub Row : Type 0
 Row = List (List BucketEntry)
 
 -- rows whose buckets have the same entries have the same entries in all
@@ -172,3 +173,8 @@ row_entries-take x buckets place old new there is popped =
     rw (map-set (λ b. b.entries) buckets place new)
     (row_entries-pop x 0 place place (row_of buckets) new.entries (rw length-map there) (omega arith)
     (rw (get_or-row_of buckets place old there is) popped))
+
+pub length-row_of-set : (buckets : List BucketHeld) (place : ℕ) (new : BucketHeld) →
+    length (row_of (set buckets place new)) ≡ length (row_of buckets)
+length-row_of-set buckets place new =
+    ap length (map-set (λ b. b.entries) buckets place new) ∙ length-set (row_of buckets) place new.entries

@@ -10,9 +10,9 @@ use Rattle.openlist.proofs.row.push_near.Goals as goal
 pub returns-in_err-grow-clause-succeeds : goal.returns-in_err-grow-clause-succeeds
 returns-in_err-grow-clause-succeeds c = λ fs room.
     let there : c.args.place < length (spares_of c.args.row.now.items) =
-      has_bucket _ fs c.args.place c.requires.near (rw c.requires.value room) in
+    has_bucket _ fs c.args.place c.requires.near (rw c.requires.value room) in
     absurd (false≢true (c.in_err-grow.ensures.succeeds
-      (omega (arith, length-map c.args.row.now.items (λ b. b.spare)))))
+    (omega (arith, length-map c.args.row.now.items (λ b. b.spare)))))
 
 pub returns-clause-pushed : goal.returns-clause-pushed
 returns-clause-pushed c =
@@ -31,16 +31,16 @@ pub returns-clause-unchanged : goal.returns-clause-unchanged
 returns-clause-unchanged c =
     on_err_weaker c.push.result
     (λ same f.
-      ap (λ row. get_or row f [])
-      (row_of-set c.grow.new.row.items c.args.place c.index_mut.result.now c.push.new.self c.index_mut.ensures.value same)
-      ∙ c.in_ok-grow.ensures.entries f)
+    ap (λ row. get_or row f [])
+    (row_of-set c.grow.new.row.items c.args.place c.index_mut.result.now c.push.new.self c.index_mut.ensures.value same)
+    ∙ c.in_ok-grow.ensures.entries f)
     c.push.ensures.unchanged
 
 pub returns-clause-succeeds : goal.returns-clause-succeeds
 returns-clause-succeeds c = λ fs room.
     let some = has_spare (spares_of c.args.row.now.items) fs c.args.place c.requires.near (rw c.requires.value room) in
     let same = get_or-spares_of c.grow.new.row.items c.args.place c.index_mut.result.now
-      (omega (arith, c.in_ok-grow.ensures.long)) c.index_mut.ensures.value in
+    (omega (arith, c.in_ok-grow.ensures.long)) c.index_mut.ensures.value in
     c.push.ensures.succeeds (omega (arith, c.in_ok-grow.ensures.room c.args.place))
 
 pub returns-clause-room : goal.returns-clause-room
