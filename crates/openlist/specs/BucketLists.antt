@@ -40,6 +40,10 @@ held_of buckets least far =
 abbrev pub with_f : ℕ → BucketEntry → OpenEntry
 with_f f e = record { f = f; rank = e.rank; index = e.index }
 
+-- the entry of a bucket with this cost, number of operators and place
+abbrev pub bucket_entry_of : ℕ → ℕ → ℕ → BucketEntry
+bucket_entry_of b c d = record { rank = record { cost = b; steps = c }; index = d }
+
 -- the entries of a row of buckets, of which the first is that of this f-value
 abbrev pub row_entries : ℕ → List (List BucketEntry) → List OpenEntry
 row_entries f [] = []

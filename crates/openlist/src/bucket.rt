@@ -66,14 +66,14 @@ impl Bucket {
     }
 
     /// Begins to count how many entries `reserve` asks for.
-    pub fn start_asking(&mut self)
+    pub fn begin_reserve(&mut self)
         ensures entries { self.new.entries ≡ self.old.entries }
     {
         self.asked = 0;
     }
 
     /// Makes room for as many entries as were asked for, and one more. Fails only if allocation fails.
-    pub fn ask_for_one_more(&mut self) -> Result<(), AllocError>
+    pub fn reserve_one_more(&mut self) -> Result<(), AllocError>
         ensures entries { self.new.entries ≡ self.old.entries }
         ensures asked { self.new.asked ≡ min (self.old.asked + 1) (2 ^ 64 - 1) }
         ensures spare { self.old.spare ≤ self.new.spare }

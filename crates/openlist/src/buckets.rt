@@ -6,17 +6,17 @@ use crate::bucket::Bucket;
 use crate::entry::OpenEntry;
 use crate::heap::Heap;
 use crate::open_list::OpenList;
-use crate::row::{ask, bucket_of, count_far, first_filled, push_near, start_asking};
+use crate::row::{begin_reserve, bucket_of, count_far, first_filled, push_near, reserve_near};
 use std::alloc::{AllocError, Global};
 use std::marker::Model;
 
 /// An open list as a row of buckets by f (Dial 1969), each a binary heap, with one heap for all entries of f 65536 and
 /// above.
 ///
-/// A push or a pop takes time logarithmic in the number of entries of the same f. A pop also passes the empty buckets between
-/// the last place that an entry was popped from, or pushed to below that, and the first one that has an entry. A contract
-/// sees the entries of each bucket, how many more fit in each without an allocation, the place from which the least entry is
-/// sought, and the heap of the entries of great f.
+/// A push or a pop takes time logarithmic in the number of entries of the same f. A pop also passes the empty buckets from
+/// the place of the last pop, or of a push below that, to the first bucket that has an entry, and `least` passes them
+/// without moving the place. So a search whose least f rises slowly passes few of them. A contract sees the entries of each
+/// bucket, how many more fit in each without an allocation, the place, and the heap of the entries of great f.
 #[derive(Drop)]
 pub struct Buckets {
     /// The allocator of new buckets.
@@ -65,8 +65,8 @@ impl OpenList for Buckets {
     ghost fewer = { has_room_in_fewer };
 
     fn reserve(&mut self, fs: &[u64]) -> Result<(), AllocError> {
-        start_asking(&mut self.row, self.alloc, fs)?;
-        ask(&mut self.row, fs)?;
+        begin_reserve(&mut self.row, self.alloc, fs)?;
+        reserve_near(&mut self.row, fs)?;
         self.far.reserve_more(count_far(fs))
     }
 

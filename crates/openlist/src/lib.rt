@@ -12,5 +12,5 @@ mod row;
 pub use buckets::Buckets;
 pub use entry::{OpenEntry, Rank};
 pub use heap::Heap;
-pub use laws::{entries_are_ordered, worked_examples};
+pub use laws::{entries_are_ordered, worked_buckets, worked_examples};
 pub use open_list::OpenList;

@@ -82,7 +82,7 @@ pub fn push_near(
 
 /// Makes a bucket for each of these f-values that can have one, and begins to count for how many entries it is asked. Fails
 /// only if allocation fails.
-pub fn start_asking(row: &mut Vec<Bucket>, alloc: Global, fs: &[u64]) -> Result<(), AllocError>
+pub fn begin_reserve(row: &mut Vec<Bucket>, alloc: Global, fs: &[u64]) -> Result<(), AllocError>
     requires { vec_len row.old ≤ FAR }
     ensures entries { HasSameEntries (row_of row.old.items) (row_of row.new.items) }
     ensures bound { vec_len row.new ≤ FAR }
@@ -91,7 +91,7 @@ pub fn start_asking(row: &mut Vec<Bucket>, alloc: Global, fs: &[u64]) -> Result<
     for f in fs {
         if let Some(place) = bucket_of(*f) {
             grow(row, alloc, place)?;
-            row[place].start_asking();
+            row[place].begin_reserve();
         }
     }
     Ok(())
@@ -101,7 +101,7 @@ pub fn start_asking(row: &mut Vec<Bucket>, alloc: Global, fs: &[u64]) -> Result<
 ///
 /// Each occurrence asks its bucket for one entry more than the occurrences before it, so the whole takes linear time and the
 /// room is for no more entries than are in `fs`, where room for `fs.len()` entries in each bucket could be quadratic.
-pub fn ask(row: &mut Vec<Bucket>, fs: &[u64]) -> Result<(), AllocError>
+pub fn reserve_near(row: &mut Vec<Bucket>, fs: &[u64]) -> Result<(), AllocError>
     requires { HasBuckets fs.now (vec_len row.old) }
     ensures entries { HasSameEntries (row_of row.old.items) (row_of row.new.items) }
     ensures len { vec_len row.new ≡ vec_len row.old }
@@ -109,7 +109,7 @@ pub fn ask(row: &mut Vec<Bucket>, fs: &[u64]) -> Result<(), AllocError>
 {
     for f in fs {
         if let Some(place) = bucket_of(*f) {
-            row[place].ask_for_one_more()?;
+            row[place].reserve_one_more()?;
         }
     }
     Ok(())

@@ -1,7 +1,7 @@
 use Rattle.std.proofs.Common.{◌≡◌, ℕ, ◌<◌, ◌≤◌, map, take, slice_index, vec_len}
 use Rattle.openlist.specs.declared.row.TheConstants.{FAR}
 use Rattle.openlist.specs.BucketLists.{HasRoomNear, row_of, spares_of}
-use Rattle.openlist.proofs.row.ask.Given as goal
+use Rattle.openlist.proofs.row.reserve_near.Given as goal
 
 abbrev pub invariant-loop-f : goal.invariant-loop-f
 invariant-loop-f l = record {

@@ -2,14 +2,14 @@ use Rattle.std.proofs.Common.{[], ap, arith, get_or, ◌∙◌, ◌<◌, ◌^◌
 use Rattle.openlist.specs.declared.row.TheConstants.{FAR}
 use Rattle.openlist.proofs.Rooms.{asked-more, HasRoomNear-far, HasRoomNear-more}
 use Rattle.openlist.proofs.Rows.{row_of-set}
-use Rattle.openlist.proofs.row.ask.Goals as goal
-use Rattle.openlist.proofs.row.ask.Goals.{in-Some+in_ok-ask_for_one_more, in_default}
+use Rattle.openlist.proofs.row.reserve_near.Goals as goal
+use Rattle.openlist.proofs.row.reserve_near.Goals.{in-Some+in_ok-reserve_one_more, in_default}
 
-pub returns-in_err-ask_for_one_more-clause-entries : goal.returns-in_err-ask_for_one_more-clause-entries
-returns-in_err-ask_for_one_more-clause-entries c f =
+pub returns-in_err-reserve_one_more-clause-entries : goal.returns-in_err-reserve_one_more-clause-entries
+returns-in_err-reserve_one_more-clause-entries c f =
     ap (λ row. get_or row f [])
-    (row_of-set c.loop-f.row.items c.in-Some.place c.index_mut.result.now c.ask_for_one_more.new.self
-    c.index_mut.ensures.value c.in_err-ask_for_one_more.ensures.entries
+    (row_of-set c.loop-f.row.items c.in-Some.place c.index_mut.result.now c.reserve_one_more.new.self
+    c.index_mut.ensures.value c.in_err-reserve_one_more.ensures.entries
     ∙ c.loop-f.invariant.entries)
 
 pub loop-f-preserved : goal.loop-f-preserved
@@ -18,9 +18,9 @@ loop-f-preserved c =
     let k = c.loop-f.f-index in
     let buckets = c.loop-f.row.items in
     elim c.match-bucket_of.branch [
-      | in-Some+in_ok-ask_for_one_more w ↦
+      | in-Some+in_ok-reserve_one_more w ↦
           (let old = w.index_mut.result.now in
-          let new = w.ask_for_one_more.new.self in
+          let new = w.reserve_one_more.new.self in
           let place = w.in-Some.place in
           let near : get_or fs k 0 < FAR = omega (arith, w.in-Some.ensures.near, w.in-Some.ensures.below) in
           let there : place < length buckets =
@@ -29,7 +29,7 @@ loop-f-preserved c =
           w.index_mut.ensures.value c.loop-f.invariant.asked in
           record {
             entries = rw w.row-is
-                (row_of-set buckets place old new w.index_mut.ensures.value w.in_ok-ask_for_one_more.ensures.entries
+                (row_of-set buckets place old new w.index_mut.ensures.value w.in_ok-reserve_one_more.ensures.entries
                 ∙ c.loop-f.invariant.entries);
             len = rw w.row-is c.loop-f.invariant.len;
             asked = rw w.row-is
@@ -37,7 +37,7 @@ loop-f-preserved c =
                 (omega arith) c.loop-f.invariant.asked);
             room = rw w.row-is
                 (HasRoomNear-more (λ b. b.spare) buckets fs k place new c.loop-f-test.true w.in-Some.ensures.near there
-                (omega (arith, w.in_ok-ask_for_one_more.ensures.room)) c.loop-f.invariant.room);
+                (omega (arith, w.in_ok-reserve_one_more.ensures.room)) c.loop-f.invariant.room);
           })
       | in_default w ↦ record {
         entries = rw w.row-is c.loop-f.invariant.entries;

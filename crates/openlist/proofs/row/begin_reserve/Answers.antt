@@ -3,8 +3,8 @@ use Rattle.std.proofs.lemmas.List.{take_all}
 use Rattle.openlist.specs.BucketLists.{HasBuckets}
 use Rattle.openlist.proofs.Rooms.{HasBuckets-more}
 use Rattle.openlist.proofs.Rows.{row_of-set}
-use Rattle.openlist.proofs.row.start_asking.Goals as goal
-use Rattle.openlist.proofs.row.start_asking.Goals.{in-Some+in_ok-grow, in_default}
+use Rattle.openlist.proofs.row.begin_reserve.Goals as goal
+use Rattle.openlist.proofs.row.begin_reserve.Goals.{in-Some+in_ok-grow, in_default}
 
 pub loop-f-preserved : goal.loop-f-preserved
 loop-f-preserved c =
@@ -12,8 +12,8 @@ loop-f-preserved c =
       | in-Some+in_ok-grow w ↦ record {
         entries = λ f. rw w.row-is
             (ap (λ row. get_or row f [])
-            (row_of-set w.grow.new.row.items w.in-Some.place w.index_mut.result.now w.start_asking.new.self
-            w.index_mut.ensures.value w.start_asking.ensures.entries)
+            (row_of-set w.grow.new.row.items w.in-Some.place w.index_mut.result.now w.begin_reserve.new.self
+            w.index_mut.ensures.value w.begin_reserve.ensures.entries)
             ∙ w.in_ok-grow.ensures.entries f ∙ c.loop-f.invariant.entries f);
         bound = rw w.row-is (omega (arith, w.in_ok-grow.ensures.bound, w.in-Some.ensures.below));
         long = rw w.row-is

@@ -1,7 +1,7 @@
 use Rattle.std.proofs.Common.{◌≤◌, take, vec_len}
 use Rattle.openlist.specs.declared.row.TheConstants.{FAR}
 use Rattle.openlist.specs.BucketLists.{HasBuckets, HasSameEntries, row_of}
-use Rattle.openlist.proofs.row.start_asking.Given as goal
+use Rattle.openlist.proofs.row.begin_reserve.Given as goal
 
 abbrev pub invariant-loop-f : goal.invariant-loop-f
 invariant-loop-f l = record {
