@@ -1,8 +1,8 @@
 -- An open list as buckets: what its entries, its first entry and its room are after a change of the row or of the heap of
 -- great f.
-use Rattle.std.specs.Prelude.{Contains, IsPermutation, All, Option, Some, None, IfSome, IfNone, Result, Ok, Err, OnOk, OnErr, nat_le, count_by, filter}
+use Rattle.std.specs.Prelude.{Contains, IsPermutation, All, Option, Some, None, IfSome, IfNone, Result, Ok, Err, OnOk, OnErr, nat_le, filter}
 use Rattle.std.specs.declared.alloc.AllocError.{AllocError}
-use Rattle.std.proofs.Common.{◌≡◌, ◌≢◌, ℕ, ◌+◌, ◌<◌, ◌≤◌, List, [], ◌∷◌, ◌++◌, length, map, get_or, set, refl, sym, ap, ◌∙◌, subst, arith, cond, true}
+use Rattle.std.proofs.Common.{◌≡◌, ◌≢◌, ℕ, ◌+◌, ◌<◌, ◌≤◌, List, [], ◌∷◌, ◌++◌, length, map, get_or, set, sym, ap, ◌∙◌, subst, arith, cond, true}
 use Rattle.std.proofs.Math.Logic.{⊎_elim}
 use Rattle.std.proofs.lemmas.Bool.{cases_lt}
 use Rattle.std.proofs.lemmas.Bool.Decides.{nat_tests}

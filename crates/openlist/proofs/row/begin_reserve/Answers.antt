@@ -1,6 +1,5 @@
 use Rattle.std.proofs.Common.{[], ap, arith, get_or, ◌∙◌}
 use Rattle.std.proofs.lemmas.List.{take_all}
-use Rattle.openlist.specs.BucketLists.{HasBuckets}
 use Rattle.openlist.proofs.Rooms.{HasBuckets-more}
 use Rattle.openlist.proofs.Rows.{row_of-set}
 use Rattle.openlist.proofs.row.begin_reserve.Goals as goal

@@ -1,4 +1,4 @@
-use Rattle.std.proofs.Common.{[], ap, arith, get_or, ◌∙◌, ◌<◌, ◌^◌, length}
+use Rattle.std.proofs.Common.{[], ap, arith, get_or, ◌∙◌, ◌<◌, length}
 use Rattle.openlist.specs.declared.row.TheConstants.{FAR}
 use Rattle.openlist.proofs.Rooms.{asked-more, HasRoomNear-far, HasRoomNear-more}
 use Rattle.openlist.proofs.Rows.{row_of-set}

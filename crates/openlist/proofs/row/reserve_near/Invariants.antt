@@ -1,5 +1,4 @@
-use Rattle.std.proofs.Common.{◌≡◌, ℕ, ◌<◌, ◌≤◌, map, take, slice_index, vec_len}
-use Rattle.openlist.specs.declared.row.TheConstants.{FAR}
+use Rattle.std.proofs.Common.{◌≡◌, map, take, vec_len}
 use Rattle.openlist.specs.BucketLists.{HasRoomNear, row_of, spares_of}
 use Rattle.openlist.proofs.row.reserve_near.Given as goal
 

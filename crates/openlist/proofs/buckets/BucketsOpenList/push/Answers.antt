@@ -3,7 +3,7 @@ use Rattle.std.proofs.Common.{refl}
 use Rattle.std.proofs.lemmas.List.Sorted.{IsPermutation-append_left, IsPermutation-append_right}
 use Rattle.std.proofs.lemmas.Result.{on_err_weaker, on_ok_weaker}
 use Rattle.openlist.specs.declared.row.TheConstants.{FAR}
-use Rattle.openlist.specs.BucketLists.{has_room_in_fewer, held_of, row_entries, row_of}
+use Rattle.openlist.specs.BucketLists.{has_room_in_fewer, row_entries, row_of}
 use Rattle.openlist.proofs.BucketLaws.{entries_beside-same, far_after_push, far_count-from_room, far_pushed, HasRoomFor-far_cons, on_err_from}
 use Rattle.openlist.proofs.buckets.BucketsOpenList.push.Goals as goal
 
