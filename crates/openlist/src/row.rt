@@ -1,6 +1,6 @@
 //! A row of buckets: the bucket in place i has the entries of f-value i.
 
-ghost use Rattle.std.specs.Prelude.{◌≡◌, ◌≢◌, ℕ, ◌+◌, max, ◌<◌, ◌≤◌, List, [], ◌∷◌, ◌++◌, IsOk, IsPermutation, OnErr, All, length, map, slice_index, slice_index_or, vec_len, IfSome, IfNone, OnOk};
+ghost use Rattle.std.specs.Prelude.{◌≡◌, ◌≢◌, ℕ, ◌+◌, max, ◌<◌, ◌≤◌, List, [], ◌∷◌, length, slice_index_or, vec_len, IsOk, IsPermutation, IfSome, IfNone, OnOk, OnErr};
 ghost use Rattle.openlist.specs.BucketLists.{far_count, HasBuckets, HasRoomNear, HasSameEntries, KeepsRoom, row_entries, row_of, spares_of};
 
 use crate::bucket::Bucket;

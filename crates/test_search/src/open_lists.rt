@@ -13,6 +13,7 @@ fn entry(f: u64, cost: u64, steps: u64, index: usize) -> OpenEntry {
 }
 
 fn indices<L: OpenList>(rt: &impl Abort, mut list: L) -> Result<(), Fail> {
+    list.reserve(&[5, 3, 3, 65_536, 65_535])?;
     for (f, cost, steps, index) in [
         (5, 5, 1, 0),
         (3, 1, 2, 1),
