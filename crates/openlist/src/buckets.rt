@@ -14,9 +14,11 @@ use std::marker::Model;
 /// above.
 ///
 /// A push or a pop takes time logarithmic in the number of entries of the same f. A pop also passes the empty buckets from
-/// the place of the last pop, or of a push below that, to the first bucket that has an entry, and `least` passes them
-/// without moving the place. So a search whose least f rises slowly passes few of them. A contract sees the entries of each
-/// bucket, how many more fit in each without an allocation, the place, and the heap of the entries of great f.
+/// the place of the last pop, or of a push below that, to the first bucket that has an entry; `least` passes them without
+/// moving the place. So while no push is below the last f that was popped, all pops together pass each bucket once.
+///
+/// A contract sees the entries of each bucket, how many more fit in each without an allocation, the place, and the heap of
+/// the entries of great f.
 #[derive(Drop)]
 pub struct Buckets {
     /// The allocator of new buckets.
