@@ -1,2 +1,3 @@
+pub mod BucketLists
 pub mod Heaps
 pub mod OpenLists

@@ -1,6 +1,6 @@
 //! An open list as a binary heap.
 
-ghost use Rattle.std.specs.Prelude.{◌≡◌, []};
+ghost use Rattle.std.specs.Prelude.{◌≡◌, ◌≤◌, [], OnOk};
 
 use crate::entry::OpenEntry;
 use crate::open_list::OpenList;
@@ -41,6 +41,14 @@ impl Heap {
         Heap {
             heap: BinaryHeap::new(alloc),
         }
+    }
+
+    /// Makes room for this many more entries. Fails only if allocation fails.
+    pub(crate) fn reserve_more(&mut self, count: usize) -> Result<(), AllocError>
+        ensures entries { self.new.entries ≡ self.old.entries }
+        ensures room { OnOk result (count ≤ self.new.spare) }
+    {
+        self.heap.reserve(count)
     }
 }
 

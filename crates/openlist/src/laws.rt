@@ -1,8 +1,9 @@
 //! Laws of the order of entries. Each function states laws as its contract, for all entries, and its body is empty.
 
-ghost use Rattle.std.specs.Prelude.{◌≡◌, ◌≤◌, ◌⊎◌, ℕ, List, true, false, Contains, IsPermutation};
+ghost use Rattle.std.specs.Prelude.{◌≡◌, ◌≤◌, ◌⊎◌, ℕ, List, [], ◌∷◌, true, false, Contains, IsPermutation};
 ghost use Rattle.openlist.specs.declared.entry.OpenEntry.{OpenEntry};
 ghost use Rattle.openlist.specs.OpenLists.{comes_first, IsFirst, entry_of};
+ghost use Rattle.openlist.specs.BucketLists.{bucket_entry_of, count_of, far_count, row_entries};
 
 /// The order of entries is total, and f does not fall along it. The first entry of a list does not depend on how the list
 /// is arranged, and there is at most one.
@@ -29,4 +30,14 @@ pub fn worked_examples()
     ensures steps_are_more { comes_first (entry_of 3 1 2 1) (entry_of 3 1 1 2) ≡ false }
     ensures place { comes_first (entry_of 3 1 1 2) (entry_of 3 1 1 7) ≡ true }
     ensures place_is_later { comes_first (entry_of 3 1 1 7) (entry_of 3 1 1 2) ≡ false }
+{}
+
+/// Buckets: the entries of a row have their bucket's f-value. Of some f-values, those of one bucket and those that have no
+/// bucket are counted.
+pub fn worked_buckets()
+    ensures entries { row_entries 3 ((bucket_entry_of 1 1 2 ∷ bucket_entry_of 1 2 1 ∷ []) ∷ [] ∷ (bucket_entry_of 5 1 0 ∷ []) ∷ [])
+        ≡ entry_of 3 1 1 2 ∷ entry_of 3 1 2 1 ∷ entry_of 5 5 1 0 ∷ [] }
+    ensures counted { count_of 3 (3 ∷ 5 ∷ 3 ∷ 65536 ∷ []) ≡ 2 }
+    ensures other { count_of 4 (3 ∷ 5 ∷ 3 ∷ 65536 ∷ []) ≡ 0 }
+    ensures far { far_count (65535 ∷ 65536 ∷ 65537 ∷ []) ≡ 2 }
 {}

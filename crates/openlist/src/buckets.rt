@@ -1,0 +1,101 @@
+//! An open list as buckets by f.
+
+ghost use Rattle.std.specs.Prelude.{◌≡◌, []};
+
+use crate::bucket::Bucket;
+use crate::entry::OpenEntry;
+use crate::heap::Heap;
+use crate::open_list::OpenList;
+use crate::row::{begin_reserve, bucket_of, count_far, first_filled, push_near, reserve_near};
+use std::alloc::{AllocError, Global};
+use std::marker::Model;
+
+/// An open list as a row of buckets by f (Dial 1969), each a binary heap, with one heap for all entries of f 65536 and
+/// above.
+///
+/// A push or a pop takes time logarithmic in the number of entries of the same f. A pop also passes the empty buckets from
+/// the place of the last pop, or of a push below that, to the first bucket that has an entry; `least` passes them without
+/// moving the place. So while no push is below the last f that was popped, all pops together pass each bucket once.
+///
+/// A contract sees the entries of each bucket, how many more fit in each without an allocation, the place, and the heap of
+/// the entries of great f.
+#[derive(Drop)]
+pub struct Buckets {
+    /// The allocator of new buckets.
+    alloc: Global,
+    /// The buckets: that in place i has the entries of f-value i. The row ends at or before the last f-value below `FAR`.
+    row: Vec<Bucket>,
+    /// No bucket below this place has an entry.
+    least: usize,
+    /// The entries of f-values that have no bucket.
+    far: Heap,
+}
+
+impl Model for Buckets {
+    ghost use Rattle.openlist.specs.BucketLists.{BucketsHeld, IsInOrder, held_of};
+
+    ghost Value = { BucketsHeld };
+
+    ghost view = { λ it. held_of it.row.items it.least it.far };
+
+    ghost invariant = { λ it. IsInOrder (held_of it.row.items it.least it.far) };
+}
+
+impl Buckets {
+    ghost use Rattle.openlist.specs.BucketLists.{all_entries};
+
+    /// An empty open list.
+    pub fn new(alloc: Global) -> Buckets
+        ensures { all_entries result ≡ [] }
+    {
+        Buckets {
+            alloc,
+            row: Vec::new(alloc),
+            least: 0,
+            far: Heap::new(alloc),
+        }
+    }
+}
+
+impl OpenList for Buckets {
+    ghost use Rattle.openlist.specs.BucketLists.{all_entries, HasRoomIn, has_room_in_fewer};
+
+    ghost entries = { all_entries };
+
+    ghost HasRoom = { HasRoomIn };
+
+    ghost fewer = { has_room_in_fewer };
+
+    fn reserve(&mut self, fs: &[u64]) -> Result<(), AllocError> {
+        begin_reserve(&mut self.row, self.alloc, fs)?;
+        reserve_near(&mut self.row, fs)?;
+        self.far.reserve_more(count_far(fs))
+    }
+
+    fn push(&mut self, entry: OpenEntry) -> Result<(), AllocError> {
+        let Some(place) = bucket_of(entry.f) else {
+            return self.far.push(entry);
+        };
+        push_near(&mut self.row, self.alloc, place, entry)?;
+        self.least = self.least.min(place);
+        Ok(())
+    }
+
+    fn pop(&mut self) -> Option<OpenEntry> {
+        self.least = first_filled(&self.row, self.least);
+        if self.least < self.row.len() {
+            self.row[self.least].pop(self.least as u64)
+        } else {
+            self.far.pop()
+        }
+    }
+
+    fn least(&self) -> Option<OpenEntry> {
+        let place = first_filled(&self.row, self.least);
+        if place < self.row.len() {
+            self.row[place].least(place as u64)
+        } else {
+            self.far.least()
+        }
+    }
+}
