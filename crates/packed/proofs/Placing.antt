@@ -6,7 +6,7 @@ use Rattle.std.proofs.Math.Logic.{⊎_elim}
 use Rattle.std.proofs.Math.Nat.{pow-le-pow_right, zero-add}
 use Rattle.std.proofs.lemmas.Nat.{pow_pos, pow-add, shr_high, mod_low, mul-add-lt}
 use Rattle.std.proofs.lemmas.Bool.{cond-true, cond-false, cases_lt, cases_eq, cond_both, leb-true, leb-false, eqb-true, eqb-false}
-use Rattle.std.proofs.lemmas.List.FromFn.{get_or-map-range_with_len, fill_by_all}
+use Rattle.std.proofs.lemmas.List.FromFn.{get_or-map-range_with_len}
 use Rattle.std.proofs.lemmas.List.Elements.{All-nil, All-cons, All-head, All-tail}
 use Rattle.fdr.specs.Tasks.{IsState}
 use Rattle.packed.specs.declared.field.Field.{Field}
@@ -36,12 +36,12 @@ head_in_width range value ranges values s = omega (arith, head_in_range range va
 
 -- ---- one word
 
-own_field : (k : ℕ) (field : Field) (rest : List Field) (value : ℕ) (values : List ℕ) → field.word ≡ k
+pub own_field : (k : ℕ) (field : Field) (rest : List Field) (value : ℕ) (values : List ℕ) → field.word ≡ k
     → word_at k (field ∷ rest) (value ∷ values) ≡ value * 2 ^ field.shift + word_at k rest values
 own_field k field rest value values own =
     ap (λ n. n + word_at k rest values) (cond-true (eqb field.word k) (value * 2 ^ field.shift) 0 (eq-eqb field.word k own))
 
-other_field : (k : ℕ) (field : Field) (rest : List Field) (value : ℕ) (values : List ℕ) → field.word ≢ k
+pub other_field : (k : ℕ) (field : Field) (rest : List Field) (value : ℕ) (values : List ℕ) → field.word ≢ k
     → word_at k (field ∷ rest) (value ∷ values) ≡ word_at k rest values
 other_field k field rest value values other =
     ap (λ n. n + word_at k rest values) (cond-false (eqb field.word k) (value * 2 ^ field.shift) 0 (ne_eqb field.word k other))
@@ -273,6 +273,17 @@ placed_from word bit (range ∷ ranges) in_word limited =
 
 pub fields_placed : (ranges : List ℕ) → All IsLimited ranges → All (IsPlaced (word_count ranges)) (fields ranges)
 fields_placed ranges limited = placed_from 0 0 ranges (omega arith) limited
+
+words_few : (word bit : ℕ) (ranges : List ℕ) → words_from word bit ranges ≤ word + length ranges + 1
+words_few word bit [] = omega arith
+words_few word bit (range ∷ ranges) =
+    place_both word bit (width_of range)
+    (λ field. words_from field.word (field.shift + field.width) ranges ≤ word + suc (length ranges) + 1)
+    (λ fits. omega (arith, words_few word (bit + width_of range) ranges))
+    (λ over. omega (arith, words_few (word + 1) (0 + width_of range) ranges))
+
+pub word_count_few : (ranges : List ℕ) → word_count ranges ≤ length ranges + 1
+word_count_few ranges = omega (arith, words_few 0 0 ranges)
 
 length_from : (word bit : ℕ) (ranges : List ℕ) → length (fields_from word bit ranges) ≡ length ranges
 length_from word bit [] = refl
