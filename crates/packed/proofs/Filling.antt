@@ -1,6 +1,5 @@
 -- A loop that adds the values of a state to words, field by field.
-use Rattle.std.proofs.Common.{◌≡◌, ◌≢◌, ℕ, suc, ◌+◌, ◌*◌, ◌%◌, ◌^◌, ◌<◌, ◌≤◌, List, [], ◌∷◌, length, get_or, set, drop, replicate, refl, sym, ap, subst, ◌∙◌, arith, drop-cons, add-one, length-set, get_or-set_same, get_or-set_other}
-use Rattle.std.specs.Prelude.{All}
+use Rattle.std.proofs.Common.{◌≡◌, ◌≢◌, ℕ, suc, ◌+◌, ◌*◌, ◌%◌, ◌^◌, ◌<◌, ◌≤◌, List, [], ◌∷◌, length, get_or, set, drop, replicate, refl, sym, ap, ◌∙◌, arith, drop-cons, add-one, length-set, get_or-set_same, get_or-set_other}
 use Rattle.std.proofs.Math.Logic.{⊎_elim}
 use Rattle.std.proofs.lemmas.Bool.{cases_eq}
 use Rattle.std.proofs.lemmas.List.{get_or-replicate, length-replicate, drop_all}
@@ -8,8 +7,8 @@ use Rattle.std.proofs.lemmas.List.FromFn.{fill_by_all}
 use Rattle.std.proofs.lemmas.List.Elements.{All-weaker}
 use Rattle.fdr.specs.Tasks.{IsState}
 use Rattle.packed.specs.declared.field.Field.{Field}
-use Rattle.packed.specs.Fields.{fields, word_count, word_at, words_of}
-use Rattle.packed.proofs.Placing.{own_field, other_field, words_fit, IsPlaced, IsLimited, fields_placed, length-fields}
+use Rattle.packed.specs.Fields.{fields, word_at, words_of, AreWithinLimits, IsPlaced}
+use Rattle.packed.proofs.Placing.{own_field, other_field, words_fit, length-fields}
 use Rattle.packed.proofs.Shifts.{shifted_up}
 
 -- the words hold the values of the first fields, this many of them
@@ -73,45 +72,33 @@ holds_all count words ranges values done holds end =
         let nothing : word_at k (drop done (fields ranges)) (drop done values) ≡ 0 = ap (λ fs. word_at k fs (drop done values)) (drop_all done (fields ranges) end) in
         omega (arith, holds.summed k within, nothing))
 
--- what a turn of the loop needs and gives: the field exists, nothing overflows, and one more field is done
+-- what a turn of the loop gives: nothing overflows, and one more field is done
 pub record IsNext (count : ℕ) (words ranges values : List ℕ) (done : ℕ) (field : Field) (added : ℕ) : Type 0 where
-  pub placed : IsPlaced (word_count ranges) field
   pub fits : get_or words field.word 0 + added < 2 ^ 64
   pub holds : HoldsFirst count (set words field.word (get_or words field.word 0 + added)) (fields ranges) values (done + 1)
 
--- the field that the loop is at
-pub next_placed : (ranges : List ℕ) (done : ℕ) (field : Field) → All IsLimited ranges → done < length (fields ranges)
-    → field ≡ get_or (fields ranges) done field → IsPlaced (word_count ranges) field
-next_placed ranges done field limited more is =
-    subst (λ f. IsPlaced (word_count ranges) f) (sym is) (fields_placed ranges limited done field more)
-
 pub next_field : (count : ℕ) (words ranges values : List ℕ) (done : ℕ) (field : Field) (value added : ℕ)
-    → All IsLimited ranges → word_count ranges ≤ count → IsState ranges values
+    → AreWithinLimits ranges → IsState ranges values → IsPlaced count field
     → HoldsFirst count words (fields ranges) values done → done < length (fields ranges)
     → field ≡ get_or (fields ranges) done field → value ≡ get_or values done 0
     → added ≡ (value * 2 ^ (field.shift % 64)) % 2 ^ 64
     → IsNext count words ranges values done field added
-next_field count words ranges values done field value added limited room state holds more is is' added_is =
+next_field count words ranges values done field value added limits state placed holds more is is' added_is =
     record {
-        placed = placed;
         fits = rw added_whole (omega (arith, sum, whole));
-        holds = rw added_whole (holds_more count words (fields ranges) values done field holds more more' is within);
+        holds = rw added_whole (holds_more count words (fields ranges) values done field holds more more' is placed.inside);
     }
   where
     more' : done < length values
     more' = omega (arith, length-fields ranges, state.as_long)
 
-    placed : IsPlaced (word_count ranges) field
-    placed = next_placed ranges done field limited more is
-
-    within : field.word < count
-    within = omega (arith, placed.inside)
-
     whole : word_at field.word (fields ranges) values < 2 ^ 64
-    whole = words_fit field.word ranges values (All-weaker IsLimited (λ range. range ≤ 2 ^ 64) (λ range short. omega arith) ranges limited) state
+    whole =
+        words_fit field.word ranges values
+        (All-weaker (λ range. range ≤ 65536) (λ range. range ≤ 2 ^ 64) (λ range short. omega arith) ranges limits.values) state
 
     sum : get_or words field.word 0 + get_or values done 0 * 2 ^ field.shift ≤ word_at field.word (fields ranges) values
-    sum = sum_within count words (fields ranges) values done field holds more more' is within
+    sum = sum_within count words (fields ranges) values done field holds more more' is placed.inside
 
     added_whole : added ≡ get_or values done 0 * 2 ^ field.shift
     added_whole =

@@ -7,10 +7,10 @@ use Rattle.std.proofs.Math.Nat.{pow-le-pow_right, zero-add}
 use Rattle.std.proofs.lemmas.Nat.{pow_pos, pow-add, shr_high, mod_low, mul-add-lt}
 use Rattle.std.proofs.lemmas.Bool.{cond-true, cond-false, cases_lt, cases_eq, cond_both, leb-true, leb-false, eqb-true, eqb-false}
 use Rattle.std.proofs.lemmas.List.FromFn.{get_or-map-range_with_len}
-use Rattle.std.proofs.lemmas.List.Elements.{All-nil, All-cons, All-head, All-tail}
+use Rattle.std.proofs.lemmas.List.Elements.{All-nil, All-cons, All-head, All-tail, All-weaker}
 use Rattle.fdr.specs.Tasks.{IsState}
 use Rattle.packed.specs.declared.field.Field.{Field}
-use Rattle.packed.specs.Fields.{width_of, place, fields_from, fields, words_from, word_count, word_at, words_of, value_in, values_in, ArePacked}
+use Rattle.packed.specs.Fields.{width_of, place, fields_from, fields, words_from, word_count, word_at, words_of, value_in, values_in, AreWithinLimits, IsPlaced, ArePacked}
 use Rattle.packed.proofs.Digits.{width_enough, width_le}
 
 -- what holds of a field in the rest of the word and of one at the beginning of the next holds of the field that is placed
@@ -241,38 +241,8 @@ same_words count ranges xs ys packed packed' same =
 
 -- ---- fields of ranges up to 65536
 
--- the field lies in one of this many words, and its value in 16 bits
-pub record IsPlaced (count : ℕ) (field : Field) : Type 0 where
-  pub inside : field.word < count
-  pub in_one_word : field.shift + field.width ≤ 64
-  pub narrow : field.width ≤ 16
-
-abbrev pub IsLimited : ℕ → Type 0
+abbrev IsLimited : ℕ → Type 0
 IsLimited range = range ≤ 65536
-
-placed_from : (word bit : ℕ) (ranges : List ℕ) → bit ≤ 64 → All IsLimited ranges
-    → All (IsPlaced (words_from word bit ranges)) (fields_from word bit ranges)
-placed_from word bit [] in_word limited = All-nil (IsPlaced (word + 1))
-placed_from word bit (range ∷ ranges) in_word limited =
-    place_both word bit (width_of range)
-    (λ field. All (IsPlaced (words_from field.word (field.shift + field.width) ranges)) (field ∷ fields_from field.word (field.shift + field.width) ranges))
-    (λ fits.
-        All-cons (IsPlaced (words_from word (bit + width_of range) ranges)) (record { word = word; shift = bit; width = width_of range }) (fields_from word (bit + width_of range) ranges)
-        (record { inside = words_from_above word (bit + width_of range) ranges; in_one_word = fits; narrow = narrow })
-        (placed_from word (bit + width_of range) ranges fits rest_limited))
-    (λ over.
-        All-cons (IsPlaced (words_from (word + 1) (0 + width_of range) ranges)) (record { word = word + 1; shift = 0; width = width_of range }) (fields_from (word + 1) (0 + width_of range) ranges)
-        (record { inside = words_from_above (word + 1) (0 + width_of range) ranges; in_one_word = omega (arith, narrow); narrow = narrow })
-        (placed_from (word + 1) (0 + width_of range) ranges (omega (arith, narrow)) rest_limited))
-  where
-    narrow : width_of range ≤ 16
-    narrow = width_le range 16 (All-head IsLimited range ranges limited)
-
-    rest_limited : All IsLimited ranges
-    rest_limited = All-tail IsLimited range ranges limited
-
-pub fields_placed : (ranges : List ℕ) → All IsLimited ranges → All (IsPlaced (word_count ranges)) (fields ranges)
-fields_placed ranges limited = placed_from 0 0 ranges (omega arith) limited
 
 words_few : (word bit : ℕ) (ranges : List ℕ) → words_from word bit ranges ≤ word + length ranges + 1
 words_few word bit [] = omega arith
@@ -282,8 +252,55 @@ words_few word bit (range ∷ ranges) =
     (λ fits. omega (arith, words_few word (bit + width_of range) ranges))
     (λ over. omega (arith, words_few (word + 1) (0 + width_of range) ranges))
 
-pub word_count_few : (ranges : List ℕ) → word_count ranges ≤ length ranges + 1
+word_count_few : (ranges : List ℕ) → word_count ranges ≤ length ranges + 1
 word_count_few ranges = omega (arith, words_few 0 0 ranges)
+
+-- where a field lies, in words up to this many
+record LiesIn (count : ℕ) (field : Field) : Type 0 where
+  inside : field.word < count
+  in_one_word : field.shift + field.width ≤ 64
+  narrow : field.width ≤ 16
+
+lie_in : (word bit : ℕ) (ranges : List ℕ) → bit ≤ 64 → All IsLimited ranges
+    → All (LiesIn (words_from word bit ranges)) (fields_from word bit ranges)
+lie_in word bit [] in_word limited = All-nil (LiesIn (word + 1))
+lie_in word bit (range ∷ ranges) in_word limited =
+    place_both word bit (width_of range)
+    (λ field. All (LiesIn (words_from field.word (field.shift + field.width) ranges)) (field ∷ fields_from field.word (field.shift + field.width) ranges))
+    (λ fits.
+        All-cons (LiesIn (words_from word (bit + width_of range) ranges)) (record { word = word; shift = bit; width = width_of range }) (fields_from word (bit + width_of range) ranges)
+        (record { inside = words_from_above word (bit + width_of range) ranges; in_one_word = fits; narrow = narrow })
+        (lie_in word (bit + width_of range) ranges fits rest_limited))
+    (λ over.
+        All-cons (LiesIn (words_from (word + 1) (0 + width_of range) ranges)) (record { word = word + 1; shift = 0; width = width_of range }) (fields_from (word + 1) (0 + width_of range) ranges)
+        (record { inside = words_from_above (word + 1) (0 + width_of range) ranges; in_one_word = omega (arith, narrow); narrow = narrow })
+        (lie_in (word + 1) (0 + width_of range) ranges (omega (arith, narrow)) rest_limited))
+  where
+    narrow : width_of range ≤ 16
+    narrow = width_le range 16 (All-head IsLimited range ranges limited)
+
+    rest_limited : All IsLimited ranges
+    rest_limited = All-tail IsLimited range ranges limited
+
+placed_since : (count : ℕ) (ranges : List ℕ) → word_count ranges ≤ count → AreWithinLimits ranges → (field : Field) → LiesIn (word_count ranges) field → IsPlaced count field
+placed_since count ranges room limits field lies =
+    record {
+        inside = omega (arith, lies.inside);
+        near = omega (arith, lies.inside, word_count_few ranges, limits.variables);
+        in_one_word = lies.in_one_word;
+        narrow = lies.narrow;
+    }
+
+pub fields_placed : (count : ℕ) (ranges : List ℕ) → word_count ranges ≤ count → AreWithinLimits ranges → All (IsPlaced count) (fields ranges)
+fields_placed count ranges room limits =
+    All-weaker (LiesIn (word_count ranges)) (IsPlaced count) (placed_since count ranges room limits) (fields ranges)
+    (lie_in 0 0 ranges (omega arith) limits.values)
+
+-- the field at a place of the list
+pub field_placed : (count : ℕ) (ranges : List ℕ) (variable : ℕ) (field : Field) → word_count ranges ≤ count → AreWithinLimits ranges
+    → variable < length (fields ranges) → field ≡ get_or (fields ranges) variable field → IsPlaced count field
+field_placed count ranges variable field room limits exists is =
+    subst (λ f. IsPlaced count f) (sym is) (fields_placed count ranges room limits variable field exists)
 
 length_from : (word bit : ℕ) (ranges : List ℕ) → length (fields_from word bit ranges) ≡ length ranges
 length_from word bit [] = refl

@@ -1,5 +1,5 @@
 -- Where the values of a state stand in words of 64 bits.
-use Rattle.std.specs.Prelude.{◌≡◌, ℕ, zero, suc, ◌+◌, ◌-◌, ◌*◌, ◌/◌, ◌%◌, ◌^◌, ◌≤◌, ◌==◌, nat_le, if◌then◌else◌, List, [], ◌∷◌, map, slice_index}
+use Rattle.std.specs.Prelude.{◌≡◌, ℕ, zero, suc, ◌+◌, ◌-◌, ◌*◌, ◌/◌, ◌%◌, ◌^◌, ◌<◌, ◌≤◌, ◌==◌, nat_le, if◌then◌else◌, List, [], ◌∷◌, map, length, slice_index, All}
 use Rattle.std.specs.List.{range_with_len}
 use Rattle.fdr.specs.Tasks.{IsState}
 use Rattle.packed.specs.declared.field.Field.{Field}
@@ -61,6 +61,24 @@ value_in words field = slice_index words field.word / 2 ^ field.shift % 2 ^ fiel
 -- the value of each variable
 abbrev pub values_in : List ℕ → List ℕ → List ℕ
 values_in words ranges = map (value_in words) (fields ranges)
+
+-- there are at most 65536 variables, each with at most 65536 values
+pub record AreWithinLimits (ranges : List ℕ) : Type 0 where
+  pub variables : length ranges ≤ 65536
+  pub values : All (λ range. range ≤ 65536) ranges
+
+-- what a layout keeps of these ranges: the fields and how many words they take
+pub record IsLayout (ranges : List ℕ) (placed : List Field) (count : ℕ) : Type 0 where
+  pub limits : AreWithinLimits ranges
+  pub fields : placed ≡ fields ranges
+  pub word_count : count ≡ word_count ranges
+
+-- the field lies in one of the first words, this many and at most 65537, and has at most 16 bits
+pub record IsPlaced (count : ℕ) (field : Field) : Type 0 where
+  pub inside : field.word < count
+  pub near : field.word ≤ 65536
+  pub in_one_word : field.shift + field.width ≤ 64
+  pub narrow : field.width ≤ 16
 
 -- the words, this many, are those of a state over variables with these ranges
 pub record ArePacked (count : ℕ) (ranges words : List ℕ) : Type 0 where

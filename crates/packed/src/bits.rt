@@ -16,16 +16,6 @@ pub struct Bits<const WORDS: usize> {
     words: [u64; WORDS],
 }
 
-/// The number in the bits of a field.
-fn value_in<const WORDS: usize>(words: &[u64; WORDS], field: Field) -> u64
-    requires word { field.word < WORDS }
-    requires bits { field.shift + field.width ≤ 64 }
-    requires width { field.width < 64 }
-    ensures { result ≡ spec.value_in words.now field }
-{
-    words[field.word].wrapping_shr(field.shift) & ((1 << field.width) - 1)
-}
-
 /// The words of a state.
 fn words_of<const WORDS: usize>(layout: &Layout, state: &[u32]) -> [u64; WORDS]
     requires fits { spec.word_count layout.now ≤ WORDS }
@@ -40,30 +30,38 @@ fn words_of<const WORDS: usize>(layout: &Layout, state: &[u32]) -> [u64; WORDS]
 }
 
 impl<const WORDS: usize> Bits<WORDS> {
+    /// The number in the bits of a field.
+    fn value(&self, field: Field) -> u64
+        requires { spec.IsPlaced WORDS field }
+        ensures { result ≡ spec.value_in self.now.words field }
+    {
+        self.words[field.word].wrapping_shr(field.shift) & ((1 << field.width) - 1)
+    }
+
     /// Whether the number in each variable's bits is below the variable's range.
     fn has_values_in_range(&self, layout: &Layout) -> bool
         requires fits { spec.word_count layout.now ≤ WORDS }
         ensures { IsTrue result ↔ IsState layout.now (spec.values_in self.now.words layout.now) }
     {
         for (variable, field) in layout.fields().iter().enumerate() {
-            if value_in(&self.words, *field) >= layout.range(variable) as u64 {
+            if self.value(*field) >= layout.range(variable) as u64 {
                 return false;
             }
         }
         true
     }
 
-    /// These words with every bit that is in no field set to 0.
-    fn without_other_bits(&self, layout: &Layout) -> [u64; WORDS]
+    /// The form with every bit that is in no field set to 0.
+    fn without_other_bits(&self, layout: &Layout) -> Bits<WORDS>
         requires fits { spec.word_count layout.now ≤ WORDS }
         requires state { IsState layout.now (spec.values_in self.now.words layout.now) }
-        ensures { result ≡ spec.words_of WORDS layout.now (spec.values_in self.now.words layout.now) }
+        ensures { result.words ≡ spec.words_of WORDS layout.now (spec.values_in self.now.words layout.now) }
     {
         let mut words = [0; WORDS];
         for field in layout.fields() {
-            words[field.word] += value_in(&self.words, *field).wrapping_shl(field.shift);
+            words[field.word] += self.value(*field).wrapping_shl(field.shift);
         }
-        words
+        Bits { words }
     }
 }
 
@@ -96,7 +94,7 @@ impl<const WORDS: usize> StateForm for Bits<WORDS> {
     fn is_form(&self, layout: &Layout) -> bool {
         Self::fits(layout)
             && self.has_values_in_range(layout)
-            && self.words == self.without_other_bits(layout)
+            && *self == self.without_other_bits(layout)
     }
 
     fn repack(&mut self, layout: &Layout, state: &[u32]) {
@@ -105,7 +103,7 @@ impl<const WORDS: usize> StateForm for Bits<WORDS> {
 
     fn unpack(&self, layout: &Layout, state: &mut [u32]) {
         for (variable, field) in layout.fields().iter().enumerate() {
-            state[variable] = value_in(&self.words, *field) as u32;
+            state[variable] = self.value(*field) as u32;
         }
     }
 

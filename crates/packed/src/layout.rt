@@ -1,6 +1,6 @@
 //! What a form needs of its task: the ranges of the variables.
 
-ghost use Rattle.std.specs.Prelude.{◌≡◌, ◌<◌, ◌≤◌, ◌↔◌, length, slice_index, IsTrue, IfOk, All};
+ghost use Rattle.std.specs.Prelude.{◌≡◌, ◌<◌, ◌↔◌, length, slice_index, IsTrue, IfOk};
 ghost use Rattle.fdr.specs.Tasks as tasks;
 ghost use Rattle.fdr.specs.Tasks.{IsState};
 ghost use Rattle.packed.specs.Fields as spec;
@@ -22,17 +22,14 @@ pub struct Layout {
 }
 
 impl Model for Layout {
-    ghost use Rattle.std.specs.Prelude.{ℕ, List, ◌≡◌, ◌≤◌, All};
-    ghost use Rattle.packed.specs.Fields as spec;
+    ghost use Rattle.std.specs.Prelude.{ℕ, List};
+    ghost use Rattle.packed.specs.Fields.{IsLayout};
 
     ghost Value = { List ℕ };
 
     ghost view = { λ l. l.ranges.items };
 
-    ghost invariant = { λ l.
-        (l.fields.items ≡ spec.fields l.ranges.items) ×
-        (l.word_count ≡ spec.word_count l.ranges.items) ×
-        All (λ range. range ≤ 65536) l.ranges.items };
+    ghost invariant = { λ l. IsLayout l.ranges.items l.fields.items l.word_count };
 }
 
 impl Layout {
@@ -89,7 +86,7 @@ impl Layout {
     /// The bits of each variable, in a form of bits.
     pub(crate) fn fields(&self) -> &[Field]
         ensures fields { result.now ≡ spec.fields self.now }
-        ensures ranges { All (λ range. range ≤ 65536) self.now }
+        ensures limits { spec.AreWithinLimits self.now }
     {
         &self.fields
     }
