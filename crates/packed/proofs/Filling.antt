@@ -7,8 +7,8 @@ use Rattle.std.proofs.lemmas.List.FromFn.{fill_by_all}
 use Rattle.std.proofs.lemmas.List.Elements.{All-weaker}
 use Rattle.fdr.specs.Tasks.{IsState}
 use Rattle.packed.specs.declared.field.Field.{Field}
-use Rattle.packed.specs.Fields.{fields, word_at, words_of, AreWithinLimits, IsPlaced}
-use Rattle.packed.proofs.Placing.{own_field, other_field, words_fit, length-fields}
+use Rattle.packed.specs.Fields.{fields, word_at, words_of, AreWithinLimits}
+use Rattle.packed.proofs.Placing.{own_field, other_field, words_fit, length-fields, IsFieldOf}
 use Rattle.packed.proofs.Shifts.{shifted_up}
 
 -- the words hold the values of the first fields, this many of them
@@ -78,19 +78,18 @@ pub record IsNext (count : ℕ) (words ranges values : List ℕ) (done : ℕ) (f
   pub holds : HoldsFirst count (set words field.word (get_or words field.word 0 + added)) (fields ranges) values (done + 1)
 
 pub next_field : (count : ℕ) (words ranges values : List ℕ) (done : ℕ) (field : Field) (value added : ℕ)
-    → AreWithinLimits ranges → IsState ranges values → IsPlaced count field
-    → HoldsFirst count words (fields ranges) values done → done < length (fields ranges)
-    → field ≡ get_or (fields ranges) done field → value ≡ get_or values done 0
+    → AreWithinLimits ranges → IsState ranges values → IsFieldOf count ranges done field
+    → HoldsFirst count words (fields ranges) values done → value ≡ get_or values done 0
     → added ≡ (value * 2 ^ (field.shift % 64)) % 2 ^ 64
     → IsNext count words ranges values done field added
-next_field count words ranges values done field value added limits state placed holds more is is' added_is =
+next_field count words ranges values done field value added limits state at holds is' added_is =
     record {
         fits = rw added_whole (omega (arith, sum, whole));
-        holds = rw added_whole (holds_more count words (fields ranges) values done field holds more more' is placed.inside);
+        holds = rw added_whole (holds_more count words (fields ranges) values done field holds at.exists more' at.is at.placed.inside);
     }
   where
     more' : done < length values
-    more' = omega (arith, length-fields ranges, state.as_long)
+    more' = omega (arith, at.exists, length-fields ranges, state.as_long)
 
     whole : word_at field.word (fields ranges) values < 2 ^ 64
     whole =
@@ -98,9 +97,9 @@ next_field count words ranges values done field value added limits state placed 
         (All-weaker (λ range. range ≤ 65536) (λ range. range ≤ 2 ^ 64) (λ range short. omega arith) ranges limits.values) state
 
     sum : get_or words field.word 0 + get_or values done 0 * 2 ^ field.shift ≤ word_at field.word (fields ranges) values
-    sum = sum_within count words (fields ranges) values done field holds more more' is placed.inside
+    sum = sum_within count words (fields ranges) values done field holds at.exists more' at.is at.placed.inside
 
     added_whole : added ≡ get_or values done 0 * 2 ^ field.shift
     added_whole =
         added_is ∙ ap (λ v. (v * 2 ^ (field.shift % 64)) % 2 ^ 64) is'
-        ∙ shifted_up (get_or values done 0) field.shift (omega (arith, placed.in_one_word)) (omega (arith, sum, whole))
+        ∙ shifted_up (get_or values done 0) field.shift (omega (arith, at.placed.in_one_word)) (omega (arith, sum, whole))

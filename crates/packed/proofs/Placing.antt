@@ -6,6 +6,7 @@ use Rattle.std.proofs.Math.Logic.{⊎_elim}
 use Rattle.std.proofs.Math.Nat.{pow-le-pow_right, zero-add}
 use Rattle.std.proofs.lemmas.Nat.{pow_pos, pow-add, shr_high, mod_low, mul-add-lt}
 use Rattle.std.proofs.lemmas.Bool.{cond-true, cond-false, cases_lt, cases_eq, cond_both, leb-true, leb-false, eqb-true, eqb-false}
+use Rattle.std.proofs.lemmas.List.{get_or-map, get_or_default, length-map}
 use Rattle.std.proofs.lemmas.List.FromFn.{get_or-map-range_with_len}
 use Rattle.std.proofs.lemmas.List.Elements.{All-nil, All-cons, All-head, All-tail, All-weaker}
 use Rattle.fdr.specs.Tasks.{IsState}
@@ -296,11 +297,29 @@ fields_placed count ranges room limits =
     All-weaker (LiesIn (word_count ranges)) (IsPlaced count) (placed_since count ranges room limits) (fields ranges)
     (lie_in 0 0 ranges (omega arith) limits.values)
 
--- the field at a place of the list
-pub field_placed : (count : ℕ) (ranges : List ℕ) (variable : ℕ) (field : Field) → word_count ranges ≤ count → AreWithinLimits ranges
-    → variable < length (fields ranges) → field ≡ get_or (fields ranges) variable field → IsPlaced count field
-field_placed count ranges variable field room limits exists is =
-    subst (λ f. IsPlaced count f) (sym is) (fields_placed count ranges room limits variable field exists)
+-- the field that belongs to a variable
+pub record IsFieldOf (count : ℕ) (ranges : List ℕ) (variable : ℕ) (field : Field) : Type 0 where
+  pub exists : variable < length (fields ranges)
+  pub is : field ≡ get_or (fields ranges) variable field
+  pub placed : IsPlaced count field
+
+-- a loop over a list of the fields reads the field of each variable
+pub field_of : (count : ℕ) (ranges : List ℕ) (found : List Field) (variable : ℕ)
+    → word_count ranges ≤ count → AreWithinLimits ranges → found ≡ fields ranges → variable < length found
+    → IsFieldOf count ranges variable (get_or found variable (record { word = 0; shift = 0; width = 0 }))
+field_of count ranges found variable room limits found_is within =
+    record { exists = exists; is = is; placed = subst (λ f. IsPlaced count f) (sym is) (fields_placed count ranges room limits variable field exists) }
+  where
+    field : Field
+    field = get_or found variable (record { word = 0; shift = 0; width = 0 })
+
+    exists : variable < length (fields ranges)
+    exists = omega (arith, within, ap length found_is)
+
+    is : field ≡ get_or (fields ranges) variable field
+    is =
+        ap (λ fs. get_or fs variable (record { word = 0; shift = 0; width = 0 })) found_is
+        ∙ get_or_default (fields ranges) variable (record { word = 0; shift = 0; width = 0 }) field exists
 
 length_from : (word bit : ℕ) (ranges : List ℕ) → length (fields_from word bit ranges) ≡ length ranges
 length_from word bit [] = refl
@@ -309,3 +328,12 @@ length_from word bit (range ∷ ranges) =
 
 pub length-fields : (ranges : List ℕ) → length (fields ranges) ≡ length ranges
 length-fields ranges = length_from 0 0 ranges
+
+-- the value of a variable is the number in its field
+pub value_at : (count : ℕ) (words ranges : List ℕ) (variable : ℕ) (field : Field) → IsFieldOf count ranges variable field
+    → get_or (values_in words ranges) variable 0 ≡ value_in words field
+value_at count words ranges variable field at =
+    get_or-map (value_in words) (fields ranges) variable field 0 at.exists ∙ ap (value_in words) (sym at.is)
+
+pub length-values_in : (words ranges : List ℕ) → length (values_in words ranges) ≡ length ranges
+length-values_in words ranges = length-map (fields ranges) (value_in words) ∙ length-fields ranges
