@@ -4,6 +4,7 @@ use Rattle.std.proofs.Math.Logic.{⊎_elim}
 use Rattle.std.proofs.Math.Nat.{pow-suc, pow-le-pow_right}
 use Rattle.std.proofs.lemmas.Nat.{pow_pos, pow-add}
 use Rattle.std.proofs.lemmas.Bool.{cases_lt}
+use Rattle.std.specs.Int.Count.{count_leading_zeros, leading_unique}
 use Rattle.packed.specs.Fields.{digits_up_to, width_of}
 
 double_power : (k : ℕ) → 2 ^ (k + 1) ≡ 2 * 2 ^ k
@@ -57,3 +58,18 @@ width_le range k bounded =
   where
     narrow : range ≤ 1 → width_of range ≡ 0
     narrow few = let none : range - 1 ≡ 0 = omega arith in ap (λ n. digits_up_to n n) none
+
+-- the digits of a number of 64 bits are those that are no leading zeros
+pub width_from_zeros : (range : ℕ) → range ≤ 2 ^ 64 → 64 - count_leading_zeros 64 (range - 1) ≡ width_of range
+width_from_zeros range bounded =
+    let narrow = width_le range 64 bounded in
+    omega (arith, narrow,
+        leading_unique 64 (range - 1) (64 - width_of range) (width_of range) (omega (arith, narrow))
+        (digits_enough (range - 1) (range - 1) (below_own_power (range - 1))) no_more)
+  where
+    no_more : 2 ^ width_of range ≤ 2 * (range - 1) + 1
+    no_more =
+        ⊎_elim
+        (λ many. omega (arith, digits_no_more (range - 1) (range - 1) (omega arith)))
+        (λ few. let none : range - 1 ≡ 0 = omega arith in omega (arith, ap (λ n. 2 ^ digits_up_to n n) none))
+        (cases_lt 1 range)

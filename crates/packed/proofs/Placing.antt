@@ -1,5 +1,5 @@
 -- Where fields lie, and what the words of a state hold: no word overflows, and each value is read back.
-use Rattle.std.proofs.Common.{◌≡◌, ◌≢◌, ℕ, zero, suc, ◌+◌, ◌-◌, ◌*◌, ◌/◌, ◌%◌, ◌^◌, ◌<◌, ◌≤◌, Bool, true, false, cond, eqb, eq-eqb, List, [], ◌∷◌, length, get_or, map, refl, sym, ap, subst, ◌∙◌, arith, ne_eqb}
+use Rattle.std.proofs.Common.{◌≡◌, ◌≢◌, ℕ, zero, suc, ◌+◌, ◌-◌, ◌*◌, ◌/◌, ◌%◌, ◌^◌, ◌<◌, ◌≤◌, Bool, true, false, cond, eqb, eq-eqb, List, [], ◌∷◌, ◌++◌, length, drop, get_or, map, refl, sym, ap, subst, ◌∙◌, arith, ne_eqb, append_assoc, add-one, drop-cons}
 use Rattle.std.specs.Prelude.{All, slice_index, nat_le}
 use Rattle.std.specs.List.{range_with_len}
 use Rattle.std.proofs.Math.Logic.{⊎_elim}
@@ -337,3 +337,64 @@ value_at count words ranges variable field at =
 
 pub length-values_in : (words ranges : List ℕ) → length (values_in words ranges) ≡ length ranges
 length-values_in words ranges = length-map (fields ranges) (value_in words) ∙ length-fields ranges
+
+-- ---- the loop that places fields
+
+-- fields are placed up to this variable, where this word is in use up to this bit
+pub record IsPlacing (ranges : List ℕ) (done : ℕ) (placed : List Field) (word bit : ℕ) : Type 0 where
+  pub in_word : bit ≤ 64
+  pub few : word ≤ done
+  pub fields : placed ++ fields_from word bit (drop done ranges) ≡ fields ranges
+  pub word_count : words_from word bit (drop done ranges) ≡ word_count ranges
+
+pub placing_none : (ranges : List ℕ) → IsPlacing ranges 0 [] 0 0
+placing_none ranges = record { in_word = omega arith; few = omega arith; fields = refl; word_count = refl }
+
+-- the next field is placed
+placing_field : (ranges : List ℕ) (done : ℕ) (placed : List Field) (word bit : ℕ) (field : Field)
+    → done < length ranges → IsPlacing ranges done placed word bit
+    → field ≡ place word bit (width_of (get_or ranges done 0)) → field.word ≤ done + 1 → field.shift + field.width ≤ 64
+    → IsPlacing ranges (done + 1) (placed ++ field ∷ []) field.word (field.shift + field.width)
+placing_field ranges done placed word bit field more before is few in_word =
+    record {
+        in_word = in_word;
+        few = few;
+        fields =
+            append_assoc placed (field ∷ []) (fields_from field.word (field.shift + field.width) (drop (done + 1) ranges))
+            ∙ ap (λ f. placed ++ f ∷ fields_from f.word (f.shift + f.width) (drop (done + 1) ranges)) is
+            ∙ ap (λ rs. placed ++ fields_from word bit rs) (sym next)
+            ∙ before.fields;
+        word_count =
+            ap (λ f. words_from f.word (f.shift + f.width) (drop (done + 1) ranges)) is
+            ∙ ap (λ rs. words_from word bit rs) (sym next)
+            ∙ before.word_count;
+    }
+  where
+    next : drop done ranges ≡ get_or ranges done 0 ∷ drop (done + 1) ranges
+    next = drop-cons ranges done 0 more ∙ ap (λ i. get_or ranges done 0 ∷ drop i ranges) (sym (add-one done))
+
+-- in the rest of the word
+pub placing_here : (ranges : List ℕ) (done : ℕ) (placed : List Field) (word bit width : ℕ)
+    → done < length ranges → IsPlacing ranges done placed word bit → width ≡ width_of (get_or ranges done 0) → bit + width ≤ 64
+    → IsPlacing ranges (done + 1) (placed ++ record { word = word; shift = bit; width = width } ∷ []) word (bit + width)
+placing_here ranges done placed word bit width more before is fits =
+    placing_field ranges done placed word bit (record { word = word; shift = bit; width = width }) more before here (omega (arith, before.few)) fits
+  where
+    here : record { word = word; shift = bit; width = width } ≡ place word bit (width_of (get_or ranges done 0))
+    here =
+        place_both word bit (width_of (get_or ranges done 0)) (λ field. record { word = word; shift = bit; width = width } ≡ field)
+        (λ _. ap (λ w. record { word = word; shift = bit; width = w }) is)
+        (λ over. absurd (omega (arith, over, is)))
+
+-- at the beginning of the next word
+pub placing_next : (ranges : List ℕ) (done : ℕ) (placed : List Field) (word bit width : ℕ)
+    → done < length ranges → IsPlacing ranges done placed word bit → width ≡ width_of (get_or ranges done 0) → 64 < bit + width → width ≤ 64
+    → IsPlacing ranges (done + 1) (placed ++ record { word = word + 1; shift = 0; width = width } ∷ []) (word + 1) (0 + width)
+placing_next ranges done placed word bit width more before is over narrow =
+    placing_field ranges done placed word bit (record { word = word + 1; shift = 0; width = width }) more before next (omega (arith, before.few)) (omega (arith, narrow))
+  where
+    next : record { word = word + 1; shift = 0; width = width } ≡ place word bit (width_of (get_or ranges done 0))
+    next =
+        place_both word bit (width_of (get_or ranges done 0)) (λ field. record { word = word + 1; shift = 0; width = width } ≡ field)
+        (λ fits. absurd (omega (arith, fits, is)))
+        (λ _. ap (λ w. record { word = word + 1; shift = 0; width = w }) is)
