@@ -234,12 +234,6 @@ words_are_packed count ranges values fits state =
         no_other_bits = ap (words_of count ranges) (sym back);
     }
 
--- packed words of equal values are equal
-pub same_words : (count : ℕ) (ranges xs ys : List ℕ) → ArePacked count ranges xs → ArePacked count ranges ys
-    → values_in xs ranges ≡ values_in ys ranges → xs ≡ ys
-same_words count ranges xs ys packed packed' same =
-    packed.no_other_bits ∙ ap (words_of count ranges) same ∙ sym packed'.no_other_bits
-
 -- ---- fields of ranges up to 65536
 
 abbrev IsLimited : ℕ → Type 0

@@ -1,6 +1,7 @@
 -- Where the values of a state stand in words of 64 bits.
 use Rattle.std.specs.Prelude.{◌≡◌, ℕ, zero, suc, ◌+◌, ◌-◌, ◌*◌, ◌/◌, ◌%◌, ◌^◌, ◌<◌, ◌≤◌, ◌==◌, nat_le, if◌then◌else◌, List, [], ◌∷◌, map, length, slice_index, All}
 use Rattle.std.specs.List.{range_with_len}
+use Rattle.std.proofs.Common.{sym, ap, ◌∙◌}
 use Rattle.fdr.specs.Tasks.{IsState}
 use Rattle.packed.specs.declared.field.Field.{Field}
 
@@ -85,3 +86,13 @@ pub record ArePacked (count : ℕ) (ranges words : List ℕ) : Type 0 where
   pub fits : word_count ranges ≤ count
   pub state : IsState ranges (values_in words ranges)
   pub no_other_bits : words ≡ words_of count ranges (values_in words ranges)
+
+-- packed words of equal values are equal
+pub same_words : (count : ℕ) (ranges xs ys : List ℕ) → ArePacked count ranges xs → ArePacked count ranges ys
+    → values_in xs ranges ≡ values_in ys ranges → xs ≡ ys
+same_words count ranges xs ys packed packed' same =
+    packed.no_other_bits ∙ ap (words_of count ranges) same ∙ sym packed'.no_other_bits
+
+-- and equal words have equal values
+pub same_values : (ranges xs ys : List ℕ) → xs ≡ ys → values_in xs ranges ≡ values_in ys ranges
+same_values ranges xs ys same = ap (λ words. values_in words ranges) same

@@ -76,9 +76,10 @@ impl<const WORDS: usize> StateForm for Bits<WORDS> {
 
     ghost state = { λ ranges f form. form.state };
 
-    ghost equal = { ? };
+    ghost equal = { λ ranges f g form form' same.
+        (bytes_decides f.words g.words).1 (spec.same_words WORDS ranges f.words g.words form form' same) };
 
-    ghost same = { ? };
+    ghost same = { λ ranges f g _ _ same. spec.same_values ranges f.words g.words ((bytes_decides f.words g.words).0 same) };
 
     fn fits(layout: &Layout) -> bool {
         layout.word_count() <= WORDS
