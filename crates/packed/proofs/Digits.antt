@@ -50,9 +50,9 @@ pub width_le : (range k : ℕ) → range ≤ 2 ^ k → width_of range ≤ k
 width_le range k bounded =
     ⊎_elim
     (λ wide. absurd (⊎_elim
-        (λ many. omega (arith, width_no_more range many, pow-le-pow_right {n = 2} (omega arith) {i = suc k} {j = width_of range} wide, pow-suc 2 k))
-        (λ few. omega (arith, narrow few))
-        (cases_lt 1 range)))
+    (λ many. omega (arith, width_no_more range many, pow-le-pow_right {n = 2} (omega arith) {i = suc k} {j = width_of range} wide, pow-suc 2 k))
+    (λ few. omega (arith, narrow few))
+    (cases_lt 1 range)))
     (λ narrow. narrow)
     (cases_lt k (width_of range))
   where
@@ -63,9 +63,12 @@ width_le range k bounded =
 pub width_from_zeros : (range : ℕ) → range ≤ 2 ^ 64 → 64 - count_leading_zeros 64 (range - 1) ≡ width_of range
 width_from_zeros range bounded =
     let narrow = width_le range 64 bounded in
-    omega (arith, narrow,
-        leading_unique 64 (range - 1) (64 - width_of range) (width_of range) (omega (arith, narrow))
-        (digits_enough (range - 1) (range - 1) (below_own_power (range - 1))) no_more)
+    omega (
+      arith,
+      narrow,
+      leading_unique 64 (range - 1) (64 - width_of range) (width_of range) (omega (arith, narrow))
+          (digits_enough (range - 1) (range - 1) (below_own_power (range - 1))) no_more,
+    )
   where
     no_more : 2 ^ width_of range ≤ 2 * (range - 1) + 1
     no_more =

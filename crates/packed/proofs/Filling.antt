@@ -26,9 +26,9 @@ next_apart : (k : ℕ) (fields : List Field) (values : List ℕ) (done : ℕ) (f
     → word_at k (drop done fields) (drop done values) ≡ word_at k (field ∷ drop (done + 1) fields) (get_or values done 0 ∷ drop (done + 1) values)
 next_apart k fields values done field more more' is =
     let fields' : drop done fields ≡ field ∷ drop (done + 1) fields =
-        drop-cons fields done field more ∙ ap (λ f. f ∷ drop (suc done) fields) (sym is) ∙ ap (λ i. field ∷ drop i fields) (sym (add-one done)) in
+    drop-cons fields done field more ∙ ap (λ f. f ∷ drop (suc done) fields) (sym is) ∙ ap (λ i. field ∷ drop i fields) (sym (add-one done)) in
     let values' : drop done values ≡ get_or values done 0 ∷ drop (done + 1) values =
-        drop-cons values done 0 more' ∙ ap (λ i. get_or values done 0 ∷ drop i values) (sym (add-one done)) in
+    drop-cons values done 0 more' ∙ ap (λ i. get_or values done 0 ∷ drop i values) (sym (add-one done)) in
     ap (λ fs. word_at k fs (drop done values)) fields' ∙ ap (λ vs. word_at k (field ∷ drop (done + 1) fields) vs) values'
 
 -- no word gets past what it holds at the end
@@ -37,8 +37,12 @@ sum_within : (count : ℕ) (words : List ℕ) (fields : List Field) (values : Li
     → done < length fields → done < length values → field ≡ get_or fields done field → field.word < count
     → get_or words field.word 0 + get_or values done 0 * 2 ^ field.shift ≤ word_at field.word fields values
 sum_within count words fields values done field holds more more' is within =
-    omega (arith, holds.summed field.word within, next_apart field.word fields values done field more more' is,
-        own_field field.word field (drop (done + 1) fields) (get_or values done 0) (drop (done + 1) values) refl)
+    omega (
+      arith,
+      holds.summed field.word within,
+      next_apart field.word fields values done field more more' is,
+      own_field field.word field (drop (done + 1) fields) (get_or values done 0) (drop (done + 1) values) refl,
+    )
 
 -- the next field is added to its word
 holds_more : (count : ℕ) (words : List ℕ) (fields : List Field) (values : List ℕ) (done : ℕ) (field : Field)
@@ -47,18 +51,29 @@ holds_more : (count : ℕ) (words : List ℕ) (fields : List Field) (values : Li
     → HoldsFirst count (set words field.word (get_or words field.word 0 + get_or values done 0 * 2 ^ field.shift)) fields values (done + 1)
 holds_more count words fields values done field holds more more' is within =
     record {
-        long = length-set words field.word sum ∙ holds.long;
-        summed = λ k inside.
-            ⊎_elim
-            (λ (own : field.word ≡ k).
-                let here : get_or (set words field.word sum) k 0 ≡ sum = rw (← own) (get_or-set_same words field.word sum 0 (omega (arith, holds.long))) in
-                let same : get_or words k 0 ≡ get_or words field.word 0 = ap (λ j. get_or words j 0) (sym own) in
-                omega (arith, here, same, holds.summed k inside, next_apart k fields values done field more more' is,
-                    own_field k field (drop (done + 1) fields) (get_or values done 0) (drop (done + 1) values) own))
-            (λ other.
-                omega (arith, get_or-set_other words field.word k sum 0 (λ e. other (sym e)), holds.summed k inside, next_apart k fields values done field more more' is,
-                    other_field k field (drop (done + 1) fields) (get_or values done 0) (drop (done + 1) values) other))
-            (cases_eq field.word k);
+      long = length-set words field.word sum ∙ holds.long;
+      summed = λ k inside.
+          ⊎_elim
+          (λ (own : field.word ≡ k).
+          let here : get_or (set words field.word sum) k 0 ≡ sum = rw (← own) (get_or-set_same words field.word sum 0 (omega (arith, holds.long))) in
+          let same : get_or words k 0 ≡ get_or words field.word 0 = ap (λ j. get_or words j 0) (sym own) in
+          omega (
+            arith,
+            here,
+            same,
+            holds.summed k inside,
+            next_apart k fields values done field more more' is,
+            own_field k field (drop (done + 1) fields) (get_or values done 0) (drop (done + 1) values) own,
+          ))
+          (λ other.
+          omega (
+            arith,
+            get_or-set_other words field.word k sum 0 (λ e. other (sym e)),
+            holds.summed k inside,
+            next_apart k fields values done field more more' is,
+            other_field k field (drop (done + 1) fields) (get_or values done 0) (drop (done + 1) values) other,
+          ))
+          (cases_eq field.word k);
     }
   where
     sum : ℕ
@@ -69,8 +84,8 @@ pub holds_all : (count : ℕ) (words : List ℕ) (ranges values : List ℕ) (don
 holds_all count words ranges values done holds end =
     fill_by_all (λ k. word_at k (fields ranges) values) words count 0 holds.long
     (λ k within.
-        let nothing : word_at k (drop done (fields ranges)) (drop done values) ≡ 0 = ap (λ fs. word_at k fs (drop done values)) (drop_all done (fields ranges) end) in
-        omega (arith, holds.summed k within, nothing))
+    let nothing : word_at k (drop done (fields ranges)) (drop done values) ≡ 0 = ap (λ fs. word_at k fs (drop done values)) (drop_all done (fields ranges) end) in
+    omega (arith, holds.summed k within, nothing))
 
 -- what a turn of the loop gives: nothing overflows, and one more field is done
 pub record IsNext (count : ℕ) (words ranges values : List ℕ) (done : ℕ) (field : Field) (added : ℕ) : Type 0 where
@@ -84,8 +99,8 @@ pub next_field : (count : ℕ) (words ranges values : List ℕ) (done : ℕ) (fi
     → IsNext count words ranges values done field added
 next_field count words ranges values done field value added limits state at holds is' added_is =
     record {
-        fits = rw added_whole (omega (arith, sum, whole));
-        holds = rw added_whole (holds_more count words (fields ranges) values done field holds at.exists more' at.is at.placed.inside);
+      fits = rw added_whole (omega (arith, sum, whole));
+      holds = rw added_whole (holds_more count words (fields ranges) values done field holds at.exists more' at.is at.placed.inside);
     }
   where
     more' : done < length values

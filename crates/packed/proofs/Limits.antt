@@ -18,6 +18,6 @@ short_ranges (names ∷ value_names) none =
 pub ranges_within_limits : (task : FiniteDomainTask) → IsWithinLimits task → AreWithinLimits (ranges task)
 ranges_within_limits task within =
     record {
-        variables = omega (arith, within.variables, length-map task.value_names length);
-        values = short_ranges task.value_names within.values;
+      variables = omega (arith, within.variables, length-map task.value_names length);
+      values = short_ranges task.value_names within.values;
     }

@@ -56,9 +56,9 @@ nothing_before word bit k (range ∷ ranges) (value ∷ values) before =
     place_both word bit (width_of range)
     (λ field. word_at k (field ∷ fields_from field.word (field.shift + field.width) ranges) (value ∷ values) ≡ 0)
     (λ fits. other_field k (record { word = word; shift = bit; width = width_of range }) (fields_from word (bit + width_of range) ranges) value values (λ e. omega (arith, e))
-        ∙ nothing_before word (bit + width_of range) k ranges values before)
+    ∙ nothing_before word (bit + width_of range) k ranges values before)
     (λ over. other_field k (record { word = word + 1; shift = 0; width = width_of range }) (fields_from (word + 1) (0 + width_of range) ranges) value values (λ e. omega (arith, e))
-        ∙ nothing_before (word + 1) (0 + width_of range) k ranges values (omega arith))
+    ∙ nothing_before (word + 1) (0 + width_of range) k ranges values (omega arith))
 
 -- the word in use holds nothing more below the bit up to which it is in use
 nothing_below : (word bit : ℕ) (ranges values : List ℕ) → (q : ℕ) × (word_at word (fields_from word bit ranges) values ≡ q * 2 ^ bit)
@@ -68,12 +68,17 @@ nothing_below word bit (range ∷ ranges) (value ∷ values) =
     place_both word bit width
     (λ field. (q : ℕ) × (word_at word (field ∷ fields_from field.word (field.shift + field.width) ranges) (value ∷ values) ≡ q * 2 ^ bit))
     (λ fits.
-        let rest = nothing_below word (bit + width) ranges values in
-        let own = own_field word (record { word = word; shift = bit; width = width }) (fields_from word (bit + width) ranges) value values refl in
-        (value + rest.0 * 2 ^ width, omega (arith, own, rest.1, ap (λ p. rest.0 * p) (pow-add 2 bit width))))
-    (λ over.
-        (0, omega (arith, other_field word (record { word = word + 1; shift = 0; width = width }) (fields_from (word + 1) (0 + width) ranges) value values (λ e. omega (arith, e)),
-            nothing_before (word + 1) (0 + width) word ranges values (omega arith))))
+    let rest = nothing_below word (bit + width) ranges values in
+    let own = own_field word (record { word = word; shift = bit; width = width }) (fields_from word (bit + width) ranges) value values refl in
+    (value + rest.0 * 2 ^ width, omega (arith, own, rest.1, ap (λ p. rest.0 * p) (pow-add 2 bit width))))
+    (λ over. (
+      0,
+      omega (
+        arith,
+        other_field word (record { word = word + 1; shift = 0; width = width }) (fields_from (word + 1) (0 + width) ranges) value values (λ e. omega (arith, e)),
+        nothing_before (word + 1) (0 + width) word ranges values (omega arith),
+      ),
+    ))
   where
     width : ℕ
     width = width_of range
@@ -91,12 +96,19 @@ word_fits word bit low (range ∷ ranges) (value ∷ values) short state below i
     place_both word bit width
     (λ field. low + word_at word (field ∷ fields_from field.word (field.shift + field.width) ranges) (value ∷ values) < 2 ^ 64)
     (λ fits.
-        let below_more : low + value * 2 ^ bit < 2 ^ (bit + width) = rw (pow-add 2 bit width) (omega (arith, mul-add-lt value (2 ^ bit) low (2 ^ width) narrow below)) in
-        omega (arith, own_field word (record { word = word; shift = bit; width = width }) (fields_from word (bit + width) ranges) value values refl,
-            word_fits word (bit + width) (low + value * 2 ^ bit) ranges values (All-tail IsShort range ranges short) (tail_state range value ranges values state) below_more fits))
+    let below_more : low + value * 2 ^ bit < 2 ^ (bit + width) = rw (pow-add 2 bit width) (omega (arith, mul-add-lt value (2 ^ bit) low (2 ^ width) narrow below)) in
+    omega (
+      arith,
+      own_field word (record { word = word; shift = bit; width = width }) (fields_from word (bit + width) ranges) value values refl,
+      word_fits word (bit + width) (low + value * 2 ^ bit) ranges values (All-tail IsShort range ranges short) (tail_state range value ranges values state) below_more fits,
+    ))
     (λ over.
-        omega (arith, other_field word (record { word = word + 1; shift = 0; width = width }) (fields_from (word + 1) (0 + width) ranges) value values (λ e. omega (arith, e)),
-            nothing_before (word + 1) (0 + width) word ranges values (omega arith), pow-le-pow_right {n = 2} (omega arith) {i = bit} {j = 64} in_word))
+    omega (
+      arith,
+      other_field word (record { word = word + 1; shift = 0; width = width }) (fields_from (word + 1) (0 + width) ranges) value values (λ e. omega (arith, e)),
+      nothing_before (word + 1) (0 + width) word ranges values (omega arith),
+      pow-le-pow_right {n = 2} (omega arith) {i = bit} {j = 64} in_word,
+    ))
   where
     width : ℕ
     width = width_of range
@@ -112,19 +124,29 @@ later_word_fits word bit k (range ∷ ranges) (value ∷ values) short state lat
     place_both word bit width
     (λ field. word_at k (field ∷ fields_from field.word (field.shift + field.width) ranges) (value ∷ values) < 2 ^ 64)
     (λ fits.
-        omega (arith, other_field k (record { word = word; shift = bit; width = width }) (fields_from word (bit + width) ranges) value values (λ e. omega (arith, e)),
-            later_word_fits word (bit + width) k ranges values rest_short rest_state later))
+    omega (
+      arith,
+      other_field k (record { word = word; shift = bit; width = width }) (fields_from word (bit + width) ranges) value values (λ e. omega (arith, e)),
+      later_word_fits word (bit + width) k ranges values rest_short rest_state later,
+    ))
     (λ over.
-        ⊎_elim
-        (λ here.
-            let from_next : word_at k (fields_from (word + 1) (0 + width) ranges) values ≡ word_at (word + 1) (fields_from (word + 1) (0 + width) ranges) values =
-                ap (λ n. word_at n (fields_from (word + 1) (0 + width) ranges) values) (sym here) in
-            omega (arith, own_field k (record { word = word + 1; shift = 0; width = width }) (fields_from (word + 1) (0 + width) ranges) value values here, from_next,
-                word_fits (word + 1) (0 + width) value ranges values rest_short rest_state (rw (zero-add width) narrow) (omega (arith, width_le range 64 (All-head IsShort range ranges short)))))
-        (λ apart.
-            omega (arith, other_field k (record { word = word + 1; shift = 0; width = width }) (fields_from (word + 1) (0 + width) ranges) value values apart,
-                later_word_fits (word + 1) (0 + width) k ranges values rest_short rest_state (omega arith)))
-        (cases_eq (word + 1) k))
+    ⊎_elim
+    (λ here.
+    let from_next : word_at k (fields_from (word + 1) (0 + width) ranges) values ≡ word_at (word + 1) (fields_from (word + 1) (0 + width) ranges) values =
+    ap (λ n. word_at n (fields_from (word + 1) (0 + width) ranges) values) (sym here) in
+    omega (
+      arith,
+      own_field k (record { word = word + 1; shift = 0; width = width }) (fields_from (word + 1) (0 + width) ranges) value values here,
+      from_next,
+      word_fits (word + 1) (0 + width) value ranges values rest_short rest_state (rw (zero-add width) narrow) (omega (arith, width_le range 64 (All-head IsShort range ranges short))),
+    ))
+    (λ apart.
+    omega (
+      arith,
+      other_field k (record { word = word + 1; shift = 0; width = width }) (fields_from (word + 1) (0 + width) ranges) value values apart,
+      later_word_fits (word + 1) (0 + width) k ranges values rest_short rest_state (omega arith),
+    ))
+    (cases_eq (word + 1) k))
   where
     width : ℕ
     width = width_of range
@@ -158,7 +180,7 @@ read_value : (low value above bit width : ℕ) → low < 2 ^ bit → value < 2 ^
     → (low + (value * 2 ^ bit + above * 2 ^ (bit + width))) / 2 ^ bit % 2 ^ width ≡ value
 read_value low value above bit width below narrow =
     let parts : low + (value * 2 ^ bit + above * 2 ^ (bit + width)) ≡ (above * 2 ^ width + value) * 2 ^ bit + low =
-        omega (arith, ap (λ p. above * p) (pow-add 2 bit width)) in
+    omega (arith, ap (λ p. above * p) (pow-add 2 bit width)) in
     rw (parts, shr_high (above * 2 ^ width + value) bit low below) (mod_low above width value narrow)
 
 both_parts : (x y : ℕ) (xs ys : List ℕ) → x ≡ y → xs ≡ ys → x ∷ xs ≡ y ∷ ys
@@ -176,31 +198,31 @@ read_back words word bit low (range ∷ ranges) [] state below this later = absu
 read_back words word bit low (range ∷ ranges) (value ∷ values) state below this later =
     place_both word bit width
     (λ field.
-        slice_index words word ≡ low + word_at word (field ∷ fields_from field.word (field.shift + field.width) ranges) (value ∷ values)
-        → ((k : ℕ) → word < k → k < words_from field.word (field.shift + field.width) ranges
-            → slice_index words k ≡ word_at k (field ∷ fields_from field.word (field.shift + field.width) ranges) (value ∷ values))
-        → map (value_in words) (field ∷ fields_from field.word (field.shift + field.width) ranges) ≡ value ∷ values)
+    slice_index words word ≡ low + word_at word (field ∷ fields_from field.word (field.shift + field.width) ranges) (value ∷ values)
+    → ((k : ℕ) → word < k → k < words_from field.word (field.shift + field.width) ranges
+    → slice_index words k ≡ word_at k (field ∷ fields_from field.word (field.shift + field.width) ranges) (value ∷ values))
+    → map (value_in words) (field ∷ fields_from field.word (field.shift + field.width) ranges) ≡ value ∷ values)
     (λ fits this later.
-        let field : Field = record { word = word; shift = bit; width = width } in
-        let others = fields_from word (bit + width) ranges in
-        let own = own_field word field others value values refl in
-        let above = nothing_below word (bit + width) ranges values in
-        let below_more : low + value * 2 ^ bit < 2 ^ (bit + width) = rw (pow-add 2 bit width) (omega (arith, mul-add-lt value (2 ^ bit) low (2 ^ width) narrow below)) in
-        let parts : slice_index words word ≡ low + (value * 2 ^ bit + above.0 * 2 ^ (bit + width)) = omega (arith, this, own, above.1) in
-        both_parts (value_in words field) value (map (value_in words) others) values
-        (ap (λ n. n / 2 ^ bit % 2 ^ width) parts ∙ read_value low value above.0 bit width below narrow)
-        (read_back words word (bit + width) (low + value * 2 ^ bit) ranges values rest_state below_more (omega (arith, this, own))
-            (λ k after within. later k after within ∙ other_field k field others value values (λ e. omega (arith, e)))))
+    let field : Field = record { word = word; shift = bit; width = width } in
+    let others = fields_from word (bit + width) ranges in
+    let own = own_field word field others value values refl in
+    let above = nothing_below word (bit + width) ranges values in
+    let below_more : low + value * 2 ^ bit < 2 ^ (bit + width) = rw (pow-add 2 bit width) (omega (arith, mul-add-lt value (2 ^ bit) low (2 ^ width) narrow below)) in
+    let parts : slice_index words word ≡ low + (value * 2 ^ bit + above.0 * 2 ^ (bit + width)) = omega (arith, this, own, above.1) in
+    both_parts (value_in words field) value (map (value_in words) others) values
+    (ap (λ n. n / 2 ^ bit % 2 ^ width) parts ∙ read_value low value above.0 bit width below narrow)
+    (read_back words word (bit + width) (low + value * 2 ^ bit) ranges values rest_state below_more (omega (arith, this, own))
+    (λ k after within. later k after within ∙ other_field k field others value values (λ e. omega (arith, e)))))
     (λ over this later.
-        let field : Field = record { word = word + 1; shift = 0; width = width } in
-        let others = fields_from (word + 1) (0 + width) ranges in
-        let above = nothing_below (word + 1) (0 + width) ranges values in
-        let next = later (word + 1) (omega arith) (words_from_above (word + 1) (0 + width) ranges) ∙ own_field (word + 1) field others value values refl in
-        let parts : slice_index words (word + 1) ≡ 0 + (value * 2 ^ 0 + above.0 * 2 ^ (0 + width)) = omega (arith, next, above.1) in
-        both_parts (value_in words field) value (map (value_in words) others) values
-        (ap (λ n. n / 2 ^ 0 % 2 ^ width) parts ∙ read_value 0 value above.0 0 width (omega arith) narrow)
-        (read_back words (word + 1) (0 + width) value ranges values rest_state (rw (zero-add width) narrow) (omega (arith, next))
-            (λ k after within. later k (omega arith) within ∙ other_field k field others value values (λ e. omega (arith, e)))))
+    let field : Field = record { word = word + 1; shift = 0; width = width } in
+    let others = fields_from (word + 1) (0 + width) ranges in
+    let above = nothing_below (word + 1) (0 + width) ranges values in
+    let next = later (word + 1) (omega arith) (words_from_above (word + 1) (0 + width) ranges) ∙ own_field (word + 1) field others value values refl in
+    let parts : slice_index words (word + 1) ≡ 0 + (value * 2 ^ 0 + above.0 * 2 ^ (0 + width)) = omega (arith, next, above.1) in
+    both_parts (value_in words field) value (map (value_in words) others) values
+    (ap (λ n. n / 2 ^ 0 % 2 ^ width) parts ∙ read_value 0 value above.0 0 width (omega arith) narrow)
+    (read_back words (word + 1) (0 + width) value ranges values rest_state (rw (zero-add width) narrow) (omega (arith, next))
+    (λ k after within. later k (omega arith) within ∙ other_field k field others value values (λ e. omega (arith, e)))))
     this later
   where
     width : ℕ
@@ -229,9 +251,9 @@ pub words_are_packed : (count : ℕ) (ranges values : List ℕ) → word_count r
 words_are_packed count ranges values fits state =
     let back = packed_back count ranges values fits state in
     record {
-        fits = fits;
-        state = subst (λ vs. IsState ranges vs) (sym back) state;
-        no_other_bits = ap (words_of count ranges) (sym back);
+      fits = fits;
+      state = subst (λ vs. IsState ranges vs) (sym back) state;
+      no_other_bits = ap (words_of count ranges) (sym back);
     }
 
 -- ---- fields of ranges up to 65536
@@ -263,13 +285,13 @@ lie_in word bit (range ∷ ranges) in_word limited =
     place_both word bit (width_of range)
     (λ field. All (LiesIn (words_from field.word (field.shift + field.width) ranges)) (field ∷ fields_from field.word (field.shift + field.width) ranges))
     (λ fits.
-        All-cons (LiesIn (words_from word (bit + width_of range) ranges)) (record { word = word; shift = bit; width = width_of range }) (fields_from word (bit + width_of range) ranges)
-        (record { inside = words_from_above word (bit + width_of range) ranges; in_one_word = fits; narrow = narrow })
-        (lie_in word (bit + width_of range) ranges fits rest_limited))
+    All-cons (LiesIn (words_from word (bit + width_of range) ranges)) (record { word = word; shift = bit; width = width_of range }) (fields_from word (bit + width_of range) ranges)
+    (record { inside = words_from_above word (bit + width_of range) ranges; in_one_word = fits; narrow = narrow })
+    (lie_in word (bit + width_of range) ranges fits rest_limited))
     (λ over.
-        All-cons (LiesIn (words_from (word + 1) (0 + width_of range) ranges)) (record { word = word + 1; shift = 0; width = width_of range }) (fields_from (word + 1) (0 + width_of range) ranges)
-        (record { inside = words_from_above (word + 1) (0 + width_of range) ranges; in_one_word = omega (arith, narrow); narrow = narrow })
-        (lie_in (word + 1) (0 + width_of range) ranges (omega (arith, narrow)) rest_limited))
+    All-cons (LiesIn (words_from (word + 1) (0 + width_of range) ranges)) (record { word = word + 1; shift = 0; width = width_of range }) (fields_from (word + 1) (0 + width_of range) ranges)
+    (record { inside = words_from_above (word + 1) (0 + width_of range) ranges; in_one_word = omega (arith, narrow); narrow = narrow })
+    (lie_in (word + 1) (0 + width_of range) ranges (omega (arith, narrow)) rest_limited))
   where
     narrow : width_of range ≤ 16
     narrow = width_le range 16 (All-head IsLimited range ranges limited)
@@ -280,10 +302,10 @@ lie_in word bit (range ∷ ranges) in_word limited =
 placed_since : (count : ℕ) (ranges : List ℕ) → word_count ranges ≤ count → AreWithinLimits ranges → (field : Field) → LiesIn (word_count ranges) field → IsPlaced count field
 placed_since count ranges room limits field lies =
     record {
-        inside = omega (arith, lies.inside);
-        near = omega (arith, lies.inside, word_count_few ranges, limits.variables);
-        in_one_word = lies.in_one_word;
-        narrow = lies.narrow;
+      inside = omega (arith, lies.inside);
+      near = omega (arith, lies.inside, word_count_few ranges, limits.variables);
+      in_one_word = lies.in_one_word;
+      narrow = lies.narrow;
     }
 
 pub fields_placed : (count : ℕ) (ranges : List ℕ) → word_count ranges ≤ count → AreWithinLimits ranges → All (IsPlaced count) (fields ranges)
@@ -351,17 +373,17 @@ placing_field : (ranges : List ℕ) (done : ℕ) (placed : List Field) (word bit
     → IsPlacing ranges (done + 1) (placed ++ field ∷ []) field.word (field.shift + field.width)
 placing_field ranges done placed word bit field more before is few in_word =
     record {
-        in_word = in_word;
-        few = few;
-        fields =
-            append_assoc placed (field ∷ []) (fields_from field.word (field.shift + field.width) (drop (done + 1) ranges))
-            ∙ ap (λ f. placed ++ f ∷ fields_from f.word (f.shift + f.width) (drop (done + 1) ranges)) is
-            ∙ ap (λ rs. placed ++ fields_from word bit rs) (sym next)
-            ∙ before.fields;
-        word_count =
-            ap (λ f. words_from f.word (f.shift + f.width) (drop (done + 1) ranges)) is
-            ∙ ap (λ rs. words_from word bit rs) (sym next)
-            ∙ before.word_count;
+      in_word = in_word;
+      few = few;
+      fields =
+          append_assoc placed (field ∷ []) (fields_from field.word (field.shift + field.width) (drop (done + 1) ranges))
+          ∙ ap (λ f. placed ++ f ∷ fields_from f.word (f.shift + f.width) (drop (done + 1) ranges)) is
+          ∙ ap (λ rs. placed ++ fields_from word bit rs) (sym next)
+          ∙ before.fields;
+      word_count =
+          ap (λ f. words_from f.word (f.shift + f.width) (drop (done + 1) ranges)) is
+          ∙ ap (λ rs. words_from word bit rs) (sym next)
+          ∙ before.word_count;
     }
   where
     next : drop done ranges ≡ get_or ranges done 0 ∷ drop (done + 1) ranges

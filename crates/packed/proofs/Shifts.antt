@@ -10,12 +10,12 @@ pub shifted_up : (value shift : ℕ) → shift ≤ 64 → value * 2 ^ shift < 2 
 shifted_up value shift in_word fits =
     ⊎_elim
     (λ (below : shift < 64).
-        ap (λ s. (value * 2 ^ s) % 2 ^ 64) (mod-eq_of_lt below) ∙ mod-eq_of_lt fits)
+    ap (λ s. (value * 2 ^ s) % 2 ^ 64) (mod-eq_of_lt below) ∙ mod-eq_of_lt fits)
     (λ (whole : 64 ≤ shift).
-        let e : shift ≡ 64 = omega arith in
-        let none : value ≡ 0 = omega (arith, ap (λ s. value * 2 ^ s) e) in
-        ap (λ v. (v * 2 ^ (shift % 64)) % 2 ^ 64) none ∙ ap (λ n. n % 2 ^ 64) (zero-mul (2 ^ (shift % 64)))
-        ∙ sym (ap (λ v. v * 2 ^ shift) none ∙ zero-mul (2 ^ shift)))
+    let e : shift ≡ 64 = omega arith in
+    let none : value ≡ 0 = omega (arith, ap (λ s. value * 2 ^ s) e) in
+    ap (λ v. (v * 2 ^ (shift % 64)) % 2 ^ 64) none ∙ ap (λ n. n % 2 ^ 64) (zero-mul (2 ^ (shift % 64)))
+    ∙ sym (ap (λ v. v * 2 ^ shift) none ∙ zero-mul (2 ^ shift)))
     (cases_lt shift 64)
 
 -- what `word.wrapping_shr(shift) & ((1 << width) - 1)` gives
@@ -25,9 +25,9 @@ shifted_down word shift width in_word narrow =
     ap (λ m. bit_and (word / 2 ^ (shift % 64)) (m - 1)) (one_shl width 64 narrow)
     ∙ and_mask (word / 2 ^ (shift % 64)) width
     ∙ ⊎_elim
-        (λ (below : shift < 64). ap (λ s. word / 2 ^ s % 2 ^ width) (mod-eq_of_lt below))
-        (λ (whole : 64 ≤ shift).
-            let e : width ≡ 0 = omega arith in
-            ap (λ w. word / 2 ^ (shift % 64) % 2 ^ w) e ∙ mod-one (word / 2 ^ (shift % 64))
-            ∙ sym (ap (λ w. word / 2 ^ shift % 2 ^ w) e ∙ mod-one (word / 2 ^ shift)))
-        (cases_lt shift 64)
+    (λ (below : shift < 64). ap (λ s. word / 2 ^ s % 2 ^ width) (mod-eq_of_lt below))
+    (λ (whole : 64 ≤ shift).
+    let e : width ≡ 0 = omega arith in
+    ap (λ w. word / 2 ^ (shift % 64) % 2 ^ w) e ∙ mod-one (word / 2 ^ (shift % 64))
+    ∙ sym (ap (λ w. word / 2 ^ shift % 2 ^ w) e ∙ mod-one (word / 2 ^ shift)))
+    (cases_lt shift 64)

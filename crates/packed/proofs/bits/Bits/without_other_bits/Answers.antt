@@ -15,9 +15,10 @@ next g c =
     c.wrapping_shl.ensures
 
 pub value-requires : goal.value-requires
-value-requires g c =
-    (search rules,
-        (field_of g.row.WORDS c.args.layout.now _ c.loop-field.field-index c.requires.fits c.fields-field-items.ensures.limits c.fields-field-items.ensures.fields c.loop-field-test.true).placed)
+value-requires g c = (
+  search rules,
+  (field_of g.row.WORDS c.args.layout.now _ c.loop-field.field-index c.requires.fits c.fields-field-items.ensures.limits c.fields-field-items.ensures.fields c.loop-field-test.true).placed,
+)
 
 pub offset_bounds-words-field : goal.offset_bounds-words-field
 offset_bounds-words-field g c =
