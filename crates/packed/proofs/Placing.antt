@@ -1,11 +1,10 @@
 -- Where fields lie, and what the words of a state hold: no word overflows, and each value is read back.
-use Rattle.std.proofs.Common.{◌≡◌, ◌≢◌, ℕ, zero, suc, ◌+◌, ◌-◌, ◌*◌, ◌/◌, ◌%◌, ◌^◌, ◌<◌, ◌≤◌, Bool, true, false, cond, eqb, eq-eqb, List, [], ◌∷◌, ◌++◌, length, drop, get_or, map, refl, sym, ap, subst, ◌∙◌, arith, ne_eqb, append_assoc, add-one, drop-cons}
+use Rattle.std.proofs.Common.{◌≡◌, ◌≢◌, ℕ, zero, suc, ◌+◌, ◌*◌, ◌/◌, ◌%◌, ◌^◌, ◌<◌, ◌≤◌, eqb, eq-eqb, List, [], ◌∷◌, ◌++◌, length, drop, get_or, map, refl, sym, ap, subst, ◌∙◌, arith, ne_eqb, append_assoc, add-one, drop-cons}
 use Rattle.std.specs.Prelude.{All, slice_index, nat_le}
-use Rattle.std.specs.List.{range_with_len}
 use Rattle.std.proofs.Math.Logic.{⊎_elim}
 use Rattle.std.proofs.Math.Nat.{pow-le-pow_right, zero-add}
-use Rattle.std.proofs.lemmas.Nat.{pow_pos, pow-add, shr_high, mod_low, mul-add-lt}
-use Rattle.std.proofs.lemmas.Bool.{cond-true, cond-false, cases_lt, cases_eq, cond_both, leb-true, leb-false, eqb-true, eqb-false}
+use Rattle.std.proofs.lemmas.Nat.{pow-add, shr_high, mod_low, mul-add-lt}
+use Rattle.std.proofs.lemmas.Bool.{cond-true, cond-false, cases_eq, cond_both, leb-true, leb-false}
 use Rattle.std.proofs.lemmas.List.{get_or-map, get_or_default, length-map}
 use Rattle.std.proofs.lemmas.List.FromFn.{get_or-map-range_with_len}
 use Rattle.std.proofs.lemmas.List.Elements.{All-nil, All-cons, All-head, All-tail, All-weaker}

@@ -1,4 +1,3 @@
-use Rattle.std.proofs.Common.{◌≤◌}
 use Rattle.packed.proofs.Placing.{IsPlacing}
 use Rattle.packed.proofs.field.place_fields.Given as goal
 

@@ -1,4 +1,3 @@
-use Rattle.packed.proofs.Placing.{fields_placed}
 use Rattle.packed.proofs.Digits.{width_enough, width_no_more}
 use Rattle.packed.proofs.laws.widths.Goals as goal
 

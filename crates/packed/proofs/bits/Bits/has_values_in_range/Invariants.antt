@@ -1,4 +1,4 @@
-use Rattle.std.proofs.Common.{◌≡◌, ◌<◌, ℕ, get_or}
+use Rattle.std.proofs.Common.{◌<◌, ℕ, get_or}
 use Rattle.packed.specs.Fields as spec
 use Rattle.packed.proofs.bits.Bits.has_values_in_range.Given as goal
 

@@ -1,4 +1,4 @@
-use Rattle.std.proofs.Common.{◌≡◌, ◌∙◌, ◌-◌, ◌*◌, ◌%◌, ◌^◌, ap, bit_and, arith}
+use Rattle.std.proofs.Common.{◌∙◌, ◌-◌, ◌*◌, ◌%◌, ◌^◌, ap, bit_and, arith}
 use Rattle.std.specs.Prelude.{slice_index}
 use Rattle.packed.proofs.Shifts.{shifted_down}
 use Rattle.packed.proofs.bits.Bits.value.Goals as goal

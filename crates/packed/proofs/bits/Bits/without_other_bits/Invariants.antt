@@ -1,4 +1,3 @@
-use Rattle.std.proofs.Common.{◌≡◌, ℕ}
 use Rattle.packed.specs.Fields as spec
 use Rattle.packed.proofs.Filling.{HoldsFirst}
 use Rattle.packed.proofs.bits.Bits.without_other_bits.Given as goal
