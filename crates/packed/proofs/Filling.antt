@@ -1,8 +1,8 @@
 -- A loop that adds the values of a state to words, field by field.
-use Rattle.std.proofs.Common.{◌≡◌, ℕ, suc, ◌+◌, ◌*◌, ◌%◌, ◌^◌, ◌<◌, ◌≤◌, List, ◌∷◌, length, get_or, set, drop, replicate, refl, sym, ap, ◌∙◌, arith, drop-cons, add-one, length-set, get_or-set_same, get_or-set_other}
+use Rattle.std.proofs.Common.{◌≡◌, ℕ, suc, ◌+◌, ◌*◌, ◌%◌, ◌^◌, ◌<◌, ◌≤◌, List, ◌∷◌, length, get_or, set, drop, refl, sym, ap, ◌∙◌, arith, drop-cons, add-one, length-set, get_or-set_same, get_or-set_other}
 use Rattle.std.proofs.Math.Logic.{⊎_elim}
 use Rattle.std.proofs.lemmas.Bool.{cases_eq}
-use Rattle.std.proofs.lemmas.List.{get_or-replicate, length-replicate, drop_all}
+use Rattle.std.proofs.lemmas.List.{drop_all}
 use Rattle.std.proofs.lemmas.List.FromFn.{fill_by_all}
 use Rattle.std.proofs.lemmas.List.Elements.{All-weaker}
 use Rattle.fdr.specs.Tasks.{IsState}
@@ -15,10 +15,6 @@ use Rattle.packed.proofs.Shifts.{shifted_up}
 pub record HoldsFirst (count : ℕ) (words : List ℕ) (fields : List Field) (values : List ℕ) (done : ℕ) : Type 0 where
   pub long : length words ≡ count
   pub summed : (k : ℕ) → k < count → get_or words k 0 + word_at k (drop done fields) (drop done values) ≡ word_at k fields values
-
-pub holds_none : (count : ℕ) (fields : List Field) (values : List ℕ) → HoldsFirst count (replicate count 0) fields values 0
-holds_none count fields values =
-    record { long = length-replicate count 0; summed = λ k within. omega (arith, get_or-replicate {A = ℕ} count k 0 0 within) }
 
 -- what is left to add, with the next field apart
 next_apart : (k : ℕ) (fields : List Field) (values : List ℕ) (done : ℕ) (field : Field)

@@ -307,7 +307,7 @@ placed_since count ranges room limits field lies =
       narrow = lies.narrow;
     }
 
-pub fields_placed : (count : ℕ) (ranges : List ℕ) → word_count ranges ≤ count → AreWithinLimits ranges → All (IsPlaced count) (fields ranges)
+fields_placed : (count : ℕ) (ranges : List ℕ) → word_count ranges ≤ count → AreWithinLimits ranges → All (IsPlaced count) (fields ranges)
 fields_placed count ranges room limits =
     All-weaker (LiesIn (word_count ranges)) (IsPlaced count) (placed_since count ranges room limits) (fields ranges)
     (lie_in 0 0 ranges (omega arith) limits.values)
@@ -361,9 +361,6 @@ pub record IsPlacing (ranges : List ℕ) (done : ℕ) (placed : List Field) (wor
   pub few : word ≤ done
   pub fields : placed ++ fields_from word bit (drop done ranges) ≡ fields ranges
   pub word_count : words_from word bit (drop done ranges) ≡ word_count ranges
-
-pub placing_none : (ranges : List ℕ) → IsPlacing ranges 0 [] 0 0
-placing_none ranges = record { in_word = omega arith; few = omega arith; fields = refl; word_count = refl }
 
 -- the next field is placed
 placing_field : (ranges : List ℕ) (done : ℕ) (placed : List Field) (word bit : ℕ) (field : Field)

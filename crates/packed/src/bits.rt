@@ -10,7 +10,8 @@ use crate::layout::Layout;
 use std::alloc::{AllocError, Global};
 
 /// A state as `WORDS` words of 64 bits, which lie in the form itself. A variable takes as many bits as its greatest value has
-/// binary digits, and its bits lie in one word. All other bits are 0.
+/// binary digits. The variables follow one another from the lowest bit of the first word on, and one whose bits do not fit in
+/// the rest of a word begins the next. All other bits are 0. States that take more words do not fit.
 #[derive(Clone, Copy, Debug, PartialEq, Eq, Hash)]
 pub struct Bits<const WORDS: usize> {
     words: [u64; WORDS],
