@@ -10,14 +10,22 @@ pub trait StateForm: Eq + Hash {
     ghost use Rattle.std.specs.Prelude.{◌≡◌, ◌↔◌, ℕ, List, length, IsTrue, IfOk};
     ghost use Rattle.fdr.specs.Tasks.{IsState};
 
+    /// States over variables with these ranges have this form.
+    ghost Fits: { List ℕ → Type 0 };
+
     /// The form is that of a state over variables with these ranges (numbers of values).
     ghost IsForm: { List ℕ → Self → Type 0 };
 
     /// The values of the state, one for each variable.
     ghost values: { List ℕ → Self → List ℕ };
 
+    /// Whether states with the layout's ranges have this form.
+    fn fits(layout: &Layout) -> bool
+        ensures { IsTrue result ↔ Fits layout.now };
+
     /// The form of a state. Fails only if allocation fails.
     fn pack(alloc: Global, layout: &Layout, state: &[u32]) -> Result<Self, AllocError>
+        requires fits { Fits layout.now }
         requires state { IsState layout.now state.now }
         ensures form { IfOk result (IsForm layout.now) }
         ensures values { IfOk result (λ f. values layout.now f ≡ state.now) };

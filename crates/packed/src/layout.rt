@@ -1,9 +1,11 @@
 //! What a form needs of its task: the ranges of the variables.
 
-ghost use Rattle.std.specs.Prelude.{◌≡◌, ◌↔◌, length, IsTrue, IfOk};
+ghost use Rattle.std.specs.Prelude.{◌≡◌, ◌<◌, ◌↔◌, length, slice_index, IsTrue, IfOk};
 ghost use Rattle.fdr.specs.Tasks as tasks;
 ghost use Rattle.fdr.specs.Tasks.{IsState};
+ghost use Rattle.packed.specs.Fields as spec;
 
+use crate::field::{Field, place_fields};
 use fdr::FdrTask;
 use std::alloc::{AllocError, Global};
 use std::marker::Model;
@@ -13,14 +15,21 @@ use std::marker::Model;
 #[derive(Drop)]
 pub struct Layout {
     ranges: Vec<usize>,
+    /// The bits of each variable, in a form of bits.
+    fields: Vec<Field>,
+    /// How many words the fields take.
+    word_count: usize,
 }
 
 impl Model for Layout {
     ghost use Rattle.std.specs.Prelude.{ℕ, List};
+    ghost use Rattle.packed.specs.Fields.{IsLayout};
 
     ghost Value = { List ℕ };
 
     ghost view = { λ l. l.ranges.items };
+
+    ghost invariant = { λ l. IsLayout l.ranges.items l.fields.items l.word_count };
 }
 
 impl Layout {
@@ -28,11 +37,17 @@ impl Layout {
     pub fn new(alloc: Global, task: &FdrTask) -> Result<Layout, AllocError>
         ensures { IfOk result (λ l. l ≡ tasks.ranges task.now) }
     {
+        task.recall();
         let mut ranges = Vec::with_capacity(alloc, task.variable_count())?;
         for variable in 0..task.variable_count() {
             ranges.push(task.range(variable))?;
         }
-        Ok(Layout { ranges })
+        let (fields, word_count) = place_fields(alloc, &ranges)?;
+        Ok(Layout {
+            ranges,
+            fields,
+            word_count,
+        })
     }
 
     /// The number of variables.
@@ -51,5 +66,28 @@ impl Layout {
                 .iter()
                 .zip(&self.ranges)
                 .all(|(value, range)| (*value as usize) < *range)
+    }
+
+    /// How many words of 64 bits a state takes in a form of bits, at least one.
+    pub fn word_count(&self) -> usize
+        ensures { result ≡ spec.word_count self.now }
+    {
+        self.word_count
+    }
+
+    /// The range of a variable.
+    pub(crate) fn range(&self, variable: usize) -> usize
+        requires { variable < length self.now }
+        ensures { result ≡ slice_index self.now variable }
+    {
+        self.ranges[variable]
+    }
+
+    /// The bits of each variable, in a form of bits.
+    pub(crate) fn fields(&self) -> &[Field]
+        ensures fields { result.now ≡ spec.fields self.now }
+        ensures limits { spec.AreWithinLimits self.now }
+    {
+        &self.fields
     }
 }

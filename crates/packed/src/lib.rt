@@ -1,10 +1,15 @@
 //! Forms in which the states of a finite-domain task are stored.
 #![tactic(auto)]
 
+mod bits;
+mod field;
 mod form;
+mod laws;
 mod layout;
 mod plain;
 
+pub use bits::Bits;
 pub use form::StateForm;
+pub use laws::{widths, worked_examples};
 pub use layout::Layout;
 pub use plain::Plain;

@@ -21,6 +21,8 @@ impl StateForm for Plain {
     ghost use Rattle.std.specs.Cmp.Lexicographic.{bytes_decides};
     ghost use Rattle.fdr.specs.Tasks.{IsState};
 
+    ghost Fits = { λ _. Unit {0} };
+
     ghost IsForm = { λ ranges f. IsState ranges f.values.items };
 
     ghost values = { λ ranges f. f.values.items };
@@ -30,6 +32,11 @@ impl StateForm for Plain {
     ghost equal = { λ ranges f g _ _ same. (bytes_decides f.values.items g.values.items).1 same };
 
     ghost same = { λ ranges f g _ _ same. (bytes_decides f.values.items g.values.items).0 same };
+
+    fn fits(layout: &Layout) -> bool {
+        let _ = layout;
+        true
+    }
 
     fn pack(alloc: Global, layout: &Layout, state: &[u32]) -> Result<Plain, AllocError> {
         let _ = layout;

@@ -1,0 +1,6 @@
+use Rattle.std.proofs.Common.{◌≡◌, ◌<◌, ℕ, get_or}
+use Rattle.packed.specs.Fields as spec
+use Rattle.packed.proofs.bits.BitsStateForm.unpack.Given as goal
+
+abbrev pub invariant-loop-variable : goal.invariant-loop-variable
+invariant-loop-variable g l = (v : ℕ) → v < l.variable → get_or l.state v 0 ≡ get_or (spec.values_in l.self.words l.layout) v 0
