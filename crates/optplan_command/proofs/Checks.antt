@@ -1,17 +1,15 @@
 -- The files that a check reads, and their texts' refusals.
-use Rattle.std.proofs.Common.{◌≡◌, ◌≢◌, ℕ, List, length, sym, ap, subst, arith}
+use Rattle.std.proofs.Common.{◌≢◌, ℕ, List, sym, subst}
 use Rattle.sasfile.specs.declared.fault.SasFault.{SasFault}
 use Rattle.sasfile.specs.declared.fault.SasFault.TheVariants as sas
 use Rattle.cert_text.specs.declared.fault.CertFault.{CertFault}
 use Rattle.cert_text.specs.declared.fault.CertFault.TheVariants as cert
 use Rattle.checker.specs.declared.fault.CheckFault.{CheckFault}
 use Rattle.checker.specs.declared.fault.CheckFault.TheVariants as check
-use Rattle.optplan_device.specs.Events.{Event}
 use Rattle.optplan_replies.specs.declared.fault.Fault.{Fault}
-use Rattle.optplan_replies.specs.declared.status.Status.{Status}
 use Rattle.optplan_replies.specs.declared.status.Status.TheVariants.{DeviceFailed}
 use Rattle.optplan_replies.specs.Faults.{fault_status, fault_of_sas, fault_of_cert, fault_of_check}
-use Rattle.optplan_command.specs.Checking.{AskForCheck, IsCheckRefusal, Checks}
+use Rattle.optplan_command.specs.Checking.{IsCheckRefusal}
 
 -- a fault of the text of a task is no failure of the device
 sas_status : (e : SasFault) → fault_status (fault_of_sas e) ≢ DeviceFailed

@@ -1,12 +1,10 @@
 -- Refusals of a certificate's check for a planning task.
-use Rattle.std.proofs.Common.{◌≡◌, ◌≢◌, ℕ, List, arith, subst}
-use Rattle.optplan_device.specs.Events.{Event}
+use Rattle.std.proofs.Common.{◌≢◌, ℕ, List}
 use Rattle.optplan_replies.specs.declared.fault.Fault.{Fault}
 use Rattle.optplan_replies.specs.declared.fault.Fault.TheVariants.{OutOfMemory, CannotRead, CannotWrite, Task, Plan, Sas, Cert, GroundLimit, TaskTooLarge, TotalTooLarge}
-use Rattle.optplan_replies.specs.declared.status.Status.{Status}
 use Rattle.optplan_replies.specs.declared.status.Status.TheVariants.{DeviceFailed}
 use Rattle.optplan_replies.specs.Faults.{fault_status}
-use Rattle.optplan_command.specs.PlanningChecking.{IsPlanningCheckRefusal, ChecksPlanning}
+use Rattle.optplan_command.specs.PlanningChecking.{IsPlanningCheckRefusal}
 
 -- a text's refusal is no failure of the device
 pub planning_refusal_status : (domain problem cert : List ℕ) (e : Fault) → IsPlanningCheckRefusal domain problem cert e → fault_status e ≢ DeviceFailed

@@ -1,5 +1,5 @@
 -- The files that a translation reads, and how it replies.
-use Rattle.std.proofs.Common.{◌≡◌, ◌≢◌, ◌≤◌, ◌+◌, ℕ, List, [], ◌∷◌, ◌++◌, refl, sym, ap, subst, ◌∙◌, arith, inl, inr}
+use Rattle.std.proofs.Common.{◌≡◌, ◌≢◌, ◌≤◌, ◌+◌, ℕ, List, [], ◌∷◌, ◌++◌, refl, sym, ap, ◌∙◌, inl, inr}
 use Rattle.std.specs.Prelude.{Option, Some, Result, Ok, Err, Vec, IfOk, IfErr}
 use Rattle.std.specs.Option.{option_map}
 use Rattle.optplan_device.specs.Events.{Event, HasPut, Adds}
@@ -9,7 +9,7 @@ use Rattle.optplan_replies.specs.declared.status.Status.{Status}
 use Rattle.optplan_replies.specs.declared.status.Status.TheVariants.{Done, DeviceFailed}
 use Rattle.optplan_replies.specs.Faults.{fault_status}
 use Rattle.optplan_replies.specs.Runs.{IsQuiet, Follows}
-use Rattle.optplan_command.specs.Translating.{IsTranslationRefusal, Translates}
+use Rattle.optplan_command.specs.Translating.{IsTranslationRefusal}
 
 -- a text's refusal is no failure of the device
 pub translation_refusal_status : (domain problem : List ℕ) (e : Fault) → IsTranslationRefusal domain problem e → fault_status e ≢ DeviceFailed

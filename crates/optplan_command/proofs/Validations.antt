@@ -1,14 +1,13 @@
 -- The files that a validation reads, and their texts' refusals.
-use Rattle.std.proofs.Common.{◌≡◌, ◌≢◌, ℕ, List, ◌++◌, refl, sym, ap, subst, ◌∙◌, arith}
-use Rattle.std.specs.Prelude.{Option, Some, None, IsSomeAnd}
+use Rattle.std.proofs.Common.{◌≡◌, ◌≢◌, ℕ, List, ◌++◌, sym, ap, ◌∙◌}
+use Rattle.std.specs.Prelude.{Option, Some}
 use Rattle.optplan_device.specs.Events.{Event}
 use Rattle.optplan_replies.specs.declared.fault.Fault.{Fault}
 use Rattle.optplan_replies.specs.declared.fault.Fault.TheVariants.{OutOfMemory, CannotRead, CannotWrite, Task, Plan, Sas, Cert, GroundLimit, TaskTooLarge, TotalTooLarge}
-use Rattle.optplan_replies.specs.declared.status.Status.{Status}
 use Rattle.optplan_replies.specs.declared.status.Status.TheVariants.{DeviceFailed}
 use Rattle.optplan_replies.specs.Faults.{fault_status}
 use Rattle.optplan_command.specs.Answers.{IsRefusal}
-use Rattle.optplan_command.specs.Validation.{reads, Validates}
+use Rattle.optplan_command.specs.Validation.{reads}
 
 -- a text's refusal is no failure of the device
 pub refusal_status : (domain problem plan : List ℕ) (e : Fault) → IsRefusal domain problem plan e → fault_status e ≢ DeviceFailed

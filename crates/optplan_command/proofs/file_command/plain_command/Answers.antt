@@ -1,4 +1,4 @@
-use Rattle.std.proofs.Common.{◌≡◌, ◌∷◌, [], sym, subst, ℕ, List}
+use Rattle.std.proofs.Common.{sym, subst, ℕ, List}
 use Rattle.optplan_command.specs.FileCommands.{IsRequested}
 use Rattle.optplan_command.proofs.PlainWords.{first_text, four_texts, five_texts}
 use Rattle.optplan_command.proofs.file_command.plain_command.Goals as goal

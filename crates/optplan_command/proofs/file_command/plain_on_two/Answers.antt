@@ -1,4 +1,4 @@
-use Rattle.std.proofs.Common.{rules, arith, ◌≡◌, refl}
+use Rattle.std.proofs.Common.{rules, arith, refl}
 use Rattle.optplan_command.proofs.PlainWords.{two_names}
 use Rattle.optplan_command.proofs.file_command.plain_on_two.Goals as goal
 
