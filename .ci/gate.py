@@ -133,7 +133,10 @@ def gate(tries_all):
             return 1
         status = try_crates(repository, record, tried)
         if not status and is_tree_committed():
-            keep_program(copy, started)
+            try:
+                keep_program(copy, started)
+            except OSError as error:
+                say(f"the program is not kept for the first command: {error}")
         return status
 
 
