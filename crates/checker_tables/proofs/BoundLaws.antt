@@ -1,7 +1,7 @@
 -- What is left of a bound.
-use Rattle.std.proofs.Common.{◌≡◌, ℕ, zero, suc, ◌+◌, ◌-◌, false, ◌||◌, Option, Some, None, refl, arith, leb, eqb, true≢false}
+use Rattle.std.proofs.Common.{◌≡◌, ℕ, zero, suc, ◌+◌, ◌-◌, true, false, sym, ◌||◌, Option, Some, None, refl, arith, leb, eqb, true≢false}
 use Rattle.std.specs.Option.{option_eq}
-use Rattle.std.proofs.lemmas.Bool.{lt-leb}
+use Rattle.std.proofs.lemmas.Bool.{lt-leb, le-leb, eqb-true}
 use Rattle.cost.specs.Distances.{Distance, Finite, Infinite, ◌+ᵈ◌, is_at_most, larger, distance_of}
 use Rattle.checker_tables.specs.Rests.{rest_of}
 
@@ -28,3 +28,10 @@ pub something_left : (r : Option ℕ) → option_eq eqb r (Some 0) ≡ false →
 something_left None ne = refl
 something_left (Some zero) ne = absurd (true≢false ne)
 something_left (Some (suc n)) ne = lt-leb (suc n) 0 (omega arith)
+
+-- where nothing is left of the bound, it is reached
+pub nothing_left : (r : Option ℕ) → option_eq eqb r (Some 0) ≡ true → (d : Distance) → is_at_most (distance_of r) d ≡ true
+nothing_left None e d = absurd (true≢false (sym e))
+nothing_left (Some zero) e Infinite = refl
+nothing_left (Some zero) e (Finite n) = le-leb 0 n (omega arith)
+nothing_left (Some (suc n)) e d = absurd (let same : suc n ≡ 0 = eqb-true (suc n) 0 e in omega arith)

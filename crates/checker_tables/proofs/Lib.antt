@@ -1,3 +1,7 @@
+pub mod ReachLaws
+pub mod MoveLaws
+pub mod FactLaws
+pub mod PatternMoves
 pub mod FormLaws
 pub mod BoundLaws
 pub mod ColumnLaws
@@ -6,4 +10,5 @@ pub mod ForeignLaws
 pub mod PlaceLaws
 pub mod ShareViolations
 pub mod FallLaws
+pub mod OperatorFalls
 pub mod TableViolations

@@ -1,3 +1,4 @@
+pub mod Moves
 pub mod ProjectedTables
 pub mod Rests
 pub mod ShareSums

@@ -56,6 +56,11 @@ falls_within abs values a o share =
     option_map_or (λ b. is_at_most (slice_index_or values a Infinite) (Finite share +ᵈ slice_index_or values b Infinite))
     (abs.transition a o) true
 
+-- the value of the first abstract state exceeds that of the second, in another table, by at most the share
+abbrev pub is_fall_within : List Distance → List Distance → ℕ → ℕ → ℕ → Bool
+is_fall_within values nexts share a b =
+    is_at_most (slice_index_or values a Infinite) (Finite share +ᵈ slice_index_or nexts b Infinite)
+
 -- of `count` operators from one on, those that touch the abstraction
 abbrev pub touching_from : (ℕ → Bool) → ℕ → ℕ → List ℕ
 touching_from touches o zero = []

@@ -36,6 +36,9 @@ fn column_reaches(column: &[ProjectedTable], state: &[u32], bound: Option<u64>) 
 {
     let mut rest = bound;
     for table in column {
+        if rest == Some(0) {
+            return true;
+        }
         rest = rest_of(rest, table.value_at(state).get());
     }
     rest == Some(0)

@@ -1,8 +1,10 @@
 //! The clauses on the tables of a certificate, each tested up to its first violation, and the heuristic of the tables.
 #![tactic(auto)]
 
+mod falls;
 mod fault;
 mod heuristic;
+mod moves;
 mod projected;
 mod shares;
 mod tables;

@@ -26,12 +26,14 @@ fn first_fault(
         return Ok(Some(TableFault::Form));
     };
     let projection = projected.projection();
-    if let Some(state) = first_goal(projection, &table.values) {
+    let goal = first_goal(alloc, projection, &table.values)?;
+    if let Some(state) = goal {
         return Ok(Some(TableFault::Goal(state)));
     }
     let shares = ShareSums::of_table(alloc, &table.shares, task.operator_count())?;
     let spenders = spenders(alloc, projection, &shares, task.operator_count())?;
-    match first_fall(projection, &table.values, &spenders) {
+    let fall = first_fall(alloc, projection, &table.values, &spenders)?;
+    match fall {
         Some((state, operator)) => Ok(Some(TableFault::Fall(state, operator))),
         None => Ok(None),
     }

@@ -1,11 +1,15 @@
-//! The transitions of a table, tested one by one.
+//! The transitions of a table, tested operator by operator.
 
-ghost use Rattle.std.specs.Prelude.{◌≡◌, ◌<◌, map, length, slice_index, IfOk};
-ghost use Rattle.cost.specs.Distances.{Finite, ◌+ᵈ◌, is_at_most};
-ghost use Rattle.checker_tables.specs.TableFaults.{IsFirstGoal, IsFirstFall, first_fall_at, touching_from, spender_of};
+ghost use Rattle.std.specs.Prelude.{◌≡◌, ◌≤◌, [], ◌∷◌, map, length, slice_index, IfOk};
+ghost use Rattle.cost.specs.Distances.{Finite};
+ghost use Rattle.abstraction.specs.Projections as projections;
+ghost use Rattle.checker_tables.specs.Moves.{AreGoals, IsLeastFailing};
+ghost use Rattle.checker_tables.specs.TableFaults.{IsFirstGoal, IsFirstFall, falls_within, touching_from, spender_of};
 
+use crate::falls::FallTest;
+use crate::moves::Moves;
 use crate::shares::ShareSums;
-use abstraction::Abstraction;
+use abstraction::{Abstraction, Projection};
 use cert_value::Values;
 use cost::Dist;
 use std::alloc::{AllocError, Global};
@@ -15,17 +19,6 @@ use std::alloc::{AllocError, Global};
 pub(crate) struct Spender {
     pub(crate) operator: usize,
     pub(crate) share: u64,
-}
-
-/// Whether a value exceeds another by at most the share.
-fn is_within(value: Dist, share: u64, next: Dist) -> bool
-    ensures { result ≡ is_at_most value (Finite share +ᵈ next) }
-{
-    match (value.get(), next.get()) {
-        (_, None) => true,
-        (None, Some(_)) => false,
-        (Some(value), Some(next)) => value.saturating_sub(share) <= next,
-    }
 }
 
 /// Those of the first `operators` operators that touch the abstraction, with their shares. Fails only if allocation
@@ -50,54 +43,97 @@ pub(crate) fn spenders<A: Abstraction>(
     Ok(made)
 }
 
-/// The first abstract goal with a value other than 0.
-pub(crate) fn first_goal<A: Abstraction>(abstraction: &A, values: &Values) -> Option<usize>
-    requires { length values.now ≡ (A.abstraction abstraction.now).size }
-    ensures { IsFirstGoal (A.abstraction abstraction.now) values.now result }
+/// The abstract goals, as the sources of transitions to one state. Fails only if allocation fails.
+fn goal_moves(alloc: Global, projection: &Projection<'_>) -> Result<Moves, AllocError>
+    ensures { IfOk result (AreGoals (projections.projection projection.now.task projection.now.pattern)) }
 {
-    for state in 0..values.len() {
-        if abstraction.is_goal(state) && values.get(state) != Dist::ZERO {
-            return Some(state);
-        }
-    }
-    None
+    let goals = Moves::new(alloc, projection, projection.task().goal(), &[])?;
+    goals.gathered(alloc)
 }
 
-/// The first operator that lowers the value of the abstract state by more than its share.
-fn first_fall_from<A: Abstraction>(
-    abstraction: &A,
+/// The value of a goal state, as those of a table of one state. Fails only if allocation fails.
+fn goal_values(alloc: Global) -> Result<Values, AllocError>
+    ensures { IfOk result (λ values. values ≡ Finite 0 ∷ []) }
+{
+    let mut values = Values::new(alloc);
+    values.push(Dist::ZERO)?;
+    Ok(values)
+}
+
+/// The first abstract goal with a value other than 0. Fails only if allocation fails.
+///
+/// Each abstract goal is tested as a transition at no cost to a goal state.
+pub(crate) fn first_goal(
+    alloc: Global,
+    projection: &Projection<'_>,
+    values: &Values,
+) -> Result<Option<usize>, AllocError>
+    requires { length values.now ≡ (projections.projection projection.now.task projection.now.pattern).size }
+    ensures { IfOk result (IsFirstGoal (projections.projection projection.now.task projection.now.pattern) values.now) }
+{
+    let goals = goal_moves(alloc, projection)?;
+    let zero = goal_values(alloc)?;
+    let test = FallTest {
+        values,
+        nexts: &zero,
+        share: 0,
+    };
+    let least = test.least(&goals.free, goals.source, goals.target, values.len());
+    if least < values.len() {
+        Ok(Some(least))
+    } else {
+        Ok(None)
+    }
+}
+
+/// The first abstract state below the limit whose value the operator lowers by more than its share, or the limit. Fails
+/// only if allocation fails.
+fn least_fall(
+    alloc: Global,
+    projection: &Projection<'_>,
+    values: &Values,
+    spender: Spender,
+    limit: usize,
+) -> Result<usize, AllocError>
+    requires size { length values.now ≡ (projections.projection projection.now.task projection.now.pattern).size }
+    requires limit { limit ≤ length values.now }
+    ensures { IfOk result (IsLeastFailing
+        (λ a. falls_within (projections.projection projection.now.task projection.now.pattern) values.now a spender.operator spender.share) limit) }
+{
+    let Some(operator) = projection.task().operators().get(spender.operator) else {
+        return Ok(limit);
+    };
+    let moves = Moves::new(alloc, projection, &operator.precondition, &operator.effect)?;
+    let test = FallTest {
+        values,
+        nexts: values,
+        share: spender.share,
+    };
+    Ok(test.least(&moves.free, moves.source, moves.target, limit))
+}
+
+/// The first abstract state whose value some operator lowers by more than its share, with the first such operator. Fails
+/// only if allocation fails.
+///
+/// The abstract states from which an operator leads are counted through, operator by operator, each time up to the least
+/// one that has failed so far. Their number is at most the product of the numbers of operators and abstract states.
+pub(crate) fn first_fall(
+    alloc: Global,
+    projection: &Projection<'_>,
     values: &Values,
     spenders: &[Spender],
-    state: usize,
-) -> Option<usize>
-    requires size { length values.now ≡ (A.abstraction abstraction.now).size }
-    requires state { state < (A.abstraction abstraction.now).size }
-    ensures { result ≡ first_fall_at (A.abstraction abstraction.now) values.now spenders.now state }
+) -> Result<Option<(usize, usize)>, AllocError>
+    requires { length values.now ≡ (projections.projection projection.now.task projection.now.pattern).size }
+    ensures { IfOk result (IsFirstFall (projections.projection projection.now.task projection.now.pattern) values.now spenders.now) }
 {
-    let value = values.get(state);
+    let mut limit = values.len();
+    let mut found = None;
     for spender in spenders {
-        if let Some(next) = abstraction.transition(state, spender.operator) {
-            if !is_within(value, spender.share, values.get(next)) {
-                return Some(spender.operator);
-            }
+        let state = least_fall(alloc, projection, values, *spender, limit)?;
+        if state < limit {
+            limit = state;
+            found = Some((state, spender.operator));
         }
     }
-    None
-}
-
-/// The first abstract state whose value some operator lowers by more than its share, with the first such operator.
-pub(crate) fn first_fall<A: Abstraction>(
-    abstraction: &A,
-    values: &Values,
-    spenders: &[Spender],
-) -> Option<(usize, usize)>
-    requires { length values.now ≡ (A.abstraction abstraction.now).size }
-    ensures { IsFirstFall (A.abstraction abstraction.now) values.now spenders.now result }
-{
-    for state in 0..values.len() {
-        if let Some(operator) = first_fall_from(abstraction, values, spenders, state) {
-            return Some((state, operator));
-        }
-    }
-    None
+    Ok(found)
 }

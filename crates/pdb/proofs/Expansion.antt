@@ -1,41 +1,48 @@
 -- A state is settled once the values behind it are lowered.
-use Rattle.std.proofs.Common.{◌≡◌, ℕ, ◌+◌, ◌<◌, ◌≤◌, true, false, List, length, slice_index, slice_index_or, sym, ap, ◌∙◌, subst, ⊎_elim, arith}
-use Rattle.std.proofs.lemmas.Bool.{cases_eq, cases_lt, cases_Bool}
+use Rattle.std.proofs.Common.{◌≡◌, ℕ, ◌+◌, ◌<◌, ◌≤◌, List, length, slice_index, slice_index_or, get_or, Option, Some, None, refl, sym, ap, ◌∙◌, subst, ⊎_elim, arith}
+use Rattle.std.specs.Option.{option_map_or}
+use Rattle.std.proofs.lemmas.Bool.{cases_eq, cases_lt}
 use Rattle.std.proofs.lemmas.List.{get_or_read}
 use Rattle.std.proofs.lemmas.List.Elements.{Contains-get_or}
-use Rattle.fdr.specs.Tasks.{FiniteDomainTask}
-use Rattle.abstraction.specs.Abstractions.{Abstraction, IsAbstractionOf}
-use Rattle.pdb_walks.specs.Entrances.{LeadsTo, IsEntering, AreEntering, AreSources}
+use Rattle.abstraction.specs.Abstractions.{Abstraction}
+use Rattle.pdb_walks.specs.declared.backward.Transition.{Transition}
+use Rattle.pdb_walks.specs.Entrances.{LeadsTo, Classes, AreClasses, IsEntering, AreEntering}
 use Rattle.pdb.specs.declared.queue.Queue.{Queue}
+use Rattle.pdb.specs.Classes.{share_by}
 use Rattle.pdb.specs.Queues.{IsQueued, IsAbsent, HasTaken}
-use Rattle.pdb.specs.Searches.{IsSettledBy, IsSettled, IsSearch, IsSearchBut, HasFallen}
+use Rattle.pdb.specs.Searches.{IsSettled, IsSearch, IsSearchBut}
 
--- an element at its index, whatever stands for one past the end
-pub element_at : (xs : List ℕ) (x k : ℕ) → k < length xs → slice_index_or xs k x ≡ x → slice_index xs k ≡ x
-element_at xs x k l e = sym (get_or_read xs k x l (sym e) 0)
+-- a default where there is no transition at a place
+abbrev pub no_transition : Transition
+no_transition = record { class = 0; source = 0 }
 
--- only the task's operators lead on
-pub operator_below : (task : FiniteDomainTask) (a : Abstraction) (o i j : ℕ) → IsAbstractionOf task a → LeadsTo a o i j → o < length task.operators
-operator_below task a o i j abs step =
-    ⊎_elim (λ (l : o < length task.operators). l) (λ (l : length task.operators ≤ o). let none = abs.operators i o l in let some = step.1 in absurd (cc)) (cases_lt o (length task.operators))
+-- the number of an operator is that of its class
+pub share_told : (classes : Classes) (numbers : List ℕ) (o c : ℕ) → classes.class o ≡ Some c → share_by classes numbers o ≡ slice_index numbers c
+share_told classes numbers o c e = ap (λ (r : Option ℕ). option_map_or (λ c. slice_index numbers c) r 0) e
 
--- an operator that does not touch the states leads from each to itself
-pub untouched_same : (task : FiniteDomainTask) (a : Abstraction) (o i j : ℕ) → IsAbstractionOf task a → a.touches o ≡ false → LeadsTo a o i j → j ≡ i
-untouched_same task a o i j abs away step = rw step.1 at (abs.untouched i o step.0 away)
+pub share_none : (classes : Classes) (numbers : List ℕ) (o : ℕ) → classes.class o ≡ None → share_by classes numbers o ≡ 0
+share_none classes numbers o e = ap (λ (r : Option ℕ). option_map_or (λ c. slice_index numbers c) r 0) e
 
-pub leads_inside : (task : FiniteDomainTask) (a : Abstraction) (o i j : ℕ) → IsAbstractionOf task a → LeadsTo a o i j → j < a.size
-leads_inside task a o i j abs step = rw step.1 at (abs.transitions i o step.0)
+-- if the numbers are small, so are those of operators
+pub shares_small : (classes : Classes) (numbers : List ℕ) (n : ℕ) → 0 < n → ((c : ℕ) → slice_index numbers c < n) → (o : ℕ) → share_by classes numbers o < n
+shares_small classes numbers n some small o = go (classes.class o)
+  where
+    go : (r : Option ℕ) → option_map_or (λ c. slice_index numbers c) r 0 < n
+    go None = some
+    go (Some c) = small c
 
--- all sources have values as low as the step shows
-pub IsSettledBy-lowered : (a : Abstraction) (share : ℕ → ℕ) (values : List ℕ) (b o value : ℕ) (sources : List ℕ) → AreSources a b o sources → value ≡ slice_index values b + share o → ((k : ℕ) → k < length sources → slice_index values (slice_index sources k) ≤ value) → IsSettledBy a share values b o
-IsSettledBy-lowered a share values b o value sources are shown lowered i step =
-    let w = (are i).1 step in
-    let e = element_at sources i w.0 w.1 w.2 in
-    let v = ap (slice_index values) e in
-    omega (arith, lowered w.0 w.1)
+-- a listed transition is one of an operator of its class
+pub listed_leads : (a : Abstraction) (classes : Classes) (j : ℕ) (ts : List Transition) → AreEntering a classes j ts → (k : ℕ) → k < length ts → IsEntering a classes j (get_or ts k no_transition)
+listed_leads a classes j ts are k l = (are (get_or ts k no_transition)).0 (Contains-get_or ts k no_transition l)
 
-pub IsSettledBy-fallen : (a : Abstraction) (share : ℕ → ℕ) (old new : List ℕ) (b o : ℕ) → HasFallen old new b → IsSettledBy a share old b o → IsSettledBy a share new b o
-IsSettledBy-fallen a share old new b o fallen settled i step = omega (arith, fallen.at_most i, fallen.same, settled i step)
+-- what holds of each listed transition holds of each transition
+pub of_each : (a : Abstraction) (classes : Classes) (j : ℕ) (ts : List Transition) (P : ℕ → ℕ → Type 0) → AreEntering a classes j ts →
+    ((k : ℕ) → k < length ts → P (get_or ts k no_transition).class (get_or ts k no_transition).source) → (o c i : ℕ) → classes.class o ≡ Some c → LeadsTo a o i j → P c i
+of_each a classes j ts P are each o c i e step =
+    let t : Transition = record { class = c; source = i } in
+    let w = (are t).1 (o, e, step) in
+    let same : get_or ts w.0 no_transition ≡ t = sym (get_or_read ts w.0 t w.1 (sym w.2) no_transition) in
+    subst (λ (u : Transition). P u.class u.source) same (each w.0 w.1)
 
 pub IsSearchBut-taken : (a : Abstraction) (share : ℕ → ℕ) (values : List ℕ) (before after : Queue) (b : ℕ) → IsSearch a share values before → HasTaken before after b → IsSearchBut a share values after b
 IsSearchBut-taken a share values before after b search taken =
@@ -60,31 +67,26 @@ IsSearchBut-taken a share values before after b search taken =
     inside : b < a.size
     inside = omega (arith, taken.inside, search.sound.queue_as_long)
 
-pub IsSearch-expanded : (task : FiniteDomainTask) (a : Abstraction) (share : ℕ → ℕ) (values : List ℕ) (queue : Queue) (b : ℕ) (operators : List ℕ) → IsAbstractionOf task a → AreEntering a b operators → IsSearchBut a share values queue b → ((k : ℕ) → k < length operators → IsSettledBy a share values b (slice_index operators k)) → IsSearch a share values queue
-IsSearch-expanded task a share values queue b operators abs are search settled =
+-- the values behind a state are as low as each transition shows
+pub IsSearch-expanded : (a : Abstraction) (classes : Classes) (least values : List ℕ) (queue : Queue) (b : ℕ) (ts : List Transition) → AreClasses a classes → AreEntering a classes b ts →
+    IsSearchBut a (share_by classes least) values queue b →
+    ((k : ℕ) → k < length ts → slice_index values (get_or ts k no_transition).source ≤ slice_index values b + slice_index least (get_or ts k no_transition).class) →
+    IsSearch a (share_by classes least) values queue
+IsSearch-expanded a classes least values queue b ts grouped are search lowered =
     record {
       sound = search.sound;
       settled = λ s l away. ⊎_elim
-          (λ (e : s ≡ b). subst (λ (x : ℕ). IsSettled a share values x) (sym e) all)
+          (λ (e : s ≡ b). subst (λ (x : ℕ). IsSettled a (share_by classes least) values x) (sym e) all)
           (λ (ne : s ≡ b → ⊥). search.settled s l ne away)
           (cases_eq s b);
     }
   where
-    all : IsSettled a share values b
-    all o i step = ⊎_elim
-        (λ (t : a.touches o ≡ true).
-        let w = (are o).1 (t, (i, step)) in
-        let e = element_at operators o w.0 w.1 w.2 in
-        subst (λ (x : ℕ). IsSettledBy a share values b x) e (settled w.0 w.1) i step)
-        (λ (t : a.touches o ≡ false).
-        let e = untouched_same task a o i b abs t step in
-        let v = ap (slice_index values) e in
-        omega arith)
-        (cases_Bool (a.touches o))
-
--- a listed source is a state from which the operator leads on
-pub source_leads : (a : Abstraction) (b o : ℕ) (sources : List ℕ) → AreSources a b o sources → (k : ℕ) → k < length sources → LeadsTo a o (slice_index sources k) b
-source_leads a b o sources are k l = (are (slice_index sources k)).0 (Contains-get_or sources k 0 l)
-
-pub entering_leads : (a : Abstraction) (b : ℕ) (operators : List ℕ) → AreEntering a b operators → (k : ℕ) → k < length operators → IsEntering a b (slice_index operators k)
-entering_leads a b operators are k l = (are (slice_index operators k)).0 (Contains-get_or operators k 0 l)
+    all : IsSettled a (share_by classes least) values b
+    all o i step = go (classes.class o) refl
+      where
+        go : (r : Option ℕ) → classes.class o ≡ r → slice_index values i ≤ share_by classes least o + slice_index values b
+        go None e = let same = ap (slice_index values) (grouped.others o i b e search.inside step) in omega arith
+        go (Some c) e =
+            let l : slice_index values i ≤ slice_index values b + slice_index least c =
+            of_each a classes b ts (λ (c i : ℕ). slice_index values i ≤ slice_index values b + slice_index least c) are lowered o c i e step in
+            omega (arith, share_told classes least o c e)

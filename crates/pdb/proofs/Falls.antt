@@ -1,17 +1,19 @@
--- The falls of values over an operator's transitions.
-use Rattle.std.proofs.Common.{◌≡◌, ℕ, ◌<◌, ◌≤◌, ◌⊎◌, true, false, List, length, Option, Some, None, slice_index, slice_set, refl, sym, ap, ◌∙◌, subst, inr, ⊎_elim, arith}
-use Rattle.std.specs.Prelude.{IfSome, slice_get}
+-- Falls of values over the transitions of classes of operators.
+use Rattle.std.proofs.Common.{◌≡◌, ℕ, ◌<◌, ◌≤◌, ◌⊎◌, max, List, length, Option, Some, None, slice_index, slice_set, get_or, refl, sym, ap, ◌∙◌, subst, inl, inr, ⊎_elim, arith}
+use Rattle.std.specs.Prelude.{IfSome, IsSomeAnd, slice_get}
 use Rattle.std.specs.Option.{option_map_or}
-use Rattle.std.proofs.lemmas.Bool.{cases_Bool}
+use Rattle.std.proofs.lemmas.Bool.{cases_lt}
+use Rattle.std.proofs.lemmas.List.{get_or_past}
 use Rattle.cost.specs.Distances.{Distance, Finite, Infinite, ◌≤ᵈ◌, ◌+ᵈ◌}
 use Rattle.fdr.specs.Tasks.{FiniteDomainTask}
 use Rattle.abstraction.specs.Abstractions.{Abstraction, Table, IsAbstractionOf}
 use Rattle.pdb_walks.specs.Walks.{AreDistances, value_in, fall, IsGreatestFall}
-use Rattle.pdb_walks.specs.Entrances.{LeadsTo, AreEntering, AreSources}
+use Rattle.pdb_walks.specs.Entrances.{LeadsTo, Classes, AreClasses}
 use Rattle.pdb_walks.proofs.Saturation.{distances_consistent}
-use Rattle.pdb.specs.Saturations.{IsFallOf, IsCoveredAt}
+use Rattle.pdb.specs.Classes.{share_by}
+use Rattle.pdb.specs.Saturations.{IsFallOf, AreFalls, IsCoveredAt}
 use Rattle.pdb.proofs.Lowering.{cases_set}
-use Rattle.pdb.proofs.Expansion.{element_at, source_leads, untouched_same}
+use Rattle.pdb.proofs.Expansion.{share_told, share_none}
 
 pub value_in-get : (values : List Distance) (i : ℕ) (d : Distance) → slice_get values i ≡ Some d → value_in values i ≡ d
 value_in-get values i d e = ap (λ (o : Option Distance). option_map_or (λ x. x) o Infinite) e
@@ -38,63 +40,89 @@ fall_within_share task a share values o i j abs exact step =
     let consistent = distances_consistent task t abs exact.exact in
     fall_at_most (value_in values i) (value_in values j) (share o) (rw step.1 at (consistent.steps i o step.0))
 
-module _ (a : Abstraction) (value : ℕ → Distance) (needed : List ℕ) (o n j : ℕ) (d : Distance) (sources : List ℕ)
-    (inside : o < length needed) (are : AreSources a j o sources) (value_is : value j ≡ d) where
-  pub reached_set : ((p : ℕ) → IsFallOf a value p (slice_index needed p)) → ((n ≡ slice_index needed o) ⊎ ((k : ℕ) × (k < length sources) × (fall (value (slice_index sources k)) d ≡ n))) → (p : ℕ) → IsFallOf a value p (slice_index (slice_set needed o n) p)
-  reached_set reached cases p =
+-- one class more is raised to the fall over one of its transitions
+module _ (a : Abstraction) (classes : Classes) (value : ℕ → Distance) (numbers : List ℕ) (c n m : ℕ) (inside : c < length numbers) (is : m ≡ max (slice_index numbers c) n) where
+  pub falls_raised : AreFalls a classes value numbers → IsFallOf a classes value c n → AreFalls a classes value (slice_set numbers c m)
+  falls_raised reached here p =
       ⊎_elim
-      (λ (w : (p ≡ o) × (slice_index (slice_set needed o n) p ≡ n)). subst (λ (x : ℕ). IsFallOf a value p x) (sym w.1) (subst (λ (x : ℕ). IsFallOf a value x n) (sym w.0) here))
-      (λ (w : (p ≡ o → ⊥) × (slice_index (slice_set needed o n) p ≡ slice_index needed p)). subst (λ (x : ℕ). IsFallOf a value p x) (sym w.1) (reached p))
-      (cases_set needed o n p inside)
+      (λ (w : (p ≡ c) × (slice_index (slice_set numbers c m) p ≡ m)).
+      subst (λ (x : ℕ). IsFallOf a classes value p x) (sym w.1) (subst (λ (x : ℕ). IsFallOf a classes value x m) (sym w.0) greatest))
+      (λ (w : (p ≡ c → ⊥) × (slice_index (slice_set numbers c m) p ≡ slice_index numbers p)).
+      subst (λ (x : ℕ). IsFallOf a classes value p x) (sym w.1) (reached p))
+      (cases_set numbers c m p inside)
     where
-      here : IsFallOf a value o n
-      here = ⊎_elim
-          (λ (e : n ≡ slice_index needed o). subst (λ (x : ℕ). IsFallOf a value o x) (sym e) (reached o))
-          (λ (w : (k : ℕ) × (k < length sources) × (fall (value (slice_index sources k)) d ≡ n)).
-          let leads = source_leads a j o sources are w.0 w.1 in
-          inr (slice_index sources w.0, leads.0, rw (leads.1, value_is) w.2))
-          cases
+      greatest : IsFallOf a classes value c m
+      greatest = ⊎_elim
+          (λ (l : slice_index numbers c < n). let e : n ≡ m = omega arith in subst (λ (x : ℕ). IsFallOf a classes value c x) e here)
+          (λ (l : n ≤ slice_index numbers c). let e : slice_index numbers c ≡ m = omega arith in subst (λ (x : ℕ). IsFallOf a classes value c x) e (reached c))
+          (cases_lt (slice_index numbers c) n)
 
-  pub kept_set : slice_index needed o ≤ n → (p : ℕ) → slice_index needed p ≤ slice_index (slice_set needed o n) p
-  kept_set more p =
+  pub kept_raised : (p : ℕ) → slice_index numbers p ≤ slice_index (slice_set numbers c m) p
+  kept_raised p =
       ⊎_elim
-      (λ (w : (p ≡ o) × (slice_index (slice_set needed o n) p ≡ n)). let e = ap (slice_index needed) w.0 in omega arith)
-      (λ (w : (p ≡ o → ⊥) × (slice_index (slice_set needed o n) p ≡ slice_index needed p)). omega arith)
-      (cases_set needed o n p inside)
+      (λ (w : (p ≡ c) × (slice_index (slice_set numbers c m) p ≡ m)). let e = ap (slice_index numbers) w.0 in omega arith)
+      (λ (w : (p ≡ c → ⊥) × (slice_index (slice_set numbers c m) p ≡ slice_index numbers p)). omega arith)
+      (cases_set numbers c m p inside)
 
-  pub covered_here : ((k : ℕ) → k < length sources → fall (value (slice_index sources k)) d ≤ n) → IsCoveredAt a value j o (slice_index (slice_set needed o n) o)
-  covered_here below i step =
-      let w = (are i).1 step in
-      let e = element_at sources i w.0 w.1 w.2 in
-      let l : fall (value i) d ≤ n = subst (λ (x : ℕ). fall (value x) d ≤ n) e (below w.0 w.1) in
-      let m : fall (value i) (value j) ≤ n = rw value_is l in
+  pub covered_here : n ≤ slice_index (slice_set numbers c m) c
+  covered_here =
       ⊎_elim
-      (λ (h : (o ≡ o) × (slice_index (slice_set needed o n) o ≡ n)). omega arith)
-      (λ (h : (o ≡ o → ⊥) × (slice_index (slice_set needed o n) o ≡ slice_index needed o)). absurd (h.0 refl))
-      (cases_set needed o n o inside)
+      (λ (w : (c ≡ c) × (slice_index (slice_set numbers c m) c ≡ m)). omega arith)
+      (λ (w : (c ≡ c → ⊥) × (slice_index (slice_set numbers c m) c ≡ slice_index numbers c)). absurd (w.0 refl))
+      (cases_set numbers c m c inside)
 
 -- no fall to a state of infinite value is more than 0
-pub covered_infinite : (a : Abstraction) (value : ℕ → Distance) (j : ℕ) → value j ≡ Infinite → (o n : ℕ) → IsCoveredAt a value j o n
-covered_infinite a value j e o n i step = rw e (omega (arith, fall_to_infinite (value i)))
+pub covered_infinite : (a : Abstraction) (classes : Classes) (value : ℕ → Distance) (j : ℕ) (numbers : List ℕ) → value j ≡ Infinite → IsCoveredAt a classes value j numbers
+covered_infinite a classes value j numbers e o i c _ step = rw e (omega (arith, fall_to_infinite (value i)))
 
--- the operators that lead to the state are all that count
-pub covered_entering : (task : FiniteDomainTask) (a : Abstraction) (value : ℕ → Distance) (j : ℕ) (operators : List ℕ) (need : ℕ → ℕ) → IsAbstractionOf task a → AreEntering a j operators → ((k : ℕ) → k < length operators → IsCoveredAt a value j (slice_index operators k) (need (slice_index operators k))) → (o : ℕ) → IsCoveredAt a value j o (need o)
-covered_entering task a value j operators need abs are covered o i step =
-    ⊎_elim
-    (λ (t : a.touches o ≡ true).
-    let w = (are o).1 (t, (i, step)) in
-    let e = element_at operators o w.0 w.1 w.2 in
-    subst (λ (x : ℕ). IsCoveredAt a value j x (need x)) e (covered w.0 w.1) i step)
-    (λ (t : a.touches o ≡ false).
-    let e = untouched_same task a o i j abs t step in
-    let f : fall (value i) (value j) ≡ 0 = ap (λ (x : ℕ). fall (value i) (value x)) e ∙ fall_itself (value i) in
-    omega arith)
-    (cases_Bool (a.touches o))
-
-pub IsGreatestFall-covered : (task : FiniteDomainTask) (a : Abstraction) (value : ℕ → Distance) (o n : ℕ) → IsAbstractionOf task a → IsFallOf a value o n → ((j : ℕ) → j < a.size → IsCoveredAt a value j o n) → IsGreatestFall a value o n
-IsGreatestFall-covered task a value o n abs reached covered =
-    record { upper = λ i l. go i l (a.transition i o) refl (abs.transitions i o l); reached = reached }
+-- the falls of the classes are those of the operators
+pub IsGreatestFall-covered : (task : FiniteDomainTask) (a : Abstraction) (classes : Classes) (value : ℕ → Distance) (numbers : List ℕ) (o n : ℕ) → IsAbstractionOf task a → AreClasses a classes →
+    n ≡ share_by classes numbers o → AreFalls a classes value numbers → ((j : ℕ) → j < a.size → IsCoveredAt a classes value j numbers) → IsGreatestFall a value o n
+IsGreatestFall-covered task a classes value numbers o n abs grouped is reached covered =
+    subst (λ (m : ℕ). IsGreatestFall a value o m) (sym is) (go (classes.class o) refl)
   where
-    go : (i : ℕ) → i < a.size → (r : Option ℕ) → a.transition i o ≡ r → IfSome r (λ j. j < a.size) → IfSome r (λ j. fall (value i) (value j) ≤ n)
-    go i l None e below = tt
-    go i l (Some j) e below = covered j below i (l, e)
+    above : (m : ℕ) → ((i j : ℕ) → j < a.size → LeadsTo a o i j → fall (value i) (value j) ≤ m) → (i : ℕ) → i < a.size → IfSome (a.transition i o) (λ j. fall (value i) (value j) ≤ m)
+    above m each i l = at (a.transition i o) refl (abs.transitions i o l)
+      where
+        at : (r : Option ℕ) → a.transition i o ≡ r → IfSome r (λ j. j < a.size) → IfSome r (λ j. fall (value i) (value j) ≤ m)
+        at None e below = tt
+        at (Some j) e below = each i j below (l, e)
+
+    go : (r : Option ℕ) → classes.class o ≡ r → IsGreatestFall a value o (share_by classes numbers o)
+    go None e =
+        let none = share_none classes numbers o e in
+        record {
+          upper = above (share_by classes numbers o) (λ i j below step.
+              let same = ap value (grouped.others o i j e below step) in
+              let zero = ap (λ (d : Distance). fall (value i) d) same in
+              omega (arith, fall_itself (value i)));
+          reached = inl none;
+        }
+    go (Some c) e =
+        let told = share_told classes numbers o c e in
+        record {
+          upper = above (share_by classes numbers o) (λ i j below step. omega (arith, covered j below o i c e step));
+          reached = subst (λ (m : ℕ). (m ≡ 0) ⊎ ((i : ℕ) × (i < a.size) × IsSomeAnd (a.transition i o) (λ j. fall (value i) (value j) ≡ m))) (sym told) (⊎_elim
+              (λ (z : slice_index numbers c ≡ 0). inl z)
+              (λ (w : (p i j : ℕ) × (classes.class p ≡ Some c) × (j < a.size) × LeadsTo a p i j × (fall (value i) (value j) ≡ slice_index numbers c)).
+              let also = grouped.alike w.0 o c w.1 w.2 w.3 e w.4 w.5 in
+              inr (w.1, also.0, rw also.1 w.6))
+              (reached c));
+        }
+
+-- what is no operator has no transition
+no_fall_past : (task : FiniteDomainTask) (a : Abstraction) (value : ℕ → Distance) (o : ℕ) → IsAbstractionOf task a → length task.operators ≤ o → IsGreatestFall a value o 0
+no_fall_past task a value o abs l =
+    record { upper = λ i below. subst (λ (r : Option ℕ). IfSome r (λ j. fall (value i) (value j) ≤ 0)) (sym (abs.operators i o l)) tt; reached = inl refl }
+
+pub falls_told : (task : FiniteDomainTask) (a b : Abstraction) (classes : Classes) (value : ℕ → Distance) (numbers needed : List ℕ) → b ≡ a → IsAbstractionOf task a → AreClasses b classes →
+    AreFalls b classes value numbers → ((j : ℕ) → j < b.size → IsCoveredAt b classes value j numbers) → length needed ≡ length task.operators →
+    ((o : ℕ) → o < length task.operators → slice_index needed o ≡ share_by classes numbers o) → (o : ℕ) → IsGreatestFall a value o (slice_index needed o)
+falls_told task a b classes value numbers needed e abs grouped reached covered long told o =
+    ⊎_elim
+    (λ (l : o < length task.operators).
+    subst (λ (x : Abstraction). IsGreatestFall x value o (slice_index needed o)) e
+    (IsGreatestFall-covered task b classes value numbers o (slice_index needed o) (subst (λ (x : Abstraction). IsAbstractionOf task x) (sym e) abs) grouped (told o l) reached covered))
+    (λ (l : length task.operators ≤ o).
+    subst (λ (n : ℕ). IsGreatestFall a value o n) (sym (get_or_past needed o 0 (omega arith))) (no_fall_past task a value o abs l))
+    (cases_lt o (length task.operators))

@@ -3,6 +3,7 @@ pub mod Queues
 pub mod Lowering
 pub mod Starts
 pub mod Expansion
+pub mod ClassLaws
 pub mod Totals
 pub mod Falls
 pub mod Zips

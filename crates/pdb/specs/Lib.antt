@@ -1,3 +1,4 @@
+pub mod Classes
 pub mod Orders
 pub mod Queues
 pub mod Saturations

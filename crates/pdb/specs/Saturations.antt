@@ -1,14 +1,19 @@
--- The falls of values over the transitions of an operator.
-use Rattle.std.specs.Prelude.{◌≡◌, ℕ, ◌<◌, ◌≤◌, ◌⊎◌, IsSomeAnd}
+-- The falls of values over the transitions of classes of operators.
+use Rattle.std.specs.Prelude.{◌≡◌, ℕ, ◌<◌, ◌≤◌, ◌⊎◌, List, Some, slice_index}
 use Rattle.cost.specs.Distances.{Distance}
 use Rattle.abstraction.specs.Abstractions.{Abstraction}
 use Rattle.pdb_walks.specs.Walks.{fall}
-use Rattle.pdb_walks.specs.Entrances.{LeadsTo}
+use Rattle.pdb_walks.specs.Entrances.{LeadsTo, Classes}
 
--- the number is 0, or the fall over some transition of the operator
-abbrev pub IsFallOf : Abstraction → (ℕ → Distance) → ℕ → ℕ → Type 0
-IsFallOf a value o n = (n ≡ 0) ⊎ ((i : ℕ) × (i < a.size) × IsSomeAnd (a.transition i o) (λ j. fall (value i) (value j) ≡ n))
+-- the number is 0, or the fall over some transition of an operator of the class
+abbrev pub IsFallOf : Abstraction → Classes → (ℕ → Distance) → ℕ → ℕ → Type 0
+IsFallOf a classes value c n =
+    (n ≡ 0) ⊎ ((o i j : ℕ) × (classes.class o ≡ Some c) × (j < a.size) × LeadsTo a o i j × (fall (value i) (value j) ≡ n))
 
--- no fall over a transition of the operator into the state is greater
-abbrev pub IsCoveredAt : Abstraction → (ℕ → Distance) → ℕ → ℕ → ℕ → Type 0
-IsCoveredAt a value j o n = (i : ℕ) → LeadsTo a o i j → fall (value i) (value j) ≤ n
+abbrev pub AreFalls : Abstraction → Classes → (ℕ → Distance) → List ℕ → Type 0
+AreFalls a classes value numbers = (c : ℕ) → IsFallOf a classes value c (slice_index numbers c)
+
+-- no fall over a transition into the state is greater than the number of the operator's class
+abbrev pub IsCoveredAt : Abstraction → Classes → (ℕ → Distance) → ℕ → List ℕ → Type 0
+IsCoveredAt a classes value j numbers =
+    (o i c : ℕ) → classes.class o ≡ Some c → LeadsTo a o i j → fall (value i) (value j) ≤ slice_index numbers c

@@ -5,6 +5,7 @@
 #![tactic(auto)]
 
 mod jobs;
+mod least;
 mod queue;
 mod saturation;
 mod search;

@@ -1,14 +1,15 @@
 //! The saturated cost function of a table of distances.
 
-ghost use Rattle.std.specs.Prelude.{◌≡◌, ℕ, ◌+◌, ◌^◌, ◌<◌, ◌≤◌, ◌⊎◌, length, slice_index, IfOk, OnOk};
+ghost use Rattle.std.specs.Prelude.{◌≡◌, ℕ, ◌^◌, ◌<◌, ◌≤◌, length, slice_index, IfOk, OnOk};
 ghost use Rattle.cost.specs.Distances.{Finite};
 ghost use Rattle.fdr.specs.Tasks.{FiniteDomainTask};
 ghost use Rattle.pdb_walks.specs.Walks.{AreDistances, IsGreatestFall, value_in, fall};
 ghost use Rattle.pdb_walks.specs.Entrances.{LeadsTo};
-ghost use Rattle.pdb.specs.Saturations.{IsFallOf, IsCoveredAt};
+ghost use Rattle.pdb.specs.Saturations.{AreFalls, IsCoveredAt};
 
+use crate::least::shares_by_class;
 use cert_value::Values;
-use pdb_walks::BackwardAbstraction;
+use pdb_walks::{BackwardAbstraction, BackwardTransitions, Transition};
 use std::alloc::{AllocError, Global};
 
 /// The amount by which `value` is below the value of a state, and 0 if it is not below or that value is infinite.
@@ -23,56 +24,69 @@ fn fall_from(values: &Values, state: usize, value: u64) -> u32
     }
 }
 
-/// The greatest of `least` and of the falls from the values of the states to `value`.
-fn greatest_fall(values: &Values, states: &[u32], value: u64, least: u32) -> u32
-    requires states { (k : ℕ) → k < length states.now → slice_index states.now k < length values.now }
-    requires falls { (k : ℕ) → k < length states.now →
-        fall (value_in values.now (slice_index states.now k)) (Finite value) < 2 ^ 32 }
-    ensures at_least { least ≤ result }
-    ensures covered { (k : ℕ) → k < length states.now →
-        fall (value_in values.now (slice_index states.now k)) (Finite value) ≤ result }
-    ensures reached { (result ≡ least) ⊎ ((k : ℕ) × (k < length states.now) ×
-        (fall (value_in values.now (slice_index states.now k)) (Finite value) ≡ result)) }
-{
-    let mut greatest = least;
-    for state in states {
-        greatest = greatest.max(fall_from(values, *state as usize, value));
-    }
-    greatest
-}
-
-/// Raises the shares to the falls of the values over the transitions into one state. The lists are buffers for the
-/// operators that lead into it and for the states that they lead from. Fails only if allocation fails.
-fn cover<A: BackwardAbstraction>(
-    abstraction: &A,
+/// Raises the numbers of the classes to the falls of the values over the transitions into one state. The lists are
+/// buffers for these transitions and for what lists them. Fails only if allocation fails.
+fn cover<T: BackwardTransitions>(
+    transitions: &T,
     values: &Values,
     state: usize,
-    needed: &mut [u32],
-    operators: &mut Vec<u32>,
-    sources: &mut Vec<u32>,
+    greatest: &mut [u32],
+    digits: &mut Vec<u32>,
+    entering: &mut Vec<Transition>,
 ) -> Result<(), AllocError>
-    requires len { length needed.old ≡ length (A.task abstraction.now).operators }
-    requires values { length values.now ≡ (A.abstraction abstraction.now).size }
-    requires state { state < (A.abstraction abstraction.now).size }
-    requires falls { (o i : ℕ) → LeadsTo (A.abstraction abstraction.now) o i state →
+    requires len { length greatest.old ≡ (T.classes transitions.now).count }
+    requires values { length values.now ≡ (T.abstraction transitions.now).size }
+    requires state { state < (T.abstraction transitions.now).size }
+    requires falls { (o i : ℕ) → LeadsTo (T.abstraction transitions.now) o i state →
         fall (value_in values.now i) (value_in values.now state) < 2 ^ 32 }
-    requires reached { (o : ℕ) → IsFallOf (A.abstraction abstraction.now) (value_in values.now) o (slice_index needed.old o) }
+    requires reached { AreFalls (T.abstraction transitions.now) (T.classes transitions.now) (value_in values.now) greatest.old }
     ensures reached { OnOk result
-        ((o : ℕ) → IsFallOf (A.abstraction abstraction.now) (value_in values.now) o (slice_index needed.new o)) }
-    ensures kept { OnOk result ((o : ℕ) → slice_index needed.old o ≤ slice_index needed.new o) }
-    ensures covered { OnOk result ((o : ℕ) →
-        IsCoveredAt (A.abstraction abstraction.now) (value_in values.now) state o (slice_index needed.new o)) }
+        (AreFalls (T.abstraction transitions.now) (T.classes transitions.now) (value_in values.now) greatest.new) }
+    ensures kept { OnOk result ((c : ℕ) → slice_index greatest.old c ≤ slice_index greatest.new c) }
+    ensures covered { OnOk result
+        (IsCoveredAt (T.abstraction transitions.now) (T.classes transitions.now) (value_in values.now) state greatest.new) }
 {
     let Some(value) = values.get(state).get() else {
         return Ok(());
     };
-    abstraction.entering(state, operators)?;
-    for operator in &*operators {
-        let operator = *operator as usize;
-        abstraction.sources(state, operator, sources)?;
-        needed[operator] = greatest_fall(values, sources, value, needed[operator]);
+    transitions.entering(state, digits, entering)?;
+    for transition in &*entering {
+        let class = transition.class as usize;
+        let fall = fall_from(values, transition.source as usize, value);
+        greatest[class] = greatest[class].max(fall);
     }
     Ok(())
+}
+
+/// The greatest fall of the values over the transitions of each class. Fails only if allocation fails.
+fn greatest_falls<T: BackwardTransitions>(
+    alloc: Global,
+    transitions: &T,
+    values: &Values,
+) -> Result<Vec<u32>, AllocError>
+    requires values { length values.now ≡ (T.abstraction transitions.now).size }
+    requires falls { (o i j : ℕ) → j < (T.abstraction transitions.now).size → LeadsTo (T.abstraction transitions.now) o i j →
+        fall (value_in values.now i) (value_in values.now j) < 2 ^ 32 }
+    ensures len { IfOk result (λ greatest. length greatest.items ≡ (T.classes transitions.now).count) }
+    ensures reached { IfOk result (λ greatest.
+        AreFalls (T.abstraction transitions.now) (T.classes transitions.now) (value_in values.now) greatest.items) }
+    ensures covered { IfOk result (λ greatest. (j : ℕ) → j < (T.abstraction transitions.now).size →
+        IsCoveredAt (T.abstraction transitions.now) (T.classes transitions.now) (value_in values.now) j greatest.items) }
+{
+    let mut greatest = vec![in alloc; 0; transitions.class_count()]?;
+    let mut digits = Vec::new(alloc);
+    let mut entering = Vec::new(alloc);
+    for state in 0..values.len() {
+        cover(
+            transitions,
+            values,
+            state,
+            &mut greatest,
+            &mut digits,
+            &mut entering,
+        )?;
+    }
+    Ok(greatest)
 }
 
 /// Returns the saturated cost function of a table: for each operator of the task, in order, the least share that
@@ -91,18 +105,7 @@ pub fn saturate<A: BackwardAbstraction>(
     ensures greatest { IfOk result (λ needed. (o : ℕ) →
         IsGreatestFall (A.abstraction abstraction.now) (value_in values.now) o (slice_index needed.items o)) }
 {
-    let mut needed = vec![in alloc; 0; shares.len()]?;
-    let mut operators = Vec::new(alloc);
-    let mut sources = Vec::new(alloc);
-    for state in 0..values.len() {
-        cover(
-            abstraction,
-            values,
-            state,
-            &mut needed,
-            &mut operators,
-            &mut sources,
-        )?;
-    }
-    Ok(needed)
+    let transitions = abstraction.transitions();
+    let greatest = greatest_falls(alloc, transitions, values)?;
+    shares_by_class(alloc, transitions, &greatest, shares.len())
 }

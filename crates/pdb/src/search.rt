@@ -6,12 +6,14 @@ ghost use Rattle.fdr.specs.Tasks.{FiniteDomainTask};
 ghost use Rattle.cert_value.specs.Kept.{kept_distance};
 ghost use Rattle.pdb_walks.specs.Walks.{AreDistances};
 ghost use Rattle.pdb.specs.Queues.{size_of};
-ghost use Rattle.pdb.specs.Searches.{IsSearch, IsSearchBut, IsSettled, IsSettledBy, HasFallen, HasLowered, work};
+ghost use Rattle.pdb.specs.Classes.{share_by};
+ghost use Rattle.pdb.specs.Searches.{IsSearch, IsSearchBut, HasLowered, work};
 
+use crate::least::least_shares;
 use crate::queue::Queue;
 use cert_value::Values;
 use cost::Dist;
-use pdb_walks::BackwardAbstraction;
+use pdb_walks::{BackwardAbstraction, BackwardTransitions, Transition};
 use std::alloc::{AllocError, Global};
 
 /// The value of an abstract state from which no walk to an abstract goal has been found.
@@ -45,95 +47,62 @@ fn lower(values: &mut [u64], queue: &mut Queue, state: usize, value: u64)
     }
 }
 
-/// Relaxes the transitions of an operator into a state: lowers the values of the states that they come from. `sources`
-/// is a buffer for these states. Fails only if allocation fails.
-fn relax<A: BackwardAbstraction>(
-    abstraction: &A,
-    shares: &[u32],
+/// Relaxes all transitions into a state: lowers the values of the states that they come from. `least` has the share of each
+/// class of operators. The lists are buffers for the transitions and for what lists them. Fails only if allocation fails.
+fn expand<T: BackwardTransitions>(
+    transitions: &T,
+    least: &[u32],
     values: &mut [u64],
     queue: &mut Queue,
     state: usize,
-    operator: usize,
-    sources: &mut Vec<u32>,
+    digits: &mut Vec<u32>,
+    entering: &mut Vec<Transition>,
 ) -> Result<(), AllocError>
-    requires operator { operator < length shares.now }
-    requires small { (o : ℕ) → slice_index shares.now o < 2 ^ 31 }
-    requires search { IsSearchBut (A.abstraction abstraction.now) (λ o. slice_index shares.now o) values.old queue.old state }
-    ensures search { OnOk result
-        (IsSearchBut (A.abstraction abstraction.now) (λ o. slice_index shares.now o) values.new queue.new state) }
-    ensures fallen { OnOk result (HasFallen values.old values.new state) }
-    ensures settled { OnOk result
-        (IsSettledBy (A.abstraction abstraction.now) (λ o. slice_index shares.now o) values.new state operator) }
+    requires classes { length least.now ≡ (T.classes transitions.now).count }
+    requires small { (c : ℕ) → slice_index least.now c < 2 ^ 31 }
+    requires search { IsSearchBut (T.abstraction transitions.now) (share_by (T.classes transitions.now) least.now)
+        values.old queue.old state }
+    ensures search { OnOk result (IsSearch (T.abstraction transitions.now) (share_by (T.classes transitions.now) least.now)
+        values.new queue.new) }
     ensures work { OnOk result (work values.new queue.new ≤ work values.old queue.old) }
 {
-    abstraction.sources(state, operator, sources)?;
-    let value = values[state] + u64::from(shares[operator]);
-    for source in &*sources {
-        lower(values, queue, *source as usize, value);
-    }
-    Ok(())
-}
-
-/// Relaxes all transitions into a state. The lists are buffers for the operators and for the states that they lead
-/// from. Fails only if allocation fails.
-fn expand<A: BackwardAbstraction>(
-    abstraction: &A,
-    shares: &[u32],
-    values: &mut [u64],
-    queue: &mut Queue,
-    state: usize,
-    operators: &mut Vec<u32>,
-    sources: &mut Vec<u32>,
-) -> Result<(), AllocError>
-    requires operators { length shares.now ≡ length (A.task abstraction.now).operators }
-    requires small { (o : ℕ) → slice_index shares.now o < 2 ^ 31 }
-    requires search { IsSearchBut (A.abstraction abstraction.now) (λ o. slice_index shares.now o) values.old queue.old state }
-    ensures search { OnOk result
-        (IsSearch (A.abstraction abstraction.now) (λ o. slice_index shares.now o) values.new queue.new) }
-    ensures work { OnOk result (work values.new queue.new ≤ work values.old queue.old) }
-{
-    abstraction.entering(state, operators)?;
-    for operator in &*operators {
-        relax(
-            abstraction,
-            shares,
-            values,
-            queue,
-            state,
-            *operator as usize,
-            sources,
-        )?;
+    transitions.entering(state, digits, entering)?;
+    let value = values[state];
+    for transition in &*entering {
+        let total = value + u64::from(least[transition.class as usize]);
+        lower(values, queue, transition.source as usize, total);
     }
     Ok(())
 }
 
 /// Removes states from the queue and relaxes the transitions into them until the queue is empty. Fails only if
 /// allocation fails.
-fn settle<A: BackwardAbstraction>(
+fn settle<T: BackwardTransitions>(
     alloc: Global,
-    abstraction: &A,
-    shares: &[u32],
+    transitions: &T,
+    least: &[u32],
     values: &mut [u64],
     queue: &mut Queue,
 ) -> Result<(), AllocError>
-    requires operators { length shares.now ≡ length (A.task abstraction.now).operators }
-    requires small { (o : ℕ) → slice_index shares.now o < 2 ^ 31 }
-    requires search { IsSearch (A.abstraction abstraction.now) (λ o. slice_index shares.now o) values.old queue.old }
-    ensures search { OnOk result
-        (IsSearch (A.abstraction abstraction.now) (λ o. slice_index shares.now o) values.new queue.new) }
+    requires classes { length least.now ≡ (T.classes transitions.now).count }
+    requires small { (c : ℕ) → slice_index least.now c < 2 ^ 31 }
+    requires search { IsSearch (T.abstraction transitions.now) (share_by (T.classes transitions.now) least.now)
+        values.old queue.old }
+    ensures search { OnOk result (IsSearch (T.abstraction transitions.now) (share_by (T.classes transitions.now) least.now)
+        values.new queue.new) }
     ensures empty { OnOk result (queue.new.len ≡ 0) }
 {
-    let mut operators = Vec::new(alloc);
-    let mut sources = Vec::new(alloc);
+    let mut digits = Vec::new(alloc);
+    let mut entering = Vec::new(alloc);
     while let Some(state) = queue.take(values) {
         expand(
-            abstraction,
-            shares,
+            transitions,
+            least,
             values,
             queue,
             state,
-            &mut operators,
-            &mut sources,
+            &mut digits,
+            &mut entering,
         )?;
     }
     Ok(())
@@ -167,11 +136,13 @@ pub fn distances<A: BackwardAbstraction>(
     ensures distances { IfOk result
         (λ values. AreDistances (A.abstraction abstraction.now) (λ o. slice_index shares.now o) values) }
 {
+    let transitions = abstraction.transitions();
+    let least = least_shares(alloc, transitions, shares)?;
     let size = abstraction.size();
     let mut values = vec![in alloc; UNREACHED; size]?;
     let mut queue = Queue::new(alloc, size)?;
     add_goals(abstraction, &mut values, &mut queue);
-    settle(alloc, abstraction, shares, &mut values, &mut queue)?;
+    settle(alloc, transitions, &least, &mut values, &mut queue)?;
     drop(queue);
     as_distances(alloc, &values)
 }

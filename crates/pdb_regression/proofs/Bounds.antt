@@ -5,7 +5,10 @@ use Rattle.std.proofs.lemmas.List.Elements.{All-head, All-tail, All-drop, Contai
 use Rattle.std.proofs.Math.Nat.{mod-add-div}
 use Rattle.std.proofs.lemmas.Nat.{mod_below, mul-add-lt, mul-le}
 use Rattle.pdb_regression.specs.declared.change.DigitChange.{DigitChange}
-use Rattle.pdb_regression.specs.Changes.{LeadsAt, LeadsBy, IsFit, size_by}
+use Rattle.pdb_regression.specs.declared.change.Change.{Change}
+use Rattle.pdb_regression.specs.declared.change.Change.TheVariants.{Kept, Required, Moved, Assigned}
+use Rattle.pdb_regression.specs.Changes.{LeadsAt, LeadsBy, FitsIn, IsFit, put_at, taken_at, size_by}
+use Rattle.pdb_regression.specs.Rules.{put_by, taken_by}
 use Rattle.abstraction.specs.Digits.{value_of}
 
 pub leads_below : (cs : List DigitChange) (i j : ℕ) → All IsFit cs → LeadsBy cs i j → i < size_by cs
@@ -29,24 +32,28 @@ size_behind (c ∷ cs) (suc k) all =
 pub from_place : (cs : List DigitChange) (k : ℕ) (d : DigitChange) → k < length cs → drop k cs ≡ get_or cs k d ∷ drop (k + 1) cs
 from_place cs k d l = rw (add-one, drop-cons cs k d) refl
 
-pub states_fit : (cs : List DigitChange) (k j : ℕ) (d : DigitChange) (states : List ℕ) → k < length cs → All IsFit cs → size_by cs ≤ 2 ^ 24 →
-    ((i : ℕ) → Contains states i ↔ LeadsBy (drop (k + 1) cs) i j) → All (λ s. (get_or cs k d).digit.range * (s + 1) ≤ 2 ^ 24) states
-states_fit cs k j d states l all small told n x m =
-    let s : ℕ = get_or states n x in
-    let below : get_or states n x < size_by (drop (k + 1) cs) =
-    leads_below (drop (k + 1) cs) (get_or states n x) j (All-drop IsFit (k + 1) cs all) ((told (get_or states n x)).0 (Contains-get_or states n x m)) in
-    let part : size_by (drop k cs) ≡ (get_or cs k d).digit.range * size_by (drop (k + 1) cs) = ap size_by (from_place cs k d l) in
-    let whole : size_by (drop k cs) ≤ size_by cs = size_behind cs k all in
-    let grows : (get_or cs k d).digit.range * (get_or states n x + 1) ≤ (get_or cs k d).digit.range * size_by (drop (k + 1) cs) =
-    mul-le (get_or cs k d).digit.range (get_or states n x + 1) (get_or cs k d).digit.range (size_by (drop (k + 1) cs)) (omega arith) (omega arith) in
-    omega (arith, part, whole, grows)
+-- what the effects put there, and what they take, is below the product of the ranges
+put_fits : (r : ℕ) (change : Change) → 0 < r → FitsIn r change → (put_at change < r) × (taken_at change < r)
+put_fits r Kept some fits = (some, some)
+put_fits r (Required c) some fits = (some, some)
+put_fits r (Moved from to) some fits = (fits.1, fits.0)
+put_fits r (Assigned e) some fits = (fits, some)
 
-pub states_more : (cs : List DigitChange) (k j : ℕ) (d : DigitChange) (old new : List ℕ) → k < length cs →
-    ((i : ℕ) → Contains old i ↔ LeadsBy (drop (k + 1) cs) i j) →
-    ((i : ℕ) → Contains new i ↔ (LeadsAt (get_or cs k d).change (i % (get_or cs k d).digit.range) (value_of (get_or cs k d).digit j) × Contains old (i / (get_or cs k d).digit.range))) →
-    (i : ℕ) → Contains new i ↔ LeadsBy (drop k cs) i j
-states_more cs k j d old new l told put i =
-    subst (λ (xs : List DigitChange). Contains new i ↔ LeadsBy xs i j) (sym (from_place cs k d l)) (
-      λ h. let a = (put i).0 h in (a.0, (told (i / (get_or cs k d).digit.range)).0 a.1),
-      λ h. (put i).1 (h.0, (told (i / (get_or cs k d).digit.range)).1 h.1),
+below_product : (r s x n : ℕ) → x < r → n < s → x + r * n < r * s
+below_product r s x n l m =
+    let more : r * (n + 1) ≤ r * s = mul-le r (n + 1) r s (omega arith) (omega arith) in omega arith
+
+pub put_small : (cs : List DigitChange) → All IsFit cs → (put_by cs < size_by cs) × (taken_by cs < size_by cs)
+put_small [] all = (omega arith, omega arith)
+put_small (c ∷ cs) all =
+    let fit = All-head IsFit c cs all in
+    let here = put_fits c.digit.range c.change fit.digit.range fit.change in
+    let rest = put_small cs (All-tail IsFit c cs all) in (
+      below_product c.digit.range (size_by cs) (put_at c.change) (put_by cs) here.0 rest.0,
+      below_product c.digit.range (size_by cs) (taken_at c.change) (taken_by cs) here.1 rest.1,
     )
+
+-- the product and the sum that make up one more change
+pub put_steps : (c : DigitChange) (cs : List DigitChange) → All IsFit (c ∷ cs) → size_by (c ∷ cs) ≤ 2 ^ 24 →
+    (c.digit.range * put_by cs < 2 ^ 24) × (put_at c.change + c.digit.range * put_by cs < 2 ^ 24) × (c.digit.range * taken_by cs < 2 ^ 24) × (taken_at c.change + c.digit.range * taken_by cs < 2 ^ 24)
+put_steps c cs all small = let both = put_small (c ∷ cs) all in let l = both.0 in let m = both.1 in (omega arith, omega arith, omega arith, omega arith)

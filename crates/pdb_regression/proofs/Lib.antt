@@ -1,7 +1,8 @@
-pub mod Elements
-pub mod Numbers
-pub mod ChangeLaws
 pub mod Bounds
+pub mod ChangeLaws
+pub mod Elements
 pub mod RowLaws
+pub mod RuleLaws
 pub mod TableLaws
+pub mod TransitionLaws
 pub mod WayLaws

@@ -1,5 +1,5 @@
 -- The changes by an operator fit the pattern's digits.
-use Rattle.std.proofs.Common.{◌≡◌, ℕ, ◌+◌, ◌*◌, ◌^◌, ◌<◌, ◌≤◌, Bool, true, false, List, [], ◌∷◌, ◌++◌, length, map, drop, get_or, refl, sym, ap, ◌∙◌, arith, eqb, Option, Some, None, subst, add-one, drop-cons, append_assoc, inl, inr}
+use Rattle.std.proofs.Common.{◌≡◌, ℕ, ◌+◌, ◌*◌, ◌^◌, ◌<◌, ◌≤◌, Bool, true, false, List, [], ◌∷◌, ◌++◌, length, map, drop, get_or, refl, sym, ap, ◌∙◌, arith, cond, eqb, Option, Some, None, subst, add-one, drop-cons, append_assoc, inl, inr}
 use Rattle.std.specs.Prelude.{All, IfSome, slice_index}
 use Rattle.std.specs.List.{list_any}
 use Rattle.std.proofs.lemmas.List.{drop_all}
@@ -14,8 +14,8 @@ use Rattle.abstraction.specs.Digits.{IsDigitBelow, digits_from}
 use Rattle.pdb_regression.specs.declared.change.Change.{Change}
 use Rattle.pdb_regression.specs.declared.change.Change.TheVariants.{Kept, Required, Moved, Assigned}
 use Rattle.pdb_regression.specs.declared.change.DigitChange.{DigitChange}
-use Rattle.pdb_regression.specs.Changes.{value_in, change_by, change_of, changes_of, target, FitsIn, IsFit, size_by}
-use Rattle.pdb_regression.specs.Tables.{changes_in, IsRow, IsAlong}
+use Rattle.pdb_regression.specs.Changes.{value_in, change_by, change_of, changes_of, asked, FitsIn, IsFit, size_by}
+use Rattle.pdb_regression.specs.Tables.{changes_in, IsChain, IsRow, IsAlong}
 use Rattle.pdb_regression.proofs.ChangeLaws.{value_fits}
 
 pub digits_long : (rs : List ℕ) (w : ℕ) (ps : List ℕ) → length (digits_from rs w ps) ≡ length ps
@@ -35,25 +35,25 @@ changes_end op ds ps k e l = ap (λ (xs : List Digit). changes_of op xs (drop k 
 
 change_fits : (r : ℕ) (condition effect : Option ℕ) → IfSome condition (λ c. c < r) → IfSome effect (λ e. e < r) → FitsIn r (change_by condition effect)
 change_fits r None None h k = tt
-change_fits r (Some c) None h k = tt
+change_fits r (Some c) None h k = h
 change_fits r (Some c) (Some e) h k = (h, k)
 change_fits r None (Some e) h k = k
 
-no_target : (condition effect : Option ℕ) → target (change_by condition effect) ≡ None → effect ≡ None
-no_target None None e = refl
-no_target (Some c) None e = refl
-no_target (Some c) (Some x) e = absurd (cc)
-no_target None (Some x) e = absurd (cc)
+not_asked : (condition effect : Option ℕ) → asked (change_by condition effect) ≡ None → effect ≡ None
+not_asked None None e = refl
+not_asked (Some c) None e = refl
+not_asked (Some c) (Some x) e = absurd (cc)
+not_asked None (Some x) e = absurd (cc)
 
-pub target_fits : (r : ℕ) (change : Change) (v : ℕ) → FitsIn r change → target change ≡ Some v → v < r
-target_fits r change v fits e = go change fits e
+pub asked_fits : (r : ℕ) (change : Change) (v : ℕ) → FitsIn r change → asked change ≡ Some v → v < r
+asked_fits r change v fits e = go change fits e
   where
     open_some : (x : ℕ) → x < r → Some x ≡ Some v → v < r
     open_some x l same = let here : x ≡ v = cc in omega arith
 
-    go : (c : Change) → FitsIn r c → target c ≡ Some v → v < r
+    go : (c : Change) → FitsIn r c → asked c ≡ Some v → v < r
     go Kept fits e = absurd (cc)
-    go (Required c) fits e = absurd (cc)
+    go (Required c) fits e = open_some c fits e
     go (Moved from to) fits e = open_some to fits.1 e
     go (Assigned x) fits e = open_some x fits e
 
@@ -74,13 +74,17 @@ module _ (rs : List ℕ) (op : Operator) where
   along_told w [] = refl
   along_told w (p ∷ ps) = ap (λ (ds : List Digit). record { weight = w; range = slice_index rs p } ∷ ds) (along_told (w * slice_index rs p) ps)
 
-  effect_somewhere : (w : ℕ) (ps : List ℕ) → list_any (names_variable op.effect) ps ≡ true → All (λ c. target c.change ≡ None) (changes_of op (digits_from rs w ps) ps) → ⊥
+  pub chain_told : (w : ℕ) (ps : List ℕ) → IsChain w (changes_of op (digits_from rs w ps) ps)
+  chain_told w [] = tt
+  chain_told w (p ∷ ps) = (refl, chain_told (w * slice_index rs p) ps)
+
+  effect_somewhere : (w : ℕ) (ps : List ℕ) → list_any (names_variable op.effect) ps ≡ true → All (λ c. asked c.change ≡ None) (changes_of op (digits_from rs w ps) ps) → ⊥
   effect_somewhere w [] e all = false≢true e
   effect_somewhere w (p ∷ ps) e all =
-      let here : target (change_of op p) ≡ None = All-head (λ c. target c.change ≡ None) (record { digit = record { weight = w; range = slice_index rs p }; change = change_of op p }) (changes_of op (digits_from rs (w * slice_index rs p) ps) ps) all in
-      let none : names_variable op.effect p ≡ false = not_named op.effect p (no_target (value_in op.precondition p) (value_in op.effect p) here) in
+      let here : asked (change_of op p) ≡ None = All-head (λ c. asked c.change ≡ None) (record { digit = record { weight = w; range = slice_index rs p }; change = change_of op p }) (changes_of op (digits_from rs (w * slice_index rs p) ps) ps) all in
+      let none : names_variable op.effect p ≡ false = not_named op.effect p (not_asked (value_in op.precondition p) (value_in op.effect p) here) in
       effect_somewhere (w * slice_index rs p) ps (rw none at e)
-      (All-tail (λ c. target c.change ≡ None) (record { digit = record { weight = w; range = slice_index rs p }; change = change_of op p }) (changes_of op (digits_from rs (w * slice_index rs p) ps) ps) all)
+      (All-tail (λ c. asked c.change ≡ None) (record { digit = record { weight = w; range = slice_index rs p }; change = change_of op p }) (changes_of op (digits_from rs (w * slice_index rs p) ps) ps) all)
 
   size_positive : (ps : List ℕ) → All (λ p. 0 < slice_index rs p) ps → 0 < size_of rs ps
   size_positive [] all = omega arith
@@ -123,11 +127,12 @@ module _ (rs : List ℕ) (op : Operator) where
       record {
         fit = changes_fit 1 ps is (omega arith) all (omega arith);
         small = rw (size_told 1 ps) small;
-        effect = λ none. absurd (effect_somewhere 1 ps touches none);
+        chain = chain_told 1 ps;
+        asks = λ none. absurd (effect_somewhere 1 ps touches none);
       }
 
 pub empty_row : IsRow []
-empty_row = record { fit = All-nil IsFit; small = omega arith; effect = λ _. refl }
+empty_row = record { fit = All-nil IsFit; small = omega arith; chain = tt; asks = λ _. refl }
 
 pub ranges_positive : (task : FiniteDomainTask) → IsTask task → (ps : List ℕ) → AllExist (ranges task) ps → All (λ p. 0 < slice_index (ranges task) p) ps
 ranges_positive task is ps exist k d l = let below = is.initial.in_range (get_or ps k d) (exist k d l) in omega arith
@@ -147,7 +152,7 @@ push_change op ds ps old new whole k d l m before e =
 
 pub not_empty : (rs : List ℕ) (op : Operator) (ps : List ℕ) → touches_pattern ps op ≡ true → changes_of op (digits_from rs 1 ps) ps ≡ [] → ⊥
 not_empty rs op ps touches e =
-    effect_somewhere rs op 1 ps touches (subst (λ (cs : List DigitChange). All (λ c. target c.change ≡ None) cs) (sym e) (All-nil (λ (c : DigitChange). target c.change ≡ None)))
+    effect_somewhere rs op 1 ps touches (subst (λ (cs : List DigitChange). All (λ c. asked c.change ≡ None) cs) (sym e) (All-nil (λ (c : DigitChange). asked c.change ≡ None)))
 
 pub row_fits : (p : Projection) (op : Operator) → IsOperator (ranges p.task) op → All IsFit (changes_of op (digits_from (ranges p.task) 1 p.pattern) p.pattern)
 row_fits p op is = let small = p.small in changes_fit (ranges p.task) op 1 p.pattern is (omega arith) (projection_ranges p) (omega arith)
@@ -155,7 +160,28 @@ row_fits p op is = let small = p.small in changes_fit (ranges p.task) op 1 p.pat
 pub projection_digits : (p : Projection) → All (IsDigitBelow (2 ^ 24)) (digits_from (ranges p.task) 1 p.pattern)
 projection_digits p = let small = p.small in digits_fit (ranges p.task) (record { name = []; precondition = []; effect = []; cost = 0 }) 1 p.pattern (omega arith) (projection_ranges p) (omega arith)
 
-pub changes_along : (p : Projection) (op : Operator) → IsAlong (digits_from (ranges p.task) 1 p.pattern) (changes_in p op)
-changes_along p op =
-    cond_both (touches_pattern p.pattern op) (changes_of op (digits_from (ranges p.task) 1 p.pattern) p.pattern) [] (λ cs. IsAlong (digits_from (ranges p.task) 1 p.pattern) cs)
-    (λ _. inr (along_told (ranges p.task) op 1 p.pattern)) (λ _. inl refl)
+-- the changes by each operator, and their digits
+pub row_told : (p : Projection) (op : Operator) → IsOperator (ranges p.task) op → IsRow (changes_in p op)
+row_told p op is = go (touches_pattern p.pattern op) refl
+  where
+    go : (b : Bool) → touches_pattern p.pattern op ≡ b → IsRow (cond b (changes_of op (digits_from (ranges p.task) 1 p.pattern) p.pattern) [])
+    go true e = row_is (ranges p.task) op p.pattern is (projection_ranges p) p.small e
+    go false e = empty_row
+
+pub changes_along : (p : Projection) (op : Operator) → (changes_in p op ≡ [] → ⊥) → IsAlong (digits_from (ranges p.task) 1 p.pattern) (changes_in p op)
+changes_along p op some = go (touches_pattern p.pattern op) some
+  where
+    go : (b : Bool) → (cond b (changes_of op (digits_from (ranges p.task) 1 p.pattern) p.pattern) [] ≡ [] → ⊥) →
+        IsAlong (digits_from (ranges p.task) 1 p.pattern) (cond b (changes_of op (digits_from (ranges p.task) 1 p.pattern) p.pattern) [])
+    go true some = along_told (ranges p.task) op 1 p.pattern
+    go false some = absurd (some refl)
+
+-- the digits of changes along the pattern's digits
+pub along_size : (rs : List ℕ) (w : ℕ) (ps : List ℕ) (cs : List DigitChange) → IsAlong (digits_from rs w ps) cs → size_by cs ≡ size_of rs ps
+along_size rs w [] [] e = refl
+along_size rs w [] (c ∷ cs) e = absurd (cc)
+along_size rs w (p ∷ ps) [] e = absurd (cc)
+along_size rs w (p ∷ ps) (c ∷ cs) e =
+    let here : c.digit.range ≡ slice_index rs p = cc in
+    let rest : map (λ c. c.digit) cs ≡ digits_from rs (w * slice_index rs p) ps = cc in
+    ap (λ (n : ℕ). n * size_by cs) here ∙ ap (λ (n : ℕ). slice_index rs p * n) (along_size rs (w * slice_index rs p) ps cs rest)

@@ -1,12 +1,12 @@
--- Operators under their first effects are found at the abstract states that they enter.
-use Rattle.std.proofs.Common.{◌≡◌, ℕ, zero, suc, ◌+◌, ◌<◌, ◌≤◌, Bool, true, false, List, [], ◌∷◌, ◌++◌, length, map, take, get_or, set, refl, sym, ap, ◌∙◌, arith, cond, Option, Some, None, subst, ⊎_elim, get_or-set_same, get_or-set_other, append_assoc}
-use Rattle.std.specs.Prelude.{◌⊎◌, ◌↔◌, Contains, All, filter, slice_get, slice_set, slice_index_or}
+-- Classes under their keys are found at the abstract states that they enter.
+use Rattle.std.proofs.Common.{◌≡◌, ℕ, zero, suc, ◌+◌, ◌<◌, ◌≤◌, Bool, true, false, List, [], ◌∷◌, ◌++◌, length, map, take, get_or, set, refl, sym, ap, ◌∙◌, arith, cond, Option, Some, None, subst, inl, inr, ⊎_elim, get_or-set_same, get_or-set_other, append_assoc}
+use Rattle.std.specs.Prelude.{◌⊎◌, ◌↔◌, Contains, All, IsSomeAnd, slice_get, slice_set, slice_index_or}
 use Rattle.std.specs.List.{list_all}
 use Rattle.std.specs.Option.{option_map_or}
 use Rattle.std.proofs.Math.Seq.{map-set_same}
 use Rattle.std.proofs.Math.ListN.{get_or-map}
-use Rattle.std.proofs.lemmas.List.{length-set, length-map}
-use Rattle.std.proofs.lemmas.List.Elements.{filter_more, Contains-append_left, Contains-append_right, Contains-append_cases, Contains-push}
+use Rattle.std.proofs.lemmas.List.{length-set, length-map, take_more}
+use Rattle.std.proofs.lemmas.List.Elements.{Contains-append_left, Contains-push, Contains-push_cases}
 use Rattle.std.proofs.lemmas.List.Folds.{list_all_at}
 use Rattle.std.proofs.lemmas.Option.{slice_get_past}
 use Rattle.std.proofs.lemmas.Bool.{cases_eq, cases_lt, eqb-true, false≢true, true_from_ne_false}
@@ -15,9 +15,9 @@ use Rattle.abstraction.specs.Digits.{value_of}
 use Rattle.pdb_regression.specs.declared.change.Change.{Change}
 use Rattle.pdb_regression.specs.declared.change.Change.TheVariants.{Kept, Required, Moved, Assigned}
 use Rattle.pdb_regression.specs.declared.change.DigitChange.{DigitChange}
-use Rattle.pdb_regression.specs.Changes.{target, enters_at, enters_digit}
-use Rattle.pdb_regression.specs.Tables.{enters_by, enters, no_change, IsKey, Place, list_at, IsAdded, no_place, IsUnder, AreIndexed, digits_of, IsAlong}
-use Rattle.pdb_regression.proofs.Elements.{in_filter, from_filter}
+use Rattle.pdb_walks.specs.declared.backward.Transition.{Transition}
+use Rattle.pdb_regression.specs.Changes.{LeadsBy, asked, enters_at, enters_digit}
+use Rattle.pdb_regression.specs.Tables.{enters, LeadsIn, no_change, IsKey, Place, list_at, IsAdded, no_place, IsUnder, AreIndexed, digits_of, IsAlong}
 
 -- ---- one place
 
@@ -45,40 +45,30 @@ added_is d lists new v o l e =
 
 -- ---- keys
 
-target_entered : (change : Change) (v y : ℕ) → target change ≡ Some v → enters_at change y ≡ true → y ≡ v
-target_entered Kept v y e t = absurd (cc)
-target_entered (Required c) v y e t = absurd (cc)
-target_entered (Moved from to) v y e t = let here : y ≡ to = eqb-true y to t in let there : to ≡ v = cc in here ∙ there
-target_entered (Assigned x) v y e t = let here : y ≡ x = eqb-true y x t in let there : x ≡ v = cc in here ∙ there
+asked_entered : (change : Change) (v y : ℕ) → asked change ≡ Some v → enters_at change y ≡ true → y ≡ v
+asked_entered Kept v y e t = absurd (cc)
+asked_entered (Required c) v y e t = let here : y ≡ c = eqb-true y c t in let there : c ≡ v = cc in here ∙ there
+asked_entered (Moved from to) v y e t = let here : y ≡ to = eqb-true y to t in let there : to ≡ v = cc in here ∙ there
+asked_entered (Assigned x) v y e t = let here : y ≡ x = eqb-true y x t in let there : x ≡ v = cc in here ∙ there
 
-enters_all : (changes : List DigitChange) (j : ℕ) → enters_by changes j ≡ true → list_all (enters_digit j) changes ≡ true
-enters_all [] j e = refl
-enters_all (c ∷ cs) j e = e
-
-pub key_entered : (changes : List DigitChange) (k v j : ℕ) → IsKey changes k v → enters_by changes j ≡ true → value_of (get_or changes k no_change).digit j ≡ v
+pub key_entered : (changes : List DigitChange) (k v j : ℕ) → IsKey changes k v → list_all (enters_digit j) changes ≡ true → value_of (get_or changes k no_change).digit j ≡ v
 key_entered changes k v j key e =
-    target_entered (get_or changes k no_change).change v (value_of (get_or changes k no_change).digit j) key.target
+    asked_entered (get_or changes k no_change).change v (value_of (get_or changes k no_change).digit j) key.asked
     (true_from_ne_false (enters_digit j (get_or changes k no_change))
-    (λ no'. false≢true (sym (list_all_at (enters_digit j) changes k no_change key.within no') ∙ enters_all changes j e)))
+    (λ no'. false≢true (sym (list_all_at (enters_digit j) changes k no_change key.within no') ∙ e)))
 
 -- the key's digit is that of the place
 pub key_digit : (places : List Place) (changes : List DigitChange) (k v : ℕ) → IsAlong (digits_of places) changes → IsKey changes k v →
     (k < length places) × ((get_or places k no_place).digit ≡ (get_or changes k no_change).digit)
-key_digit places changes k v along key = ⊎_elim none some along
-  where
-    none : changes ≡ [] → (k < length places) × ((get_or places k no_place).digit ≡ (get_or changes k no_change).digit)
-    none e = let within = key.within in let empty : length changes ≡ 0 = ap length e in absurd (omega arith)
-
-    some : map (λ c. c.digit) changes ≡ digits_of places → (k < length places) × ((get_or places k no_place).digit ≡ (get_or changes k no_change).digit)
-    some e =
-        let within = key.within in
-        let long : length (map (λ c. c.digit) changes) ≡ length (digits_of places) = ap length e in
-        let first : length (map (λ (c : DigitChange). c.digit) changes) ≡ length changes = length-map changes (λ (c : DigitChange). c.digit) in
-        let second : length (map (λ (p : Place). p.digit) places) ≡ length places = length-map places (λ (p : Place). p.digit) in (
-          omega arith,
-          sym (get_or-map (λ (p : Place). p.digit) places k no_place) ∙ ap (λ (ds : List Digit). get_or ds k (record { weight = 0; range = 0 })) (sym e)
-              ∙ get_or-map (λ (c : DigitChange). c.digit) changes k no_change,
-        )
+key_digit places changes k v e key =
+    let within = key.within in
+    let long : length (map (λ c. c.digit) changes) ≡ length (digits_of places) = ap length e in
+    let first : length (map (λ (c : DigitChange). c.digit) changes) ≡ length changes = length-map changes (λ (c : DigitChange). c.digit) in
+    let second : length (map (λ (p : Place). p.digit) places) ≡ length places = length-map places (λ (p : Place). p.digit) in (
+      omega arith,
+      sym (get_or-map (λ (p : Place). p.digit) places k no_place) ∙ ap (λ (ds : List Digit). get_or ds k (record { weight = 0; range = 0 })) (sym e)
+          ∙ get_or-map (λ (c : DigitChange). c.digit) changes k no_change,
+    )
 
 -- ---- all places
 
@@ -132,51 +122,87 @@ digits_kept places k place e = map-set_same (λ (p : Place). p.digit) places k p
 pub under_none : (places : List Place) (j o : ℕ) → IsUnder places 0 j o → ⊥
 under_none places j o h = let l = h.1 in omega arith
 
-pub found_more : (places : List Place) (rows : List (List DigitChange)) (n j : ℕ) (old new : List ℕ) →
-    ((o : ℕ) → Contains old o ↔ ((enters rows j o ≡ true) × IsUnder places n j o)) →
-    new ≡ old ++ filter (enters rows j) (list_at j (get_or places n no_place)) →
-    (o : ℕ) → Contains new o ↔ ((enters rows j o ≡ true) × IsUnder places (n + 1) j o)
-found_more places rows n j old new known e o = (to, from)
+below_one : (m n : ℕ) → m < n + 1 → (m < n) ⊎ (m ≡ n)
+below_one m n l = grind arith
+
+-- one place more: what is listed there is found
+pub found_more : (places : List Place) (P : Transition → Type 0) (n j : ℕ) (old new : List Transition) (listed : List ℕ) → listed ≡ list_at j (get_or places n no_place) →
+    ((t : Transition) → Contains old t ↔ (IsUnder places n j t.class × P t)) → ((t : Transition) → Contains new t ↔ (Contains old t ⊎ (Contains listed t.class × P t))) →
+    (t : Transition) → Contains new t ↔ (IsUnder places (n + 1) j t.class × P t)
+found_more places P n j old new listed at known added t = (to, from)
   where
-    more : List ℕ
-    more = list_at j (get_or places n no_place)
+    to : Contains new t → IsUnder places (n + 1) j t.class × P t
+    to h = ⊎_elim
+        (λ (a : Contains old t). let b = (known t).0 a in let l = b.0.1 in ((b.0.0, omega arith, b.0.2), b.1))
+        (λ (a : Contains listed t.class × P t). ((n, omega arith, subst (λ (xs : List ℕ). Contains xs t.class) at a.0), a.1))
+        ((added t).0 h)
 
-    to : Contains new o → (enters rows j o ≡ true) × IsUnder places (n + 1) j o
-    to h =
-        ⊎_elim
-        (λ (a : Contains old o). let b = (known o).0 a in let l = b.1.1 in (b.0, (b.1.0, omega arith, b.1.2)))
-        (λ (a : Contains (filter (enters rows j) (list_at j (get_or places n no_place))) o).
-        let b = from_filter (enters rows j) (list_at j (get_or places n no_place)) o a in (b.0, (n, omega arith, b.1)))
-        (Contains-append_cases old (filter (enters rows j) (list_at j (get_or places n no_place))) o (subst (λ (xs : List ℕ). Contains xs o) e h))
+    from : IsUnder places (n + 1) j t.class × P t → Contains new t
+    from h = (added t).1 (⊎_elim
+        (λ (a : h.0.0 < n). inl ((known t).1 ((h.0.0, a, h.0.2), h.1)))
+        (λ (a : h.0.0 ≡ n). inr (subst (λ (xs : List ℕ). Contains xs t.class) (sym at) (subst (λ (i : ℕ). Contains (list_at j (get_or places i no_place)) t.class) a h.0.2), h.1))
+        (below_one h.0.0 n h.0.1))
 
-    below_one : (m n : ℕ) → m < n + 1 → (m < n) ⊎ (m ≡ n)
-    below_one m n l = grind arith
+-- one listed class more
+pub listed_more : (classes : List ℕ) (P : Transition → Type 0) (k c : ℕ) (first old new : List Transition) → k < length classes → get_or classes k 0 ≡ c →
+    ((t : Transition) → Contains old t ↔ (Contains first t ⊎ (Contains (take k classes) t.class × P t))) → ((t : Transition) → Contains new t ↔ (Contains old t ⊎ ((t.class ≡ c) × P t))) →
+    (t : Transition) → Contains new t ↔ (Contains first t ⊎ (Contains (take (k + 1) classes) t.class × P t))
+listed_more classes P k c first old new l at known added t = (to, from)
+  where
+    more : take (k + 1) classes ≡ take k classes ++ get_or classes k 0 ∷ []
+    more = take_more classes k 0 l
 
-    from : (enters rows j o ≡ true) × IsUnder places (n + 1) j o → Contains new o
-    from h =
-        let under = h.1 in
-        subst (λ (xs : List ℕ). Contains xs o) (sym e)
-        (⊎_elim
-        (λ (a : under.0 < n). Contains-append_left old (filter (enters rows j) (list_at j (get_or places n no_place))) o ((known o).1 (h.0, (under.0, a, under.2))))
-        (λ (a : under.0 ≡ n).
-        Contains-append_right old (filter (enters rows j) (list_at j (get_or places n no_place))) o
-        (in_filter (enters rows j) (list_at j (get_or places n no_place)) o (subst (λ (i : ℕ). Contains (list_at j (get_or places i no_place)) o) a under.2) h.0))
-        (below_one under.0 n under.1))
+    to : Contains new t → Contains first t ⊎ (Contains (take (k + 1) classes) t.class × P t)
+    to h = ⊎_elim
+        (λ (a : Contains old t). ⊎_elim
+        (λ (b : Contains first t). inl b)
+        (λ (b : Contains (take k classes) t.class × P t). inr (subst (λ (xs : List ℕ). Contains xs t.class) (sym more) (Contains-append_left (take k classes) (get_or classes k 0 ∷ []) t.class b.0), b.1))
+        ((known t).0 a))
+        (λ (a : (t.class ≡ c) × P t).
+        inr (subst (λ (xs : List ℕ). Contains xs t.class) (sym more) (subst (λ (x : ℕ). Contains (take k classes ++ get_or classes k 0 ∷ []) x) (at ∙ sym a.0) (Contains-push (take k classes) (get_or classes k 0))), a.1))
+        ((added t).0 h)
 
--- a loop that pushes what passes
-pub filter_step : (p : ℕ → Bool) (xs : List ℕ) (i : ℕ) (base old new : List ℕ) (b : Bool) → i < length xs → old ≡ base ++ filter p (take i xs) → p (get_or xs i 0) ≡ b →
-    new ≡ old ++ cond b (get_or xs i 0 ∷ []) [] → new ≡ base ++ filter p (take (i + 1) xs)
-filter_step p xs i base old new b l before test e =
-    e ∙ ap (λ (ys : List ℕ). ys ++ cond b (get_or xs i 0 ∷ []) []) before
-    ∙ append_assoc base (filter p (take i xs)) (cond b (get_or xs i 0 ∷ []) [])
-    ∙ ap (λ (c : Bool). base ++ (filter p (take i xs) ++ cond c (get_or xs i 0 ∷ []) [])) (sym test)
-    ∙ ap (λ (ys : List ℕ). base ++ ys) (sym (filter_more p xs i 0 l))
+    from : Contains first t ⊎ (Contains (take (k + 1) classes) t.class × P t) → Contains new t
+    from h = (added t).1 (⊎_elim
+        (λ (a : Contains first t). inl ((known t).1 (inl a)))
+        (λ (a : Contains (take (k + 1) classes) t.class × P t). ⊎_elim
+        (λ (b : Contains (take k classes) t.class). inl ((known t).1 (inr (b, a.1))))
+        (λ (b : get_or classes k 0 ≡ t.class). inr (sym b ∙ at, a.1))
+        (Contains-push_cases (take k classes) (get_or classes k 0) t.class (subst (λ (xs : List ℕ). Contains xs t.class) more a.0)))
+        h)
 
-pub enters_is : (rows : List (List DigitChange)) (n j : ℕ) (row : List DigitChange) → slice_get rows n ≡ Some row → enters rows j n ≡ enters_by row j
-enters_is rows n j row e = ap (λ (r : Option (List DigitChange)). option_map_or (λ changes. enters_by changes j) r false) e
+-- a rule's transitions are those of its class, and there is none without a rule
+pub listed_rule : (rules : List (List DigitChange)) (j c : ℕ) (row : List DigitChange) (old new : List Transition) → slice_get rules c ≡ Some row →
+    ((t : Transition) → Contains new t ↔ (Contains old t ⊎ ((t.class ≡ c) × LeadsBy row t.source j))) → (t : Transition) → Contains new t ↔ (Contains old t ⊎ ((t.class ≡ c) × LeadsIn rules t.class t.source j))
+listed_rule rules j c row old new e known t = (
+  λ h. ⊎_elim
+      (λ (a : Contains old t). inl a)
+      (λ (a : (t.class ≡ c) × LeadsBy row t.source j). inr (a.0, subst (λ (r : Option (List DigitChange)). IsSomeAnd r (λ cs. LeadsBy cs t.source j)) (sym (at a.0)) a.1))
+      ((known t).0 h),
+  λ h. (known t).1 (⊎_elim
+      (λ (a : Contains old t). inl a)
+      (λ (a : (t.class ≡ c) × LeadsIn rules t.class t.source j). inr (a.0, subst (λ (r : Option (List DigitChange)). IsSomeAnd r (λ cs. LeadsBy cs t.source j)) (at a.0) a.1))
+      h),
+)
+  where
+    at : t.class ≡ c → slice_get rules t.class ≡ Some row
+    at same = ap (slice_get rules) same ∙ e
+
+pub listed_none : (rules : List (List DigitChange)) (j c : ℕ) (old : List Transition) → slice_get rules c ≡ None →
+    (t : Transition) → Contains old t ↔ (Contains old t ⊎ ((t.class ≡ c) × LeadsIn rules t.class t.source j))
+listed_none rules j c old e t = (
+  λ h. inl h,
+  λ h. ⊎_elim
+      (λ (a : Contains old t). a)
+      (λ (a : (t.class ≡ c) × LeadsIn rules t.class t.source j). absurd (subst (λ (r : Option (List DigitChange)). IsSomeAnd r (λ cs. LeadsBy cs t.source j)) (ap (slice_get rules) a.0 ∙ e) a.1))
+      h,
+)
+
+pub enters_is : (rows : List (List DigitChange)) (n j : ℕ) (row : List DigitChange) → slice_get rows n ≡ Some row → enters rows j n ≡ list_all (enters_digit j) row
+enters_is rows n j row e = ap (λ (r : Option (List DigitChange)). option_map_or (λ changes. list_all (enters_digit j) changes) r false) e
 
 pub enters_none : (rows : List (List DigitChange)) (n j : ℕ) → slice_get rows n ≡ None → enters rows j n ≡ false
-enters_none rows n j e = ap (λ (r : Option (List DigitChange)). option_map_or (λ changes. enters_by changes j) r false) e
+enters_none rows n j e = ap (λ (r : Option (List DigitChange)). option_map_or (λ changes. list_all (enters_digit j) changes) r false) e
 
 pub row_at : (rows : List (List DigitChange)) (n : ℕ) (row : List DigitChange) → n < length rows → row ≡ get_or rows n row → slice_get rows n ≡ Some row
 row_at [] n row l e = absurd (omega arith)
@@ -190,12 +216,3 @@ pub key_place : (first places : List Place) (rows : List (List DigitChange)) (n 
 key_place first places rows n row k v along same l is key =
     key_digit places row k v
     (subst (λ (ds : List Digit). IsAlong ds row) (sym same) (subst (λ (r : List DigitChange). IsAlong (digits_of first) r) (sym is) (along n row l))) key
-
--- where all operators are in the tables, what is found are the operators that enter
-pub found_all : (places : List Place) (rows : List (List DigitChange)) (j : ℕ) (found : List ℕ) → AreIndexed places rows (length rows) →
-    ((o : ℕ) → Contains found o ↔ ((enters rows j o ≡ true) × IsUnder places (length places) j o)) → (o : ℕ) → Contains found o ↔ (enters rows j o ≡ true)
-found_all places rows j found indexed known o = (λ h. ((known o).0 h).0, λ e. (known o).1 (e, indexed o j (within o e) e))
-  where
-    within : (o : ℕ) → enters rows j o ≡ true → o < length rows
-    within o e =
-        ⊎_elim (λ (l : o < length rows). l) (λ (l : length rows ≤ o). absurd (false≢true (sym (enters_none rows o j (slice_get_past rows o l)) ∙ e))) (cases_lt o (length rows))

@@ -1,5 +1,5 @@
 -- The changes that an operator makes to the values of a pattern's variables, digit by digit.
-use Rattle.std.specs.Prelude.{◌≡◌, ℕ, ◌*◌, ◌/◌, ◌%◌, ◌^◌, ◌<◌, Bool, true, ◌==◌, if◌then◌else◌, List, [], ◌∷◌, Option, Some, None}
+use Rattle.std.specs.Prelude.{◌≡◌, ℕ, ◌*◌, ◌/◌, ◌%◌, ◌^◌, ◌<◌, Bool, true, false, ◌==◌, if◌then◌else◌, List, [], ◌∷◌, Option, Some, None}
 use Rattle.fdr.specs.declared.fact.Fact.{Fact}
 use Rattle.fdr.specs.Tasks.{Operator}
 use Rattle.abstraction.specs.declared.digit.Digit.{Digit}
@@ -52,17 +52,37 @@ enters_at (Assigned e) y = y == e
 abbrev pub enters_digit : ℕ → DigitChange → Bool
 enters_digit j c = enters_at c.change (value_of c.digit j)
 
--- the value that the effect sets, if there is one
-abbrev pub target : Change → Option ℕ
-target Kept = None
-target (Required c) = None
-target (Moved from to) = Some to
-target (Assigned e) = Some e
+-- the value that the variable has to have after the change, if there is one
+abbrev pub asked : Change → Option ℕ
+asked Kept = None
+asked (Required c) = Some c
+asked (Moved from to) = Some to
+asked (Assigned e) = Some e
 
--- the values of the effect, and the one before it, are below the range
+-- the value that the effect puts there, and the one that it replaces, where they are known, and else 0
+abbrev pub put_at : Change → ℕ
+put_at Kept = 0
+put_at (Required c) = 0
+put_at (Moved from to) = to
+put_at (Assigned e) = e
+
+abbrev pub taken_at : Change → ℕ
+taken_at Kept = 0
+taken_at (Required c) = 0
+taken_at (Moved from to) = from
+taken_at (Assigned e) = 0
+
+-- whether the variable may have any value before
+abbrev pub is_free : Change → Bool
+is_free Kept = false
+is_free (Required c) = false
+is_free (Moved from to) = false
+is_free (Assigned e) = true
+
+-- the values of the precondition and of the effect are below the range
 abbrev pub FitsIn : ℕ → Change → Type 0
 FitsIn r Kept = Unit {0}
-FitsIn r (Required c) = Unit {0}
+FitsIn r (Required c) = c < r
 FitsIn r (Moved from to) = (from < r) × (to < r)
 FitsIn r (Assigned e) = e < r
 

@@ -1,14 +1,16 @@
--- The tables that answer which transitions lead into an abstract state.
-use Rattle.std.specs.Prelude.{◌≡◌, ℕ, ◌^◌, ◌<◌, ◌≤◌, Bool, true, false, if◌then◌else◌, List, [], ◌∷◌, length, map, Some, None, All, Contains, slice_get, slice_index_or, ◌⊎◌}
+-- The classes of operators, and the lists that answer which of them lead into an abstract state.
+use Rattle.std.specs.Prelude.{◌≡◌, ℕ, ◌*◌, ◌^◌, ◌<◌, ◌≤◌, Bool, true, false, if◌then◌else◌, List, [], ◌∷◌, ◌++◌, ◌⊎◌, length, map, Option, Some, None, IsSomeAnd, All, Contains, slice_get, slice_index_or}
 use Rattle.std.specs.List.{list_all}
 use Rattle.std.specs.Option.{option_map_or}
 use Rattle.fdr.specs.Tasks.{Operator, ranges}
 use Rattle.abstraction.specs.declared.digit.Digit.{Digit}
 use Rattle.abstraction.specs.Digits.{value_of, digits_from}
 use Rattle.abstraction.specs.Projections.{Projection, touches_pattern}
+use Rattle.abstraction.specs.Projections.{projection as projected}
+use Rattle.pdb_walks.specs.Entrances.{Classes, AreClasses}
 use Rattle.pdb_regression.specs.declared.change.Change.TheVariants.{Kept}
 use Rattle.pdb_regression.specs.declared.change.DigitChange.{DigitChange}
-use Rattle.pdb_regression.specs.Changes.{changes_of, enters_digit, target, IsFit, size_by}
+use Rattle.pdb_regression.specs.Changes.{changes_of, LeadsBy, enters_digit, asked, IsFit, size_by}
 
 -- ---- the changes by each operator
 
@@ -16,42 +18,48 @@ use Rattle.pdb_regression.specs.Changes.{changes_of, enters_digit, target, IsFit
 abbrev pub changes_in : Projection → Operator → List DigitChange
 changes_in p op = if touches_pattern p.pattern op then changes_of op (digits_from (ranges p.task) 1 p.pattern) p.pattern else []
 
--- whether there are changes, and each leads from some value to the value of the abstract state
-abbrev pub enters_by : List DigitChange → ℕ → Bool
-enters_by [] j = false
-enters_by (c ∷ cs) j = list_all (enters_digit j) (c ∷ cs)
-
+-- whether each change leads from some value to the value of the abstract state
 abbrev pub enters : List (List DigitChange) → ℕ → ℕ → Bool
-enters rows j o = option_map_or (λ changes. enters_by changes j) (slice_get rows o) false
+enters rules j c = option_map_or (λ changes. list_all (enters_digit j) changes) (slice_get rules c) false
 
--- the changes of an operator with an effect on the pattern, or none
+-- the changes of the class lead from the first abstract state to the second
+abbrev pub LeadsIn : List (List DigitChange) → ℕ → ℕ → ℕ → Type 0
+LeadsIn rules c i j = IsSomeAnd (slice_get rules c) (λ changes. LeadsBy changes i j)
+
+-- each digit's weight is the product of the ranges below it, where the first has this weight
+abbrev pub IsChain : ℕ → List DigitChange → Type 0
+IsChain w [] = Unit {0}
+IsChain w (c ∷ cs) = (c.digit.weight ≡ w) × IsChain (w * c.digit.range) cs
+
+-- the changes of an operator with an effect on the pattern
 pub record IsRow (changes : List DigitChange) : Type 0 where
   pub fit : All IsFit changes
   pub small : size_by changes ≤ 2 ^ 24
-  pub effect : All (λ c. target c.change ≡ None) changes → changes ≡ []
+  pub chain : IsChain 1 changes
+  pub asks : All (λ c. asked c.change ≡ None) changes → changes ≡ []
 
 -- a default where there is no change at a place
 abbrev pub no_change : DigitChange
 no_change = record { digit = record { weight = 0; range = 0 }; change = Kept }
 
--- the change at this place has an effect that sets this value
+-- the change at this place asks this value
 pub record IsKey (changes : List DigitChange) (place value : ℕ) : Type 0 where
   pub within : place < length changes
-  pub target : target (slice_index_or changes place no_change).change ≡ Some value
+  pub asked : asked (slice_index_or changes place no_change).change ≡ Some value
   pub below : value < (slice_index_or changes place no_change).digit.range
 
--- ---- the operators by their first effects
+-- ---- the classes by their keys
 
--- a digit of the pattern, and for each of its values the operators whose first effect on the pattern sets it
+-- a digit of the pattern, and for each of its values the classes that ask it first
 pub record Place : Type 0 where
   pub digit : Digit
   pub lists : List (List ℕ)
 
--- the operators listed under the value of the abstract state at the place
+-- the classes listed under the value of the abstract state at the place
 abbrev pub list_at : ℕ → Place → List ℕ
 list_at j p = slice_index_or p.lists (value_of p.digit j) []
 
--- the operator has been added to the place under the value
+-- the class has been added to the place under the value
 pub record IsAdded (old new : Place) (value o : ℕ) : Type 0 where
   pub digit : new.digit ≡ old.digit
   pub kept : (j p : ℕ) → Contains (list_at j old) p → Contains (list_at j new) p
@@ -61,17 +69,51 @@ pub record IsAdded (old new : Place) (value o : ℕ) : Type 0 where
 abbrev pub no_place : Place
 no_place = record { digit = record { weight = 0; range = 0 }; lists = [] }
 
--- at one of the first n places the operator is listed under the value of the abstract state
+-- at one of the first n places the class is listed under the value of the abstract state
 abbrev pub IsUnder : List Place → ℕ → ℕ → ℕ → Type 0
 IsUnder places n j o = (k : ℕ) × (k < n) × Contains (list_at j (slice_index_or places k no_place)) o
 
--- each of the first n operators is listed under each abstract state to which it leads
+-- each of the first n classes is listed under each abstract state to which it leads
 abbrev pub AreIndexed : List Place → List (List DigitChange) → ℕ → Type 0
 AreIndexed places rows n = (o j : ℕ) → o < n → enters rows j o ≡ true → IsUnder places (length places) j o
 
 abbrev pub digits_of : List Place → List Digit
 digits_of places = map (λ p. p.digit) places
 
--- the changes are at these digits, in their order, if there are any
+-- the changes are at these digits, in their order
 abbrev pub IsAlong : List Digit → List DigitChange → Type 0
-IsAlong digits changes = (changes ≡ []) ⊎ (map (λ c. c.digit) changes ≡ digits)
+IsAlong digits changes = map (λ c. c.digit) changes ≡ digits
+
+-- ---- the classes of the operators
+
+-- the operator with these changes is in this class, or has no changes and no class
+abbrev pub IsIn : List (List DigitChange) → Option ℕ → List DigitChange → Type 0
+IsIn rules None changes = changes ≡ []
+IsIn rules (Some c) changes = (slice_get rules c ≡ Some changes) × (changes ≡ [] → ⊥)
+
+-- the class of an operator with these changes: none if there are none, one that has them, or a new one
+abbrev pub AddsClass : List (List DigitChange) → List (List DigitChange) → List DigitChange → Option ℕ → Type 0
+AddsClass old new changes None = (new ≡ old) × (changes ≡ [])
+AddsClass old new changes (Some c) = (changes ≡ [] → ⊥) ×
+    (((new ≡ old) × (slice_get old c ≡ Some changes)) ⊎ ((new ≡ old ++ changes ∷ []) × (c ≡ length old)))
+
+-- the first n operators are in the classes of their changes, and each class has an operator
+pub record AreGrouped (p : Projection) (rules : List (List DigitChange)) (class_of : List (Option ℕ)) (n : ℕ) : Type 0 where
+  pub as_long : length class_of ≡ n
+  pub classes : (o : ℕ) → o < n → (changes : List DigitChange) → slice_get (map (changes_in p) p.task.operators) o ≡ Some changes → IsIn rules (slice_index_or class_of o None) changes
+  pub below : (o c : ℕ) → o < n → slice_index_or class_of o None ≡ Some c → c < length rules
+  pub some : (c : ℕ) → c < length rules → (o : ℕ) × (o < n) × (slice_index_or class_of o None ≡ Some c)
+  pub rows : All IsRow rules
+  pub filled : All (λ cs. cs ≡ [] → ⊥) rules
+  pub along : All (IsAlong (digits_from (ranges p.task) 1 p.pattern)) rules
+
+-- the classes in lists
+abbrev pub classes_in : ℕ → List (Option ℕ) → Classes
+classes_in count class_of = record { count = count; class = λ o. slice_index_or class_of o None }
+
+-- a projection with classes of its operators
+pub record Transitions : Type 0 where
+  pub projection : Projection
+  pub count : ℕ
+  pub class_of : List (Option ℕ)
+  pub grouped : AreClasses (projected projection.task projection.pattern) (classes_in count class_of)

@@ -1,8 +1,7 @@
 //! The change that an operator makes to the value of one variable.
 
-ghost use Rattle.std.specs.Prelude.{◌≡◌, ◌<◌, Some, IfSome};
+ghost use Rattle.std.specs.Prelude.{◌≡◌, true};
 ghost use Rattle.pdb_regression.specs.Changes as spec;
-ghost use Rattle.pdb_regression.specs.Changes.{IsFit};
 
 use abstraction::Digit;
 use fdr::{Fact, Operator};
@@ -54,29 +53,74 @@ pub(crate) fn change_of(operator: &Operator, variable: usize) -> Change
 }
 
 impl Change {
-    /// Returns the value of the effect, if there is one.
-    pub(crate) fn target(self) -> Option<u32>
-        ensures { result ≡ spec.target self }
+    /// Returns the value that the variable has to have after the change, if there is one.
+    pub(crate) fn asked(self) -> Option<u32>
+        ensures { result ≡ spec.asked self }
     {
         match self {
+            Change::Kept => None,
+            Change::Required(value) => Some(value),
             Change::Moved { to, .. } | Change::Assigned(to) => Some(to),
-            Change::Kept | Change::Required(_) => None,
+        }
+    }
+
+    /// Returns the value that the effect sets, if there is one, and else 0.
+    pub(crate) fn put(self) -> u32
+        ensures { result ≡ spec.put_at self }
+    {
+        match self {
+            Change::Kept | Change::Required(_) => 0,
+            Change::Moved { to, .. } | Change::Assigned(to) => to,
+        }
+    }
+
+    /// Returns the value that the effect replaces, if the operator has a precondition on the variable, and else 0.
+    pub(crate) fn taken(self) -> u32
+        ensures { result ≡ spec.taken_at self }
+    {
+        match self {
+            Change::Moved { from, .. } => from,
+            Change::Kept | Change::Required(_) | Change::Assigned(_) => 0,
+        }
+    }
+
+    /// Whether the variable may have any value before the change.
+    pub(crate) fn is_free(self) -> bool
+        ensures { result ≡ spec.is_free self }
+    {
+        match self {
+            Change::Assigned(_) => true,
+            Change::Kept | Change::Required(_) | Change::Moved { .. } => false,
+        }
+    }
+
+    /// Whether it is the same change.
+    fn is_same(self, other: Change) -> bool
+        ensures { result ≡ true → self ≡ other }
+    {
+        match (self, other) {
+            (Change::Kept, Change::Kept) => true,
+            (Change::Required(value), Change::Required(also)) => value == also,
+            (
+                Change::Moved { from, to },
+                Change::Moved {
+                    from: also_from,
+                    to: also_to,
+                },
+            ) => from == also_from && to == also_to,
+            (Change::Assigned(value), Change::Assigned(also)) => value == also,
+            _ => false,
         }
     }
 }
 
 impl DigitChange {
-    /// Whether the change leads from some value to the value of the abstract state.
-    pub(crate) fn enters(self, abstract_state: usize) -> bool
-        requires { IsFit self }
-        ensures { result ≡ spec.enters_digit abstract_state self }
+    /// Whether it is the same change at the same digit.
+    pub(crate) fn is_same(self, other: DigitChange) -> bool
+        ensures { result ≡ true → self ≡ other }
     {
-        match self.change {
-            Change::Kept => true,
-            Change::Required(value) | Change::Assigned(value) => {
-                self.digit.value(abstract_state) == value as usize
-            }
-            Change::Moved { to, .. } => self.digit.value(abstract_state) == to as usize,
-        }
+        self.digit.weight == other.digit.weight
+            && self.digit.range == other.digit.range
+            && self.change.is_same(other.change)
     }
 }

@@ -4,8 +4,11 @@
 
 mod backward;
 mod change;
+mod classes;
 mod place;
 mod row;
-mod sources;
+mod rule;
+mod transitions;
 
 pub use backward::BackwardProjection;
+pub use transitions::ProjectionTransitions;

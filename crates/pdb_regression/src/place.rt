@@ -1,22 +1,22 @@
-//! The operators, indexed by their first effects.
+//! The classes of operators, listed by the first value that they ask.
 
-ghost use Rattle.std.specs.Prelude.{◌≡◌, ◌<◌, ◌≤◌, ◌^◌, ℕ, All, IfOk, OnOk, length, map};
+ghost use Rattle.std.specs.Prelude.{◌≡◌, [], ◌<◌, ◌≤◌, ◌^◌, All, IfOk, OnOk, length, slice_index_or};
 ghost use Rattle.abstraction.specs.Digits.{IsDigitBelow};
 ghost use Rattle.pdb_regression.specs.Tables as spec;
-ghost use Rattle.pdb_regression.specs.Tables.{list_at, IsAdded, digits_of, IsAlong, AreIndexed};
+ghost use Rattle.pdb_regression.specs.Tables.{IsAdded, digits_of, IsAlong, AreIndexed};
 
-use crate::row::Row;
+use crate::rule::Rule;
 use abstraction::Digit;
 use std::alloc::{AllocError, Global};
 use std::marker::Model;
 
-/// A list of operators, by their numbers.
+/// A list of classes, by their numbers.
 #[derive(Drop)]
-struct OperatorList {
+struct ClassList {
     numbers: Vec<u32>,
 }
 
-impl Model for OperatorList {
+impl Model for ClassList {
     ghost use Rattle.std.specs.Prelude.{List, ℕ};
 
     ghost Value = { List ℕ };
@@ -24,11 +24,11 @@ impl Model for OperatorList {
     ghost view = { λ l. l.numbers.items };
 }
 
-/// A digit of the pattern, and for each of its values the operators whose first effect on the pattern sets it.
+/// A digit of the pattern, and for each of its values the classes that ask it first.
 #[derive(Drop)]
 pub(crate) struct Place {
     digit: Digit,
-    lists: Vec<OperatorList>,
+    lists: Vec<ClassList>,
 }
 
 impl Model for Place {
@@ -44,39 +44,40 @@ impl Model for Place {
 }
 
 impl Place {
-    /// Makes the place of a digit, without operators. Fails only if allocation fails.
+    /// Makes the place of a digit, without classes. Fails only if allocation fails.
     fn new(alloc: Global, digit: Digit) -> Result<Place, AllocError>
         requires { IsDigitBelow (2 ^ 24) digit }
         ensures { IfOk result (λ p. p.digit ≡ digit) }
     {
         let mut lists = Vec::new(alloc);
         for _ in 0..digit.range {
-            lists.push(OperatorList {
+            lists.push(ClassList {
                 numbers: Vec::new(alloc),
             })?;
         }
         Ok(Place { digit, lists })
     }
 
-    /// Returns the operators listed under the value of the abstract state at this digit.
-    pub(crate) fn operators(&self, abstract_state: usize) -> &[u32]
-        ensures { result.now ≡ list_at abstract_state self.now }
+    /// Returns the classes listed under the value.
+    pub(crate) fn classes(&self, value: usize) -> &[u32]
+        requires { value < self.now.digit.range }
+        ensures { result.now ≡ slice_index_or self.now.lists value [] }
     {
-        &self.lists[self.digit.value(abstract_state)].numbers
+        &self.lists[value].numbers
     }
 
-    /// Adds an operator under a value. Fails only if allocation fails.
-    fn add(&mut self, value: usize, operator: u32) -> Result<(), AllocError>
+    /// Adds a class under a value. Fails only if allocation fails.
+    fn add(&mut self, value: usize, class: u32) -> Result<(), AllocError>
         requires { value < self.old.digit.range }
         ensures digit { self.new.digit ≡ self.old.digit }
-        ensures added { OnOk result (IsAdded self.old self.new value operator) }
+        ensures added { OnOk result (IsAdded self.old self.new value class) }
     {
-        self.lists[value].numbers.push(operator)?;
+        self.lists[value].numbers.push(class)?;
         Ok(())
     }
 }
 
-/// The places of the digits, without operators. Fails only if allocation fails.
+/// The places of the digits, without classes. Fails only if allocation fails.
 pub(crate) fn places_of(alloc: Global, digits: &[Digit]) -> Result<Vec<Place>, AllocError>
     requires { All (IsDigitBelow (2 ^ 24)) digits.now }
     ensures { IfOk result (λ v. digits_of v.items ≡ digits.now) }
@@ -88,16 +89,17 @@ pub(crate) fn places_of(alloc: Global, digits: &[Digit]) -> Result<Vec<Place>, A
     Ok(places)
 }
 
-/// Adds each operator under its first effect on the pattern. Fails only if allocation fails.
-pub(crate) fn add_operators(places: &mut [Place], rows: &[Row]) -> Result<(), AllocError>
-    requires along { All (IsAlong (digits_of places.old)) rows.now }
-    requires few { length rows.now ≤ 4294967295 }
+/// Adds each class under the first value that it asks. Fails only if allocation fails.
+pub(crate) fn add_classes(places: &mut [Place], rules: &[Rule]) -> Result<(), AllocError>
+    requires along { All (IsAlong (digits_of places.old)) rules.now }
+    requires filled { All (λ cs. cs ≡ [] → ⊥) rules.now }
+    requires few { length rules.now ≤ 4294967295 }
     ensures digits { digits_of places.new ≡ digits_of places.old }
-    ensures indexed { OnOk result (AreIndexed places.new rows.now (length rows.now)) }
+    ensures indexed { OnOk result (AreIndexed places.new rules.now (length rules.now)) }
 {
-    for number in 0..rows.len() {
-        if let Some(key) = rows[number].key() {
-            places[key.place].add(key.value, number as u32)?;
+    for class in 0..rules.len() {
+        if let Some(key) = rules[class].key() {
+            places[key.place].add(key.value, class as u32)?;
         }
     }
     Ok(())

@@ -1,19 +1,27 @@
--- The transitions into an abstract state.
-use Rattle.std.specs.Prelude.{◌≡◌, ℕ, ◌<◌, true, ◌↔◌, List, Some, Contains}
+-- The transitions into an abstract state, class by class of operators.
+use Rattle.std.specs.Prelude.{◌≡◌, ℕ, ◌<◌, ◌↔◌, List, Option, Some, None, Contains}
 use Rattle.abstraction.specs.Abstractions.{Abstraction}
+use Rattle.pdb_walks.specs.declared.backward.Transition.{Transition}
 
 -- the operator leads from the first abstract state to the second
 abbrev pub LeadsTo : Abstraction → ℕ → ℕ → ℕ → Type 0
 LeadsTo a o i j = (i < a.size) × (a.transition i o ≡ Some j)
 
--- the operator touches the abstraction, and leads from some abstract state to this one
-abbrev pub IsEntering : Abstraction → ℕ → ℕ → Type 0
-IsEntering a j o = (a.touches o ≡ true) × ((i : ℕ) × LeadsTo a o i j)
+-- the number of classes, and the class of each operator, if it has one
+pub record Classes : Type 0 where
+  pub count : ℕ
+  pub class : ℕ → Option ℕ
 
--- exactly the operators that touch the abstraction and lead to this abstract state
-abbrev pub AreEntering : Abstraction → ℕ → List ℕ → Type 0
-AreEntering a j operators = (o : ℕ) → Contains operators o ↔ IsEntering a j o
+-- operators of one class have the same transitions, and those without a class lead from abstract states to themselves
+pub record AreClasses (a : Abstraction) (classes : Classes) : Type 0 where
+  pub below : (o c : ℕ) → classes.class o ≡ Some c → c < classes.count
+  pub alike : (o p c i j : ℕ) → classes.class o ≡ Some c → classes.class p ≡ Some c → j < a.size → LeadsTo a o i j → LeadsTo a p i j
+  pub others : (o i j : ℕ) → classes.class o ≡ None → j < a.size → LeadsTo a o i j → i ≡ j
 
--- exactly the abstract states from which the operator leads to this one
-abbrev pub AreSources : Abstraction → ℕ → ℕ → List ℕ → Type 0
-AreSources a j o states = (i : ℕ) → Contains states i ↔ LeadsTo a o i j
+-- some operator of the class leads from the source to the abstract state
+abbrev pub IsEntering : Abstraction → Classes → ℕ → Transition → Type 0
+IsEntering a classes j t = (o : ℕ) × (classes.class o ≡ Some t.class) × LeadsTo a o t.source j
+
+-- exactly the transitions by classes into this abstract state
+abbrev pub AreEntering : Abstraction → Classes → ℕ → List Transition → Type 0
+AreEntering a classes j transitions = (t : Transition) → Contains transitions t ↔ IsEntering a classes j t

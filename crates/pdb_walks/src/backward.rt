@@ -3,27 +3,65 @@
 use abstraction::Abstraction;
 use std::alloc::AllocError;
 
-/// An abstraction that lists the transitions into an abstract state.
-pub trait BackwardAbstraction: Abstraction {
-    ghost use Rattle.std.specs.Prelude.{◌≡◌, ◌<◌, length, OnOk, All};
-    ghost use Rattle.pdb_walks.specs.Entrances.{AreEntering, AreSources};
+/// A transition into an abstract state, of each operator of one class.
+#[derive(Clone, Copy)]
+pub struct Transition {
+    /// The class of the operators, by its number.
+    pub class: u32,
+    /// The abstract state from which it leads.
+    pub source: u32,
+}
 
-    /// Replaces the content of `operators` by the operators, by their numbers, that touch the abstraction and have a
-    /// transition into this abstract state. The order is not specified, and an operator may occur more than once. Fails
-    /// only if allocation fails, and then the content of the list is not specified.
-    fn entering(&self, abstract_state: usize, operators: &mut Vec<u32>) -> Result<(), AllocError>
-        requires { abstract_state < (Self.abstraction self.now).size }
-        ensures { OnOk result (AreEntering (Self.abstraction self.now) abstract_state operators.new.items) };
+/// The transitions of an abstraction, listed by the abstract state into which they lead. Operators that have the same
+/// transitions can share a class, so that a transition of all of them is listed once. The classes are the numbers below
+/// `class_count`.
+pub trait BackwardTransitions {
+    ghost use Rattle.std.specs.Prelude.{◌≡◌, ◌<◌, OnOk};
+    ghost use Rattle.abstraction.specs.Abstractions as abstractions;
+    ghost use Rattle.pdb_walks.specs.Entrances as spec;
 
-    /// Replaces the content of `states` by the abstract states from which the operator with this number has a
-    /// transition to this one. The order is not specified, and an abstract state may occur more than once. Fails only
-    /// if allocation fails, and then the content of the list is not specified.
-    fn sources(
+    /// The abstraction.
+    ghost abstraction: { Self → abstractions.Abstraction };
+
+    /// The classes of its operators.
+    ghost classes: { Self → spec.Classes };
+
+    /// Returns the number of classes.
+    fn class_count(&self) -> usize
+        ensures { result ≡ (classes self.now).count };
+
+    /// Returns the class of the operator with this number, or `None` if each of its transitions leads from an abstract
+    /// state to itself, or there is no such operator.
+    fn class_of(&self, operator: usize) -> Option<usize>
+        ensures { result ≡ (classes self.now).class operator };
+
+    /// Replaces the content of `transitions` by the transitions into this abstract state of all operators that have a
+    /// class. The order is not specified, and a transition may occur more than once. `digits` is a buffer whose content
+    /// is not specified before and after the call. Fails only if allocation fails, and then the content of the list is not
+    /// specified.
+    fn entering(
         &self,
         abstract_state: usize,
-        operator: usize,
-        states: &mut Vec<u32>,
+        digits: &mut Vec<u32>,
+        transitions: &mut Vec<Transition>,
     ) -> Result<(), AllocError>
-        requires { abstract_state < (Self.abstraction self.now).size }
-        ensures { OnOk result (AreSources (Self.abstraction self.now) abstract_state operator states.new.items) };
+        requires { abstract_state < (abstraction self.now).size }
+        ensures { OnOk result
+            (spec.AreEntering (abstraction self.now) (classes self.now) abstract_state transitions.new.items) };
+
+    /// Operators of one class have the same transitions, and those without a class lead from abstract states to
+    /// themselves.
+    ghost grouped: { (t : Self) → spec.AreClasses (abstraction t) (classes t) };
+}
+
+/// An abstraction whose transitions can be followed backwards.
+pub trait BackwardAbstraction: Abstraction {
+    ghost use Rattle.std.specs.Prelude.{◌≡◌};
+
+    /// The type of its transitions.
+    type Transitions: BackwardTransitions;
+
+    /// Returns the transitions of the abstraction.
+    fn transitions(&self) -> &Self::Transitions
+        ensures { Self.Transitions.abstraction result.now ≡ Self.abstraction self.now };
 }

@@ -5,7 +5,7 @@
 mod backward;
 mod laws;
 
-pub use backward::BackwardAbstraction;
+pub use backward::{BackwardAbstraction, BackwardTransitions, Transition};
 pub use laws::{
     distances_and_falls_are_unique, distances_are_consistent, partition_is_column,
     saturated_shares_suffice,

@@ -1,7 +1,7 @@
 -- A staircase, for tests: an operator that touches the states leads down by one step more than its number, if there are
 -- that many, and the others lead from each state to itself.
 use Rattle.std.specs.Prelude.{◌≡◌, ℕ, ◌+◌, ◌-◌, ◌<◌, ◌≤◌, Bool, false, nat_lt, if◌then◌else◌, List, [], ◌∷◌, length, replicate, Option, Some, None, option_and_then, IfSome, slice_index, slice_index_or, true}
-use Rattle.std.proofs.Common.{arith, ⊎_elim, ap, ◌∙◌}
+use Rattle.std.proofs.Common.{arith, ⊎_elim, ap, sym, subst, ◌∙◌}
 use Rattle.std.proofs.lemmas.Bool.Decides.{nat_tests}
 use Rattle.std.proofs.lemmas.List.{length-replicate, get_or-replicate}
 use Rattle.std.proofs.lemmas.Bool.{ne_eqb, and_left, both_ways, cases_lt}
@@ -9,6 +9,7 @@ use Rattle.std.proofs.lemmas.Option.{slice_get-get_or, slice_get_past}
 use Rattle.fdr.specs.declared.fact.Fact.{Fact}
 use Rattle.fdr.specs.Tasks.{FiniteDomainTask, Operator, ranges, holds, is_goal_state, step, applies, successor, IsState}
 use Rattle.abstraction.specs.Abstractions.{Abstraction, IsAbstractionOf}
+use Rattle.pdb_walks.specs.Entrances.{Classes, AreClasses}
 
 -- a value that the task's one variable does not have
 abbrev absent_fact : Fact
@@ -82,3 +83,25 @@ stairs_abstracts goals touching operators some t =
       operators = λ i o l. step_none touching operators i o t (omega (arith, length-replicate {A = Operator} operators blocked));
       untouched = λ i o l away. step_same touching operators i o away;
     }
+
+-- each operator that touches the states is a class of its own
+abbrev pub stair_classes : ℕ → Classes
+stair_classes touching = record { count = touching; class = λ o. if nat_lt o touching then Some o else None }
+
+class_below : (touching o c : ℕ) → (stair_classes touching).class o ≡ Some c → c < touching
+class_below touching o c e = grind (arith, nat_tests)
+
+class_itself : (touching o c : ℕ) → (stair_classes touching).class o ≡ Some c → o ≡ c
+class_itself touching o c e = grind (arith, nat_tests)
+
+stays_without : (touching operators o i j : ℕ) → (stair_classes touching).class o ≡ None → step_of touching operators i o ≡ Some j → i ≡ j
+stays_without touching operators o i j e step = grind (arith, nat_tests)
+
+pub stairs_grouped : (goals : List Bool) (touching operators : ℕ) → AreClasses (stairs goals touching operators) (stair_classes touching)
+stairs_grouped goals touching operators = record {
+  below = λ o c e. class_below touching o c e;
+  alike = λ o p c i j e f l step.
+      let same : o ≡ p = class_itself touching o c e ∙ sym (class_itself touching p c f) in
+      (step.0, subst (λ (q : ℕ). step_of touching operators i q ≡ Some j) same step.1);
+  others = λ o i j e l step. stays_without touching operators o i j e step.1;
+}

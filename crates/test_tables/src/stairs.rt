@@ -3,7 +3,7 @@
 ghost use Rattle.std.specs.Prelude.{◌≡◌, ◌+◌, ◌^◌, ◌<◌, ◌≤◌, length};
 
 use abstraction::Abstraction;
-use pdb_walks::BackwardAbstraction;
+use pdb_walks::{BackwardAbstraction, BackwardTransitions, Transition};
 use std::alloc::AllocError;
 
 /// A staircase: each abstract state is a step, counted from 0 at the bottom. An operator that touches the states leads
@@ -65,31 +65,49 @@ impl Abstraction for Stairs {
     }
 }
 
-impl BackwardAbstraction for Stairs {
-    fn entering(&self, abstract_state: usize, operators: &mut Vec<u32>) -> Result<(), AllocError> {
-        operators.clear();
+impl BackwardTransitions for Stairs {
+    ghost use Rattle.test_tables.specs.Stairs.{stairs, stair_classes, stairs_grouped};
+
+    ghost abstraction = { λ s. stairs s.goals.items s.touching s.operators };
+
+    ghost classes = { λ s. stair_classes s.touching };
+
+    ghost grouped = { λ s. stairs_grouped s.goals.items s.touching s.operators };
+
+    fn class_count(&self) -> usize {
+        self.touching
+    }
+
+    fn class_of(&self, operator: usize) -> Option<usize> {
+        if operator < self.touching {
+            Some(operator)
+        } else {
+            None
+        }
+    }
+
+    fn entering(
+        &self,
+        abstract_state: usize,
+        _: &mut Vec<u32>,
+        transitions: &mut Vec<Transition>,
+    ) -> Result<(), AllocError> {
+        transitions.clear();
         let above = self.goals.len() - 1 - abstract_state;
         for operator in 0..self.touching.min(above) {
-            operators.push(operator as u32)?;
+            transitions.push(Transition {
+                class: operator as u32,
+                source: (abstract_state + operator + 1) as u32,
+            })?;
         }
         Ok(())
     }
+}
 
-    fn sources(
-        &self,
-        abstract_state: usize,
-        operator: usize,
-        states: &mut Vec<u32>,
-    ) -> Result<(), AllocError> {
-        states.clear();
-        if operator < self.touching {
-            let source = abstract_state + operator + 1;
-            if source < self.goals.len() {
-                states.push(source as u32)?;
-            }
-        } else if operator < self.operators {
-            states.push(abstract_state as u32)?;
-        }
-        Ok(())
+impl BackwardAbstraction for Stairs {
+    type Transitions = Stairs;
+
+    fn transitions(&self) -> &Stairs {
+        self
     }
 }

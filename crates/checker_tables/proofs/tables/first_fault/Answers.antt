@@ -10,18 +10,18 @@ use Rattle.checker_tables.specs.TableFaults.{touching_from, spender_of}
 use Rattle.checker_tables.proofs.TableViolations.{goal_is_first, fall_is_first, none_falls}
 use Rattle.checker_tables.proofs.tables.first_fault.Goals as goal
 
-pub returns-in-Some-first_goal : goal.returns-in-Some-first_goal
-returns-in-Some-first_goal c =
+pub returns-in-Some-goal : goal.returns-in-Some-goal
+returns-in-Some-goal c =
     let t = kept.table_of c.args.table.now in
     let made = rw c.in-Some.is at c.in_ok-projected.ensures in
     let formed : has_form c.args.task.now t ≡ true =
     ap (λ (u : FiniteDomainTask). has_form u t) (sym made.0) ∙ ap (λ (x : Table). has_form c.in-Some.projected.task x) (sym made.1) ∙ c.projection-projection.ensures.formed
     in
     goal_is_first c.projection-projection.result.now c.args.task.now t (c.projection-projection.ensures.task ∙ made.0) (c.projection-projection.ensures.pattern ∙ ap (λ (x : Table). x.pattern) made.1)
-    formed c.in-Some-first_goal.state (rw c.in-Some-first_goal.is at c.first_goal.ensures)
+    formed c.in-Some-goal.state (rw c.in-Some-goal.is at c.in_ok-goal.ensures)
 
-pub returns-in-Some-first_fall : goal.returns-in-Some-first_fall
-returns-in-Some-first_fall c =
+pub returns-in-Some-fall : goal.returns-in-Some-fall
+returns-in-Some-fall c =
     let t = kept.table_of c.args.table.now in
     let made = rw c.in-Some.is at c.in_ok-projected.ensures in
     let formed : has_form c.args.task.now t ≡ true =
@@ -37,8 +37,8 @@ returns-in-Some-first_fall c =
     ∙ ap (λ (n : ℕ). map (spender_of (slice_index sums)) (touching_from (projection p.task p.pattern).touches 0 n)) c.operator_count-2.ensures
     in
     fall_is_first p c.args.task.now t (c.projection-projection.ensures.task ∙ made.0) (c.projection-projection.ensures.pattern ∙ ap (λ (x : Table). x.pattern) made.1)
-    sums shares c.deref-2.result.now are formed (rw c.in_default-first_goal.is at c.first_goal.ensures)
-    c.in-Some-first_fall.state c.in-Some-first_fall.operator (rw c.in-Some-first_fall.is at c.first_fall.ensures)
+    sums shares c.deref-2.result.now are formed (rw c.in_default-goal.is at c.in_ok-goal.ensures)
+    c.in-Some-fall.state c.in-Some-fall.operator (rw c.in-Some-fall.is at c.in_ok-fall.ensures)
 
 pub returns : goal.returns
 returns c =
@@ -57,5 +57,5 @@ returns c =
     ∙ ap (λ (n : ℕ). map (spender_of (slice_index sums)) (touching_from (projection p.task p.pattern).touches 0 n)) c.operator_count-2.ensures
     in
     none_falls p c.args.task.now t (c.projection-projection.ensures.task ∙ made.0) (c.projection-projection.ensures.pattern ∙ ap (λ (x : Table). x.pattern) made.1)
-    sums shares c.deref-2.result.now are formed (rw c.in_default-first_goal.is at c.first_goal.ensures)
-    (rw c.in-None.is at c.first_fall.ensures)
+    sums shares c.deref-2.result.now are formed (rw c.in_default-goal.is at c.in_ok-goal.ensures)
+    (rw c.in-None.is at c.in_ok-fall.ensures)

@@ -1,6 +1,11 @@
-use Rattle.std.proofs.Common.{◌≡◌, ℕ, ◌<◌, None}
-use Rattle.checker_tables.specs.TableFaults.{first_fall_at}
+use Rattle.std.proofs.Common.{◌≡◌, take}
+use Rattle.std.specs.Option.{option_map_or}
+use Rattle.abstraction.specs.Projections.{projection}
+use Rattle.checker_tables.specs.TableFaults.{IsFirstFall}
 use Rattle.checker_tables.proofs.transitions.first_fall.Given as goal
 
-abbrev pub invariant-loop-state : goal.invariant-loop-state
-invariant-loop-state g l = (a : ℕ) → a < l.state → first_fall_at (g.A.Abstraction.abstraction l.abstraction) l.values l.spenders a ≡ None
+abbrev pub invariant-loop-spender : goal.invariant-loop-spender
+invariant-loop-spender l = record {
+  first : IsFirstFall (projection l.projection.task l.projection.pattern) l.values (take l.spender-index l.spenders) l.found;
+  limit : l.limit ≡ option_map_or (λ f. f.0) l.found (projection l.projection.task l.projection.pattern).size;
+}

@@ -1,81 +1,91 @@
-use Rattle.std.proofs.Common.{◌≡◌, ◌∙◌, ◌<◌, length, slice_index, slice_set, below_more, arith}
+use Rattle.std.proofs.Common.{◌≡◌, ◌∙◌, ℕ, ◌<◌, ◌≤◌, length, max, slice_index, slice_set, get_or, inr, subst, below_more, arith}
 use Rattle.cost.specs.Distances.{Distance, Finite}
-use Rattle.pdb_walks.specs.Walks.{value_in}
-use Rattle.pdb_walks.specs.Entrances.{AreEntering, AreSources}
-use Rattle.pdb.specs.Saturations.{IsCoveredAt}
-use Rattle.pdb.proofs.Expansion.{operator_below, entering_leads, source_leads}
-use Rattle.pdb.proofs.Falls.{value_in-get, reached_set, kept_set, covered_here, covered_entering}
+use Rattle.pdb_walks.specs.declared.backward.Transition.{Transition}
+use Rattle.pdb_walks.specs.Walks.{value_in, fall}
+use Rattle.pdb_walks.specs.Entrances.{AreEntering}
+use Rattle.pdb.specs.Saturations.{IsFallOf}
+use Rattle.pdb.proofs.Expansion.{no_transition, listed_leads, of_each}
+use Rattle.pdb.proofs.Falls.{value_in-get, falls_raised, kept_raised, covered_here}
 use Rattle.pdb.proofs.saturation.cover.Goals as goal
 
-pub bounds-needed-operator : goal.bounds-needed-operator
-bounds-needed-operator g c =
-    let a = g.A.Abstraction.abstraction c.args.abstraction.now in
-    let task = g.A.Abstraction.task c.args.abstraction.now in
-    let items = c.deref-operator-items.result.now in
-    let are : AreEntering a c.args.state items = rw c.deref-operator-items.ensures.value c.in_ok-entering.ensures in
-    let k = c.loop-operator.operator-index in
-    let w = entering_leads a c.args.state items are k c.loop-operator-test.true in
-    omega (arith, operator_below task a (slice_index items k) w.1.0 c.args.state (g.met.A.Abstraction.abstracts c.args.abstraction.now) w.1.1, c.requires.len, c.loop-operator.auto.needed)
+pub bounds-greatest-class : goal.bounds-greatest-class
+bounds-greatest-class g c =
+    let a = g.T.BackwardTransitions.abstraction c.args.transitions.now in
+    let classes = g.T.BackwardTransitions.classes c.args.transitions.now in
+    let items = c.deref-transition-items.result.now in
+    let k = c.loop-transition.transition-index in
+    let are : AreEntering a classes c.args.state items = rw c.deref-transition-items.ensures.value c.in_ok-entering.ensures in
+    let w = listed_leads a classes c.args.state items are k c.loop-transition-test.true in
+    omega (arith, (g.met.T.BackwardTransitions.grouped c.args.transitions.now).below w.0 (get_or items k no_transition).class w.1, c.requires.len, c.loop-transition.auto.greatest)
 
-pub bounds-needed-operator-in-loop-operator : goal.bounds-needed-operator-in-loop-operator
-bounds-needed-operator-in-loop-operator g c =
-    let a = g.A.Abstraction.abstraction c.args.abstraction.now in
-    let task = g.A.Abstraction.task c.args.abstraction.now in
-    let items = c.deref-operator-items.result.now in
-    let are : AreEntering a c.args.state items = rw c.deref-operator-items.ensures.value c.in_ok-entering.ensures in
-    let k = c.loop-operator.operator-index in
-    let w = entering_leads a c.args.state items are k c.loop-operator-test.true in
-    omega (arith, operator_below task a (slice_index items k) w.1.0 c.args.state (g.met.A.Abstraction.abstracts c.args.abstraction.now) w.1.1, c.requires.len, c.loop-operator.auto.needed)
+pub bounds-greatest-class-in-loop-transition : goal.bounds-greatest-class-in-loop-transition
+bounds-greatest-class-in-loop-transition g c =
+    let a = g.T.BackwardTransitions.abstraction c.args.transitions.now in
+    let classes = g.T.BackwardTransitions.classes c.args.transitions.now in
+    let items = c.deref-transition-items.result.now in
+    let k = c.loop-transition.transition-index in
+    let are : AreEntering a classes c.args.state items = rw c.deref-transition-items.ensures.value c.in_ok-entering.ensures in
+    let w = listed_leads a classes c.args.state items are k c.loop-transition-test.true in
+    omega (arith, (g.met.T.BackwardTransitions.grouped c.args.transitions.now).below w.0 (get_or items k no_transition).class w.1, c.requires.len, c.loop-transition.auto.greatest)
 
-pub greatest_fall-requires-clause-states : goal.greatest_fall-requires-clause-states
-greatest_fall-requires-clause-states g c =
-    let a = g.A.Abstraction.abstraction c.args.abstraction.now in
-    let o = slice_index c.deref-operator-items.result.now c.loop-operator.operator-index in
-    let sources = c.deref.result.now in
-    let are : AreSources a c.args.state o sources = rw c.deref.ensures.value c.in_ok-sources.ensures in
-    λ k l. let leads = source_leads a c.args.state o sources are k l in omega (arith, leads.0, c.requires.values)
+pub fall_from-fall-requires-clause-state : goal.fall_from-fall-requires-clause-state
+fall_from-fall-requires-clause-state g c =
+    let a = g.T.BackwardTransitions.abstraction c.args.transitions.now in
+    let classes = g.T.BackwardTransitions.classes c.args.transitions.now in
+    let items = c.deref-transition-items.result.now in
+    let k = c.loop-transition.transition-index in
+    let are : AreEntering a classes c.args.state items = rw c.deref-transition-items.ensures.value c.in_ok-entering.ensures in
+    let w = listed_leads a classes c.args.state items are k c.loop-transition-test.true in
+    omega (arith, w.2.0, c.requires.values)
 
-pub greatest_fall-requires-clause-falls : goal.greatest_fall-requires-clause-falls
-greatest_fall-requires-clause-falls g c =
-    let a = g.A.Abstraction.abstraction c.args.abstraction.now in
-    let o = slice_index c.deref-operator-items.result.now c.loop-operator.operator-index in
-    let sources = c.deref.result.now in
-    let are : AreSources a c.args.state o sources = rw c.deref.ensures.value c.in_ok-sources.ensures in
+pub fall_from-fall-requires-clause-small : goal.fall_from-fall-requires-clause-small
+fall_from-fall-requires-clause-small g c =
+    let a = g.T.BackwardTransitions.abstraction c.args.transitions.now in
+    let classes = g.T.BackwardTransitions.classes c.args.transitions.now in
+    let items = c.deref-transition-items.result.now in
+    let k = c.loop-transition.transition-index in
+    let are : AreEntering a classes c.args.state items = rw c.deref-transition-items.ensures.value c.in_ok-entering.ensures in
+    let w = listed_leads a classes c.args.state items are k c.loop-transition-test.true in
     let at : value_in c.args.values.now c.args.state ≡ Finite c.in-Some.value = value_in-get c.args.values.now c.args.state c.get.result c.get.ensures ∙ c.in-Some.ensures.value in
-    λ k l. rw at at (c.requires.falls o (slice_index sources k) (source_leads a c.args.state o sources are k l))
+    rw at at (c.requires.falls w.0 (get_or items k no_transition).source w.2)
 
-pub loop-operator-preserved : goal.loop-operator-preserved
-loop-operator-preserved g c =
-    let a = g.A.Abstraction.abstraction c.args.abstraction.now in
-    let task = g.A.Abstraction.task c.args.abstraction.now in
+pub loop-transition-preserved : goal.loop-transition-preserved
+loop-transition-preserved g c =
+    let a = g.T.BackwardTransitions.abstraction c.args.transitions.now in
+    let classes = g.T.BackwardTransitions.classes c.args.transitions.now in
     let values = c.args.values.now in
     let j = c.args.state in
-    let items = c.deref-operator-items.result.now in
-    let k = c.loop-operator.operator-index in
-    let o = slice_index items k in
-    let needed = c.loop-operator.needed in
-    let n = c.greatest_fall.result in
-    let sources = c.deref.result.now in
-    let inv = c.loop-operator.invariant in
-    let entering : AreEntering a j items = rw c.deref-operator-items.ensures.value c.in_ok-entering.ensures in
-    let w = entering_leads a j items entering k c.loop-operator-test.true in
-    let inside : o < length needed = omega (arith, operator_below task a o w.1.0 j (g.met.A.Abstraction.abstracts c.args.abstraction.now) w.1.1, c.requires.len, c.loop-operator.auto.needed) in
-    let are : AreSources a j o sources = rw c.deref.ensures.value c.in_ok-sources.ensures in
-    let d : Distance = Finite c.in-Some.value in
-    let at : value_in values j ≡ d = value_in-get values j c.get.result c.get.ensures ∙ c.in-Some.ensures.value in
-    let more = c.greatest_fall.ensures.at_least in
+    let items = c.deref-transition-items.result.now in
+    let k = c.loop-transition.transition-index in
+    let t : Transition = get_or items k no_transition in
+    let numbers = c.loop-transition.greatest in
+    let n = c.fall_from-fall.result in
+    let inv = c.loop-transition.invariant in
+    let are : AreEntering a classes j items = rw c.deref-transition-items.ensures.value c.in_ok-entering.ensures in
+    let w = listed_leads a classes j items are k c.loop-transition-test.true in
+    let inside : t.class < length numbers = omega (arith, (g.met.T.BackwardTransitions.grouped c.args.transitions.now).below w.0 t.class w.1, c.requires.len, c.loop-transition.auto.greatest) in
+    let at : value_in values j ≡ Finite c.in-Some.value = value_in-get values j c.get.result c.get.ensures ∙ c.in-Some.ensures.value in
+    let fallen : fall (value_in values t.source) (value_in values j) ≡ n = rw at (omega (arith, c.fall_from-fall.ensures)) in
+    let here : IsFallOf a classes (value_in values) t.class n = inr (w.0, t.source, j, w.1, c.requires.state, w.2, fallen) in
+    let m = c.max.result in
+    let is : m ≡ max (slice_index numbers t.class) n = omega (arith, c.max.ensures) in
+    let new = slice_set numbers t.class m in
+    let kept = kept_raised a classes (value_in values) numbers t.class n m inside is in
     record {
-      reached = reached_set a (value_in values) needed o n j d sources inside are at inv.reached c.greatest_fall.ensures.reached;
-      kept = λ p. omega (arith, inv.kept p, kept_set a (value_in values) needed o n j d sources inside are at more p);
-      covered = below_more (λ m. IsCoveredAt a (value_in values) j (slice_index items m) (slice_index (slice_set needed o n) (slice_index items m))) k
-          (λ m h i step. let old = inv.covered m h i step in omega (arith, kept_set a (value_in values) needed o n j d sources inside are at more (slice_index items m)))
-          (covered_here a (value_in values) needed o n j d sources inside are at c.greatest_fall.ensures.covered);
+      reached = falls_raised a classes (value_in values) numbers t.class n m inside is inv.reached here;
+      kept = λ p. omega (arith, inv.kept p, kept p);
+      covered = below_more (λ m. fall (value_in values (get_or items m no_transition).source) (value_in values j) ≤ slice_index new (get_or items m no_transition).class) k
+          (λ m h. omega (arith, inv.covered m h, kept (get_or items m no_transition).class))
+          (let covered = covered_here a classes (value_in values) numbers t.class n m inside is in omega arith);
     }
 
 pub returns-clause-covered : goal.returns-clause-covered
 returns-clause-covered g c =
-    let a = g.A.Abstraction.abstraction c.args.abstraction.now in
-    let task = g.A.Abstraction.task c.args.abstraction.now in
-    let items = c.deref-operator-items.result.now in
-    let are : AreEntering a c.args.state items = rw c.deref-operator-items.ensures.value c.in_ok-entering.ensures in
-    covered_entering task a (value_in c.args.values.now) c.args.state items (slice_index c.loop-operator.needed) (g.met.A.Abstraction.abstracts c.args.abstraction.now) are (λ k l. c.loop-operator.invariant.covered k (omega (arith, c.loop-operator-test.false)))
+    let a = g.T.BackwardTransitions.abstraction c.args.transitions.now in
+    let classes = g.T.BackwardTransitions.classes c.args.transitions.now in
+    let values = c.args.values.now in
+    let items = c.deref-transition-items.result.now in
+    let are : AreEntering a classes c.args.state items = rw c.deref-transition-items.ensures.value c.in_ok-entering.ensures in
+    λ o i p e step.
+    of_each a classes c.args.state items (λ (p i : ℕ). fall (value_in values i) (value_in values c.args.state) ≤ slice_index c.loop-transition.greatest p) are
+    (λ k l. c.loop-transition.invariant.covered k (omega (arith, c.loop-transition-test.false))) o p i e step

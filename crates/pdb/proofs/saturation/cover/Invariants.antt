@@ -1,11 +1,12 @@
-use Rattle.std.proofs.Common.{ℕ, ◌<◌, ◌≤◌, slice_index}
-use Rattle.pdb_walks.specs.Walks.{value_in}
-use Rattle.pdb.specs.Saturations.{IsFallOf, IsCoveredAt}
+use Rattle.std.proofs.Common.{◌≡◌, ℕ, ◌<◌, ◌≤◌, length, slice_index, get_or}
+use Rattle.pdb_walks.specs.Walks.{value_in, fall}
+use Rattle.pdb.specs.Saturations.{AreFalls}
+use Rattle.pdb.proofs.Expansion.{no_transition}
 use Rattle.pdb.proofs.saturation.cover.Given as goal
 
-abbrev pub invariant-loop-operator : goal.invariant-loop-operator
-invariant-loop-operator g l = record {
-  reached : (o : ℕ) → IsFallOf (g.A.Abstraction.abstraction l.abstraction) (value_in l.values) o (slice_index l.needed o);
-  kept : (o : ℕ) → slice_index l.initial.needed o ≤ slice_index l.needed o;
-  covered : (k : ℕ) → k < l.operator-index → IsCoveredAt (g.A.Abstraction.abstraction l.abstraction) (value_in l.values) l.state (slice_index l.operator-items k) (slice_index l.needed (slice_index l.operator-items k));
+abbrev pub invariant-loop-transition : goal.invariant-loop-transition
+invariant-loop-transition g l = record {
+  reached : AreFalls (g.T.BackwardTransitions.abstraction l.transitions) (g.T.BackwardTransitions.classes l.transitions) (value_in l.values) l.greatest;
+  kept : (c : ℕ) → slice_index l.initial.greatest c ≤ slice_index l.greatest c;
+  covered : (k : ℕ) → k < l.transition-index → fall (value_in l.values (get_or l.transition-items k no_transition).source) (value_in l.values l.state) ≤ slice_index l.greatest (get_or l.transition-items k no_transition).class;
 }

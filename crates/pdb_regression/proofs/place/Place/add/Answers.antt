@@ -12,5 +12,5 @@ returns-clause-added c =
     let behind = c.behind-self.view_is in
     let read = c.index_mut.ensures.value in
     rw (← c.self.view_is)
-    (added_is inside.digit inside.lists.items (set inside.lists.items c.args.value c.push.new.self.items) c.args.value c.args.operator (omega arith)
-    (ap (λ (xs : List ℕ). set inside.lists.items c.args.value xs) (pushed.items ∙ ap (λ (xs : List ℕ). xs ++ c.args.operator ∷ []) (behind ∙ read ∙ get_or_default inside.lists.items c.args.value c.index_mut.result.now [] (omega arith)))))
+    (added_is inside.digit inside.lists.items (set inside.lists.items c.args.value c.push.new.self.items) c.args.value c.args.class (omega arith)
+    (ap (λ (xs : List ℕ). set inside.lists.items c.args.value xs) (pushed.items ∙ ap (λ (xs : List ℕ). xs ++ c.args.class ∷ []) (behind ∙ read ∙ get_or_default inside.lists.items c.args.value c.index_mut.result.now [] (omega arith)))))

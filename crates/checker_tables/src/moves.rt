@@ -1,0 +1,177 @@
+//! The transitions of one operator, by the digits of abstract states that it leaves free.
+
+ghost use Rattle.std.specs.Prelude.{◌≡◌, ℕ, ◌+◌, ◌*◌, ◌^◌, ◌<◌, ◌≤◌, ◌↔◌, ◌++◌, ◌∷◌, [], map, IfSome, IfOk, OnOk, All};
+ghost use Rattle.fdr.specs.Tasks.{ranges, IsTask, IsAssignment};
+ghost use Rattle.abstraction.specs.Digits.{IsDigitBelow};
+ghost use Rattle.checker_tables.specs.Moves.{Reaches, Leads, IsExtended, AreMoves, IsGathered};
+ghost use Rattle.checker_tables.specs.Moves as spec;
+
+use abstraction::{Digit, Projection};
+use fdr::Fact;
+use std::alloc::{AllocError, Global};
+
+/// A digit of abstract states whose value is free: each value is one more step from the source and from the target.
+#[derive(Clone, Copy)]
+pub(crate) struct FreeDigit {
+    /// The number of values.
+    pub(crate) range: usize,
+    /// The weight of a value in the source.
+    pub(crate) source: usize,
+    /// The weight of a value in the target, 0 if an effect sets the digit.
+    pub(crate) target: usize,
+}
+
+impl FreeDigit {
+    /// A digit with one value, which adds nothing.
+    pub(crate) const ONCE: FreeDigit = FreeDigit {
+        range: 1,
+        source: 0,
+        target: 0,
+    };
+
+    /// The digit without weight in the target.
+    fn gathered(self) -> FreeDigit
+        ensures { result ≡ spec.without_target self }
+    {
+        FreeDigit {
+            range: self.range,
+            source: self.source,
+            target: 0,
+        }
+    }
+}
+
+/// The transitions of one operator: a source and a target, and the free digits by which both differ between transitions.
+#[derive(Drop)]
+pub(crate) struct Moves {
+    /// The abstract state from which the transition leads whose free digits are 0.
+    pub(crate) source: usize,
+    /// The abstract state to which it leads.
+    pub(crate) target: usize,
+    /// The free digits, those of greater weights first.
+    pub(crate) free: Vec<FreeDigit>,
+}
+
+/// The value of the first fact on the variable, if there is one.
+fn value_in(facts: &[Fact], variable: usize) -> Option<u32>
+    ensures { result ≡ spec.value_in facts.now variable }
+{
+    facts
+        .iter()
+        .find(|fact| fact.variable == variable)
+        .map(|fact| fact.value)
+}
+
+/// The digits without weight in the target. Fails only if allocation fails.
+fn gathered(alloc: Global, free: &[FreeDigit]) -> Result<Vec<FreeDigit>, AllocError>
+    ensures { IfOk result (λ made. made.items ≡ map spec.without_target free.now) }
+{
+    free.iter().map(|digit| digit.gathered()).collect(alloc)
+}
+
+impl Moves {
+    /// Adds a free digit of less weight than all others. Fails only if allocation fails.
+    fn push(&mut self, digit: FreeDigit) -> Result<(), AllocError>
+        requires { 0 < digit.range }
+        ensures source { self.new.source ≡ self.old.source }
+        ensures target { self.new.target ≡ self.old.target }
+        ensures reached { OnOk result ((s t a b : ℕ) →
+            Reaches self.new.free.items s t a b ↔ Reaches (self.old.free.items ++ digit ∷ []) s t a b) }
+        ensures positive { OnOk result (All (λ d. 0 < d.range) self.old.free.items → All (λ d. 0 < d.range) self.new.free.items) }
+    {
+        self.free.push(digit)?;
+        Ok(())
+    }
+
+    /// Adds a digit below all others, without a condition and with the effect on it, if there is one. Fails only if
+    /// allocation fails.
+    fn add_free(&mut self, digit: Digit, effect: Option<u32>) -> Result<(), AllocError>
+        requires digit { IsDigitBelow (2 ^ 24) digit }
+        requires effect { IfSome effect (λ value. value < digit.range) }
+        requires target { self.old.target < 2 ^ 24 }
+        ensures leads { OnOk result ((a b : ℕ) → Leads self.new a b ↔ IsExtended self.old digit None effect a b) }
+        ensures positive { OnOk result (All (λ d. 0 < d.range) self.old.free.items → All (λ d. 0 < d.range) self.new.free.items) }
+    {
+        let range = digit.range;
+        let weight = digit.weight;
+        let Some(after) = effect else {
+            self.push(FreeDigit {
+                range,
+                source: weight,
+                target: weight,
+            })?;
+            return Ok(());
+        };
+        self.target += after as usize * weight;
+        self.push(FreeDigit {
+            range,
+            source: weight,
+            target: 0,
+        })?;
+        Ok(())
+    }
+
+    /// Adds a digit below all others, with the condition and the effect on it, if there are any. Fails only if
+    /// allocation fails.
+    fn add(
+        &mut self,
+        digit: Digit,
+        condition: Option<u32>,
+        effect: Option<u32>,
+    ) -> Result<(), AllocError>
+        requires digit { IsDigitBelow (2 ^ 24) digit }
+        requires condition { IfSome condition (λ value. value < digit.range) }
+        requires effect { IfSome effect (λ value. value < digit.range) }
+        requires source { self.old.source < 2 ^ 24 }
+        requires target { self.old.target < 2 ^ 24 }
+        ensures leads { OnOk result ((a b : ℕ) → Leads self.new a b ↔ IsExtended self.old digit condition effect a b) }
+        ensures positive { OnOk result (All (λ d. 0 < d.range) self.old.free.items → All (λ d. 0 < d.range) self.new.free.items) }
+    {
+        let Some(before) = condition else {
+            self.add_free(digit, effect)?;
+            return Ok(());
+        };
+        let after = effect.unwrap_or(before);
+        self.source += before as usize * digit.weight;
+        self.target += after as usize * digit.weight;
+        Ok(())
+    }
+
+    /// The transitions of an operator with this precondition and effect. Fails only if allocation fails.
+    pub(crate) fn new(
+        alloc: Global,
+        projection: &Projection<'_>,
+        precondition: &[Fact],
+        effect: &[Fact],
+    ) -> Result<Moves, AllocError>
+        requires precondition { IsAssignment (ranges projection.now.task) precondition.now }
+        requires effect { IsAssignment (ranges projection.now.task) effect.now }
+        ensures { IfOk result (AreMoves (ranges projection.now.task) projection.now.pattern 1 precondition.now effect.now) }
+    {
+        let digits = projection.digits();
+        let pattern = projection.pattern();
+        let mut moves = Moves {
+            source: 0,
+            target: 0,
+            free: Vec::new(alloc),
+        };
+        for place in (0..pattern.len()).rev() {
+            let condition = value_in(precondition, pattern[place]);
+            let value = value_in(effect, pattern[place]);
+            moves.add(digits[place], condition, value)?;
+        }
+        Ok(moves)
+    }
+
+    /// The same transitions, but all to the abstract state 0. Fails only if allocation fails.
+    pub(crate) fn gathered(&self, alloc: Global) -> Result<Moves, AllocError>
+        ensures { IfOk result (IsGathered self.now) }
+    {
+        let free = gathered(alloc, &self.free)?;
+        Ok(Moves {
+            source: self.source,
+            target: 0,
+            free,
+        })
+    }
+}

@@ -1,0 +1,53 @@
+-- The changes of a class of operators as arithmetic on the number of an abstract state.
+use Rattle.std.specs.Prelude.{◌≡◌, ℕ, ◌+◌, ◌*◌, ◌/◌, ◌%◌, ◌<◌, Bool, ◌==◌, if◌then◌else◌, List, [], ◌∷◌, Option, Some, None, slice_index}
+use Rattle.abstraction.specs.declared.digit.Digit.{Digit}
+use Rattle.pdb_regression.specs.declared.change.DigitChange.{DigitChange}
+use Rattle.pdb_regression.specs.declared.rule.Ask.{Ask}
+use Rattle.pdb_regression.specs.Changes.{asked, put_at, taken_at, is_free}
+use Rattle.pdb_regression.specs.Tables.{IsRow}
+
+-- the values at the digits, the lowest first
+abbrev pub unpacked : ℕ → List Digit → List ℕ
+unpacked n [] = []
+unpacked n (d ∷ ds) = n % d.range ∷ unpacked (n / d.range) ds
+
+-- the value that a digit has to have, where one is asked
+abbrev pub ask_at : ℕ → Option ℕ → List Ask → List Ask
+ask_at k None asks = asks
+ask_at k (Some v) asks = record { place = k; value = v } ∷ asks
+
+-- what the changes ask of the digits after them, where the first digit has this place
+abbrev pub asks_from : ℕ → List DigitChange → List Ask
+asks_from k [] = []
+asks_from k (c ∷ cs) = ask_at k (asked c.change) (asks_from (k + 1) cs)
+
+-- whether a digit has the value that is asked
+abbrev pub meets : List ℕ → Ask → Bool
+meets values ask = slice_index values ask.place == ask.value
+
+-- what the effects put into the number, and what they take from it, in units of the first digit
+abbrev pub put_by : List DigitChange → ℕ
+put_by [] = 0
+put_by (c ∷ cs) = put_at c.change + c.digit.range * put_by cs
+
+abbrev pub taken_by : List DigitChange → ℕ
+taken_by [] = 0
+taken_by (c ∷ cs) = taken_at c.change + c.digit.range * taken_by cs
+
+-- the digits that may have any value before
+abbrev pub free_in : List DigitChange → List Digit
+free_in [] = []
+free_in (c ∷ cs) = if is_free c.change then c.digit ∷ free_in cs else free_in cs
+
+-- the second number is the first with a multiple of the weight of each digit added, below the digit's range
+abbrev pub IsWith : List Digit → ℕ → ℕ → Type 0
+IsWith [] n m = n ≡ m
+IsWith (d ∷ ds) n m = (x : ℕ) × (x < d.range) × IsWith ds (n + x * d.weight) m
+
+-- the parts of a rule are those of the changes
+pub record IsRule (changes : List DigitChange) (asks : List Ask) (put taken : ℕ) (free : List Digit) : Type 0 where
+  pub row : IsRow changes
+  pub asks_are : asks ≡ asks_from 0 changes
+  pub put_is : put ≡ put_by changes
+  pub taken_is : taken ≡ taken_by changes
+  pub free_are : free ≡ free_in changes
