@@ -1,0 +1,5 @@
+pub mod Rows
+pub mod Working
+pub mod Fits
+pub mod Steps
+pub mod Chains

@@ -1,0 +1,59 @@
+use Rattle.std.proofs.Common.{◌≡◌, ◌∙◌, ap, sym, length, arith, add-one}
+use Rattle.closed.specs.Tables.{message_of}
+use Rattle.owner.specs.Spaces.{SpaceOf}
+use Rattle.worker.specs.Workers.{WorkerOf}
+use Rattle.worker.proofs.Fits.{unfit_as_read, fits_as_read}
+use Rattle.worker.proofs.Steps.{sets_aside, takes_one}
+use Rattle.worker.proofs.Working.{counted, nothing_received, set_aside, received_one}
+use Rattle.worker.proofs.worker.Worker.receive.Goals as goal
+
+pub invariant_of-self : goal.invariant_of-self
+invariant_of-self g c = (
+  c.self.invariant.0,
+  c.self.invariant.1,
+  nothing_received g.S.Spread.owner _ c.pop.new.ins.items c.in_default.ensures.same.len c.in_default.ensures.none c.self.invariant.2,
+)
+
+pub invariant_of-self-then-not-is_for : goal.invariant_of-self-then-not-is_for
+invariant_of-self-then-not-is_for g c =
+    let many : c.len-owners.result ≡ length c.self.inside.owner.outboxes = omega (arith, c.len-owners.ensures, c.self.inside.outs.ok.0, c.self.invariant.2.outs) in (
+      c.self.invariant.0,
+      c.is_for.ensures.buffer ∙ c.self.invariant.1,
+      set_aside g.S.Spread.owner _ c.pop.new.ins.items c.args.from (message_of c.in-Some.message) c.self.invariant.2
+          (ap (λ (w : WorkerOf g.row.S.Denot). w.misfits) c.self.view_is ∙ c.requires.none_aside)
+          (unfit_as_read g.S.Spread.owner c.self.inside.owner c.space.result.now c.len-owners.result c.self.inside.number (message_of c.in-Some.message)
+          c.space.ensures many
+          c.self.invariant.0 (c.is_for.ensures.not c.if-not-is_for.true))
+          c.in-Some.ensures.same.len c.in-Some.ensures.some,
+    )
+
+pub returns-then-not-is_for-clause-received : goal.returns-then-not-is_for-clause-received
+returns-then-not-is_for-clause-received g c =
+    let many : c.len-owners.result ≡ length c.self.inside.owner.outboxes = omega (arith, c.len-owners.ensures, c.self.inside.outs.ok.0, c.self.invariant.2.outs) in
+    rw (← c.self.view_is)
+    (sets_aside g.S.Spread.owner _ c.pop.new.ins.items c.args.from (message_of c.in-Some.message)
+    (unfit_as_read g.S.Spread.owner c.self.inside.owner c.space.result.now c.len-owners.result c.self.inside.number (message_of c.in-Some.message)
+    c.space.ensures many
+    c.self.invariant.0 (c.is_for.ensures.not c.if-not-is_for.true))
+    c.in-Some.ensures.same c.pop.ensures.fewer c.in-Some.ensures.some)
+
+pub invariant_of-self-2 : goal.invariant_of-self-2
+invariant_of-self-2 g c =
+    let many : c.len-owners.result ≡ length c.self.inside.owner.outboxes = omega (arith, c.len-owners.ensures, c.self.inside.outs.ok.0, c.self.invariant.2.outs) in (
+      c.self.invariant.0 ∙ sym c.in_default-take.ensures.worker,
+      c.is_for.ensures.buffer ∙ (c.self.invariant.1 ∙ sym (ap (λ (s : SpaceOf g.row.S.Denot). length s.task.value_names) c.in_default-take.ensures.space)),
+      counted g.S.Spread.owner _ _ _ _
+          (received_one g.S.Spread.owner _ c.take.new.self c.pop.new.ins.items c.args.from (message_of c.in-Some.message) c.self.invariant.2
+          (fits_as_read g.S.Spread.owner c.self.inside.owner c.space.result.now c.len-owners.result c.self.inside.number (message_of c.in-Some.message)
+          c.space.ensures many
+          c.self.invariant.0 (c.is_for.ensures.state c.if-not-is_for.false) (c.is_for.ensures.owner c.if-not-is_for.false))
+          c.in_default-take.ensures.taken c.in_default-take.ensures.space c.in_default-take.ensures.worker c.in-Some.ensures.same.len
+          c.in-Some.ensures.some),
+    )
+
+pub returns-clause-received : goal.returns-clause-received
+returns-clause-received g c =
+    rw (← c.self.view_is)
+    (takes_one g.S.Spread.owner _ c.take.new.self c.pop.new.ins.items c.args.from _ (message_of c.in-Some.message)
+    c.in_default-take.ensures.taken c.in_default-take.ensures.space c.in_default-take.ensures.worker c.in_default-take.ensures.expansions
+    (add-one c.self.inside.taken) c.in-Some.ensures.same c.pop.ensures.fewer c.in-Some.ensures.some)

@@ -1,0 +1,70 @@
+use Rattle.std.proofs.Common.{◌∙◌, ap, sym, subst, Bool}
+use Rattle.std.proofs.lemmas.Result.{err_from_is_err_and}
+use Rattle.board.specs.declared.views.View.{View}
+use Rattle.board.specs.Seats.{view}
+use Rattle.worker.specs.Workers.{WorkerOf}
+use Rattle.worker.specs.Turns.{HasReceivedEach, HasCounted}
+use Rattle.worker.proofs.Chains.{receives_keep, stopped_uncounted, as_turn, counted_uncounted, refused_uncounted, refused_turn}
+use Rattle.worker.proofs.worker.Worker.turn.Goals as goal
+
+pub returns-then-not-branch-clause-none_uncounted : goal.returns-then-not-branch-clause-none_uncounted
+returns-then-not-branch-clause-none_uncounted g c =
+    stopped_uncounted g.S.Spread.owner _ _
+    (subst (λ (all : Bool). HasReceivedEach g.S.Spread.owner c.args.self.now c.receive_each.new.self all) c.if-not-branch.true
+    c.in_ok-receive_each.ensures.received)
+    ∙ c.requires.none_uncounted
+
+pub expand-requires : goal.expand-requires
+expand-requires g c =
+    ap (λ (w : WorkerOf g.row.S.Denot). w.uncounted) c.look.ensures.looked.worker
+    ∙ ((receives_keep g.S.Spread.owner _ _ _
+    (subst (λ (all : Bool). HasReceivedEach g.S.Spread.owner c.args.self.now c.receive_each.new.self all) c.if-not-branch.false
+    c.in_ok-receive_each.ensures.received)).uncounted
+    ∙ c.requires.none_uncounted)
+
+pub returns-in_err-_posted-clause-refused : goal.returns-in_err-_posted-clause-refused
+returns-in_err-_posted-clause-refused g c =
+    let p = err_from_is_err_and c.from_residual-in_err-_posted.result c.from_residual-in_err-_posted.ensures.1 in
+    rw (p.1, p.2) (refused_turn g.S.Spread.owner c.args.self.now c.receive_each.new.self c.look.new.self c.expand.new.self _ _ c.in_err-_posted.field-0.0
+    (subst (λ (all : Bool). HasReceivedEach g.S.Spread.owner c.args.self.now c.receive_each.new.self all) c.if-not-branch.false
+    c.in_ok-receive_each.ensures.received)
+    c.look.ensures.looked c.in_err-_posted.ensures.refused)
+
+pub returns-in_err-_posted-clause-none_uncounted : goal.returns-in_err-_posted-clause-none_uncounted
+returns-in_err-_posted-clause-none_uncounted g c =
+    refused_uncounted g.S.Spread.owner c.look.new.self c.expand.new.self c.in_err-_posted.field-0.0 c.in_err-_posted.ensures.refused
+    ∙ (ap (λ (w : WorkerOf g.row.S.Denot). w.uncounted) c.look.ensures.looked.worker
+    ∙ ((receives_keep g.S.Spread.owner _ _ _
+    (subst (λ (all : Bool). HasReceivedEach g.S.Spread.owner c.args.self.now c.receive_each.new.self all) c.if-not-branch.false
+    c.in_ok-receive_each.ensures.received)).uncounted
+    ∙ c.requires.none_uncounted))
+
+pub returns-clause-turned : goal.returns-clause-turned
+returns-clause-turned g c =
+    as_turn g.S.Spread.owner _ _ _ _ c.next_turn.result c.next_turn.ensures.turn
+    (record {
+      received = c.receive_each.new.self;
+      receives = subst (λ (all : Bool). HasReceivedEach g.S.Spread.owner c.args.self.now c.receive_each.new.self all) c.if-not-branch.false
+          c.in_ok-receive_each.ensures.received;
+      looked = c.look.new.self;
+      view_looked = view c.look.new.seat;
+      looks = c.look.ensures.looked;
+      expanded = c.expand.new.self;
+      posted = c.in_ok-_posted._posted;
+      expands = c.in_ok-_posted.ensures.expanded;
+      added = c.add_posted.new.self;
+      view_added = view c.add_posted.new.seat;
+      adds = c.add_posted.ensures.added;
+      offered = c.offer.new.self;
+      view_offered = view c.offer.new.seat;
+      offers = c.offer.ensures.offered;
+      sent = c.send_each.new.self;
+      sends = c.send_each.ensures;
+      counts = subst (λ (v : View). HasCounted g.S.Spread.owner c.send_each.new.self c.count_taken.new.self (view c.offer.new.seat) v)
+          (sym c.next_turn.ensures.view) c.count_taken.ensures.counted;
+    })
+
+pub returns-clause-none_uncounted : goal.returns-clause-none_uncounted
+returns-clause-none_uncounted g c =
+    counted_uncounted g.S.Spread.owner _ _ _ _ _ _ _ _ _ c.add_posted.ensures.added c.offer.ensures.offered c.send_each.ensures
+    c.count_taken.ensures.counted

@@ -1,0 +1,48 @@
+//! Rows of ends of links.
+
+ghost use Rattle.std.specs.Prelude.{◌≡◌, ℕ, suc, ◌<◌, ◌≤◌, ◌++◌, ◌∷◌, [], false, length, slice_get, Some, IsTrue, IfSome, IfNone};
+ghost use Rattle.owner_theory.specs.Owners.{put};
+ghost use Rattle.closed.specs.Tables.{message_of};
+ghost use Rattle.links.specs.declared.ends.Out.{Out as OutOf};
+ghost use Rattle.links.specs.declared.ends.In.{In as InOf};
+ghost use Rattle.links.specs.Ends.{room, known};
+ghost use Rattle.links.specs.Ranks.{HasSmallRank};
+ghost use Rattle.worker.specs.Workers.{sent_to, received_from, known_from, AreSameOuts, AreSameIns};
+
+use links::{In, Message, Out};
+
+/// Whether there certainly is room for a message to that worker. Allocates nothing.
+pub(crate) fn has_room(outs: &mut Vec<Out>, to: usize) -> bool
+    requires { to < length outs.old.items }
+    ensures same { AreSameOuts outs.old.items outs.new.items }
+    ensures sent { (v : ℕ) → sent_to outs.new.items v ≡ sent_to outs.old.items v }
+    ensures room { IsTrue result → (o : OutOf) → slice_get outs.new.items to ≡ Some o → 0 < room o }
+    ensures full { result ≡ false → (o : OutOf) → slice_get outs.old.items to ≡ Some o → room o ≡ 0 }
+{
+    outs[to].has_room()
+}
+
+/// Sends a message to that worker, for which there is room. Allocates nothing.
+pub(crate) fn push(outs: &mut Vec<Out>, to: usize, message: Message)
+    requires within { to < length outs.old.items }
+    requires small { HasSmallRank message }
+    requires room { (o : OutOf) → slice_get outs.old.items to ≡ Some o → 0 < room o }
+    ensures same { AreSameOuts outs.old.items outs.new.items }
+    ensures sent { (v : ℕ) → sent_to outs.new.items v ≡ put (sent_to outs.old.items) to (sent_to outs.old.items to ++ message_of message ∷ []) v }
+{
+    let pushed = outs[to].push(message);
+    let _ = pushed; // there is room
+}
+
+/// Takes the oldest message from that worker, if the link is found to hold one. Allocates nothing.
+pub(crate) fn pop(ins: &mut Vec<In>, from: usize) -> Option<Message>
+    requires { from < length ins.old.items }
+    ensures same { AreSameIns ins.old.items ins.new.items }
+    ensures some { IfSome result (λ m. (v : ℕ) → received_from ins.new.items v ≡ put (received_from ins.old.items) from (received_from ins.old.items from ++ message_of m ∷ []) v) }
+    ensures small { IfSome result HasSmallRank }
+    ensures none { IfNone result ((v : ℕ) → received_from ins.new.items v ≡ received_from ins.old.items v) }
+    ensures fewer { length (known_from ins.old.items from) ≤ suc (length (known_from ins.new.items from)) }
+    ensures unknown { IfNone result ((i : InOf) → slice_get ins.old.items from ≡ Some i → known i ≡ []) }
+{
+    ins[from].pop()
+}

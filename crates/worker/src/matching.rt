@@ -1,0 +1,49 @@
+//! Links looked at from both of their ends, while no other thread has one of them.
+
+ghost use Rattle.std.specs.Prelude.{◌≡◌, ◌<◌, length};
+ghost use Rattle.worker.specs.Matching.{AreLinked, IsMatchedUp};
+
+use crate::worker::Worker;
+use links::{In, Out, match_up};
+use packed::StateForm;
+use packed_spread::Spread;
+
+/// The number of messages in the ring of a link, from both of its ends in their rows. Allocates nothing.
+fn match_in_rows(outs: &mut Vec<Out>, to: usize, ins: &mut Vec<In>, from: usize) -> usize
+    requires to { to < length outs.old.items }
+    requires from { from < length ins.old.items }
+    requires linked { AreLinked outs.old.items to ins.old.items from }
+    ensures { IsMatchedUp to from outs.old.items outs.new.items ins.old.items ins.new.items result }
+{
+    match_up(&mut outs[to], &mut ins[from])
+}
+
+impl<'a, S: Spread + Drop, F: StateForm + Drop> Worker<'a, S, F> {
+    /// The number of messages in the ring of the link from this worker to another one. The other worker then receives as many
+    /// from this one, a message with each call. Allocates nothing.
+    pub fn match_link(&mut self, receiver: &mut Worker<'a, S, F>) -> usize
+        requires to { receiver.old.owner.worker < length self.old.outs }
+        requires from { self.old.owner.worker < length receiver.old.ins }
+        requires linked { AreLinked self.old.outs receiver.old.owner.worker receiver.old.ins self.old.owner.worker }
+        ensures matched { IsMatchedUp receiver.old.owner.worker self.old.owner.worker self.old.outs self.new.outs receiver.old.ins receiver.new.ins result }
+        ensures sender { self.new ≡ record self.old { outs = self.new.outs } }
+        ensures receiver { receiver.new ≡ record receiver.old { ins = receiver.new.ins } }
+    {
+        match_in_rows(
+            &mut self.outs,
+            receiver.number,
+            &mut receiver.ins,
+            self.number,
+        )
+    }
+
+    /// The number of messages in the ring of the link from this worker to itself. Allocates nothing.
+    pub fn match_own_link(&mut self) -> usize
+        requires within { self.old.owner.worker < length self.old.outs }
+        requires linked { AreLinked self.old.outs self.old.owner.worker self.old.ins self.old.owner.worker }
+        ensures matched { IsMatchedUp self.old.owner.worker self.old.owner.worker self.old.outs self.new.outs self.old.ins self.new.ins result }
+        ensures worker { self.new ≡ record self.old { outs = self.new.outs; ins = self.new.ins } }
+    {
+        match_in_rows(&mut self.outs, self.number, &mut self.ins, self.number)
+    }
+}

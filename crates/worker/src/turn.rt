@@ -1,0 +1,83 @@
+//! One turn of a worker.
+
+ghost use Rattle.std.specs.Prelude.{◌≡◌, ◌≢◌, [], true, length, IfOk, IfErr};
+ghost use Rattle.board.specs.Seats.{IsSeatOf, view};
+ghost use Rattle.worker.specs.Turns.{chained, SendsTo, HasReceivedEach, IsTurn, IsTurnRefusal};
+
+use crate::outcome::{Received, Turn};
+use crate::worker::Worker;
+use board::{Board, Seat};
+use owner::OwnerFault;
+use packed::StateForm;
+use packed_spread::Spread;
+use std::alloc::AllocError;
+
+/// Whether the worker takes another turn: not where nothing is counted as left to do, or the round was ended.
+fn next_turn(board: &Board, seat: &mut Seat) -> Turn
+    requires { IsSeatOf board.now seat.old }
+    ensures turn { result ≢ Turn.Misfit }
+    ensures seat { IsSeatOf board.now seat.new }
+    ensures view { view seat.new ≡ view seat.old }
+{
+    if board.halted(seat) || board.count(seat) == 0 {
+        Turn::Last
+    } else {
+        Turn::Next
+    }
+}
+
+impl<'a, S: Spread + Drop, F: StateForm + Drop> Worker<'a, S, F> {
+    /// Takes at most one message from each link. Returns false if one was set aside, after which it takes no more. Fails only if
+    /// allocation fails, after which the worker must not be used again.
+    fn receive_each(&mut self) -> Result<bool, AllocError>
+        requires none_aside { self.old.misfits ≡ [] }
+        requires none_taken { self.old.taken ≡ 0 }
+        ensures received { IfOk result (HasReceivedEach S.owner self.old self.new) }
+        ensures spent { IfErr result (λ _. (self.new.spent ≡ true) × (self.new.uncounted ≡ self.old.uncounted)) }
+    {
+        for from in 0..self.workers() {
+            if let Received::SetAside = self.receive(from)? {
+                return Ok(false);
+            }
+        }
+        Ok(true)
+    }
+
+    /// Sends at most one message over each link. Allocates nothing.
+    fn send_each(&mut self)
+        requires { self.old.uncounted ≡ 0 }
+        ensures { chained SendsTo (length self.old.outs) self.old self.new }
+    {
+        for to in 0..self.workers() {
+            let _sent = self.send(to);
+        }
+    }
+
+    /// One turn, in this order: it takes at most one message from each link, reads the bound, expands at most one node, adds the
+    /// messages that this put into outboxes to the units, offers its best goal, sends at most one message over each link, and
+    /// subtracts what it has taken from the units. A message that is not for its owner ends the turn.
+    ///
+    /// A fault is that of the owner. It leaves the worker as it was after it read the bound, except `OutOfMemory`, after which the
+    /// worker must not be used again.
+    pub fn turn(&mut self, board: &Board, seat: &mut Seat) -> Result<Turn, OwnerFault>
+        requires seat { IsSeatOf board.now seat.old }
+        requires none_aside { self.old.misfits ≡ [] }
+        requires none_uncounted { self.old.uncounted ≡ 0 }
+        requires none_taken { self.old.taken ≡ 0 }
+        ensures seat { IsSeatOf board.now seat.new }
+        ensures turned { IfOk result (IsTurn S.owner self.old self.new (view seat.old) (view seat.new)) }
+        ensures refused { IfErr result (IsTurnRefusal S.owner self.old self.new (view seat.old) (view seat.new)) }
+        ensures none_uncounted { self.new.uncounted ≡ 0 }
+    {
+        if !self.receive_each()? {
+            return Ok(Turn::Misfit);
+        }
+        self.look(board, seat);
+        let _posted = self.expand()?;
+        self.add_posted(board, seat);
+        self.offer(board, seat);
+        self.send_each();
+        self.count_taken(board, seat);
+        Ok(next_turn(board, seat))
+    }
+}

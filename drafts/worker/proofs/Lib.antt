@@ -1,4 +1,0 @@
-pub mod Rows
-pub mod Working
-pub mod Fits
-pub mod Steps
