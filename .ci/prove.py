@@ -45,8 +45,8 @@ def remembered(method):
 class Side:
     """Crates that are proved by some threads, the longest way up first."""
 
-    def __init__(self, crates, used):
-        self.crates, self.used = crates, used
+    def __init__(self, crates, used, processors):
+        self.crates, self.used, self.processors = crates, used, processors
         self.started, self.proved, self.failed = set(), set(), set()
         self.turn = threading.Condition()
 
@@ -74,12 +74,16 @@ class Side:
                 self.turn.wait()
 
     def prove(self, crate):
-        """Whether the crate is proved: built for the crates above it, or checked with its tests where there is none."""
+        """Whether the crate is proved: built for the crates above it, or checked with its tests where there is none. A crate
+        that few others run beside gets their processors too."""
+        with self.turn:
+            beside = len(self.started) - len(self.proved) - len(self.failed)
+        jobs = ["--jobs", str(max(1, self.processors // max(1, beside)))]
         os.makedirs(f"{crate.folder}/out", exist_ok=True)
         with open(f"{crate.folder}/out/proved.txt", "w", encoding="utf-8") as crate.out:
             if crate in self.used:
-                return crate.is_built() or not crate.build_rlib(["--jobs", "1"], anew=False)
-            return not crate.check(["--test"] * crate.has_tests() + ["--jobs", "1"])
+                return crate.is_built() or not crate.build_rlib(jobs, anew=False)
+            return not crate.check(["--test"] * crate.has_tests() + jobs)
 
     def work(self):
         while crate := self.next():
@@ -111,7 +115,7 @@ def main(words):
     if words:
         kept = {it for crate in crates if crate.name in words for it in [*crate.below(), crate]}
         crates = [it for it in crates if it in kept]
-    side = Side(crates, used)
+    side = Side(crates, used, jobs)
     threads = [threading.Thread(target=side.work) for _ in range(jobs)]
     for it in threads:
         it.start()

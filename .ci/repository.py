@@ -138,8 +138,8 @@ class Record:
         return self.states.get(name) == repository.state(name)
 
     def add(self, repository, names):
-        """Records crates, and writes the file. What it says of crates that are there no more is dropped."""
-        self.states.update((it, repository.state(it)) for it in names)
+        """Records crates beside what the file says by then, and writes it. What it says of crates that are there no more is dropped."""
+        self.states = Record(self.path).states | {it: repository.state(it) for it in names}
         kept = sorted(it for it in self.states.items() if it[0] in repository.uses)
         with open(f"{self.path}.new", "w", encoding="utf-8") as file:
             file.write(self.HEAD + "".join(f"{name} {state}\n" for name, state in kept))

@@ -7,8 +7,8 @@ mod together;
 
 ghost use Rattle.std.specs.Prelude.{◌≡◌, ◌≤◌, ◌^◌, IfOk};
 
-use crate::alone::expand_alone;
-use crate::together::step_together;
+use crate::alone::alone_in_smallest_form;
+use crate::together::together_in_smallest_form;
 use fdr::FdrTask;
 use optplan_device::{Device, ProcessDevice};
 use owner::{OwnerFault, Space};
@@ -53,9 +53,9 @@ fn searched<'a>(alloc: Global, task: &'a FdrTask, amounts: Amounts) -> Result<St
     let spread = Zobrist::new(alloc, task)?;
     let space: Space<'a, Zobrist<'a>> = Space::new(alloc, task, columns, spread, None)?;
     if amounts.owners == 1 {
-        expand_alone(alloc, &space, amounts.steps)
+        alone_in_smallest_form(alloc, &space, amounts.steps)
     } else {
-        step_together(alloc, &space, amounts.owners, amounts.steps)
+        together_in_smallest_form(alloc, &space, amounts.owners, amounts.steps)
     }
 }
 

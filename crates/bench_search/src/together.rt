@@ -1,10 +1,12 @@
 //! A search by several owners in one thread.
 
 ghost use Rattle.std.specs.Prelude.{◌≡◌, ◌<◌, ◌≤◌, IfOk};
+ghost use Rattle.fdr.specs.Tasks.{ranges};
 
 use netcore::{World, WorldStep};
 use owner::{Owner, OwnerFault, Space};
-use packed_spread::Spread;
+use packed::{StateForm, in_smallest_form};
+use packed_spread::{Spread, Zobrist};
 use rand_core::{Rng, SeedableRng};
 use rand_xoshiro::Xoshiro256PlusPlus;
 use std::alloc::Global;
@@ -14,8 +16,8 @@ const SEED: u64 = 1;
 
 /// The step that the next word draws: of the steps that would change something, the one whose number is the word modulo
 /// their number; `None` if there are none.
-fn drawn<S: Spread + Drop>(
-    world: &World<'_, S>,
+fn drawn<S: Spread + Drop, F: StateForm + Drop>(
+    world: &World<'_, S, F>,
     generator: &mut Xoshiro256PlusPlus,
 ) -> Option<WorldStep> {
     let word = generator.next_u64() as u128;
@@ -26,7 +28,10 @@ fn drawn<S: Spread + Drop>(
 }
 
 /// Does `times` steps, or fewer if there is no work left, and returns their number.
-fn step_times<S: Spread + Drop>(world: &mut World<'_, S>, times: u64) -> Result<u64, OwnerFault>
+fn step_times<S: Spread + Drop, F: StateForm + Drop>(
+    world: &mut World<'_, S, F>,
+    times: u64,
+) -> Result<u64, OwnerFault>
     ensures count { IfOk result (λ count. count ≤ times) }
     ensures whole { IfOk result (λ _. world.new.spent ≡ world.old.spent) }
 {
@@ -43,7 +48,7 @@ fn step_times<S: Spread + Drop>(world: &mut World<'_, S>, times: u64) -> Result<
 }
 
 /// The number of states that all owners store, at most the greatest `usize`.
-fn kept_by<S: Spread + Drop>(owners: &[Owner<'_, S>]) -> usize {
+fn kept_by<S: Spread + Drop, F: StateForm + Drop>(owners: &[Owner<'_, S, F>]) -> usize {
     let mut kept: usize = 0;
     for owner in owners {
         kept = kept.saturating_add(owner.len());
@@ -53,18 +58,31 @@ fn kept_by<S: Spread + Drop>(owners: &[Owner<'_, S>]) -> usize {
 
 /// The line for owners after `steps` steps, or fewer if there is no work left: the number of steps, and the number of
 /// states stored.
-pub(crate) fn step_together<'a, S: Spread + Drop>(
+fn step_together<'a, F: StateForm + Drop>(
     alloc: Global,
-    space: &'a Space<'a, S>,
+    space: &'a Space<'a, Zobrist<'a>>,
     owners: usize,
     steps: u64,
 ) -> Result<String, OwnerFault>
-    requires { 0 < owners }
+    requires owners { 0 < owners }
+    requires fits { F.Fits (ranges space.now.task) }
 {
-    let mut world = World::start(alloc, space, owners)?;
+    let mut world: World<'a, Zobrist<'a>, F> = World::start(alloc, space, owners)?;
     let done = step_times(&mut world, steps)?;
     let joined = world.joined();
     let kept = kept_by(joined.owners());
     let line = format!(in alloc; "{done} steps, {kept} states kept\n")?;
     Ok(line)
+}
+
+/// The line of `step_together`, with the smallest form of states.
+pub(crate) fn together_in_smallest_form<'a>(
+    alloc: Global,
+    space: &'a Space<'a, Zobrist<'a>>,
+    owners: usize,
+    steps: u64,
+) -> Result<String, OwnerFault>
+    requires { 0 < owners }
+{
+    in_smallest_form!(space.layout(), step_together(alloc, space, owners, steps))
 }

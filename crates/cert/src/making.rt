@@ -15,6 +15,7 @@ use crate::states::expanded_states;
 use crate::tables::copied_columns;
 use cert_value::{Certificate, CertificateKind};
 use extract::{Joined, best_goal};
+use packed::StateForm;
 use packed_spread::Spread;
 use std::alloc::{AllocError, Global};
 
@@ -25,9 +26,9 @@ use std::alloc::{AllocError, Global};
 /// If the search is settled at a bound, the certificate has that bound and fails no clause, so every plan costs at least
 /// the bound. It then has a text, if its kind has one and there are fewer than 2^32 closed states. Fails only if
 /// allocation fails.
-pub fn cert_of<'a, S: Spread + Drop>(
+pub fn cert_of<'a, S: Spread + Drop, F: StateForm + Drop>(
     alloc: Global,
-    joined: &Joined<'a, S>,
+    joined: &Joined<'a, S, F>,
     kind: CertificateKind,
 ) -> Result<Certificate, AllocError>
     ensures kind { IfOk result (λ c. c.kind ≡ kind_of kind) }

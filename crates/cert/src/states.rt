@@ -6,6 +6,7 @@ ghost use Rattle.owner.specs.Owned.{max_total};
 ghost use Rattle.cert.specs.Expanded.{closed_in, listed, IsLong};
 
 use owner::Owner;
+use packed::StateForm;
 use packed_spread::Spread;
 use std::alloc::{AllocError, Global};
 
@@ -20,9 +21,9 @@ pub(crate) struct ExpandedStates {
 impl ExpandedStates {
     /// Appends the states that an owner has expanded at their present ranks; `state` is a buffer. Fails only if
     /// allocation fails.
-    fn push_owner<S: Spread + Drop>(
+    fn push_owner<S: Spread + Drop, F: StateForm + Drop>(
         &mut self,
-        owner: &Owner<'_, S>,
+        owner: &Owner<'_, S, F>,
         state: &mut [u32],
     ) -> Result<(), AllocError>
         requires buffer { length state.old ≡ length owner.now.space.task.value_names }
@@ -44,10 +45,10 @@ impl ExpandedStates {
 
 /// The states, of `width` values each, that these owners have expanded at their present ranks. Fails only if allocation
 /// fails.
-pub(crate) fn expanded_states<S: Spread + Drop>(
+pub(crate) fn expanded_states<S: Spread + Drop, F: StateForm + Drop>(
     alloc: Global,
     width: usize,
-    owners: &[Owner<'_, S>],
+    owners: &[Owner<'_, S, F>],
 ) -> Result<ExpandedStates, AllocError>
     requires { All (λ o. length o.space.task.value_names ≡ width) owners.now }
     ensures states { IfOk result (λ states. listed width states ≡ closed_in owners.now) }

@@ -17,26 +17,26 @@ pub enum CertFault {
     #[error("out of memory")]
     OutOfMemory,
     /// F50: the first line is not `optplan-cert 1`.
-    #[error("the first line is not `optplan-cert 1`")]
+    #[error("F50 Header cert")]
     Header,
     /// F51: a line with another keyword than required, with a separator too many or too few, with a byte that no word
     /// may contain, or with another number of words than its counts state.
-    #[error("line {0} is not of the wanted form")]
+    #[error("F51 Expected cert {0}")]
     Expected(usize),
     /// F52: a word in the place of a number that does not spell one, or spells one outside its limits.
-    #[error("line {0} has a word that is not a number within its limits")]
+    #[error("F52 Number cert {0}")]
     Number(usize),
     /// F53: a line without a line feed, or a missing line.
-    #[error("the text ends too early")]
+    #[error("F53 Truncated cert")]
     Truncated,
     /// F54: bytes after the last line. The number is that of the line after it.
-    #[error("line {0} follows the end")]
+    #[error("F54 Trailing cert {0}")]
     Trailing(usize),
     /// F55: numbers that are not strictly increasing where they must be.
-    #[error("line {0} has numbers that do not increase")]
+    #[error("F55 Order cert {0}")]
     Order(usize),
     /// F56: more than 1,073,741,824 bytes.
-    #[error("the text is too long")]
+    #[error("F56 TooLong cert")]
     TooLong,
 }
 

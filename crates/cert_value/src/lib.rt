@@ -9,4 +9,5 @@ mod table;
 
 pub use certificate::{AtomParts, AtomVariable, Certificate, CertificateKind};
 pub use closed::ClosedList;
+pub use numbers::short_numbers;
 pub use table::{PatternTable, Share, Values};

@@ -1,6 +1,6 @@
 //! The values of the states of a closed list.
 
-ghost use Rattle.std.specs.Prelude.{◌≡◌, ◌+◌, ◌*◌, ◌≤◌, ◌++◌, [], ◌∷◌, length, take, drop, nat_eq, OnOk, OnErr, IfOk};
+ghost use Rattle.std.specs.Prelude.{◌≡◌, ◌<◌, ◌+◌, ◌*◌, ◌^◌, ◌≤◌, ◌++◌, [], ◌∷◌, length, take, drop, nat_eq, All, OnOk, OnErr, IfOk};
 ghost use Rattle.std.specs.Cmp.Lexicographic.{pointwise};
 
 use std::alloc::{AllocError, Global};
@@ -27,6 +27,18 @@ impl Model for Numbers {
     ghost Value = { List ℕ };
 
     ghost view = { λ n. numbers_in n.kept };
+}
+
+/// The numbers in the 4 bytes each in which a certificate holds them. Fails only if allocation fails.
+pub fn short_numbers(alloc: Global, numbers: &[usize]) -> Result<Vec<u32>, AllocError>
+    requires { All (λ n. n < 2 ^ 32) numbers.now }
+    ensures { IfOk result (λ short. short.items ≡ numbers.now) }
+{
+    let mut short = Vec::with_capacity(alloc, numbers.len())?;
+    for number in numbers {
+        short.push(*number as u32)?;
+    }
+    Ok(short)
 }
 
 /// The numbers followed by `last`, as numbers of 4 bytes. Fails only if allocation fails.

@@ -18,22 +18,6 @@ flat_map_map f g (x ∷ xs) = ap (λ ys. f (g x) ++ ys) (flat_map_map f g xs)
 
 pub ruleset appending = (append_assoc, append-nil, flat_map_map)
 
--- what a look-up finds, or nothing, is the item of the list or nothing
-pub named_or_nothing : (names : List (List ℕ)) (k : ℕ) (found : Option (Bor (List ℕ))) (nothing text : Bor (List ℕ)) → option_map (λ s. s.now) found ≡ slice_get names k
-    → text ≡ unwrap_or found nothing → nothing.now ≡ [] → text.now ≡ slice_index_or names k []
-named_or_nothing names k found nothing text is text_is empty = ap (λ (s : Bor (List ℕ)). s.now) text_is ∙ go found (slice_get names k) is ∙ at names k
-  where
-    go : (found : Option (Bor (List ℕ))) (r : Option (List ℕ)) → option_map (λ s. s.now) found ≡ r → (unwrap_or found nothing).now ≡ unwrap_or r []
-    go None None e = empty
-    go None (Some x) e = absurd cc
-    go (Some s) None e = absurd cc
-    go (Some s) (Some x) e = cc
-
-    at : (names : List (List ℕ)) (k : ℕ) → unwrap_or (slice_get names k) [] ≡ slice_index_or names k []
-    at [] k = refl
-    at (x ∷ xs) zero = refl
-    at (x ∷ xs) (suc k) = at xs k
-
 -- the first item, and those behind it
 pub map_parts : {X Y : Type 0} (f : X → Y) (xs : List X) (d : X) → 1 ≤ length xs → map f xs ≡ f (slice_index_or xs 0 d) ∷ map f (take (length xs - 1) (drop 1 xs))
 map_parts f [] d l = absurd (omega (arith, l))

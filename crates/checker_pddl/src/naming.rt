@@ -142,16 +142,9 @@ fn push_objects(text: &mut String, names: &Names, objects: &[usize]) -> Result<(
 {
     for object in objects {
         text.push(' ')?;
-        text.push_str(name_of(names, *object))?;
+        text.push_str(names.name_or_empty(*object))?;
     }
     Ok(())
-}
-
-/// The name with this number, or the empty text if there is none.
-fn name_of(names: &Names, number: usize) -> &str
-    ensures { result.now ≡ slice_index_or names.now number [] }
-{
-    names.name(number).unwrap_or("")
 }
 
 /// The names of an atom of the task, in the form of `words_text`. Fails only if allocation fails.
@@ -164,7 +157,7 @@ pub(crate) fn atom_text(
     ensures { IfOk result (λ text. string_bytes text ≡ words_text (words_of names.now atom.now)) }
 {
     let mut text = String::from_str(alloc, "(")?;
-    text.push_str(name_of(&names.predicates, atom.predicate))?;
+    text.push_str(names.predicates.name_or_empty(atom.predicate))?;
     push_objects(&mut text, &names.objects, &atom.objects)?;
     text.push(')')?;
     Ok(text)

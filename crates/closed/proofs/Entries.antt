@@ -1,23 +1,24 @@
 -- States as they lie in memory: what is found among them, and what writing does to their nodes.
 use Rattle.std.proofs.Common.{◌≡◌, ℕ, zero, suc, ◌+◌, ◌<◌, Bool, true, false, List, [], ◌∷◌, length, Some, None, position, refl, sym, ap, ◌∙◌, subst, arith, if◌then◌else◌}
-use Rattle.std.specs.Prelude.{nat_eq, slice_get, slice_set, All}
+use Rattle.std.specs.Prelude.{slice_get, slice_set, All, IsTrue}
 use Rattle.std.specs.List.{position_from}
 use Rattle.std.specs.Map.{keys_of, values_of}
 use Rattle.std.specs.Ordering.{nat_cmp, partial_ordering_then, is_some_and, is_lt}
-use Rattle.std.specs.Cmp.Lexicographic.{pointwise, nat_list_eq_equiv}
+use Rattle.std.proofs.lemmas.Bool.{cond_both}
 use Rattle.std.proofs.lemmas.Bool.Decides.{nat_tests}
-use Rattle.std.proofs.lemmas.List.Elements.{All-cons, All-head, All-tail}
+use Rattle.std.proofs.lemmas.List.Elements.{All-nil, All-cons, All-head, All-tail}
 use Rattle.std.proofs.lemmas.Iterator.Adapters.{position_from-zero}
 use Rattle.owner_theory.specs.Owners.{Node, same_state, rank_less}
+use Rattle.owner_theory.proofs.States.{same_state-true, same_state_refl}
 use Rattle.owner_theory.proofs.Lists.{get_below}
 use Rattle.openlist.specs.declared.entry.Rank.{Rank}
-use Rattle.packed.specs.declared.plain.Plain.{Plain}
 use Rattle.closed.specs.declared.table.Entry.{Entry}
 use Rattle.closed.specs.declared.table.Outcome.{Outcome}
 use Rattle.closed.specs.declared.table.Outcome.TheVariants.{New, Better, Kept}
+use Rattle.closed.specs.declared.small_entry.SmallEntry.{SmallEntry}
 use Rattle.indexmap.specs.IndexMap.{insert_entry, set_value_at}
 use Rattle.closed.specs.Tables.{node_with, reached, outcome_from, outcome_of}
-use Rattle.closed.specs.Entries.{nodes_of, with_entry}
+use Rattle.closed.specs.Entries.{entry_in, nodes_of, with_entry}
 use Rattle.closed.proofs.Reached.{outcome_of-Better}
 
 -- the comparison of ranks is that of nodes
@@ -26,58 +27,84 @@ pub is_lt-rank_less : (x y : Rank) →
     ≡ rank_less x.cost x.steps y.cost y.steps
 is_lt-rank_less x y = grind (arith, nat_tests)
 
+-- ---- forms
+
+-- two forms are equal exactly where their values are
+pub record Compares {F : Type 0} (values : F → List ℕ) (IsForm : F → Type 0) (eq : F → F → Bool) : Type 0 where
+  pub decides : (f g : F) → IsForm f → IsForm g → same_state (values g) (values f) ≡ eq f g
+
+module _ {F : Type 0} (values : F → List ℕ) (IsForm : F → Type 0) (eq : F → F → Bool)
+    (equal : (f g : F) → IsForm f → IsForm g → values f ≡ values g → IsTrue (eq f g))
+    (same : (f g : F) → IsForm f → IsForm g → IsTrue (eq f g) → values f ≡ values g) where
+  by_cases : (f g : F) → IsForm f → IsForm g → (x y : Bool) → same_state (values g) (values f) ≡ x → eq f g ≡ y → x ≡ y
+  by_cases f g form form' true true s e = refl
+  by_cases f g form form' false false s e = refl
+  by_cases f g form form' true false s e =
+      let told : eq f g ≡ true = equal f g form form' (sym (same_state-true (values g) (values f) s)) in cc
+  by_cases f g form form' false true s e =
+      let told : same_state (values g) (values f) ≡ true =
+      ap (λ (v : List ℕ). same_state (values g) v) (same f g form form' e) ∙ same_state_refl (values g) in
+      cc
+
+  pub compares : Compares values IsForm eq
+  compares =
+      record { decides = λ f g form form'. by_cases f g form form' (same_state (values g) (values f)) (eq f g) refl refl }
+
 -- ---- what is found
 
-module _ (m : Node) where
-  -- the state is that of the node
-  abbrev pub is_sought : Plain → Bool
-  is_sought p = pointwise nat_eq m.state p.values.items
-
-  same_state-is_sought : (p : Plain) → same_state p.values.items m.state ≡ is_sought p
-  unfolding same_state
-  same_state-is_sought p = nat_list_eq_equiv.symm p.values.items m.state
+module _ {F : Type 0} (values : F → List ℕ) (IsForm : F → Type 0) (eq : F → F → Bool)
+    (compares : Compares values IsForm eq) (key : F) (form : IsForm key) (m : Node) (state : values key ≡ m.state) where
+  same_state-eq : (p : F) → IsForm p → same_state (values p) m.state ≡ eq key p
+  same_state-eq p is =
+      ap (λ (s : List ℕ). same_state (values p) s) (sym state) ∙ compares.decides key p form is
 
   -- the outcome at an entry, by whether it is of the state
-  abbrev at_entry : Bool → ℕ → Plain × Entry → List (Plain × Entry) → Outcome
+  abbrev at_entry : Bool → ℕ → F × SmallEntry → List (F × SmallEntry) → Outcome
   at_entry same at p ps =
       if same
-      then (if rank_less m.cost m.steps p.1.rank.cost p.1.rank.steps then Better at else Kept)
-      else outcome_from (suc at) (nodes_of ps) m
+      then (if rank_less m.cost m.steps p.1.cost p.1.steps then Better at else Kept)
+      else outcome_from (suc at) (nodes_of values ps) m
 
-  outcome_is : (same : Bool) (at : ℕ) (p : Plain × Entry) (ps : List (Plain × Entry)) → is_sought p.0 ≡ same →
-      outcome_from at (nodes_of (p ∷ ps)) m ≡ at_entry same at p ps
-  outcome_is same at p ps e = ap (λ (b : Bool). at_entry b at p ps) (same_state-is_sought p.0 ∙ e)
+  outcome_is : (same : Bool) (at : ℕ) (p : F × SmallEntry) (ps : List (F × SmallEntry)) → IsForm p.0 → eq key p.0 ≡ same →
+      outcome_from at (nodes_of values (p ∷ ps)) m ≡ at_entry same at p ps
+  outcome_is same at p ps is e = ap (λ (b : Bool). at_entry b at p ps) (same_state-eq p.0 is ∙ e)
 
-  none_found : (entries : List (Plain × Entry)) (i at : ℕ) → position_from is_sought i (keys_of entries) ≡ None →
-      outcome_from at (nodes_of entries) m ≡ New (at + length entries)
-  none_found [] i at h = ap New (omega arith)
-  none_found (p ∷ ps) i at h = go (is_sought p.0) refl (none_found ps (i + 1) (suc at)) h
+  none_found : (entries : List (F × SmallEntry)) (i at : ℕ) → All (λ p. IsForm p.0) entries →
+      position_from (eq key) i (keys_of entries) ≡ None → outcome_from at (nodes_of values entries) m ≡ New (at + length entries)
+  none_found [] i at all h = ap New (omega arith)
+  none_found (p ∷ ps) i at all h =
+      go (eq key p.0) refl (none_found ps (i + 1) (suc at) (All-tail (λ q. IsForm q.0) p ps all)) h
     where
-      go : (same : Bool) → is_sought p.0 ≡ same →
-          (position_from is_sought (i + 1) (keys_of ps) ≡ None →
-          outcome_from (suc at) (nodes_of ps) m ≡ New (suc at + length ps)) →
-          (if same then Some i else position_from is_sought (i + 1) (keys_of ps)) ≡ None →
-          outcome_from at (nodes_of (p ∷ ps)) m ≡ New (at + length (p ∷ ps))
+      go : (same : Bool) → eq key p.0 ≡ same →
+          (position_from (eq key) (i + 1) (keys_of ps) ≡ None →
+          outcome_from (suc at) (nodes_of values ps) m ≡ New (suc at + length ps)) →
+          (if same then Some i else position_from (eq key) (i + 1) (keys_of ps)) ≡ None →
+          outcome_from at (nodes_of values (p ∷ ps)) m ≡ New (at + length (p ∷ ps))
       go true e rest h = absurd (cc)
-      go false e rest h = outcome_is false at p ps e ∙ rest h ∙ ap New (omega arith)
+      go false e rest h =
+          outcome_is false at p ps (All-head (λ q. IsForm q.0) p ps all) e ∙ rest h ∙ ap New (omega arith)
 
   -- an entry of the state, found behind so many others
-  record FoundFrom (entries : List (Plain × Entry)) (before i : ℕ) : Type 0 where
+  record FoundFrom (entries : List (F × SmallEntry)) (before i : ℕ) : Type 0 where
     pub place : ℕ
-    pub entry : Entry
+    pub entry : SmallEntry
     pub behind : i ≡ before + place
     pub there : slice_get (values_of entries) place ≡ Some entry
-    pub outcome : (at : ℕ) → outcome_from at (nodes_of entries) m
-        ≡ (if rank_less m.cost m.steps entry.rank.cost entry.rank.steps then Better (at + place) else Kept)
+    pub outcome : (at : ℕ) → outcome_from at (nodes_of values entries) m
+        ≡ (if rank_less m.cost m.steps entry.cost entry.steps then Better (at + place) else Kept)
 
-  some_found : (entries : List (Plain × Entry)) (before i : ℕ) → position_from is_sought before (keys_of entries) ≡ Some i →
-      FoundFrom entries before i
-  some_found [] before i h = absurd (cc)
-  some_found (p ∷ ps) before i h = go (is_sought p.0) refl (some_found ps (before + 1) i) h
+  some_found : (entries : List (F × SmallEntry)) (before i : ℕ) → All (λ p. IsForm p.0) entries →
+      position_from (eq key) before (keys_of entries) ≡ Some i → FoundFrom entries before i
+  some_found [] before i all h = absurd (cc)
+  some_found (p ∷ ps) before i all h =
+      go (eq key p.0) refl (some_found ps (before + 1) i (All-tail (λ q. IsForm q.0) p ps all)) h
     where
-      go : (same : Bool) → is_sought p.0 ≡ same →
-          (position_from is_sought (before + 1) (keys_of ps) ≡ Some i → FoundFrom ps (before + 1) i) →
-          (if same then Some before else position_from is_sought (before + 1) (keys_of ps)) ≡ Some i →
+      is : IsForm p.0
+      is = All-head (λ q. IsForm q.0) p ps all
+
+      go : (same : Bool) → eq key p.0 ≡ same →
+          (position_from (eq key) (before + 1) (keys_of ps) ≡ Some i → FoundFrom ps (before + 1) i) →
+          (if same then Some before else position_from (eq key) (before + 1) (keys_of ps)) ≡ Some i →
           FoundFrom (p ∷ ps) before i
       go true e rest h =
           let here : before ≡ i = cc in
@@ -86,8 +113,8 @@ module _ (m : Node) where
             entry = p.1;
             behind = omega arith;
             there = refl;
-            outcome = λ at. outcome_is true at p ps e
-                ∙ ap (λ (k : ℕ). if rank_less m.cost m.steps p.1.rank.cost p.1.rank.steps then Better k else Kept) (omega arith);
+            outcome = λ at. outcome_is true at p ps is e
+                ∙ ap (λ (k : ℕ). if rank_less m.cost m.steps p.1.cost p.1.steps then Better k else Kept) (omega arith);
           }
       go false e rest h =
           let found = rest h in
@@ -96,84 +123,127 @@ module _ (m : Node) where
             entry = found.entry;
             behind = let b = found.behind in omega arith;
             there = found.there;
-            outcome = λ at. outcome_is false at p ps e ∙ found.outcome (suc at)
-                ∙ ap (λ (k : ℕ). if rank_less m.cost m.steps found.entry.rank.cost found.entry.rank.steps then Better k else Kept)
+            outcome = λ at. outcome_is false at p ps is e ∙ found.outcome (suc at)
+                ∙ ap (λ (k : ℕ). if rank_less m.cost m.steps found.entry.cost found.entry.steps then Better k else Kept)
                 (omega arith);
           }
 
-  pub outcome_of-missing : (entries : List (Plain × Entry)) → position is_sought (keys_of entries) ≡ None →
-      outcome_of (nodes_of entries) m ≡ New (length entries)
-  outcome_of-missing entries h =
-      none_found entries 0 0 (sym (position_from-zero is_sought (keys_of entries)) ∙ h) ∙ ap New (omega arith)
+  pub outcome_of-missing : (entries : List (F × SmallEntry)) → All (λ p. IsForm p.0) entries →
+      position (eq key) (keys_of entries) ≡ None → outcome_of (nodes_of values entries) m ≡ New (length entries)
+  outcome_of-missing entries all h =
+      none_found entries 0 0 all (sym (position_from-zero (eq key) (keys_of entries)) ∙ h) ∙ ap New (omega arith)
 
-  pub outcome_of-found : (entries : List (Plain × Entry)) (i : ℕ) (e : Entry) → position is_sought (keys_of entries) ≡ Some i →
-      slice_get (values_of entries) i ≡ Some e →
-      outcome_of (nodes_of entries) m ≡ (if rank_less m.cost m.steps e.rank.cost e.rank.steps then Better i else Kept)
-  outcome_of-found entries i e h there =
-      let found = some_found entries 0 i (sym (position_from-zero is_sought (keys_of entries)) ∙ h) in
+  pub outcome_of-found : (entries : List (F × SmallEntry)) (i : ℕ) (e : SmallEntry) → All (λ p. IsForm p.0) entries →
+      position (eq key) (keys_of entries) ≡ Some i → slice_get (values_of entries) i ≡ Some e →
+      outcome_of (nodes_of values entries) m ≡ (if rank_less m.cost m.steps e.cost e.steps then Better i else Kept)
+  outcome_of-found entries i e all h there =
+      let found = some_found entries 0 i all (sym (position_from-zero (eq key) (keys_of entries)) ∙ h) in
       let here : found.place ≡ i = let b = found.behind in omega arith in
       let at : slice_get (values_of entries) i ≡ Some found.entry =
       subst (λ (k : ℕ). slice_get (values_of entries) k ≡ Some found.entry) here found.there in
       let same : found.entry ≡ e = cc in
       subst
-      (λ (x : Entry). outcome_of (nodes_of entries) m
-      ≡ (if rank_less m.cost m.steps x.rank.cost x.rank.steps then Better i else Kept))
+      (λ (x : SmallEntry). outcome_of (nodes_of values entries) m
+      ≡ (if rank_less m.cost m.steps x.cost x.steps then Better i else Kept))
       same
       (found.outcome 0
-      ∙ ap (λ (k : ℕ). if rank_less m.cost m.steps found.entry.rank.cost found.entry.rank.steps then Better k else Kept)
+      ∙ ap (λ (k : ℕ). if rank_less m.cost m.steps found.entry.cost found.entry.steps then Better k else Kept)
       (let b = here in omega arith))
 
 -- ---- what writing does
 
--- as keys of a map, states are the same where their values are
-abbrev pub same_form : Plain → Plain → Bool
-same_form x y = pointwise nat_eq x.values.items y.values.items
+module _ {F : Type 0} (values : F → List ℕ) (IsForm : F → Type 0) (eq : F → F → Bool)
+    (compares : Compares values IsForm eq) (key : F) (form : IsForm key) (e : SmallEntry) where
+  inserted : (entries : List (F × SmallEntry)) (at i : ℕ) → All (λ p. IsForm p.0) entries →
+      outcome_from at (nodes_of values entries) (node_with (values key) (entry_in e)) ≡ New i →
+      nodes_of values (insert_entry eq entries key e) ≡ reached (nodes_of values entries) (node_with (values key) (entry_in e))
+  inserted [] at i all h = refl
+  inserted (p ∷ ps) at i all h =
+      go (eq key p.0) (rank_less e.cost e.steps p.1.cost p.1.steps) refl refl
+      (inserted ps (suc at) i (All-tail (λ q. IsForm q.0) p ps all))
+      (sym (outcome_is values IsForm eq compares key form new refl (eq key p.0) at p ps is refl) ∙ h)
+    where
+      is : IsForm p.0
+      is = All-head (λ q. IsForm q.0) p ps all
 
-inserted : (entries : List (Plain × Entry)) (key : Plain) (e : Entry) (at i : ℕ) →
-    outcome_from at (nodes_of entries) (node_with key.values.items e) ≡ New i →
-    nodes_of (insert_entry same_form entries key e) ≡ reached (nodes_of entries) (node_with key.values.items e)
-inserted [] key e at i h = refl
-inserted (p ∷ ps) key e at i h =
-    go (is_sought m p.0) (rank_less m.cost m.steps p.1.rank.cost p.1.rank.steps) refl refl
-    (inserted ps key e (suc at) i) (sym (outcome_is m (is_sought m p.0) at p ps refl) ∙ h)
-  where
-    m : Node
-    m = node_with key.values.items e
+      new : Node
+      new = node_with (values key) (entry_in e)
 
-    n : Node
-    n = node_with p.0.values.items p.1
+      n : Node
+      n = node_with (values p.0) (entry_in p.1)
 
-    go : (same less : Bool) → is_sought m p.0 ≡ same → rank_less m.cost m.steps p.1.rank.cost p.1.rank.steps ≡ less →
-        (outcome_from (suc at) (nodes_of ps) m ≡ New i → nodes_of (insert_entry same_form ps key e) ≡ reached (nodes_of ps) m) →
-        (if same then (if less then Better at else Kept) else outcome_from (suc at) (nodes_of ps) m) ≡ New i →
-        nodes_of (insert_entry same_form (p ∷ ps) key e) ≡ reached (nodes_of (p ∷ ps)) m
-    go true true s l rest h = absurd (cc)
-    go true false s l rest h = absurd (cc)
-    go false less s l rest h =
-        ap (λ (b : Bool). nodes_of (if b then (p.0, e) ∷ ps else p ∷ insert_entry same_form ps key e)) s
-        ∙ ap (λ (ns : List Node). n ∷ ns) (rest h)
-        ∙ sym
-        (ap
-        (λ (b : Bool).
-        if b
-        then (if rank_less m.cost m.steps n.cost n.steps then m ∷ nodes_of ps else n ∷ nodes_of ps)
-        else n ∷ reached (nodes_of ps) m)
-        (same_state-is_sought m p.0 ∙ s))
+      go : (same less : Bool) → eq key p.0 ≡ same → rank_less e.cost e.steps p.1.cost p.1.steps ≡ less →
+          (outcome_from (suc at) (nodes_of values ps) new ≡ New i →
+          nodes_of values (insert_entry eq ps key e) ≡ reached (nodes_of values ps) new) →
+          (if same then (if less then Better at else Kept) else outcome_from (suc at) (nodes_of values ps) new) ≡ New i →
+          nodes_of values (insert_entry eq (p ∷ ps) key e) ≡ reached (nodes_of values (p ∷ ps)) new
+      go true true s l rest h = absurd (cc)
+      go true false s l rest h = absurd (cc)
+      go false less s l rest h =
+          ap (λ (b : Bool). nodes_of values (if b then (p.0, e) ∷ ps else p ∷ insert_entry eq ps key e)) s
+          ∙ ap (λ (ns : List Node). n ∷ ns) (rest h)
+          ∙ sym
+          (ap
+          (λ (b : Bool).
+          if b
+          then (if rank_less new.cost new.steps n.cost n.steps then new ∷ nodes_of values ps else n ∷ nodes_of values ps)
+          else n ∷ reached (nodes_of values ps) new)
+          (same_state-eq values IsForm eq compares key form new refl p.0 is ∙ s))
 
--- a state that was not there and is put in is reached
-pub nodes_of-insert_entry : (entries : List (Plain × Entry)) (key : Plain) (state : List ℕ) (e : Entry) (i : ℕ) →
-    key.values.items ≡ state → outcome_of (nodes_of entries) (node_with state e) ≡ New i →
-    nodes_of (insert_entry same_form entries key e) ≡ reached (nodes_of entries) (node_with state e)
-nodes_of-insert_entry entries key state e i same h =
-    inserted entries key e 0 i (ap (λ (s : List ℕ). outcome_of (nodes_of entries) (node_with s e)) same ∙ h)
-    ∙ ap (λ (s : List ℕ). reached (nodes_of entries) (node_with s e)) same
+  -- a state that was not there and is put in is reached
+  pub nodes_of-insert_entry : (entries : List (F × SmallEntry)) (state : List ℕ) (i : ℕ) → All (λ p. IsForm p.0) entries →
+      values key ≡ state → outcome_of (nodes_of values entries) (node_with state (entry_in e)) ≡ New i →
+      nodes_of values (insert_entry eq entries key e) ≡ reached (nodes_of values entries) (node_with state (entry_in e))
+  nodes_of-insert_entry entries state i all same h =
+      inserted entries 0 i all
+      (ap (λ (s : List ℕ). outcome_of (nodes_of values entries) (node_with s (entry_in e))) same ∙ h)
+      ∙ ap (λ (s : List ℕ). reached (nodes_of values entries) (node_with s (entry_in e))) same
 
-pub nodes_of-set_value_at : (entries : List (Plain × Entry)) (i : ℕ) (e : Entry) →
-    nodes_of (set_value_at entries i e) ≡ with_entry (nodes_of entries) i e
-nodes_of-set_value_at [] i e = refl
-nodes_of-set_value_at (p ∷ ps) zero e = refl
-nodes_of-set_value_at (p ∷ ps) (suc i) e =
-    ap (λ (ns : List Node). node_with p.0.values.items p.1 ∷ ns) (nodes_of-set_value_at ps i e)
+-- keys stay forms where one is put in
+pub All-insert_entry : {F : Type 0} (P : F → Type 0) (eq : F → F → Bool) (entries : List (F × SmallEntry)) (key : F)
+    (e : SmallEntry) → P key → All (λ p. P p.0) entries → All (λ p. P p.0) (insert_entry eq entries key e)
+All-insert_entry P eq [] key e here all = All-cons (λ p. P p.0) (key, e) [] here all
+All-insert_entry P eq (p ∷ ps) key e here all =
+    let first : P p.0 = All-head (λ q. P q.0) p ps all in
+    let rest : All (λ q. P q.0) ps = All-tail (λ q. P q.0) p ps all in
+    cond_both (eq key p.0) _ _ (λ es. All (λ q. P q.0) es)
+    (λ _. All-cons (λ q. P q.0) (p.0, e) ps first rest)
+    (λ _. All-cons (λ q. P q.0) p (insert_entry eq ps key e) first (All-insert_entry P eq ps key e here rest))
+
+-- and where a value is set
+pub All-set_value_at : {F : Type 0} (P : F → Type 0) (entries : List (F × SmallEntry)) (i : ℕ) (e : SmallEntry) →
+    All (λ p. P p.0) entries → All (λ p. P p.0) (set_value_at entries i e)
+All-set_value_at P [] i e all = all
+All-set_value_at P (p ∷ ps) zero e all =
+    All-cons (λ q. P q.0) (p.0, e) ps (All-head (λ q. P q.0) p ps all) (All-tail (λ q. P q.0) p ps all)
+All-set_value_at P (p ∷ ps) (suc i) e all =
+    All-cons (λ q. P q.0) p (set_value_at ps i e) (All-head (λ q. P q.0) p ps all)
+    (All-set_value_at P ps i e (All-tail (λ q. P q.0) p ps all))
+
+-- the values of forms are states
+pub All-states : {F : Type 0} (values : F → List ℕ) (IsForm : F → Type 0) (P : List ℕ → Type 0)
+    (is : (f : F) → IsForm f → P (values f)) (entries : List (F × SmallEntry)) → All (λ p. IsForm p.0) entries →
+    All (λ n. P n.state) (nodes_of values entries)
+All-states values IsForm P is [] all = All-nil (λ n. P n.state)
+All-states values IsForm P is (p ∷ ps) all =
+    All-cons (λ n. P n.state) (node_with (values p.0) (entry_in p.1)) (nodes_of values ps)
+    (is p.0 (All-head (λ q. IsForm q.0) p ps all))
+    (All-states values IsForm P is ps (All-tail (λ q. IsForm q.0) p ps all))
+
+-- the key at a place is a form
+pub All-key : {F : Type 0} (P : F → Type 0) (entries : List (F × SmallEntry)) (i : ℕ) (k : F) (e : SmallEntry) →
+    All (λ p. P p.0) entries → slice_get entries i ≡ Some (k, e) → P k
+All-key P [] i k e all h = absurd (cc)
+All-key P (p ∷ ps) zero k e all h =
+    let same : p ≡ (k, e) = cc in subst (λ q. P q.0) same (All-head (λ q. P q.0) p ps all)
+All-key P (p ∷ ps) (suc i) k e all h = All-key P ps i k e (All-tail (λ q. P q.0) p ps all) h
+
+pub nodes_of-set_value_at : {F : Type 0} (values : F → List ℕ) (entries : List (F × SmallEntry)) (i : ℕ) (e : SmallEntry) →
+    nodes_of values (set_value_at entries i e) ≡ with_entry (nodes_of values entries) i (entry_in e)
+nodes_of-set_value_at values [] i e = refl
+nodes_of-set_value_at values (p ∷ ps) zero e = refl
+nodes_of-set_value_at values (p ∷ ps) (suc i) e =
+    ap (λ (ns : List Node). node_with (values p.0) (entry_in p.1) ∷ ns) (nodes_of-set_value_at values ps i e)
 
 pub with_entry-at : (nodes : List Node) (i : ℕ) (n : Node) (e : Entry) → slice_get nodes i ≡ Some n →
     with_entry nodes i e ≡ slice_set nodes i (node_with n.state e)
@@ -184,36 +254,25 @@ with_entry-at (x ∷ xs) (suc i) n e h = ap (λ (ns : List Node). x ∷ ns) (wit
 
 -- ---- what is at a place
 
--- the node is that of the entry
-pub node_at : (entries : List (Plain × Entry)) (i : ℕ) (k : Plain) (e : Entry) → slice_get entries i ≡ Some (k, e) →
-    slice_get (nodes_of entries) i ≡ Some (node_with k.values.items e)
-node_at [] i k e h = absurd (cc)
-node_at (p ∷ ps) zero k e h =
-    let same : p ≡ (k, e) = cc in ap (λ (q : Plain × Entry). Some (node_with q.0.values.items q.1)) same
-node_at (p ∷ ps) (suc i) k e h = node_at ps i k e h
+module _ {F : Type 0} (values : F → List ℕ) where
+  -- the node is that of the entry
+  pub node_at : (entries : List (F × SmallEntry)) (i : ℕ) (k : F) (e : SmallEntry) → slice_get entries i ≡ Some (k, e) →
+      slice_get (nodes_of values entries) i ≡ Some (node_with (values k) (entry_in e))
+  node_at [] i k e h = absurd (cc)
+  node_at (p ∷ ps) zero k e h =
+      let same : p ≡ (k, e) = cc in ap (λ (q : F × SmallEntry). Some (node_with (values q.0) (entry_in q.1))) same
+  node_at (p ∷ ps) (suc i) k e h = node_at ps i k e h
 
-pub node_at-value : (entries : List (Plain × Entry)) (i : ℕ) (e : Entry) (n : Node) → slice_get (values_of entries) i ≡ Some e →
-    slice_get (nodes_of entries) i ≡ Some n → n ≡ node_with n.state e
-node_at-value [] i e n h there = absurd (cc)
-node_at-value (p ∷ ps) zero e n h there =
-    let value : p.1 ≡ e = cc in
-    let node : node_with p.0.values.items p.1 ≡ n = cc in
-    subst (λ (x : Node). x ≡ node_with x.state e) node (ap (λ (y : Entry). node_with p.0.values.items y) value)
-node_at-value (p ∷ ps) (suc i) e n h there = node_at-value ps i e n h there
-
-pub All-at : (P : Node → Type 0) (nodes : List Node) (i : ℕ) (n : Node) → All P nodes → slice_get nodes i ≡ Some n → P n
-All-at P [] i n all h = absurd (cc)
-All-at P (x ∷ xs) zero n all h = let same : x ≡ n = cc in subst P same (All-head P x xs all)
-All-at P (x ∷ xs) (suc i) n all h = All-at P xs i n (All-tail P x xs all) h
-
-pub All-with_entry : (P : List ℕ → Type 0) (nodes : List Node) (i : ℕ) (e : Entry) → All (λ n. P n.state) nodes →
-    All (λ n. P n.state) (with_entry nodes i e)
-All-with_entry P [] i e all = all
-All-with_entry P (x ∷ xs) zero e all =
-    All-cons (λ n. P n.state) (node_with x.state e) xs (All-head (λ n. P n.state) x xs all) (All-tail (λ n. P n.state) x xs all)
-All-with_entry P (x ∷ xs) (suc i) e all =
-    All-cons (λ n. P n.state) x (with_entry xs i e) (All-head (λ n. P n.state) x xs all)
-    (All-with_entry P xs i e (All-tail (λ n. P n.state) x xs all))
+  pub node_at-value : (entries : List (F × SmallEntry)) (i : ℕ) (e : SmallEntry) (n : Node) →
+      slice_get (values_of entries) i ≡ Some e → slice_get (nodes_of values entries) i ≡ Some n →
+      n ≡ node_with n.state (entry_in e)
+  node_at-value [] i e n h there = absurd (cc)
+  node_at-value (p ∷ ps) zero e n h there =
+      let value : p.1 ≡ e = cc in
+      let node : node_with (values p.0) (entry_in p.1) ≡ n = cc in
+      subst (λ (x : Node). x ≡ node_with x.state (entry_in e)) node
+      (ap (λ (y : SmallEntry). node_with (values p.0) (entry_in y)) value)
+  node_at-value (p ∷ ps) (suc i) e n h there = node_at-value ps i e n h there
 
 -- a node that is replaced has the state that is reached, so its entry alone is
 pub with_entry-reached : (nodes : List Node) (state : List ℕ) (e : Entry) (i : ℕ) →

@@ -4,10 +4,11 @@ use Rattle.std.specs.Prelude.{slice_get, slice_set}
 use Rattle.std.proofs.lemmas.List.{take-append-le}
 use Rattle.owner_theory.specs.Owners.{Node}
 use Rattle.closed.specs.declared.table.Entry.{Entry}
+use Rattle.closed.specs.declared.small_entry.SmallEntry.{SmallEntry}
 use Rattle.closed.specs.declared.table.Outcome.{Outcome}
 use Rattle.closed.specs.declared.table.Outcome.TheVariants.{New, Better, Kept}
 use Rattle.closed.specs.Tables.{node_with, reached, outcome_of}
-use Rattle.closed.specs.Entries.{with_entry, taken_back, Notes}
+use Rattle.closed.specs.Entries.{entry_in, with_entry, taken_back, Notes}
 use Rattle.closed.proofs.Reached.{outcome_of-New, outcome_of-Better, outcome_of-Kept}
 
 pub with_entry-past : (nodes : List Node) (i : ℕ) (e : Entry) → length nodes ≤ i → with_entry nodes i e ≡ nodes
@@ -22,12 +23,12 @@ take-with_entry (suc len) [] i e = refl
 take-with_entry (suc len) (n ∷ ns) zero e = refl
 take-with_entry (suc len) (n ∷ ns) (suc i) e = ap (λ (xs : List Node). n ∷ xs) (take-with_entry len ns i e)
 
-pub taken_back-push : (ps : List (ℕ × Entry)) (p : ℕ × Entry) (nodes : List Node) →
-    taken_back (ps ++ p ∷ []) nodes ≡ taken_back ps (with_entry nodes p.0 p.1)
+pub taken_back-push : (ps : List (ℕ × SmallEntry)) (p : ℕ × SmallEntry) (nodes : List Node) →
+    taken_back (ps ++ p ∷ []) nodes ≡ taken_back ps (with_entry nodes p.0 (entry_in p.1))
 taken_back-push [] p nodes = refl
-taken_back-push (q ∷ qs) p nodes = ap (λ (xs : List Node). with_entry xs q.0 q.1) (taken_back-push qs p nodes)
+taken_back-push (q ∷ qs) p nodes = ap (λ (xs : List Node). with_entry xs q.0 (entry_in q.1)) (taken_back-push qs p nodes)
 
-pub taken_back-none : (ps : List (ℕ × Entry)) (nodes : List Node) → length ps ≡ 0 → taken_back ps nodes ≡ nodes
+pub taken_back-none : (ps : List (ℕ × SmallEntry)) (nodes : List Node) → length ps ≡ 0 → taken_back ps nodes ≡ nodes
 taken_back-none [] nodes none = refl
 taken_back-none (p ∷ ps) nodes none = absurd (omega arith)
 
@@ -49,36 +50,37 @@ with_entry-back (x ∷ xs) (suc i) n m e there same is =
     ap (λ (ys : List Node). x ∷ ys) (with_entry-back xs i n m e there same is)
 
 -- the last of what was replaced is taken back first
-taken_back-last : (old : List (ℕ × Entry)) (i : ℕ) (e : Entry) (len : ℕ) (nodes : List Node) →
-    taken_back (old ++ (i, e) ∷ []) (take len nodes) ≡ taken_back old (take len (with_entry nodes i e))
+taken_back-last : (old : List (ℕ × SmallEntry)) (i : ℕ) (e : SmallEntry) (len : ℕ) (nodes : List Node) →
+    taken_back (old ++ (i, e) ∷ []) (take len nodes) ≡ taken_back old (take len (with_entry nodes i (entry_in e)))
 taken_back-last old i e len nodes =
-    taken_back-push old (i, e) (take len nodes) ∙ ap (λ (xs : List Node). taken_back old xs) (take-with_entry len nodes i e)
+    taken_back-push old (i, e) (take len nodes)
+    ∙ ap (λ (xs : List Node). taken_back old xs) (take-with_entry len nodes i (entry_in e))
 
-module _ (nodes : List Node) (old : List (ℕ × Entry)) (len : ℕ) where
+module _ (nodes : List Node) (old : List (ℕ × SmallEntry)) (len : ℕ) where
   -- noted, and not written
-  pub taken_back-noted : (o : Outcome) (new : List (ℕ × Entry)) → Notes nodes o old new →
+  pub taken_back-noted : (o : Outcome) (new : List (ℕ × SmallEntry)) → Notes nodes o old new →
       taken_back new (take len nodes) ≡ taken_back old (take len nodes)
-  taken_back-noted (New i) new noted = ap (λ (ps : List (ℕ × Entry)). taken_back ps (take len nodes)) noted
+  taken_back-noted (New i) new noted = ap (λ (ps : List (ℕ × SmallEntry)). taken_back ps (take len nodes)) noted
   taken_back-noted (Better i) new (e, pushed, is) =
-      ap (λ (ps : List (ℕ × Entry)). taken_back ps (take len nodes)) pushed
+      ap (λ (ps : List (ℕ × SmallEntry)). taken_back ps (take len nodes)) pushed
       ∙ taken_back-last old i e len nodes
-      ∙ ap (λ (xs : List Node). taken_back old (take len xs)) (with_entry-same nodes i e is)
-  taken_back-noted Kept new noted = ap (λ (ps : List (ℕ × Entry)). taken_back ps (take len nodes)) noted
+      ∙ ap (λ (xs : List Node). taken_back old (take len xs)) (with_entry-same nodes i (entry_in e) is)
+  taken_back-noted Kept new noted = ap (λ (ps : List (ℕ × SmallEntry)). taken_back ps (take len nodes)) noted
 
   -- noted, and written
-  pub taken_back-reached : (m : Node) (o : Outcome) (new : List (ℕ × Entry)) → o ≡ outcome_of nodes m → len ≤ length nodes →
+  pub taken_back-reached : (m : Node) (o : Outcome) (new : List (ℕ × SmallEntry)) → o ≡ outcome_of nodes m → len ≤ length nodes →
       Notes nodes o old new → taken_back new (take len (reached nodes m)) ≡ taken_back old (take len nodes)
   taken_back-reached m (New i) new h within noted =
-      ap (λ (ps : List (ℕ × Entry)). taken_back ps (take len (reached nodes m))) noted
+      ap (λ (ps : List (ℕ × SmallEntry)). taken_back ps (take len (reached nodes m))) noted
       ∙ ap (λ (xs : List Node). taken_back old (take len xs)) (outcome_of-New nodes m i (sym h)).appended
       ∙ ap (λ (xs : List Node). taken_back old xs) (take-append-le len nodes (m ∷ []) within)
   taken_back-reached m (Better i) new h within (e, pushed, is) =
       let told = outcome_of-Better nodes m i (sym h) in
-      ap (λ (ps : List (ℕ × Entry)). taken_back ps (take len (reached nodes m))) pushed
+      ap (λ (ps : List (ℕ × SmallEntry)). taken_back ps (take len (reached nodes m))) pushed
       ∙ taken_back-last old i e len (reached nodes m)
-      ∙ ap (λ (xs : List Node). taken_back old (take len (with_entry xs i e))) told.replaced
+      ∙ ap (λ (xs : List Node). taken_back old (take len (with_entry xs i (entry_in e)))) told.replaced
       ∙ ap (λ (xs : List Node). taken_back old (take len xs))
-      (with_entry-back nodes i told.node m e told.there told.state (is told.node told.there))
+      (with_entry-back nodes i told.node m (entry_in e) told.there told.state (is told.node told.there))
   taken_back-reached m Kept new h within noted =
-      ap (λ (ps : List (ℕ × Entry)). taken_back ps (take len (reached nodes m))) noted
+      ap (λ (ps : List (ℕ × SmallEntry)). taken_back ps (take len (reached nodes m))) noted
       ∙ ap (λ (xs : List Node). taken_back old (take len xs)) (outcome_of-Kept nodes m (sym h)).same

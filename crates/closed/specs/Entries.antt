@@ -1,15 +1,31 @@
 -- The states that were reached, as they are stored, and how writes to them are undone.
-use Rattle.std.specs.Prelude.{◌≡◌, ℕ, zero, suc, List, [], ◌∷◌, ◌++◌, map, Some, slice_get}
+use Rattle.std.specs.Prelude.{◌≡◌, ℕ, zero, suc, if◌then◌else◌, List, [], ◌∷◌, ◌++◌, map, Some, None, slice_get, All}
 use Rattle.owner_theory.specs.Owners.{Node}
-use Rattle.packed.specs.declared.plain.Plain.{Plain}
 use Rattle.closed.specs.declared.table.Entry.{Entry}
 use Rattle.closed.specs.declared.table.Outcome.{Outcome}
 use Rattle.closed.specs.declared.table.Outcome.TheVariants.{New, Better, Kept}
+use Rattle.closed.specs.declared.small_entry.SmallEntry.{SmallEntry}
 use Rattle.closed.specs.Tables.{node_with}
 
--- the nodes of states with their entries
-abbrev pub nodes_of : List (Plain × Entry) → List Node
-nodes_of entries = map (λ p. node_with p.0.values.items p.1) entries
+-- the entry that is held in 24 bytes
+abbrev pub entry_in : SmallEntry → Entry
+entry_in e =
+    record {
+      rank = record { cost = e.cost; steps = e.steps };
+      parent = if e.has_parent then Some (record { worker = e.worker; index = e.index; operator = e.operator }) else None;
+      expanded = e.expanded;
+    }
+
+-- the nodes of states with their entries, where a form has these values
+abbrev pub nodes_of : {F : Type 0} → (F → List ℕ) → List (F × SmallEntry) → List Node
+nodes_of values entries = map (λ p. node_with (values p.0) (entry_in p.1)) entries
+
+-- states with these ranges have the form, and all keys and the buffer are forms of such states
+pub record AreForms {F : Type 0} (Fits : List ℕ → Type 0) (IsForm : List ℕ → F → Type 0) (ranges : List ℕ)
+    (entries : List (F × SmallEntry)) (sought : F) : Type 0 where
+  pub fits : Fits ranges
+  pub keys : All (λ p. IsForm ranges p.0) entries
+  pub buffer : IsForm ranges sought
 
 -- the nodes with this entry at a place
 abbrev pub with_entry : List Node → ℕ → Entry → List Node
@@ -18,13 +34,14 @@ with_entry (n ∷ ns) zero e = node_with n.state e ∷ ns
 with_entry (n ∷ ns) (suc i) e = n ∷ with_entry ns i e
 
 -- the nodes with these entries written back at their places, the last one first
-abbrev pub taken_back : List (ℕ × Entry) → List Node → List Node
+abbrev pub taken_back : List (ℕ × SmallEntry) → List Node → List Node
 taken_back [] nodes = nodes
-taken_back (p ∷ ps) nodes = with_entry (taken_back ps nodes) p.0 p.1
+taken_back (p ∷ ps) nodes = with_entry (taken_back ps nodes) p.0 (entry_in p.1)
 
 -- the entry that an outcome replaces is appended, if there is one
-abbrev pub Notes : List Node → Outcome → List (ℕ × Entry) → List (ℕ × Entry) → Type 0
+abbrev pub Notes : List Node → Outcome → List (ℕ × SmallEntry) → List (ℕ × SmallEntry) → Type 0
 Notes nodes (New i) old new = new ≡ old
 Notes nodes (Better i) old new =
-    (e : Entry) × (new ≡ old ++ (i, e) ∷ []) × ((n : Node) → slice_get nodes i ≡ Some n → n ≡ node_with n.state e)
+    (e : SmallEntry) × (new ≡ old ++ (i, e) ∷ [])
+    × ((n : Node) → slice_get nodes i ≡ Some n → n ≡ node_with n.state (entry_in e))
 Notes nodes Kept old new = new ≡ old

@@ -1,3 +1,4 @@
 pub mod Tables
 pub mod Outcomes
+pub mod Limits
 pub mod Entries

@@ -4,7 +4,7 @@
 
 mod laws;
 mod message;
-mod states;
+mod small_entry;
 mod table;
 
 pub use laws::{outcomes_place, outcomes_tell, reaching_is_improving};

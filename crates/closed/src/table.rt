@@ -1,17 +1,21 @@
 //! The table of reached states.
 
-ghost use Rattle.std.specs.Prelude.{◌≡◌, ◌<◌, ◌==◌, [], length, map, fold, slice_get, slice_set, Some, IfOk, OnOk, OnErr, All};
+ghost use Rattle.std.specs.Prelude.{◌≡◌, ℕ, ◌<◌, ◌≤◌, ◌==◌, ◌⊎◌, List, [], take, length, map, fold, Option, slice_get, slice_set, Some, IfOk, IfSome, IfNone, OnOk, OnErr, All};
 ghost use Rattle.fdr.specs.Tasks as tasks;
 ghost use Rattle.fdr.specs.Tasks.{IsState};
 ghost use Rattle.owner_theory.specs.Owners.{Node, marked};
-ghost use Rattle.closed.specs.declared.table.Outcome.TheVariants.{New};
-ghost use Rattle.closed.specs.Tables.{reached, outcome_of, outcomes_of, fresh, node_with, arrival};
+ghost use Rattle.closed.specs.declared.message.Parent.{Parent};
+ghost use Rattle.closed.specs.declared.table.Outcome.TheVariants.{New, Better};
+ghost use Rattle.closed.specs.Tables.{reached, outcome_of, outcomes_of, node_with, fresh, arrival};
+ghost use Rattle.closed.specs.Limits.{IsPastEntry};
+ghost use Rattle.closed.specs.Entries.{entry_in, nodes_of, with_entry, taken_back, Notes};
 
 use crate::message::{Message, Parent};
-use crate::states::States;
+use crate::small_entry::SmallEntry;
 use fdr::FdrTask;
+use indexmap::IndexMap;
 use openlist::Rank;
-use packed::{Layout, Plain, StateForm};
+use packed::{Layout, StateForm};
 use std::alloc::{AllocError, Global};
 use std::marker::Model;
 
@@ -37,36 +41,57 @@ pub enum Outcome {
     Kept,
 }
 
-/// The states that were reached, in the order in which they were first reached, indexed by their values. A contract sees
-/// the ranges of the task's variables and a node for each state.
+/// The states that were reached, in the order in which they were first reached, indexed by their forms. A contract sees
+/// the ranges of the task's variables and a node for each state. A table holds ranks of at most 2^32 - 1 steps, and
+/// parents whose place and operator are at most 2^32 - 1 and whose worker is at most 255.
 #[derive(Drop)]
-pub struct ClosedTable {
-    states: States,
+pub struct ClosedTable<F: StateForm + Drop> {
+    layout: Layout,
+    entries: IndexMap<F, SmallEntry>,
     /// A buffer for the form of the state that is looked up.
-    sought: Plain,
+    sought: F,
 }
 
-impl Model for ClosedTable {
+impl<F: StateForm + Drop> Model for ClosedTable<F> {
     ghost use Rattle.closed.specs.Tables.{Table};
-    ghost use Rattle.fdr.specs.Tasks.{IsState};
+    ghost use Rattle.closed.specs.Entries.{nodes_of, AreForms};
 
     ghost Value = { Table };
 
-    ghost view = { λ t. t.states };
+    ghost view = { λ t. record { ranges = t.layout; nodes = nodes_of (F.values t.layout) t.entries.entries } };
 
-    ghost invariant = { λ t. IsState t.states.ranges t.sought.values.items };
+    ghost invariant = { λ t. AreForms F.Fits F.IsForm t.layout t.entries.entries t.sought };
 }
 
-impl ClosedTable {
-    /// An empty table for the task's states. Fails only if allocation fails.
-    pub fn new(alloc: Global, task: &FdrTask) -> Result<ClosedTable, AllocError>
+/// The outcome of reaching the state of a form at a rank, where the keys are forms of states with the same ranges.
+fn outcome_among<F: StateForm + Drop>(
+    entries: &IndexMap<F, SmallEntry>,
+    form: &F,
+    rank: Rank,
+) -> Outcome
+    ensures { (ranges : List ℕ) (parent : Option Parent) → F.IsForm ranges form.now →
+        All (λ p. F.IsForm ranges p.0) entries.now.entries →
+        result ≡ outcome_of (nodes_of (F.values ranges) entries.now.entries) (fresh (F.values ranges form.now) rank parent) }
+{
+    match entries.get_index_of(form) {
+        None => Outcome::New(entries.len()),
+        Some(index) if rank < entries[index].rank() => Outcome::Better(index),
+        Some(_) => Outcome::Kept,
+    }
+}
+
+impl<F: StateForm + Drop> ClosedTable<F> {
+    /// An empty table for the task's states, which have this form. Fails only if allocation fails.
+    pub fn new(alloc: Global, task: &FdrTask) -> Result<ClosedTable<F>, AllocError>
+        requires { F.Fits (tasks.ranges task.now) }
         ensures ranges { IfOk result (λ t. t.ranges ≡ tasks.ranges task.now) }
         ensures none { IfOk result (λ t. t.nodes ≡ []) }
     {
         let layout = Layout::new(alloc, task)?;
-        let sought = Plain::pack(alloc, &layout, task.initial())?;
+        let sought = F::pack(alloc, &layout, task.initial())?;
         Ok(ClosedTable {
-            states: States::new(alloc, layout),
+            layout,
+            entries: IndexMap::new(alloc),
             sought,
         })
     }
@@ -75,7 +100,7 @@ impl ClosedTable {
     pub fn len(&self) -> usize
         ensures { result ≡ length self.now.nodes }
     {
-        self.states.len()
+        self.entries.len()
     }
 
     /// Whether the table is empty.
@@ -85,15 +110,120 @@ impl ClosedTable {
         self.len() == 0
     }
 
-    /// Every state in the table is a state of the task: the type's invariant, stated as a contract.
+    /// Every state in the table is a state of the task: it follows from the type's invariant.
     pub fn recall(&self)
         ensures { All (λ n. IsState self.now.ranges n.state) self.now.nodes }
     {
-        self.states.recall();
+        let _ = self.entries.len();
     }
 
-    /// Records that a state was reached, and returns the outcome. Fails only if allocation fails, which can happen only
-    /// for a new state, and then leaves the table as it was.
+    /// Makes room for this many further states. Fails only if allocation fails, and changes nothing in either case.
+    pub fn reserve(&mut self, more: usize) -> Result<(), AllocError>
+        ensures { self.new ≡ self.old }
+    {
+        self.entries.reserve(more)
+    }
+
+    /// The form of the state at that place, counted from 0, or `None` past the last place.
+    pub fn form(&self, index: usize) -> Option<&F>
+        ensures form { IfSome result (λ f. F.IsForm self.now.ranges f.now × ((n : Node) →
+            slice_get self.now.nodes index ≡ Some n → F.values self.now.ranges f.now ≡ n.state)) }
+        ensures past { IfNone result (length self.now.nodes ≤ index) }
+    {
+        let (form, _) = self.entries.get_index(index)?;
+        Some(form)
+    }
+
+    /// The entry of the state at that place, counted from 0.
+    pub fn entry(&self, index: usize) -> Entry
+        requires { index < length self.now.nodes }
+        ensures { (n : Node) → slice_get self.now.nodes index ≡ Some n → n ≡ node_with n.state result }
+    {
+        self.entries[index].entry()
+    }
+
+    /// Writes the values of the state at that place, counted from 0, into `values`.
+    pub fn copy_state(&self, index: usize, values: &mut [u32])
+        requires index { index < length self.now.nodes }
+        requires len { length values.old ≡ length self.now.ranges }
+        ensures { (n : Node) → slice_get self.now.nodes index ≡ Some n → values.new ≡ n.state }
+    {
+        let (state, _) = self.entries.get_index(index).unwrap();
+        state.unpack(&self.layout, values);
+    }
+
+    /// Marks the state at that place as expanded at its rank.
+    pub fn mark_expanded(&mut self, index: usize)
+        requires { index < length self.old.nodes }
+        ensures nodes { (n : Node) → slice_get self.old.nodes index ≡ Some n →
+            self.new.nodes ≡ slice_set self.old.nodes index (marked n) }
+        ensures ranges { self.new.ranges ≡ self.old.ranges }
+    {
+        self.entries[index].expand();
+    }
+
+    /// The outcome that reaching a state at a rank would have. Nothing changes but the buffer of the form that is sought.
+    pub fn look(&mut self, state: &[u32], rank: Rank) -> Outcome
+        requires { IsState self.old.ranges state.now }
+        ensures outcome { (parent : Option Parent) → result ≡ outcome_of self.old.nodes (fresh state.now rank parent) }
+        ensures same { self.new ≡ self.old }
+    {
+        self.sought.repack(&self.layout, state);
+        outcome_among(&self.entries, &self.sought, rank)
+    }
+
+    /// Writes the outcome of reaching a state. Fails only if allocation fails, which can happen only for a new state, and
+    /// then leaves the states as they were.
+    fn write(
+        &mut self,
+        state: &[u32],
+        entry: SmallEntry,
+        outcome: Outcome,
+    ) -> Result<(), AllocError>
+        requires state { IsState self.old.ranges state.now }
+        requires outcome { outcome ≡ outcome_of self.old.nodes (node_with state.now (entry_in entry)) }
+        ensures nodes { OnOk result (self.new.nodes ≡ reached self.old.nodes (node_with state.now (entry_in entry))) }
+        ensures ranges { self.new.ranges ≡ self.old.ranges }
+        ensures unchanged { OnErr result (self.new.nodes ≡ self.old.nodes) }
+        ensures refused { OnErr result (outcome ≡ New (length self.old.nodes)) }
+    {
+        match outcome {
+            Outcome::New(_) => {
+                let alloc = *self.entries.allocator();
+                let form = F::pack(alloc, &self.layout, state)?;
+                self.entries.insert(form, entry)?;
+            }
+            Outcome::Better(index) => self.entries[index] = entry,
+            Outcome::Kept => {}
+        }
+        Ok(())
+    }
+
+    /// Records that a state was reached, where `look` told the outcome. Fails only if allocation fails, which can happen
+    /// only for a new state, or if the rank or the parent is past what an entry can hold (`steps`, `index` or `operator`
+    /// above 2^32 - 1, or `worker` above 255), and then leaves the table as it was.
+    pub fn reach(
+        &mut self,
+        state: &[u32],
+        rank: Rank,
+        parent: Option<Parent>,
+        outcome: Outcome,
+    ) -> Result<(), AllocError>
+        requires state { IsState self.old.ranges state.now }
+        requires outcome { outcome ≡ outcome_of self.old.nodes (fresh state.now rank parent) }
+        ensures nodes { OnOk result (self.new.nodes ≡ reached self.old.nodes (fresh state.now rank parent)) }
+        ensures ranges { self.new.ranges ≡ self.old.ranges }
+        ensures unchanged { OnErr result (self.new ≡ self.old) }
+        ensures refused { OnErr result ((outcome ≡ New (length self.old.nodes)) ⊎ IsPastEntry rank parent) }
+    {
+        let Some(entry) = SmallEntry::of(rank, parent) else {
+            return Err(AllocError);
+        };
+        self.write(state, entry, outcome)
+    }
+
+    /// Records that a state was reached, and returns the outcome. Fails as `reach` does, and then leaves the table as it
+    /// was.
     pub fn improve(
         &mut self,
         state: &[u32],
@@ -105,19 +235,121 @@ impl ClosedTable {
         ensures outcome { IfOk result (λ o. o ≡ outcome_of self.old.nodes (fresh state.now rank parent)) }
         ensures ranges { self.new.ranges ≡ self.old.ranges }
         ensures unchanged { OnErr result (self.new ≡ self.old) }
-        ensures refused { OnErr result (outcome_of self.old.nodes (fresh state.now rank parent) ≡ New (length self.old.nodes)) }
+        ensures refused { OnErr result
+            ((outcome_of self.old.nodes (fresh state.now rank parent) ≡ New (length self.old.nodes)) ⊎ IsPastEntry rank parent) }
     {
-        self.sought.repack(self.states.layout(), state);
-        let entry = Entry {
-            rank,
-            parent,
-            expanded: false,
-        };
-        self.states.reach(&self.sought, entry)
+        let outcome = self.look(state, rank);
+        self.reach(state, rank, parent, outcome)?;
+        Ok(outcome)
     }
 
-    /// Records that the states of messages were reached, one after the other, and returns the outcome of each. Fails only
-    /// if allocation fails, and then leaves the table as it was.
+    /// Appends the entry that an outcome replaces, if there is one, to `replaced`. Fails only if allocation fails, and
+    /// then leaves `replaced` as it was.
+    fn note(
+        &self,
+        outcome: Outcome,
+        replaced: &mut Vec<(usize, SmallEntry)>,
+    ) -> Result<(), AllocError>
+        requires { (i : ℕ) → outcome ≡ Better i → i < length self.now.nodes }
+        ensures noted { OnOk result (Notes self.now.nodes outcome replaced.old.items replaced.new.items) }
+        ensures unchanged { OnErr result (replaced.new.items ≡ replaced.old.items) }
+    {
+        if let Outcome::Better(index) = outcome {
+            replaced.push((index, self.entries[index]))?;
+        }
+        Ok(())
+    }
+
+    /// Records that the state of a message was reached, and appends the entry that this replaces, if there is one, to
+    /// `replaced`. The values of the state are written into a buffer. Fails as `reach` does. In either case `take_back`
+    /// with `replaced` undoes what was written.
+    fn reach_noting(
+        &mut self,
+        message: &Message,
+        values: &mut [u32],
+        replaced: &mut Vec<(usize, SmallEntry)>,
+    ) -> Result<Outcome, AllocError>
+        requires state { IsState self.old.ranges (arrival message.now).state }
+        requires len { length values.old ≡ length self.old.ranges }
+        ensures nodes { OnOk result (self.new.nodes ≡ reached self.old.nodes (arrival message.now)) }
+        ensures outcome { IfOk result (λ o. o ≡ outcome_of self.old.nodes (arrival message.now)) }
+        ensures ranges { self.new.ranges ≡ self.old.ranges }
+        ensures no_fewer { length self.old.nodes ≤ length self.new.nodes }
+        ensures taken_back { (len : ℕ) → len ≤ length self.old.nodes →
+            taken_back replaced.new.items (take len self.new.nodes) ≡ taken_back replaced.old.items (take len self.old.nodes) }
+    {
+        message.state.unpack(&self.layout, values);
+        let outcome = self.look(values, message.rank);
+        self.note(outcome, replaced)?;
+        self.reach(values, message.rank, Some(message.parent), outcome)?;
+        Ok(outcome)
+    }
+
+    /// Records that the states of messages were reached, one after the other, with the outcome of each and the entries
+    /// that were replaced. The values of each state are written into a buffer. Fails as `reach` does, and then `take_back`
+    /// with `replaced` undoes what was written.
+    fn reach_all(
+        &mut self,
+        messages: &[Message],
+        values: &mut [u32],
+        outcomes: &mut Vec<Outcome>,
+        replaced: &mut Vec<(usize, SmallEntry)>,
+    ) -> Result<(), AllocError>
+        requires states { All (λ m. IsState self.old.ranges (arrival m).state) messages.now }
+        requires len { length values.old ≡ length self.old.ranges }
+        requires outcomes { outcomes.old.items ≡ [] }
+        requires replaced { replaced.old.items ≡ [] }
+        ensures nodes { OnOk result (self.new.nodes ≡ fold reached self.old.nodes (map arrival messages.now)) }
+        ensures outcomes { OnOk result (outcomes.new.items ≡ outcomes_of self.old.nodes (map arrival messages.now)) }
+        ensures ranges { self.new.ranges ≡ self.old.ranges }
+        ensures taken_back { taken_back replaced.new.items (take (length self.old.nodes) self.new.nodes) ≡ self.old.nodes }
+    {
+        for message in messages {
+            let outcome = self.reach_noting(message, values, replaced)?;
+            outcomes.push(outcome)?;
+        }
+        Ok(())
+    }
+
+    /// Removes the states from place `len` on.
+    fn truncate(&mut self, len: usize)
+        ensures nodes { self.new.nodes ≡ take len self.old.nodes }
+        ensures ranges { self.new.ranges ≡ self.old.ranges }
+    {
+        self.entries.truncate(len);
+    }
+
+    /// Writes an entry back at that place, if there is a state.
+    fn put_back(&mut self, index: usize, entry: SmallEntry)
+        ensures nodes { self.new.nodes ≡ with_entry self.old.nodes index (entry_in entry) }
+        ensures ranges { self.new.ranges ≡ self.old.ranges }
+    {
+        if index < self.entries.len() {
+            self.entries[index] = entry;
+        }
+    }
+
+    /// Removes the states from place `len` on, and writes the replaced entries of the others back, the last one first.
+    fn take_back(&mut self, len: usize, mut replaced: Vec<(usize, SmallEntry)>)
+        ensures nodes { self.new.nodes ≡ taken_back replaced.items (take len self.old.nodes) }
+        ensures ranges { self.new.ranges ≡ self.old.ranges }
+    {
+        self.truncate(len);
+        while let Some((index, entry)) = replaced.pop() {
+            self.put_back(index, entry);
+        }
+    }
+
+    /// A buffer for the values of a state. Fails only if allocation fails.
+    fn buffer(&self, alloc: Global) -> Result<Vec<u32>, AllocError>
+        ensures { IfOk result (λ b. length b.items ≡ length self.now.ranges) }
+    {
+        let buffer = vec![in alloc; 0; self.layout.variable_count()]?;
+        Ok(buffer)
+    }
+
+    /// Records that the states of messages were reached, one after the other, and returns the outcome of each. Fails as
+    /// `reach` does, and then leaves the table as it was.
     pub fn improve_all(
         &mut self,
         alloc: Global,
@@ -129,46 +361,17 @@ impl ClosedTable {
         ensures ranges { self.new.ranges ≡ self.old.ranges }
         ensures unchanged { OnErr result (self.new ≡ self.old) }
     {
-        // Room for both is made before anything is written.
+        // Room for all three is made before anything is written.
         let mut outcomes = Vec::with_capacity(alloc, messages.len())?;
         let mut replaced = Vec::with_capacity(alloc, messages.len())?;
-        let len = self.states.len();
-        match self
-            .states
-            .reach_all(messages, &mut outcomes, &mut replaced)
-        {
+        let mut values = self.buffer(alloc)?;
+        let len = self.len();
+        match self.reach_all(messages, &mut values, &mut outcomes, &mut replaced) {
             Ok(()) => Ok(outcomes),
             Err(error) => {
-                self.states.take_back(len, replaced);
+                self.take_back(len, replaced);
                 Err(error)
             }
         }
-    }
-
-    /// The entry of the state at that place, counted from 0.
-    pub fn entry(&self, index: usize) -> Entry
-        requires { index < length self.now.nodes }
-        ensures { (n : Node) → slice_get self.now.nodes index ≡ Some n → n ≡ node_with n.state result }
-    {
-        self.states.entry(index)
-    }
-
-    /// Writes the values of the state at that place, counted from 0, into `state`.
-    pub fn copy_state(&self, index: usize, state: &mut [u32])
-        requires index { index < length self.now.nodes }
-        requires len { length state.old ≡ length self.now.ranges }
-        ensures { (n : Node) → slice_get self.now.nodes index ≡ Some n → state.new ≡ n.state }
-    {
-        self.states.copy_state(index, state);
-    }
-
-    /// Marks the state at that place as expanded at its rank.
-    pub fn mark_expanded(&mut self, index: usize)
-        requires { index < length self.old.nodes }
-        ensures nodes { (n : Node) → slice_get self.old.nodes index ≡ Some n →
-            self.new.nodes ≡ slice_set self.old.nodes index (marked n) }
-        ensures ranges { self.new.ranges ≡ self.old.ranges }
-    {
-        self.states.mark_expanded(index);
     }
 }

@@ -5,6 +5,7 @@ ghost use Rattle.owner_theory.specs.Owners.{Node};
 ghost use Rattle.extract.specs.Goals.{is_cheaper, better, best_from, best_over};
 
 use owner::{Owner, Space};
+use packed::StateForm;
 use packed_spread::Spread;
 use std::alloc::{AllocError, Global};
 
@@ -27,8 +28,8 @@ fn is_cheaper(cost: u64, found: Option<Found>) -> bool
 }
 
 /// The cheapest goal node after the node at that place of one owner; `state` is a buffer, here and below.
-fn better_entry<S: Spread + Drop>(
-    owner: &Owner<'_, S>,
+fn better_entry<S: Spread + Drop, F: StateForm + Drop>(
+    owner: &Owner<'_, S, F>,
     worker: usize,
     index: usize,
     state: &mut [u32],
@@ -52,8 +53,8 @@ fn better_entry<S: Spread + Drop>(
 }
 
 /// The cheapest goal node after the nodes of one owner.
-fn best_of_owner<S: Spread + Drop>(
-    owner: &Owner<'_, S>,
+fn best_of_owner<S: Spread + Drop, F: StateForm + Drop>(
+    owner: &Owner<'_, S, F>,
     worker: usize,
     state: &mut [u32],
     found: Option<Found>,
@@ -68,19 +69,32 @@ fn best_of_owner<S: Spread + Drop>(
     best
 }
 
+/// The cheapest goal node of these owners, all of this space; `state` is a buffer.
+fn best_in<S: Spread + Drop, F: StateForm + Drop>(
+    space: &Space<'_, S>,
+    owners: &[Owner<'_, S, F>],
+    state: &mut [u32],
+) -> Option<Found>
+    requires spaces { All (λ o. o.space ≡ space.now) owners.now }
+    requires buffer { length state.old ≡ length space.now.task.value_names }
+    ensures { result ≡ best_over space.now.task 0 owners.now None }
+{
+    let mut best = None;
+    for (worker, owner) in owners.iter().enumerate() {
+        best = best_of_owner(owner, worker, state, best);
+    }
+    best
+}
+
 /// The cheapest goal node of these owners, all of this space. Fails only if allocation fails.
-pub(crate) fn best_of_owners<S: Spread + Drop>(
+pub(crate) fn best_of_owners<S: Spread + Drop, F: StateForm + Drop>(
     alloc: Global,
     space: &Space<'_, S>,
-    owners: &[Owner<'_, S>],
+    owners: &[Owner<'_, S, F>],
 ) -> Result<Option<Found>, AllocError>
     requires { All (λ o. o.space ≡ space.now) owners.now }
     ensures { IfOk result (λ found. found ≡ best_over space.now.task 0 owners.now None) }
 {
     let mut state = vec![in alloc; 0u32; space.task().variable_count()]?;
-    let mut best = None;
-    for (worker, owner) in owners.iter().enumerate() {
-        best = best_of_owner(owner, worker, &mut state, best);
-    }
-    Ok(best)
+    Ok(best_in(space, owners, &mut state))
 }

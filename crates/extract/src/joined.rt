@@ -10,6 +10,7 @@ use crate::packet::Packet;
 use crate::settled::settled_bound;
 use cost::Dist;
 use owner::{Owner, Space};
+use packed::StateForm;
 use packed_spread::Spread;
 use std::alloc::{AllocError, Global};
 use std::collections::VecDeque;
@@ -18,16 +19,16 @@ use std::marker::Model;
 /// Owners and the messages not taken, at the end of a lawful family: however the owners' events were interleaved, each
 /// message that was taken had been handed out, and each bound that was seen is at least the least cost that was offered.
 #[derive(Drop)]
-pub struct Joined<'a, S: Spread + Drop> {
+pub struct Joined<'a, S: Spread + Drop, F: StateForm + Drop> {
     space: &'a Space<'a, S>,
-    owners: Vec<Owner<'a, S>>,
+    owners: Vec<Owner<'a, S, F>>,
     /// The messages not taken, in a queue for each owner, the oldest first.
     left: Vec<VecDeque<Packet>>,
     ghost lawful: { ∥ ((family : Family) × IsEndOf S.owner (record { space = space.now; owners = owners.items; left = all_packets left.items }) family) ∥₁ },
     ghost form: { IsForm (record { space = space.now; owners = owners.items; left = all_packets left.items }) },
 }
 
-impl<'a, S: Spread + Drop> Model for Joined<'a, S> {
+impl<'a, S: Spread + Drop, F: StateForm + Drop> Model for Joined<'a, S, F> {
     ghost use Rattle.extract.specs.Ends.{EndOf};
     ghost use Rattle.extract.specs.Views.{all_packets};
 
@@ -36,13 +37,13 @@ impl<'a, S: Spread + Drop> Model for Joined<'a, S> {
     ghost view = { λ j. record { space = j.space.now; owners = j.owners.items; left = all_packets j.left.items } };
 }
 
-impl<'a, S: Spread + Drop> Joined<'a, S> {
+impl<'a, S: Spread + Drop, F: StateForm + Drop> Joined<'a, S, F> {
     /// The end of a lawful family, from the space, the owners and the messages that were not taken.
     pub fn new(
         space: &'a Space<'a, S>,
-        owners: Vec<Owner<'a, S>>,
+        owners: Vec<Owner<'a, S, F>>,
         left: Vec<VecDeque<Packet>>,
-    ) -> Joined<'a, S>
+    ) -> Joined<'a, S, F>
         requires lawful { ∥ ((family : Family) × IsEndOf S.owner (record { space = space.now; owners = owners.items; left = all_packets left.items }) family) ∥₁ }
         requires form { IsForm (record { space = space.now; owners = owners.items; left = all_packets left.items }) }
         ensures { result ≡ record { space = space.now; owners = owners.entry.items; left = all_packets left.items } }
@@ -81,7 +82,7 @@ impl<'a, S: Spread + Drop> Joined<'a, S> {
     }
 
     /// The owners, in the order of their numbers.
-    pub fn owners(&self) -> &[Owner<'a, S>]
+    pub fn owners(&self) -> &[Owner<'a, S, F>]
         ensures { result.now ≡ self.now.owners }
     {
         &self.owners

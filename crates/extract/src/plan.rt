@@ -8,11 +8,16 @@ ghost use Rattle.extract.specs.Ends.{space_at, IsSettledAt, IsBestGoal, IsGoalNo
 
 use crate::joined::Joined;
 use owner::{Entry, Owner};
+use packed::StateForm;
 use packed_spread::Spread;
 use std::alloc::{AllocError, Global};
 
 /// The entry of the node at that place of that owner.
-fn entry_at<S: Spread + Drop>(owners: &[Owner<'_, S>], worker: usize, index: usize) -> Entry
+fn entry_at<S: Spread + Drop, F: StateForm + Drop>(
+    owners: &[Owner<'_, S, F>],
+    worker: usize,
+    index: usize,
+) -> Entry
     requires worker { worker < length owners.now }
     requires index { (o : OwnerOf S) → At owners.now worker o → index < length o.nodes }
     ensures entry { (o : OwnerOf S) (n : Node) → At owners.now worker o → At o.nodes index n → n ≡ node_with n.state result }
@@ -26,9 +31,9 @@ fn entry_at<S: Spread + Drop>(owners: &[Owner<'_, S>], worker: usize, index: usi
 /// The plan to a goal node, given by its worker and place: the numbers of the operators, from the initial state on. The
 /// operators are found from the last one to the first, by the nodes' present parents, from owner to owner. The plan costs
 /// at most the goal node's cost, and exactly the bound if the owners are settled. Fails only if allocation fails.
-pub fn plan_of<'a, S: Spread + Drop>(
+pub fn plan_of<'a, S: Spread + Drop, F: StateForm + Drop>(
     alloc: Global,
-    joined: &Joined<'a, S>,
+    joined: &Joined<'a, S, F>,
     goal: (usize, usize),
 ) -> Result<Vec<usize>, AllocError>
     requires { IsBestGoal joined.now (Some goal) }

@@ -61,7 +61,11 @@ fn least_of_packets<S: Spread + Drop>(
 }
 
 /// The least f-value of an owner's nodes that are not expanded and of the messages in its outboxes.
-fn least_of_owner<S: Spread + Drop>(owner: &Owner<'_, S>, owners: usize, state: &mut [u32]) -> Dist
+fn least_of_owner<S: Spread + Drop, F: StateForm + Drop>(
+    owner: &Owner<'_, S, F>,
+    owners: usize,
+    state: &mut [u32],
+) -> Dist
     requires owners { length owner.now.outboxes ≡ owners }
     requires buffer { length state.old ≡ length owner.now.space.task.value_names }
     ensures { result ≡ least_held S.owner owner.now }
@@ -75,9 +79,9 @@ fn least_of_owner<S: Spread + Drop>(owner: &Owner<'_, S>, owners: usize, state: 
 }
 
 /// The least pending f-value: of the owners' nodes and outboxes, and of the messages underway.
-fn least_pending<S: Spread + Drop>(
+fn least_pending<S: Spread + Drop, F: StateForm + Drop>(
     space: &Space<'_, S>,
-    owners: &[Owner<'_, S>],
+    owners: &[Owner<'_, S, F>],
     left: &[VecDeque<Packet>],
     state: &mut [u32],
 ) -> Dist
@@ -96,7 +100,7 @@ fn least_pending<S: Spread + Drop>(
 }
 
 /// The least cost at which any of the owners took a goal state, infinite if none did.
-pub fn best_goal<S: Spread + Drop>(owners: &[Owner<'_, S>]) -> Dist
+pub fn best_goal<S: Spread + Drop, F: StateForm + Drop>(owners: &[Owner<'_, S, F>]) -> Dist
     ensures { result ≡ least (map (λ o. o.best) owners.now) }
 {
     let mut best = Dist::inf();
@@ -109,10 +113,10 @@ pub fn best_goal<S: Spread + Drop>(owners: &[Owner<'_, S>]) -> Dist
 /// The bound at which the owners of a space are settled, given the messages that were handed out and not taken: the least
 /// cost at which a goal state was taken, infinite if none was, provided that no pending f-value is below it. `None` if
 /// they are not settled. Fails only if allocation fails.
-pub fn settled_bound<'a, S: Spread + Drop>(
+pub fn settled_bound<'a, S: Spread + Drop, F: StateForm + Drop>(
     alloc: Global,
     space: &Space<'a, S>,
-    owners: &[Owner<'a, S>],
+    owners: &[Owner<'a, S, F>],
     left: &[VecDeque<Packet>],
 ) -> Result<Option<Dist>, AllocError>
     requires { IsForm (record { space = space.now; owners = owners.now; left = all_packets left.now }) }

@@ -8,6 +8,7 @@ use crate::fact::{Fact, all_hold, set_values};
 use crate::operator::Operator;
 use cost::Cost;
 use std::marker::Model;
+use thiserror::Error;
 
 /// The greatest number of variables of a task.
 pub const MAX_VARIABLES: usize = 65_536;
@@ -18,14 +19,17 @@ pub const MAX_VALUES: usize = 65_536;
 /// The greatest number of operators of a task.
 pub const MAX_OPERATORS: usize = 4_294_967_295;
 
-/// The limit that a task passes.
-#[derive(Clone, Copy, Debug, PartialEq, Eq)]
+/// The limit that a task passes. Its text is the word that F18 prints.
+#[derive(Clone, Copy, Debug, PartialEq, Eq, Error)]
 pub enum TaskLimit {
     /// More than 65,536 variables.
+    #[error("variables")]
     Variables,
     /// More than 65,536 values of one variable.
+    #[error("values")]
     Values,
     /// More than 4,294,967,295 operators.
+    #[error("operators")]
     Operators,
 }
 

@@ -6,11 +6,12 @@ ghost use Rattle.extract.specs.Views.{all_packets};
 
 use extract::Packet;
 use owner::Owner;
+use packed::StateForm;
 use packed_spread::Spread;
 use std::collections::VecDeque;
 
 /// The number of messages in the owners' outboxes, or 2^128 - 1 if it is greater.
-pub fn waiting_count<S: Spread + Drop>(owners: &[Owner<'_, S>]) -> u128
+pub fn waiting_count<S: Spread + Drop, F: StateForm + Drop>(owners: &[Owner<'_, S, F>]) -> u128
     ensures { result ≡ min (sum_by (λ o. waiting o.outboxes) owners.now) (2 ^ 128 - 1) }
 {
     let mut count: u128 = 0;

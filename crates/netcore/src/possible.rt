@@ -9,6 +9,7 @@ use crate::counts::underway_count;
 use crate::step::WorldStep;
 use crate::world::World;
 use extract::Packet;
+use packed::StateForm;
 use packed_spread::Spread;
 use std::collections::VecDeque;
 
@@ -50,7 +51,7 @@ fn nth_delivery(queues: &[VecDeque<Packet>], number: u128) -> Option<WorldStep>
     None
 }
 
-impl<'a, S: Spread + Drop> World<'a, S> {
+impl<'a, S: Spread + Drop, F: StateForm + Drop> World<'a, S, F> {
     /// Whether the step would change something. A step of an owner or a message that does not exist would not. The limit
     /// on expansions plays no part.
     pub fn would_change(&self, step: WorldStep) -> bool

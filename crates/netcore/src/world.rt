@@ -23,6 +23,7 @@ use crate::step::WorldStep;
 use cost::Dist;
 use extract::{Joined, Packet, SearchAnswer, settled_bound};
 use owner::{Owner, OwnerFault, Space};
+use packed::StateForm;
 use packed_spread::Spread;
 use std::alloc::{AllocError, Global};
 use std::collections::VecDeque;
@@ -31,9 +32,9 @@ use std::marker::Model;
 /// Owners of states, the messages underway to each of them, the bound that each has seen last, the least cost that was
 /// offered, and which owners are at rest.
 #[derive(Drop)]
-pub struct World<'a, S: Spread + Drop> {
+pub struct World<'a, S: Spread + Drop, F: StateForm + Drop> {
     pub(crate) space: &'a Space<'a, S>,
-    pub(crate) owners: Vec<Owner<'a, S>>,
+    pub(crate) owners: Vec<Owner<'a, S, F>>,
     pub(crate) underway: Vec<VecDeque<Packet>>,
     pub(crate) seen: Vec<Dist>,
     pub(crate) bound: Dist,
@@ -42,7 +43,7 @@ pub struct World<'a, S: Spread + Drop> {
     spent: bool,
 }
 
-impl<'a, S: Spread + Drop> Model for World<'a, S> {
+impl<'a, S: Spread + Drop, F: StateForm + Drop> Model for World<'a, S, F> {
     ghost use Rattle.std.specs.Prelude.{map};
     ghost use Rattle.netcore.specs.Worlds.{WorldOf};
     ghost use Rattle.extract.specs.Views.{packets_in};
@@ -73,11 +74,12 @@ impl<'a, S: Spread + Drop> Model for World<'a, S> {
 }
 
 /// Owners at the start, each with its number. Fails only if allocation fails.
-fn first_owners<'a, S: Spread + Drop>(
+fn first_owners<'a, S: Spread + Drop, F: StateForm + Drop>(
     alloc: Global,
     space: &'a Space<'a, S>,
     count: usize,
-) -> Result<Vec<Owner<'a, S>>, AllocError>
+) -> Result<Vec<Owner<'a, S, F>>, AllocError>
+    requires { F.Fits (ranges space.now.task) }
     ensures len { IfOk result (λ owners. length owners.items ≡ count) }
     ensures each { IfOk result (λ owners. (v : ℕ) (o : OwnerOf S) → At owners.items v o → IsFirstOwner S.owner space.now count v o) }
 {
@@ -99,15 +101,16 @@ fn empty_queues(alloc: Global, count: usize) -> Result<Vec<VecDeque<Packet>>, Al
     Ok(queues)
 }
 
-impl<'a, S: Spread + Drop> World<'a, S> {
-    /// A world at its start: no owner is at rest or has seen a bound, and the owner of the initial state has it. Fails
-    /// only if allocation fails.
+impl<'a, S: Spread + Drop, F: StateForm + Drop> World<'a, S, F> {
+    /// A world at its start: no owner is at rest or has seen a bound, and the owner of the initial state has it. States of
+    /// the task have the form `F`. Fails only if allocation fails.
     pub fn start(
         alloc: Global,
         space: &'a Space<'a, S>,
         owners: usize,
-    ) -> Result<World<'a, S>, AllocError>
-        requires { 0 < owners }
+    ) -> Result<World<'a, S, F>, AllocError>
+        requires owners { 0 < owners }
+        requires fits { F.Fits (ranges space.now.task) }
         ensures started { IfOk result (λ w. Shows S.owner w (world_start (searched S.owner space.now owners))) }
         ensures space { IfOk result (λ w. w.space ≡ space.now) }
         ensures owners { IfOk result (λ w. length w.owners ≡ owners) }
@@ -268,8 +271,9 @@ impl<'a, S: Spread + Drop> World<'a, S> {
         space: &'a Space<'a, S>,
         owners: usize,
         steps: &[WorldStep],
-    ) -> Result<World<'a, S>, OwnerFault>
-        requires { 0 < owners }
+    ) -> Result<World<'a, S, F>, OwnerFault>
+        requires owners { 0 < owners }
+        requires fits { F.Fits (ranges space.now.task) }
         ensures run { IfOk result (IsAfter S.owner (searched S.owner space.now owners) steps.now) }
         ensures refused { IfErr result (IsRunRefusal S.owner (searched S.owner space.now owners) steps.now) }
         ensures space { IfOk result (λ w. w.space ≡ space.now) }
@@ -329,7 +333,7 @@ impl<'a, S: Spread + Drop> World<'a, S> {
     }
 
     /// The end of the search, as the end of a lawful family. The world must not be spent.
-    pub fn joined(self) -> Joined<'a, S>
+    pub fn joined(self) -> Joined<'a, S, F>
         requires { self.spent ≡ false }
         ensures shown { (asked : List WorldStep) (after : IsAfter S.owner (space_in S.owner self.entry) asked self.entry) →
             IsEndOf S.owner result (family_of (world_after_run (space_in S.owner self.entry) after.steps)) }

@@ -7,28 +7,20 @@ ghost use Rattle.cert_value.specs.Views.{atom_of, variable_of, kind_of};
 ghost use Rattle.checker_pddl.specs.Naming.{words_of};
 ghost use Rattle.optplan_kind.specs.Kinds.{listing, translation_kind};
 
-use cert_value::{AtomParts, AtomVariable, CertificateKind};
-use pddl_names::Names;
+use cert_value::{AtomParts, AtomVariable, CertificateKind, short_numbers};
 use pddl_task::{GroundAtom, Task, Vocabulary};
 use std::alloc::{AllocError, Global};
 use translate::Translated;
 use translate_theory::ListedVariable;
-
-/// The name of a number, empty if there is none.
-fn name_of(names: &Names, number: usize) -> &str
-    ensures { result.now ≡ slice_index_or names.now number [] }
-{
-    names.name(number).unwrap_or("")
-}
 
 /// The words of an atom: its predicate's name, and the names of its objects. Fails only if allocation fails.
 fn words_of(alloc: Global, names: &Vocabulary, atom: &GroundAtom) -> Result<Vec<String>, AllocError>
     ensures { IfOk result (λ words. texts_of words.items ≡ words_of names.now atom.now) }
 {
     let mut words = Vec::new(alloc);
-    words.push(String::from_str(alloc, name_of(&names.predicates, atom.predicate))?)?;
+    words.push(String::from_str(alloc, names.predicates.name_or_empty(atom.predicate))?)?;
     for object in atom.objects.as_slice() {
-        words.push(String::from_str(alloc, name_of(&names.objects, *object))?)?;
+        words.push(String::from_str(alloc, names.objects.name_or_empty(*object))?)?;
     }
     Ok(words)
 }
@@ -48,18 +40,6 @@ fn words_of_all(
     Ok(words)
 }
 
-/// Places of atoms as they are stored in a certificate. Fails only if allocation fails.
-fn short_places(alloc: Global, places: &[usize]) -> Result<Vec<u32>, AllocError>
-    requires { All (λ p. p < 2 ^ 32) places.now }
-    ensures { IfOk result (λ numbers. numbers.items ≡ places.now) }
-{
-    let mut numbers = Vec::new(alloc);
-    for place in places {
-        numbers.push(*place as u32)?;
-    }
-    Ok(numbers)
-}
-
 /// Variables as they are stored in a certificate. Fails only if allocation fails.
 fn certificate_variables(
     alloc: Global,
@@ -72,7 +52,7 @@ fn certificate_variables(
     for variable in variables {
         kept.push(AtomVariable {
             has_none_value: variable.has_none,
-            atoms: short_places(alloc, &variable.places)?,
+            atoms: short_numbers(alloc, &variable.places)?,
         })?;
     }
     Ok(kept)

@@ -1,14 +1,15 @@
 -- The words of a text that faults print.
-use Rattle.std.specs.Prelude.{ℕ, ◌==◌, ◌||◌, ◌&&◌, nat_le, Bool, false, if◌then◌else◌, List, [], ◌∷◌, drop, Option, Some, None, codes}
+use Rattle.std.specs.Prelude.{ℕ, List, [], ◌∷◌, drop, Option, Some, None, codes}
 use Rattle.std.specs.Char.{to_ascii_lowercase}
+use Rattle.sexp.specs.Bytes.{kind}
+use Rattle.sexp.specs.declared.byte_kind.ByteKind.{ByteKind}
+use Rattle.sexp.specs.declared.byte_kind.ByteKind.TheVariants.{Blank, Semicolon, Open, Close, Letter, Strange}
 use Rattle.pddl_syntax.specs.declared.fault.FaultKind.{FaultKind}
 use Rattle.pddl_syntax.specs.declared.fault.FaultKind.TheVariants.{Shape, Unsupported, UnknownName, Arity, TwiceDeclared, TypeCycle, NotWhole, CostRange, Limit, GoalBothWays}
 use Rattle.pddl_syntax.specs.declared.fault.PlanningFile.{PlanningFile}
 use Rattle.pddl_syntax.specs.declared.fault.PlanningFile.TheVariants as planning_file
 use Rattle.pddl_syntax.specs.declared.fault.LimitedTable.{LimitedTable}
 use Rattle.pddl_syntax.specs.declared.fault.LimitedTable.TheVariants.{Objects, Predicates, Functions, Schemas, Arguments, Literals, Increases, Init}
-use Rattle.fdr.specs.declared.task.TaskLimit.{TaskLimit}
-use Rattle.fdr.specs.declared.task.TaskLimit.TheVariants as task_limit
 use Rattle.pddl.specs.declared.fault.PddlFault.{PddlFault}
 use Rattle.pddl.specs.declared.fault.PddlFault.TheVariants.{OutOfMemory, Tree, Section}
 use Rattle.optplan_replies.specs.declared.fault.FileWord.{FileWord}
@@ -34,20 +35,19 @@ table_text Literals = codes "literals"
 table_text Increases = codes "increases"
 table_text Init = codes "init"
 
--- the word by which F18 names a table of a finite-domain task
-abbrev pub task_table_text : TaskLimit → List ℕ
-task_table_text task_limit.Variables = codes "variables"
-task_table_text task_limit.Values = codes "values"
-task_table_text task_limit.Operators = codes "operators"
-
--- printable ASCII, but neither a parenthesis nor a semicolon
-abbrev pub is_letter : ℕ → Bool
-is_letter b = if b == 40 || b == 41 || b == 59 then false else (nat_le 33 b && nat_le b 126)
+-- the word that a byte of this kind begins: this one if it is a letter, and the empty one otherwise
+abbrev pub letter_or_end : ByteKind → List ℕ → List ℕ
+letter_or_end Letter word = word
+letter_or_end Blank word = []
+letter_or_end Semicolon word = []
+letter_or_end Open word = []
+letter_or_end Close word = []
+letter_or_end Strange word = []
 
 -- the word at the start of a text, in lower case
 abbrev pub first_word : List ℕ → List ℕ
 first_word [] = []
-first_word (b ∷ bs) = if is_letter b then to_ascii_lowercase b ∷ first_word bs else []
+first_word (b ∷ bs) = letter_or_end (kind b) (to_ascii_lowercase b ∷ first_word bs)
 
 -- the word that starts at a byte of a text, in lower case
 abbrev pub word_at : List ℕ → ℕ → List ℕ

@@ -3,7 +3,7 @@
 ghost use Rattle.std.specs.Prelude.{◌≡◌};
 ghost use Rattle.optplan_replies.specs.declared.fault.Fault.TheVariants.{OutOfMemory};
 ghost use Rattle.optplan_replies.specs.Faults.{fault_status, fault_of_sas, fault_of_cert, fault_of_check};
-ghost use Rattle.optplan_replies.specs.Words.{file_text, table_text, task_table_text};
+ghost use Rattle.optplan_replies.specs.Words.{file_text, table_text};
 
 use crate::status::Status;
 use cert_text::CertFault;
@@ -173,16 +173,6 @@ fn table_word(table: LimitedTable) -> &'static str
     }
 }
 
-fn task_table_word(table: TaskLimit) -> &'static str
-    ensures { result.now ≡ task_table_text table }
-{
-    match table {
-        TaskLimit::Variables => "variables",
-        TaskLimit::Values => "values",
-        TaskLimit::Operators => "operators",
-    }
-}
-
 /// Writes the number, name, file and place (in bytes, counted from 0) of a fault of a tree.
 fn write_tree_fault<W: fmt::Write>(
     f: &mut fmt::Formatter<W>,
@@ -228,39 +218,6 @@ fn write_text_fault<W: fmt::Write>(
     }
 }
 
-/// Writes the number, name, file and line of a fault of a finite-domain task's text. A table that is too long has neither
-/// file nor line.
-fn write_sas_fault<W: fmt::Write>(f: &mut fmt::Formatter<W>, fault: SasFault) -> fmt::Result {
-    match fault {
-        SasFault::OutOfMemory => write!(f, "out of memory"),
-        SasFault::Limit(table) => {
-            let table = task_table_word(table);
-            write!(f, "F18 Limit {table}")
-        }
-        SasFault::Version(line) => write!(f, "F40 Version sas {line}"),
-        SasFault::Expected(line) => write!(f, "F41 Expected sas {line}"),
-        SasFault::Range(line) => write!(f, "F42 Range sas {line}"),
-        SasFault::Axioms(line) => write!(f, "F43 Axioms sas {line}"),
-        SasFault::ConditionalEffect(line) => write!(f, "F44 ConditionalEffect sas {line}"),
-        SasFault::Truncated => write!(f, "F45 Truncated sas"),
-        SasFault::Trailing(line) => write!(f, "F46 Trailing sas {line}"),
-    }
-}
-
-/// Writes the number, name, file and line of a fault of a certificate's text.
-fn write_cert_fault<W: fmt::Write>(f: &mut fmt::Formatter<W>, fault: CertFault) -> fmt::Result {
-    match fault {
-        CertFault::OutOfMemory => write!(f, "out of memory"),
-        CertFault::Header => write!(f, "F50 Header cert"),
-        CertFault::Expected(line) => write!(f, "F51 Expected cert {line}"),
-        CertFault::Number(line) => write!(f, "F52 Number cert {line}"),
-        CertFault::Truncated => write!(f, "F53 Truncated cert"),
-        CertFault::Trailing(line) => write!(f, "F54 Trailing cert {line}"),
-        CertFault::Order(line) => write!(f, "F55 Order cert {line}"),
-        CertFault::TooLong => write!(f, "F56 TooLong cert"),
-    }
-}
-
 /// The fault's line, without the program's name and the line feed.
 impl fmt::Display for Fault {
     fn fmt<W: fmt::Write>(&self, f: &mut fmt::Formatter<W>) -> fmt::Result {
@@ -289,13 +246,10 @@ impl fmt::Display for Fault {
             Fault::Plan(PlanFault::Tree(fault)) => write_tree_fault(f, *fault, FileWord::Plan),
             Fault::Plan(PlanFault::PlanShape(at)) => write!(f, "F25 PlanShape plan {at}"),
             Fault::Plan(PlanFault::PlanLimit) => write!(f, "F26 PlanLimit plan"),
-            Fault::Sas(fault) => write_sas_fault(f, *fault),
-            Fault::Cert(fault) => write_cert_fault(f, *fault),
+            Fault::Sas(fault) => write!(f, "{fault}"),
+            Fault::Cert(fault) => write!(f, "{fault}"),
             Fault::GroundLimit => write!(f, "F20 GroundLimit"),
-            Fault::TaskTooLarge(table) => {
-                let table = task_table_word(*table);
-                write!(f, "F18 Limit {table}")
-            }
+            Fault::TaskTooLarge(table) => write!(f, "F18 Limit {table}"),
             Fault::TotalTooLarge => write!(f, "F60 TotalTooLarge"),
         }
     }

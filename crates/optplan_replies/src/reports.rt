@@ -2,24 +2,14 @@
 
 ghost use Rattle.std.specs.Prelude.{◌≡◌, IfOk, string_bytes};
 ghost use Rattle.pddl.specs.Texts.{IsTaskRefusal};
-ghost use Rattle.optplan_replies.specs.Words.{is_letter, first_word, word_at, text_of};
+ghost use Rattle.optplan_replies.specs.Words.{first_word, word_at, text_of};
 ghost use Rattle.optplan_replies.specs.Reports.{IsTaskReport};
 
 use crate::fault::Fault;
 use pddl::PddlFault;
 use pddl_syntax::{Fault as TextFault, FaultKind, PlanningFile};
+use sexp::{ByteKind, kind_of};
 use std::alloc::{AllocError, Global};
-
-/// Whether a byte may be part of a word.
-fn is_letter(byte: u8) -> bool
-    ensures { result ≡ is_letter byte }
-{
-    match byte {
-        b'(' | b')' | b';' => false,
-        33..=126 => true,
-        _ => false,
-    }
-}
 
 /// The word at the start of a text, in lower case; empty if the text does not start with one. Fails only if allocation
 /// fails.
@@ -29,7 +19,7 @@ fn first_word(alloc: Global, text: &[u8]) -> Result<String, AllocError>
     let mut word = String::new(alloc);
     for byte in text {
         let byte = *byte;
-        if !is_letter(byte) {
+        if kind_of(byte) != ByteKind::Letter {
             return Ok(word);
         }
         word.push(byte.to_ascii_lowercase() as char)?;

@@ -7,30 +7,24 @@ ghost use Rattle.optplan_sas.specs.Faults.{fault_of_search};
 
 use sasfile::SasFault;
 use std::alloc::AllocError;
-use thiserror::Error;
 
 /// Why a search gives no finding.
-#[derive(Clone, Copy, Debug, PartialEq, Eq, Error)]
+#[derive(Clone, Copy, Debug, PartialEq, Eq)]
 pub enum SearchFault {
     /// Memory ran out. This says nothing about the task.
-    #[error("out of memory")]
     OutOfMemory,
     /// A path would have a cost, or a number of operators, above 2^62.
-    #[error("a path past 2^62")]
     TotalTooLarge,
 }
 
 /// Why a finite-domain task is not solved.
-#[derive(Clone, Copy, Debug, PartialEq, Eq, Error)]
+#[derive(Clone, Copy, Debug, PartialEq, Eq)]
 pub enum SasSolveFault {
     /// Memory ran out. This says nothing about the task.
-    #[error("out of memory")]
     OutOfMemory,
     /// The text of the task is refused.
-    #[error("the task is refused: {0}")]
     Sas(SasFault),
     /// F60: a path would have a cost, or a number of operators, above 2^62.
-    #[error("a path past 2^62")]
     TotalTooLarge,
 }
 

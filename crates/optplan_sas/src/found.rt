@@ -9,6 +9,7 @@ ghost use Rattle.optplan_sas.specs.Findings.{IsFound, IsSolution};
 use cert::cert_of;
 use cert_value::{Certificate, CertificateKind};
 use extract::{Joined, plan_of};
+use packed::StateForm;
 use packed_spread::Spread;
 use std::alloc::{AllocError, Global};
 
@@ -35,9 +36,9 @@ pub enum Found {
 }
 
 /// The solution of a search that is settled at a cost. Fails only if allocation fails.
-fn solution_of<'a, S: Spread + Drop>(
+fn solution_of<'a, S: Spread + Drop, F: StateForm + Drop>(
     alloc: Global,
-    joined: &Joined<'a, S>,
+    joined: &Joined<'a, S, F>,
     cost: u64,
     kind: CertificateKind,
 ) -> Result<Solution, AllocError>
@@ -62,9 +63,9 @@ fn solution_of<'a, S: Spread + Drop>(
 
 /// The finding of the search: if it is settled, a cheapest plan, or that there is none, with a certificate of this kind;
 /// else `Unsettled`. Fails only if allocation fails.
-pub fn found_by<'a, S: Spread + Drop>(
+pub fn found_by<'a, S: Spread + Drop, F: StateForm + Drop>(
     alloc: Global,
-    joined: &Joined<'a, S>,
+    joined: &Joined<'a, S, F>,
     kind: CertificateKind,
 ) -> Result<Found, AllocError>
     ensures { IfOk result (IsFound S.owner joined.now (kind_of kind)) }

@@ -1,11 +1,13 @@
 //! Schedules that are drawn from a seed.
 
 ghost use Rattle.std.specs.Prelude.{◌≡◌, ℕ, ◌<◌, ◌+◌, length, IfOk, IfErr};
+ghost use Rattle.fdr.specs.Tasks.{ranges};
 ghost use Rattle.netcore.specs.Possible.{possible_steps};
 ghost use Rattle.optplan_sas.specs.Schedules.{word_of, IsAfterWords, Draws, IsSimulated, IsSimulationRefusal};
 
 use netcore::{World, WorldStep};
 use owner::{OwnerFault, Space};
+use packed::StateForm;
 use packed_spread::Spread;
 use rand_core::{Rng, SeedableRng};
 use rand_xoshiro::Xoshiro256PlusPlus;
@@ -13,8 +15,8 @@ use std::alloc::Global;
 
 /// The step that the next word draws: of the steps that would change something, the one whose number is the word modulo
 /// their number.
-fn drawn<'a, S: Spread + Drop>(
-    world: &World<'a, S>,
+fn drawn<'a, S: Spread + Drop, F: StateForm + Drop>(
+    world: &World<'a, S, F>,
     generator: &mut Xoshiro256PlusPlus,
 ) -> WorldStep
     requires { 0 < length (possible_steps S.owner world.now) }
@@ -29,14 +31,15 @@ fn drawn<'a, S: Spread + Drop>(
 /// the one whose number is the next word of Xoshiro256++ (Blackman and Vigna 2021) from this seed modulo their number.
 /// The run ends when the world's count is 0; if it is not 0 after `steps` steps, the result is `None`. A fault is that of
 /// a step, or `OutOfMemory`.
-pub fn simulated<'a, S: Spread + Drop>(
+pub fn simulated<'a, S: Spread + Drop, F: StateForm + Drop>(
     alloc: Global,
     space: &'a Space<'a, S>,
     owners: usize,
     seed: u64,
     steps: u64,
-) -> Result<Option<World<'a, S>>, OwnerFault>
-    requires { 0 < owners }
+) -> Result<Option<World<'a, S, F>>, OwnerFault>
+    requires owners { 0 < owners }
+    requires fits { F.Fits (ranges space.now.task) }
     ensures run { IfOk result (IsSimulated S.owner space.now owners seed steps) }
     ensures refused { IfErr result (IsSimulationRefusal S.owner space.now owners seed) }
 {

@@ -2,8 +2,9 @@
 
 ghost use Rattle.std.specs.Prelude.{◌≡◌, IfOk, IfErr};
 ghost use Rattle.cert_value.specs.Views.{kind_of};
+ghost use Rattle.fdr.specs.Tasks.{ranges};
 ghost use Rattle.optplan_sas.specs.Findings.{IsFinding};
-ghost use Rattle.optplan_sas.specs.Searches.{IsSettledAfter, IsShortAfter, IsRefusedAfter, IsSettledBySeed, IsShortBySeed, IsRefusedBySeed};
+ghost use Rattle.optplan_sas.specs.Searches.{IsSpaceFor, IsSettledAfter, IsShortAfter, IsRefusedAfter, IsSettledBySeed, IsShortBySeed, IsRefusedBySeed};
 
 use crate::fault::SearchFault;
 use crate::found::{Found, found_by};
@@ -13,6 +14,7 @@ use cert_value::CertificateKind;
 use fdr::FdrTask;
 use netcore::{World, WorldStep};
 use owner::{OwnerFault, Space};
+use packed::{StateForm, in_smallest_form};
 use packed_spread::Zobrist;
 use scp::choose_columns;
 use std::alloc::{AllocError, Global};
@@ -24,12 +26,87 @@ fn space_for<'a>(
     task: &'a FdrTask,
     options: &Options,
 ) -> Result<Space<'a, Zobrist<'a>>, AllocError>
-    ensures task { IfOk result (λ s. s.task ≡ task.now) }
-    ensures limit { IfOk result (λ s. s.limit ≡ options.now.limit) }
+    ensures { IfOk result (IsSpaceFor task.now options.now) }
 {
     let columns = choose_columns(alloc, task, options.table())?;
     let spread = Zobrist::new(alloc, task)?;
     Space::new(alloc, task, columns, spread, options.limit())
+}
+
+/// The finding after these steps of a world of owners, as `found_after` returns it, whose states have the form `F`.
+fn after_steps<'a, F: StateForm + Drop>(
+    alloc: Global,
+    space: &'a Space<'a, Zobrist<'a>>,
+    options: &Options,
+    steps: &[WorldStep],
+    kind: CertificateKind,
+) -> Result<Found, SearchFault>
+    requires fits { F.Fits (ranges space.now.task) }
+    requires space { IsSpaceFor space.now.task options.now space.now }
+    ensures found { IfOk result (IsFinding space.now.task (kind_of kind) (IsSettledAfter options.now steps.now space.now.task) (IsShortAfter options.now steps.now space.now.task)) }
+    ensures refused { IfErr result (IsRefusedAfter options.now steps.now space.now.task) }
+{
+    match World::<'a, Zobrist<'a>, F>::run(alloc, space, options.workers(), steps) {
+        Ok(world) => Ok(found_by(alloc, &world.joined(), kind)?),
+        Err(OwnerFault::LimitReached) => Ok(Found::Unsettled),
+        Err(OwnerFault::TotalTooLarge) => Err(SearchFault::TotalTooLarge),
+        Err(OwnerFault::OutOfMemory) => Err(SearchFault::OutOfMemory),
+    }
+}
+
+/// The finding after steps drawn from the seed, as `found_by_seed` returns it, of owners whose states have the form `F`.
+fn by_seed<'a, F: StateForm + Drop>(
+    alloc: Global,
+    space: &'a Space<'a, Zobrist<'a>>,
+    options: &Options,
+    seed: u64,
+    kind: CertificateKind,
+) -> Result<Found, SearchFault>
+    requires fits { F.Fits (ranges space.now.task) }
+    requires space { IsSpaceFor space.now.task options.now space.now }
+    ensures found { IfOk result (IsFinding space.now.task (kind_of kind) (IsSettledBySeed options.now seed space.now.task) (IsShortBySeed options.now seed space.now.task)) }
+    ensures refused { IfErr result (IsRefusedBySeed options.now seed space.now.task) }
+{
+    match simulated::<Zobrist<'a>, F>(alloc, space, options.workers(), seed, options.steps()) {
+        Ok(Some(world)) => Ok(found_by(alloc, &world.joined(), kind)?),
+        Ok(None) => Ok(Found::Unsettled),
+        Err(OwnerFault::LimitReached) => Ok(Found::Unsettled),
+        Err(OwnerFault::TotalTooLarge) => Err(SearchFault::TotalTooLarge),
+        Err(OwnerFault::OutOfMemory) => Err(SearchFault::OutOfMemory),
+    }
+}
+
+/// The finding after these steps, of owners whose states have the smallest form.
+fn after_steps_in_smallest_form<'a>(
+    alloc: Global,
+    space: &'a Space<'a, Zobrist<'a>>,
+    options: &Options,
+    steps: &[WorldStep],
+    kind: CertificateKind,
+) -> Result<Found, SearchFault>
+    requires { IsSpaceFor space.now.task options.now space.now }
+    ensures found { IfOk result (IsFinding space.now.task (kind_of kind) (IsSettledAfter options.now steps.now space.now.task) (IsShortAfter options.now steps.now space.now.task)) }
+    ensures refused { IfErr result (IsRefusedAfter options.now steps.now space.now.task) }
+{
+    in_smallest_form!(
+        space.layout(),
+        after_steps(alloc, space, options, steps, kind)
+    )
+}
+
+/// The finding after steps drawn from the seed, of owners whose states have the smallest form.
+fn by_seed_in_smallest_form<'a>(
+    alloc: Global,
+    space: &'a Space<'a, Zobrist<'a>>,
+    options: &Options,
+    seed: u64,
+    kind: CertificateKind,
+) -> Result<Found, SearchFault>
+    requires { IsSpaceFor space.now.task options.now space.now }
+    ensures found { IfOk result (IsFinding space.now.task (kind_of kind) (IsSettledBySeed options.now seed space.now.task) (IsShortBySeed options.now seed space.now.task)) }
+    ensures refused { IfErr result (IsRefusedBySeed options.now seed space.now.task) }
+{
+    in_smallest_form!(space.layout(), by_seed(alloc, space, options, seed, kind))
 }
 
 /// The finding for the task after these steps of a world of owners: a cheapest plan, or that there is none, with a
@@ -48,12 +125,7 @@ pub fn found_after<'a>(
     ensures refused { IfErr result (IsRefusedAfter options.now steps.now task.now) }
 {
     let space: Space<'a, Zobrist<'a>> = space_for(alloc, task, options)?;
-    match World::run(alloc, &space, options.workers(), steps) {
-        Ok(world) => Ok(found_by(alloc, &world.joined(), kind)?),
-        Err(OwnerFault::LimitReached) => Ok(Found::Unsettled),
-        Err(OwnerFault::TotalTooLarge) => Err(SearchFault::TotalTooLarge),
-        Err(OwnerFault::OutOfMemory) => Err(SearchFault::OutOfMemory),
-    }
+    after_steps_in_smallest_form(alloc, &space, options, steps, kind)
 }
 
 /// The finding for the task after steps drawn from the seed, at most as many as the options allow: a cheapest plan, or
@@ -72,11 +144,5 @@ pub fn found_by_seed<'a>(
     ensures refused { IfErr result (IsRefusedBySeed options.now seed task.now) }
 {
     let space: Space<'a, Zobrist<'a>> = space_for(alloc, task, options)?;
-    match simulated(alloc, &space, options.workers(), seed, options.steps()) {
-        Ok(Some(world)) => Ok(found_by(alloc, &world.joined(), kind)?),
-        Ok(None) => Ok(Found::Unsettled),
-        Err(OwnerFault::LimitReached) => Ok(Found::Unsettled),
-        Err(OwnerFault::TotalTooLarge) => Err(SearchFault::TotalTooLarge),
-        Err(OwnerFault::OutOfMemory) => Err(SearchFault::OutOfMemory),
-    }
+    by_seed_in_smallest_form(alloc, &space, options, seed, kind)
 }

@@ -97,6 +97,18 @@ comes_from k (x ∷ ns) m =
 pub comes : (ns : List Node) (m : Node) → Comes 0 ns m (outcome_of ns m) (reached ns m)
 comes ns m = comes_from 0 ns m
 
+-- a state that is reached at no lesser rank changes nothing
+pub kept_same : (ns : List Node) (m : Node) → outcome_of ns m ≡ Kept → reached ns m ≡ ns
+kept_same ns m kept =
+    ⊎_elim
+    (λ (p : IsNew 0 ns m (outcome_of ns m) (reached ns m)). let other = p.0 in absurd cc)
+    (λ (q : IsBetter 0 ns m (outcome_of ns m) (reached ns m) ⊎ IsKeptAs ns (outcome_of ns m) (reached ns m)).
+    ⊎_elim
+    (λ (b : IsBetter 0 ns m (outcome_of ns m) (reached ns m)). let other = b.outcome in absurd cc)
+    (λ (p : IsKeptAs ns (outcome_of ns m) (reached ns m)). p.1)
+    q)
+    (comes ns m)
+
 -- the table's word and the family's are one
 pub reached_improves : (ns : List Node) (m : Message) → reached ns (node_of m) ≡ improve ns m
 reached_improves [] m = refl

@@ -17,12 +17,13 @@ use Rattle.openlist.specs.declared.entry.Rank.{Rank}
 use Rattle.openlist.specs.declared.entry.OpenEntry.{OpenEntry}
 use Rattle.closed.specs.declared.message.Parent.{Parent}
 use Rattle.closed.specs.declared.message.Message.{Message}
-use Rattle.closed.specs.Tables.{reached, fresh, message_of}
+use Rattle.closed.specs.declared.table.Outcome.TheVariants.{Kept}
+use Rattle.closed.specs.Tables.{reached, outcome_of, fresh, message_of}
 use Rattle.owner.specs.Spaces.{SpaceOf, searched}
 use Rattle.owner.specs.Owned.{OwnerOf, space_of, under, IsMessageTo, IsKept}
 use Rattle.owner.specs.Queues.{ReachedOf, message_at, h_of, IsLeast}
 use Rattle.owner.specs.Held.{IsOwner}
-use Rattle.owner.proofs.Outcomes.{reached_improves}
+use Rattle.owner.proofs.Outcomes.{reached_improves, kept_same}
 use Rattle.owner.proofs.Choosing.{no_open_some, both_false}
 
 -- ---- a state of its own is taken
@@ -135,6 +136,29 @@ module _ {S : Type 0} (owner : S → List ℕ → ℕ → ℕ) (o : OwnerOf S) w
       (subst (λ (ms : List machine.Message). All (IsMessageTo (space_of owner o) to) ms) first (h.messages to lt))
 
 -- ---- a successor is treated
+
+-- a state of its own that is known at this rank or a lesser one, and is no goal state, is treated by doing nothing
+pub kept_treats : (space : SearchSpace) (me : ℕ) (o : Owner) (m : machine.Message) → outcome_of o.nodes (node_of m) ≡ Kept
+    → is_goal_state space.task m.state ≡ false → space.owner_of m.state ≡ me → o ≡ treat space me o m
+kept_treats space me o m kept goal mine = sym (go (is_at_most o.bound (f_value space m.state m.cost)))
+  where
+    own : (space.owner_of m.state == me) ≡ true
+    own = eq-eqb (space.owner_of m.state) me mine
+
+    nodes : improve o.nodes m ≡ o.nodes
+    nodes = sym (reached_improves o.nodes m) ∙ kept_same o.nodes (node_of m) kept
+
+    same : took space o m ≡ o
+    same = λ j. record {
+      nodes = nodes j;
+      outboxes = o.outboxes;
+      bound = o.bound;
+      best = cond (goal j) (lesser o.best (Finite m.cost)) o.best;
+    }
+
+    go : (b : Bool) → cond b o (cond (space.owner_of m.state == me) (took space o m) (posted space o m)) ≡ o
+    go true = refl
+    go false = (λ j. cond (own j) (took space o m) (posted space o m)) ∙ same
 
 pub took_treats : (space : SearchSpace) (me : ℕ) (o : Owner) (m : machine.Message) → is_at_most o.bound (f_value space m.state m.cost) ≡ false
     → space.owner_of m.state ≡ me → took space o m ≡ treat space me o m

@@ -4,19 +4,15 @@ ghost use Rattle.std.specs.Prelude.{◌≡◌};
 ghost use Rattle.owner.specs.declared.fault.OwnerFault.TheVariants.{OutOfMemory};
 
 use std::alloc::AllocError;
-use thiserror::Error;
 
 /// Why an owner does not expand its next node.
-#[derive(Clone, Copy, Debug, PartialEq, Eq, Error)]
+#[derive(Clone, Copy, Debug, PartialEq, Eq)]
 pub enum OwnerFault {
     /// Memory ran out.
-    #[error("out of memory")]
     OutOfMemory,
     /// A successor would have a cost, or a number of operators, above 2^62.
-    #[error("a path past 2^62")]
     TotalTooLarge,
     /// The owner has expanded as many nodes as its limit allows.
-    #[error("the limit on expansions is reached")]
     LimitReached,
 }
 

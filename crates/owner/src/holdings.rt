@@ -1,13 +1,14 @@
 //! What an owner has, without its buffers.
 
-ghost use Rattle.std.specs.Prelude.{◌≡◌, ◌≢◌, ℕ, suc, ◌+◌, ◌<◌, ◌≤◌, ◌^◌, ◌++◌, ◌∷◌, [], ◌==◌, length, map, slice_get, slice_set, replicate, Some, None, true, false, is_some, if◌then◌else◌, IsTrue, ◌↔◌, IfOk, IfSome, IfNone, OnOk, OnErr};
+ghost use Rattle.std.specs.Prelude.{◌≡◌, ◌≢◌, ℕ, suc, ◌+◌, ◌<◌, ◌≤◌, ◌^◌, ◌++◌, ◌∷◌, [], ◌==◌, length, map, slice_get, slice_set, replicate, Option, Some, None, true, false, is_some, if◌then◌else◌, IsTrue, ◌↔◌, IfOk, IfSome, IfNone, OnOk, OnErr};
 ghost use Rattle.std.specs.Option.{option_to_list};
-ghost use Rattle.cost.specs.Distances.{Distance, Infinite, is_at_most, Finite};
-ghost use Rattle.fdr.specs.Tasks.{ranges, IsState};
+ghost use Rattle.cost.specs.Distances.{Distance, Infinite, is_at_most, lesser, Finite, ◌+ᵈ◌};
+ghost use Rattle.fdr.specs.Tasks.{ranges, IsState, is_goal_state};
 ghost use Rattle.owner_theory.specs.Owners.{At, Node, list_at, marked, took, treat, start_owner};
 ghost use Rattle.owner_theory.specs.Worlds.{idle, no_open, waiting};
 ghost use Rattle.openlist.specs.declared.entry.OpenEntry.{OpenEntry as EntryOf};
-ghost use Rattle.closed.specs.Tables.{message_of, node_with};
+ghost use Rattle.closed.specs.declared.message.Parent.{Parent};
+ghost use Rattle.closed.specs.Tables.{message_of, node_with, outcome_of, fresh};
 ghost use Rattle.owner.specs.Spaces.{searched};
 ghost use Rattle.owner.specs.Owned.{space_of, under, max_total, IsMessageTo, IsNext, least_open};
 ghost use Rattle.owner.specs.Queues.{h_of, message_at, IsLeast};
@@ -17,8 +18,9 @@ ghost use Rattle.owner.specs.Held.{IsOwner};
 use crate::outboxes::Outboxes;
 use crate::reached::Reached;
 use crate::space::Space;
-use closed::{Entry, Message, Parent};
+use closed::{Entry, Message, Outcome, Parent};
 use cost::Dist;
+use fdr::FdrTask;
 use openlist::{OpenEntry, Rank};
 use packed::{Plain, StateForm};
 use packed_spread::Spread;
@@ -29,15 +31,15 @@ use std::marker::Model;
 /// What an owner has: the states that it has taken, an outbox for each owner, and the least cost at which it has taken a
 /// goal state. A contract sees it as the owner.
 #[derive(Drop)]
-pub(crate) struct Holdings<'a, S: Spread + Drop> {
+pub(crate) struct Holdings<'a, S: Spread + Drop, F: StateForm + Drop> {
     worker: usize,
-    reached: Reached<'a, S>,
+    reached: Reached<'a, S, F>,
     outboxes: Outboxes,
     best: Dist,
     expansions: u64,
 }
 
-impl<'a, S: Spread + Drop> Model for Holdings<'a, S> {
+impl<'a, S: Spread + Drop, F: StateForm + Drop> Model for Holdings<'a, S, F> {
     ghost use Rattle.owner.specs.Owned.{OwnerOf};
     ghost use Rattle.owner.specs.Held.{IsOwner};
 
@@ -77,15 +79,29 @@ fn finite(value: u64) -> Dist
     Dist::fin(value).unwrap()
 }
 
-impl<'a, S: Spread + Drop> Holdings<'a, S> {
+/// The least cost at which a goal state was taken, where that was `best` before this state was taken at this cost.
+fn best_with(task: &FdrTask, best: Dist, state: &[u32], cost: u64) -> Dist
+    requires len { length state.now ≡ length task.now.value_names }
+    requires cost { cost ≤ 2 ^ 63 }
+    ensures { result ≡ (if is_goal_state task.now state.now then lesser best (Finite cost) else best) }
+{
+    if task.is_goal(state) {
+        best.min(finite(cost))
+    } else {
+        best
+    }
+}
+
+impl<'a, S: Spread + Drop, F: StateForm + Drop> Holdings<'a, S, F> {
     /// What worker `worker` of `owners`, counted from 0, has at the start. Fails only if allocation fails.
     pub(crate) fn start(
         alloc: Global,
         space: &'a Space<'a, S>,
         worker: usize,
         owners: usize,
-    ) -> Result<Holdings<'a, S>, AllocError>
-        requires { worker < owners }
+    ) -> Result<Holdings<'a, S, F>, AllocError>
+        requires worker { worker < owners }
+        requires fits { F.Fits (ranges space.now.task) }
         ensures started { IfOk result (λ o. under o Infinite ≡ start_owner (searched S.owner space.now owners) (S.owner space.now.spread space.now.task.initial owners == worker)) }
         ensures space { IfOk result (λ o. o.space ≡ space.now) }
         ensures worker { IfOk result (λ o. o.worker ≡ worker) }
@@ -125,9 +141,74 @@ impl<'a, S: Spread + Drop> Holdings<'a, S> {
         ensures unchanged { OnErr result (self.new ≡ self.old) }
     {
         self.reached.reach(state, rank, Some(parent))?;
-        if self.reached.space().task().is_goal(state) {
-            self.best = self.best.min(finite(rank.cost));
+        self.best = best_with(self.reached.space().task(), self.best, state, rank.cost);
+        Ok(())
+    }
+
+    /// The outcome that reaching a state at a rank would have. Nothing is changed.
+    fn look(&mut self, state: &[u32], rank: Rank) -> Outcome
+        requires { IsState (ranges self.old.space.task) state.now }
+        ensures outcome { (parent : Option Parent) → result ≡ outcome_of self.old.nodes (fresh state.now rank parent) }
+        ensures same { self.new ≡ self.old }
+    {
+        self.reached.look(state, rank)
+    }
+
+    /// Takes a state of its own of this f-value, where `look` told the outcome. Fails only if allocation fails, and then
+    /// changes nothing.
+    fn take_at(
+        &mut self,
+        state: &[u32],
+        rank: Rank,
+        parent: Parent,
+        outcome: Outcome,
+        f: Dist,
+    ) -> Result<(), AllocError>
+        requires message { IsMessageTo (space_of S.owner self.old) self.old.worker (message_at state.now rank parent) }
+        requires outcome { outcome ≡ outcome_of self.old.nodes (fresh state.now rank (Some parent)) }
+        requires f { f ≡ Finite rank.cost +ᵈ h_of self.old.space state.now }
+        ensures taken { OnOk result ((bound : Distance) → under self.new bound ≡ took (space_of S.owner self.old) (under self.old bound) (message_at state.now rank parent)) }
+        ensures space { self.new.space ≡ self.old.space }
+        ensures worker { self.new.worker ≡ self.old.worker }
+        ensures expansions { self.new.expansions ≡ self.old.expansions }
+        ensures unchanged { OnErr result (self.new ≡ self.old) }
+    {
+        self.reached
+            .reach_at(state, rank, Some(parent), outcome, f)?;
+        self.best = best_with(self.reached.space().task(), self.best, state, rank.cost);
+        Ok(())
+    }
+
+    /// Treats a successor that is its own: takes it unless its f-value reaches the bound. A state that is known at this rank
+    /// or a lesser one, and is no goal state, changes nothing in either case, so that its f-value is not computed. Fails
+    /// only if allocation fails, and then changes nothing.
+    fn treat_own(
+        &mut self,
+        bound: Dist,
+        state: &[u32],
+        rank: Rank,
+        parent: Parent,
+    ) -> Result<(), AllocError>
+        requires { IsMessageTo (space_of S.owner self.old) self.old.worker (message_at state.now rank parent) }
+        ensures treated { OnOk result (under self.new bound ≡ treat (space_of S.owner self.old) self.old.worker (under self.old bound) (message_at state.now rank parent)) }
+        ensures outboxes { self.new.outboxes ≡ self.old.outboxes }
+        ensures space { self.new.space ≡ self.old.space }
+        ensures worker { self.new.worker ≡ self.old.worker }
+        ensures expansions { self.new.expansions ≡ self.old.expansions }
+        ensures unchanged { OnErr result (self.new ≡ self.old) }
+    {
+        let outcome = self.look(state, rank);
+        let space = self.space();
+        if let Outcome::Kept = outcome {
+            if !space.task().is_goal(state) {
+                return Ok(());
+            }
         }
+        let f = space.f(state, rank.cost);
+        if is_within(bound, f) {
+            return Ok(());
+        }
+        self.take_at(state, rank, parent, outcome, f)?;
         Ok(())
     }
 
@@ -152,13 +233,13 @@ impl<'a, S: Spread + Drop> Holdings<'a, S> {
         ensures expansions { self.new.expansions ≡ self.old.expansions }
     {
         let space = self.reached.space();
-        if is_within(bound, space.f(state, rank.cost)) {
-            return Ok(false); // no memory is taken for it
-        }
         let to = space.owner_of(state, self.outboxes.len());
         if to == self.worker {
-            self.take(state, rank, parent)?;
+            self.treat_own(bound, state, rank, parent)?;
             return Ok(false);
+        }
+        if is_within(bound, space.f(state, rank.cost)) {
+            return Ok(false); // no memory is taken for it
         }
         let state = Plain::pack(alloc, space.layout(), state)?;
         let message = Message {

@@ -3,7 +3,7 @@
 ghost use Rattle.std.specs.Prelude.{◌≡◌, ℕ, ◌<◌, ◌≤◌, ◌++◌, ◌∷◌, [], ◌==◌, length, map, slice_get, slice_set, Some, All, IfOk, IfErr, IfSome, IfNone, OnOk};
 ghost use Rattle.std.specs.Option.{option_to_list};
 ghost use Rattle.cost.specs.Distances.{Distance, Infinite};
-ghost use Rattle.fdr.specs.Tasks.{IsState};
+ghost use Rattle.fdr.specs.Tasks.{ranges, IsState};
 ghost use Rattle.owner_theory.specs.Owners.{Node, list_at, took, start_owner};
 ghost use Rattle.owner_theory.specs.Worlds.{idle, waiting};
 ghost use Rattle.owner_theory.specs.Families.{IsSearchSpace, IsLowerBound};
@@ -28,9 +28,9 @@ use std::marker::Model;
 /// and the least cost at which it has taken a goal state. A contract sees it without the bound that it has seen last,
 /// which is an argument of each call that needs it.
 #[derive(Drop)]
-pub struct Owner<'a, S: Spread + Drop> {
+pub struct Owner<'a, S: Spread + Drop, F: StateForm + Drop> {
     alloc: Global,
-    holdings: Holdings<'a, S>,
+    holdings: Holdings<'a, S, F>,
     /// A buffer for the values of a state.
     state: Vec<u32>,
     /// A buffer for the values of a successor of that state.
@@ -39,7 +39,7 @@ pub struct Owner<'a, S: Spread + Drop> {
     applicable: Vec<usize>,
 }
 
-impl<'a, S: Spread + Drop> Model for Owner<'a, S> {
+impl<'a, S: Spread + Drop, F: StateForm + Drop> Model for Owner<'a, S, F> {
     ghost use Rattle.std.specs.Prelude.{◌≡◌, length};
     ghost use Rattle.owner.specs.Owned.{OwnerOf};
 
@@ -62,7 +62,11 @@ fn unpack(message: &Message, layout: &Layout, state: &mut Vec<u32>)
 }
 
 /// Writes the values of the state at that place into `state`.
-fn read_state<S: Spread + Drop>(holdings: &Holdings<'_, S>, index: usize, state: &mut Vec<u32>)
+fn read_state<S: Spread + Drop, F: StateForm + Drop>(
+    holdings: &Holdings<'_, S, F>,
+    index: usize,
+    state: &mut Vec<u32>,
+)
     requires index { index < length holdings.now.nodes }
     requires len { length state.old.items ≡ length holdings.now.space.task.value_names }
     ensures state { (n : Node) → slice_get holdings.now.nodes index ≡ Some n → state.new.items ≡ n.state }
@@ -71,16 +75,17 @@ fn read_state<S: Spread + Drop>(holdings: &Holdings<'_, S>, index: usize, state:
     holdings.copy_state(index, state)
 }
 
-impl<'a, S: Spread + Drop> Owner<'a, S> {
-    /// An owner at the start: worker `worker` of `owners`, counted from 0. The owner of the initial state has it, at cost
-    /// 0. Fails only if allocation fails.
+impl<'a, S: Spread + Drop, F: StateForm + Drop> Owner<'a, S, F> {
+    /// An owner at the start: worker `worker` of `owners`, counted from 0. States of the task have the form `F`. The owner of
+    /// the initial state has it, at cost 0. Fails only if allocation fails.
     pub fn start(
         alloc: Global,
         space: &'a Space<'a, S>,
         worker: usize,
         owners: usize,
-    ) -> Result<Owner<'a, S>, AllocError>
-        requires { worker < owners }
+    ) -> Result<Owner<'a, S, F>, AllocError>
+        requires worker { worker < owners }
+        requires fits { F.Fits (ranges space.now.task) }
         ensures started { IfOk result (λ o. under o Infinite ≡ start_owner (searched S.owner space.now owners) (S.owner space.now.spread space.now.task.initial owners == worker)) }
         ensures space { IfOk result (λ o. o.space ≡ space.now) }
         ensures worker { IfOk result (λ o. o.worker ≡ worker) }

@@ -6,13 +6,15 @@ ghost use Rattle.cost.specs.Distances.{Distance, Finite, ◌+ᵈ◌, distance_of
 ghost use Rattle.fdr.specs.Tasks.{ranges, IsState};
 ghost use Rattle.owner_theory.specs.Owners.{At, Node, marked};
 ghost use Rattle.openlist.specs.declared.entry.OpenEntry.{OpenEntry as EntryOf};
-ghost use Rattle.openlist.specs.Heaps.{HasRoomFor};
-ghost use Rattle.closed.specs.Tables.{reached, fresh, node_with};
+ghost use Rattle.closed.specs.declared.message.Parent.{Parent};
+ghost use Rattle.closed.specs.Tables.{reached, outcome_of, fresh, node_with};
 ghost use Rattle.owner.specs.Queues.{added, h_of, IsCurrent, AreQueued, IsQueue, IsLeast, HasNoneOpen};
 
 use crate::space::Space;
 use closed::{ClosedTable, Entry, Outcome, Parent};
-use openlist::{Heap, OpenEntry, OpenList, Rank};
+use cost::Dist;
+use openlist::{Buckets, OpenEntry, OpenList, Rank};
+use packed::StateForm;
 use packed_spread::Spread;
 use std::alloc::{AllocError, Global};
 use std::marker::Model;
@@ -20,49 +22,50 @@ use std::marker::Model;
 /// The states that were reached, and the open ones in the order in which they are to be expanded. A contract sees the
 /// space and a node for each state.
 #[derive(Drop)]
-pub(crate) struct Reached<'a, S: Spread + Drop> {
+pub(crate) struct Reached<'a, S: Spread + Drop, F: StateForm + Drop> {
     space: &'a Space<'a, S>,
-    table: ClosedTable,
+    table: ClosedTable<F>,
     /// The open nodes, and stale entries: nodes as they were before they were improved or expanded.
-    queue: Heap,
+    queue: Buckets,
 }
 
-impl<'a, S: Spread + Drop> Model for Reached<'a, S> {
+impl<'a, S: Spread + Drop, F: StateForm + Drop> Model for Reached<'a, S, F> {
     ghost use Rattle.std.specs.Prelude.{◌≡◌};
     ghost use Rattle.fdr.specs.Tasks.{ranges};
+    ghost use Rattle.openlist.specs.BucketLists.{all_entries};
     ghost use Rattle.owner.specs.Queues.{ReachedOf, IsQueue, h_of};
 
     ghost Value = { ReachedOf S };
 
     ghost view = { λ r. record { space = r.space.now; nodes = r.table.nodes } };
 
-    ghost invariant = { λ r. (r.table.ranges ≡ ranges r.space.now.task) × IsQueue (h_of r.space.now) r.table.nodes r.queue.entries };
+    ghost invariant = { λ r. (r.table.ranges ≡ ranges r.space.now.task) × IsQueue (h_of r.space.now) r.table.nodes (all_entries r.queue) };
 }
 
 /// Makes room for an entry of this f-value, if it is finite. Fails only if allocation fails.
-fn make_room(heap: &mut Heap, f: Option<u64>) -> Result<(), AllocError>
-    ensures entries { IsPermutation heap.old.entries heap.new.entries }
-    ensures room { OnOk result (IfSome f (λ f. HasRoomFor heap.new (f ∷ []))) }
+fn make_room<L: OpenList>(list: &mut L, f: Option<u64>) -> Result<(), AllocError>
+    ensures entries { IsPermutation (L.entries list.old) (L.entries list.new) }
+    ensures room { OnOk result (IfSome f (λ f. L.HasRoom list.new (f ∷ []))) }
 {
     match f {
-        Some(f) => heap.reserve(&[f]),
+        Some(f) => list.reserve(&[f]),
         None => Ok(()),
     }
 }
 
 /// Adds the entry of a state that was reached, if it is new or was improved, and its f-value is finite.
-fn put_in(heap: &mut Heap, f: Option<u64>, rank: Rank, outcome: Outcome)
-    requires { IfSome f (λ f. HasRoomFor heap.old (f ∷ [])) }
-    ensures { IsPermutation (added f rank outcome ++ heap.old.entries) heap.new.entries }
+fn put_in<L: OpenList>(list: &mut L, f: Option<u64>, rank: Rank, outcome: Outcome)
+    requires { IfSome f (λ f. L.HasRoom list.old (f ∷ [])) }
+    ensures { IsPermutation (added f rank outcome ++ L.entries list.old) (L.entries list.new) }
 {
     if let (Some(f), Outcome::New(index) | Outcome::Better(index)) = (f, outcome) {
-        let pushed = heap.push(OpenEntry { f, rank, index });
+        let pushed = list.push(OpenEntry { f, rank, index });
         let _ = pushed; // there is room
     }
 }
 
 /// Whether the entry's node is not expanded and has the entry's rank.
-fn is_current(table: &ClosedTable, entry: OpenEntry) -> bool
+fn is_current<F: StateForm + Drop>(table: &ClosedTable<F>, entry: OpenEntry) -> bool
     requires { entry.index < length table.now.nodes }
     ensures current { IsTrue result → IsCurrent table.now.nodes entry }
     ensures stale { IsCurrent table.now.nodes entry → IsTrue result }
@@ -72,27 +75,31 @@ fn is_current(table: &ClosedTable, entry: OpenEntry) -> bool
 }
 
 /// Removes stale entries from the top, until the first entry is current or none is left.
-fn drop_stale(table: &ClosedTable, heap: &mut Heap)
-    requires { All (λ e. e.index < length table.now.nodes) heap.old.entries }
-    ensures { (h : List ℕ → Distance) → AreQueued h table.now.nodes heap.old.entries → IsQueue h table.now.nodes heap.new.entries }
+fn drop_stale<F: StateForm + Drop, L: OpenList>(table: &ClosedTable<F>, list: &mut L)
+    requires { All (λ e. e.index < length table.now.nodes) (L.entries list.old) }
+    ensures { (h : List ℕ → Distance) → AreQueued h table.now.nodes (L.entries list.old) → IsQueue h table.now.nodes (L.entries list.new) }
 {
-    while let Some(entry) = heap.least() {
+    while let Some(entry) = list.least() {
         if is_current(table, entry) {
             return;
         }
-        let _ = heap.pop();
+        let _ = list.pop();
     }
 }
 
-impl<'a, S: Spread + Drop> Reached<'a, S> {
+impl<'a, S: Spread + Drop, F: StateForm + Drop> Reached<'a, S, F> {
     /// An empty table and an empty open list. Fails only if allocation fails.
-    pub(crate) fn new(alloc: Global, space: &'a Space<'a, S>) -> Result<Reached<'a, S>, AllocError>
+    pub(crate) fn new(
+        alloc: Global,
+        space: &'a Space<'a, S>,
+    ) -> Result<Reached<'a, S, F>, AllocError>
+        requires { F.Fits (ranges space.now.task) }
         ensures { IfOk result (λ r. r ≡ record { space = space.now; nodes = [] }) }
     {
         Ok(Reached {
             space,
             table: ClosedTable::new(alloc, space.task())?,
-            queue: Heap::new(alloc),
+            queue: Buckets::new(alloc),
         })
     }
 
@@ -103,7 +110,41 @@ impl<'a, S: Spread + Drop> Reached<'a, S> {
         self.space
     }
 
-    /// Records that a state was reached. Fails only if allocation fails, and then changes nothing.
+    /// The outcome that reaching a state at a rank would have. Nothing is changed.
+    pub(crate) fn look(&mut self, state: &[u32], rank: Rank) -> Outcome
+        requires { IsState (ranges self.old.space.task) state.now }
+        ensures outcome { (parent : Option Parent) → result ≡ outcome_of self.old.nodes (fresh state.now rank parent) }
+        ensures same { self.new ≡ self.old }
+    {
+        self.table.look(state, rank)
+    }
+
+    /// Records that a state of this f-value was reached, where `look` told the outcome. Fails only if allocation fails, and
+    /// then changes nothing.
+    pub(crate) fn reach_at(
+        &mut self,
+        state: &[u32],
+        rank: Rank,
+        parent: Option<Parent>,
+        outcome: Outcome,
+        f: Dist,
+    ) -> Result<(), AllocError>
+        requires state { IsState (ranges self.old.space.task) state.now }
+        requires outcome { outcome ≡ outcome_of self.old.nodes (fresh state.now rank parent) }
+        requires f { f ≡ Finite rank.cost +ᵈ h_of self.old.space state.now }
+        ensures nodes { OnOk result (self.new.nodes ≡ reached self.old.nodes (fresh state.now rank parent)) }
+        ensures space { self.new.space ≡ self.old.space }
+        ensures unchanged { OnErr result (self.new ≡ self.old) }
+    {
+        let f = f.get();
+        make_room(&mut self.queue, f)?;
+        self.table.reach(state, rank, parent, outcome)?;
+        put_in(&mut self.queue, f, rank, outcome);
+        Ok(())
+    }
+
+    /// Records that a state was reached. The heuristic is computed only if that changes anything. Fails only if allocation
+    /// fails, and then changes nothing.
     pub(crate) fn reach(
         &mut self,
         state: &[u32],
@@ -116,11 +157,13 @@ impl<'a, S: Spread + Drop> Reached<'a, S> {
         ensures space { self.new.space ≡ self.old.space }
         ensures unchanged { OnErr result (self.new ≡ self.old) }
     {
-        let f = self.space.f(state, rank.cost).get();
-        make_room(&mut self.queue, f)?;
-        let outcome = self.table.improve(state, rank, parent)?;
-        put_in(&mut self.queue, f, rank, outcome);
-        Ok(())
+        match self.look(state, rank) {
+            Outcome::Kept => Ok(()),
+            outcome => {
+                let f = self.space.f(state, rank.cost);
+                self.reach_at(state, rank, parent, outcome, f)
+            }
+        }
     }
 
     /// The entry of the open node that is to be expanded next, or `None` if no node is open.

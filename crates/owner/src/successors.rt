@@ -14,6 +14,7 @@ use closed::Parent;
 use cost::Dist;
 use fdr::FdrTask;
 use openlist::{OpenEntry, Rank};
+use packed::StateForm;
 use packed_spread::Spread;
 use std::alloc::{AllocError, Global};
 
@@ -33,9 +34,9 @@ pub(crate) fn has_large_successor(task: &FdrTask, operators: &[usize], rank: Ran
 
 /// Treats the successor of a state by one operator; `successor` is a buffer. Returns whether the successor was put into
 /// an outbox. Fails only if allocation fails.
-fn treat_successor<S: Spread + Drop>(
+fn treat_successor<S: Spread + Drop, F: StateForm + Drop>(
     alloc: Global,
-    holdings: &mut Holdings<'_, S>,
+    holdings: &mut Holdings<'_, S, F>,
     bound: Dist,
     next: OpenEntry,
     state: &[u32],
@@ -71,9 +72,9 @@ fn treat_successor<S: Spread + Drop>(
 
 /// Treats the successors of a state by these operators, in their order; `successor` is a buffer. Returns the number of
 /// successors that were put into outboxes. Fails only if allocation fails.
-pub(crate) fn treat_successors<S: Spread + Drop>(
+pub(crate) fn treat_successors<S: Spread + Drop, F: StateForm + Drop>(
     alloc: Global,
-    holdings: &mut Holdings<'_, S>,
+    holdings: &mut Holdings<'_, S, F>,
     bound: Dist,
     next: OpenEntry,
     state: &[u32],

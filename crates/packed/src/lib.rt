@@ -7,6 +7,7 @@ mod form;
 mod laws;
 mod layout;
 mod plain;
+mod smallest;
 
 pub use bits::Bits;
 pub use form::StateForm;

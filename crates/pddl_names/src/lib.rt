@@ -1,7 +1,7 @@
 //! Distinct names, each with its number.
 #![tactic(auto)]
 
-ghost use Rattle.std.specs.Prelude.{◌≡◌, ◌<◌, ◌≤◌, ◌↔◌, [], length, slice_get, IsTrue, IsOk, IsSome, Some, IfOk, IfSome, OnErr, OnOk};
+ghost use Rattle.std.specs.Prelude.{◌≡◌, ◌<◌, ◌≤◌, ◌↔◌, [], length, slice_get, slice_index_or, IsTrue, IsOk, IsSome, Some, IfOk, IfSome, OnErr, OnOk};
 ghost use Rattle.std.specs.Option.{option_map};
 ghost use Rattle.pddl_names.specs.Names.{place_of, number_of, is_there, with_name, AreDistinct};
 
@@ -100,6 +100,16 @@ impl Names {
     {
         let name = self.table.get_index(number)?;
         Some(name.as_str())
+    }
+
+    /// The name with the number, or the empty text if the number is not below `len()`.
+    pub fn name_or_empty(&self, number: usize) -> &str
+        ensures { result.now ≡ slice_index_or self.now number [] }
+    {
+        match self.name(number) {
+            Some(name) => name,
+            None => "",
+        }
     }
 
     /// A copy of the table, with the same names and the same numbers. Fails only if allocation fails.

@@ -17,28 +17,28 @@ pub enum SasFault {
     #[error("out of memory")]
     OutOfMemory,
     /// F18: more variables, values of a variable or operators than a task may have.
-    #[error("a table is too long")]
+    #[error("F18 Limit {0}")]
     Limit(TaskLimit),
     /// F40: a version other than 3.
-    #[error("line {0} is another version")]
+    #[error("F40 Version sas {0}")]
     Version(usize),
     /// F41: a line that does not have the required form.
-    #[error("line {0} is not of the wanted form")]
+    #[error("F41 Expected sas {0}")]
     Expected(usize),
     /// F42: a number that is out of its range, or a variable that a list of conditions or effects names a second time.
-    #[error("line {0} is out of range")]
+    #[error("F42 Range sas {0}")]
     Range(usize),
     /// F43: an axiom layer other than -1, or a number of axioms other than 0.
-    #[error("line {0} asks for axioms")]
+    #[error("F43 Axioms sas {0}")]
     Axioms(usize),
     /// F44: a conditional effect, which has conditions of its own.
-    #[error("line {0} is a conditional effect")]
+    #[error("F44 ConditionalEffect sas {0}")]
     ConditionalEffect(usize),
     /// F45: the text ends before its last line.
-    #[error("the text ends too early")]
+    #[error("F45 Truncated sas")]
     Truncated,
     /// F46: a line that is not empty after the end of the task.
-    #[error("line {0} follows the end")]
+    #[error("F46 Trailing sas {0}")]
     Trailing(usize),
 }
 

@@ -9,3 +9,7 @@ pub mod MadeColumns
 pub mod ColumnLists
 pub mod ChosenPatterns
 pub mod CostPartitioned
+pub mod RowWords
+pub mod RowLists
+pub mod Blocks
+pub mod Limits

@@ -1,3 +1,5 @@
 pub mod Partitions
 pub mod ColumnTables
 pub mod TableProps
+pub mod Rows
+pub mod Flats

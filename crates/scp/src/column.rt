@@ -13,14 +13,14 @@ ghost use Rattle.scp.specs.Partitions.{IsMadeFrom, IsNextTable};
 use crate::shares::shares_of;
 use crate::table::ColumnTable;
 use abstraction::{Projection, ProjectionFault};
-use cert_value::{PatternTable, Values};
+use cert_value::{PatternTable, Values, short_numbers};
 use fdr::FdrTask;
 use pdb::{distances, saturate};
 use pdb_regression::BackwardProjection;
 use std::alloc::{AllocError, Global};
 
 /// The projection of the task to a pattern. Fails only if allocation fails.
-fn projection_to<'a>(
+pub(crate) fn projection_to<'a>(
     alloc: Global,
     task: &'a FdrTask,
     pattern: &[usize],
@@ -33,18 +33,6 @@ fn projection_to<'a>(
         Err(ProjectionFault::OutOfMemory) => Err(AllocError),
         Err(_) => unreachable!(),
     }
-}
-
-/// The variables of a pattern in 4 bytes each.
-fn short_pattern(alloc: Global, pattern: &[usize]) -> Result<Vec<u32>, AllocError>
-    requires { All (λ v. v < 2 ^ 16) pattern.now }
-    ensures { IfOk result (λ short. short.items ≡ pattern.now) }
-{
-    let mut short = Vec::with_capacity(alloc, pattern.len())?;
-    for variable in pattern {
-        short.push(*variable as u32)?;
-    }
-    Ok(short)
 }
 
 /// Subtracts the shares from the remaining costs.
@@ -100,7 +88,7 @@ fn next_table<'a>(
     let projection = projection_to(alloc, task, pattern)?;
     let (values, needed) = saturated_distances(alloc, &projection, left)?;
     let shares = shares_of(alloc, &needed)?;
-    let pattern = short_pattern(alloc, pattern)?;
+    let pattern = short_numbers(alloc, pattern)?;
     take_shares(left, &needed);
     let table = PatternTable {
         pattern,

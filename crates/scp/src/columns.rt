@@ -2,33 +2,23 @@
 
 ghost use Rattle.std.specs.Prelude.{◌≡◌, ◌≢◌, ◌≤◌, ◌^◌, ℕ, List, [], length, map, All, IfOk};
 ghost use Rattle.std.specs.List.{AllZip};
-ghost use Rattle.cost.specs.Distances.{Finite, ◌≤ᵈ◌, IsWithin};
+ghost use Rattle.cost.specs.Distances.{Finite, ◌≤ᵈ◌, IsWithin, greatest};
 ghost use Rattle.fdr.specs.Tasks.{ranges, IsState, LeadsToGoal, plan_cost};
 ghost use Rattle.abstraction.specs.Columns as spec;
 ghost use Rattle.checker_clauses.specs.Clauses.{heuristic_of};
 ghost use Rattle.pdb_patterns.specs.Patterns.{IsPattern};
 ghost use Rattle.scp.specs.ColumnTables.{on_projection};
+ghost use Rattle.scp.specs.Rows.{AreOf, value_of, blocks_value};
+ghost use Rattle.scp.specs.Flats.{most_in, blocks_in};
 ghost use Rattle.scp.specs.Partitions.{AreCostPartitioned, IsMadeFrom, patterns_of};
 
 use crate::column::make_column;
+use crate::flat::{Flat, flat_value, make_flat};
 use crate::table::ColumnTable;
 use cost::Dist;
 use fdr::FdrTask;
 use std::alloc::{AllocError, Global};
 use std::marker::Model;
-
-/// The sum of the values of the column's tables at the state.
-fn column_value(column: &[ColumnTable<'_>], state: &[u32]) -> Dist
-    requires states { All (λ t. IsState (ranges t.task) state.now) column.now }
-    requires few { length column.now ≤ 64 }
-    ensures { result ≡ spec.column_value state.now (map on_projection column.now) }
-{
-    let mut sum = Dist::ZERO;
-    for table in column {
-        sum = sum.sum(table.value_at(state)).unwrap();
-    }
-    sum
-}
 
 /// Columns of tables. The tables of each column partition the costs of the operators. In contracts its value is the
 /// task and the tables.
@@ -36,11 +26,15 @@ fn column_value(column: &[ColumnTable<'_>], state: &[u32]) -> Dist
 pub struct Columns<'a> {
     task: &'a FdrTask,
     columns: Vec<Vec<ColumnTable<'a>>>,
+    flat: Flat<'a>,
     ghost of_task: { All (λ column. All (λ t. t.task ≡ task.now) column.items) columns.items },
     ghost few_columns: { length columns.items ≤ 64 },
     ghost none_empty: { All (λ column. column.items ≢ []) columns.items },
     ghost few: { All (λ column. length column.items ≤ 64) columns.items },
     ghost divided: { ∥ All (λ column. spec.IsColumn task.now (map on_projection column.items)) columns.items ∥₁ },
+    ghost flat_of_task: { All (λ b. AreOf task.now b.items) (blocks_in flat) },
+    ghost flat_value: { (state : List ℕ) → IsState (ranges task.now) state →
+        blocks_value (most_in flat) state (blocks_in flat) ≡ greatest (map (value_of state) columns.items) },
 }
 
 impl<'a> Model for Columns<'a> {
@@ -96,11 +90,7 @@ impl<'a> Columns<'a> {
         ensures small { IsWithin (2 ^ 61) result }
     {
         self.task.recall();
-        let mut greatest = Dist::ZERO;
-        for column in &self.columns {
-            greatest = greatest.max(column_value(column, state));
-        }
-        greatest
+        flat_value(&self.flat, state)
     }
 }
 
@@ -124,5 +114,10 @@ pub fn make_columns<'a>(
     for order in orders {
         columns.push(make_column(alloc, task, order)?)?;
     }
-    Ok(Columns { task, columns })
+    let flat = make_flat(alloc, task, &columns)?;
+    Ok(Columns {
+        task,
+        columns,
+        flat,
+    })
 }

@@ -2,9 +2,14 @@
 //! heuristic that they define (Seipp, Keller and Helmert 2020).
 #![tactic(auto)]
 
+mod block;
 mod choice;
 mod column;
 mod columns;
+mod flat;
+mod limit;
+mod pattern_rows;
+mod row;
 mod shares;
 mod table;
 

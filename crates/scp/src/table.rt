@@ -1,17 +1,15 @@
 //! Tables of columns.
 
-ghost use Rattle.std.specs.Prelude.{◌≡◌, ◌^◌, true};
-ghost use Rattle.cost.specs.Distances.{IsWithin};
-ghost use Rattle.fdr.specs.Tasks.{ranges, IsState};
-ghost use Rattle.abstraction.specs.Abstractions.{value_at};
+ghost use Rattle.std.specs.Prelude.{◌≡◌, true, length};
+ghost use Rattle.abstraction.specs.Projections.{size_of};
+ghost use Rattle.fdr.specs.Tasks.{ranges};
 ghost use Rattle.cert_value.specs.Views as kept;
-ghost use Rattle.checker_clauses.specs.Clauses.{table_of, has_form};
+ghost use Rattle.checker_clauses.specs.Clauses.{has_form};
 ghost use Rattle.cert_text.specs.Lawful.{IsTable};
 ghost use Rattle.scp.specs.TableProps.{table_prop};
 
-use abstraction::{Abstraction, Projection};
+use abstraction::Projection;
 use cert_value::PatternTable;
-use cost::Dist;
 use std::marker::Model;
 
 /// A table together with its projection. A certificate can contain it.
@@ -53,12 +51,12 @@ impl<'a> ColumnTable<'a> {
         &self.table
     }
 
-    /// Returns the value of the table at a state.
-    pub(crate) fn value_at(&self, state: &[u32]) -> Dist
-        requires { IsState (ranges self.now.task) state.now }
-        ensures value { result ≡ value_at state.now (table_of self.now.task self.now.table) }
-        ensures small { IsWithin (2 ^ 55) result }
+    /// Returns the projection of the table.
+    pub(crate) fn projection(&self) -> &Projection<'a>
+        ensures task { result.now.task ≡ self.now.task }
+        ensures pattern { result.now.pattern ≡ self.now.table.pattern }
+        ensures len { length self.now.table.values ≡ size_of (ranges self.now.task) self.now.table.pattern }
     {
-        self.table.values.get(self.projection.index(state))
+        &self.projection
     }
 }

@@ -110,7 +110,7 @@ pub(crate) fn costs_by<R: Abort + AllocGlobal>(
 }
 
 /// Options with this number of workers and tables of that size.
-fn options(workers: usize, table: usize) -> Options
+pub(crate) fn options(workers: usize, table: usize) -> Options
     requires some { 1 ≤ workers }
     requires few { workers ≤ 64 }
     requires some_table { 1 ≤ table }

@@ -5,6 +5,7 @@ ghost use Rattle.std.specs.Prelude.{◌≡◌, length};
 use cost::Dist;
 use fdr::FdrTask;
 use owner::{Owner, OwnerFault, Parent, Rank, Space};
+use packed::{Plain, StateForm};
 use packed_spread::{ByValue, Spread};
 use scp::make_columns;
 use std::alloc::{AllocError, Global};
@@ -32,9 +33,9 @@ fn space_for<'a>(
 
 /// Expands the next node, and checks that there are then this number of states, and this least f-value of the nodes to
 /// expand.
-fn expands<S: Spread + Drop>(
+fn expands<S: Spread + Drop, F: StateForm + Drop>(
     rt: &impl Abort,
-    owner: &mut Owner<'_, S>,
+    owner: &mut Owner<'_, S, F>,
     states: usize,
     least: Dist,
 ) {
@@ -43,14 +44,17 @@ fn expands<S: Spread + Drop>(
 }
 
 /// Checks that the goal is taken at cost 3, over 1 and 2.
-fn has_reached_the_goal<S: Spread + Drop>(rt: &impl Abort, owner: &mut Owner<'_, S>) {
+fn has_reached_the_goal<S: Spread + Drop, F: StateForm + Drop>(
+    rt: &impl Abort,
+    owner: &mut Owner<'_, S, F>,
+) {
     assert_eq!(rt; owner.best_goal(), dist(3));
     assert_eq!(rt; owner.expand(dist(3)), Ok(None));
     assert!(rt; owner.is_idle(dist(3)) && !owner.is_idle(dist(4)));
 }
 
 /// Checks that the state at place 2 is the one that was reached at cost 2 from the second state.
-fn has_better_way<S: Spread + Drop>(rt: &impl Abort, owner: &Owner<'_, S>) {
+fn has_better_way<S: Spread + Drop, F: StateForm + Drop>(rt: &impl Abort, owner: &Owner<'_, S, F>) {
     assert!(rt; owner.len() == 4);
     let entry = owner.entry(2);
     let parent = Parent {
@@ -71,7 +75,7 @@ fn expand_alone<'a, S: Spread + Drop>(
     alloc: Global,
     space: &'a Space<'a, S>,
 ) -> Result<(), Fail> {
-    let mut owner = Owner::start(alloc, space, 0, 1)?;
+    let mut owner: Owner<'a, S, Plain> = Owner::start(alloc, space, 0, 1)?;
     assert_eq!(rt; (owner.len(), owner.least_open()), (1, Dist::ZERO));
     // the state 0: to 1 at cost 1, and to 2 at cost 5
     expands(rt, &mut owner, 3, dist(1));
@@ -106,7 +110,7 @@ fn expand_below<'a, S: Spread + Drop>(
     alloc: Global,
     space: &'a Space<'a, S>,
 ) -> Result<(), Fail> {
-    let mut owner = Owner::start(alloc, space, 0, 1)?;
+    let mut owner: Owner<'a, S, Plain> = Owner::start(alloc, space, 0, 1)?;
     assert_eq!(rt; owner.expand(dist(5)), Ok(Some(0)));
     assert_eq!(rt; owner.len(), 2, "2 would cost 5");
     assert_eq!(rt; owner.expand(dist(5)), Ok(Some(0)));
@@ -131,7 +135,7 @@ fn drops_at_the_bound(rt: HostRuntime) -> Result<(), Fail> {
 }
 
 /// The first of two owners expands the initial state: 2 is its own state, and 1 is the other's.
-fn posts<S: Spread + Drop>(rt: &impl Abort, owner: &mut Owner<'_, S>)
+fn posts<S: Spread + Drop, F: StateForm + Drop>(rt: &impl Abort, owner: &mut Owner<'_, S, F>)
     requires { length owner.old.outboxes ≡ 2 }
     ensures space { owner.new.space ≡ owner.old.space }
     ensures owners { length owner.new.outboxes ≡ length owner.old.outboxes }
@@ -146,7 +150,10 @@ fn posts<S: Spread + Drop>(rt: &impl Abort, owner: &mut Owner<'_, S>)
 }
 
 /// Checks that the first of two owners has no message left.
-fn has_handed_out<S: Spread + Drop>(rt: &impl Abort, owner: &mut Owner<'_, S>)
+fn has_handed_out<S: Spread + Drop, F: StateForm + Drop>(
+    rt: &impl Abort,
+    owner: &mut Owner<'_, S, F>,
+)
     requires { length owner.old.outboxes ≡ 2 }
 {
     assert_eq!(rt; (owner.outboxes_in_use(), owner.messages()), (0, 0));
@@ -159,8 +166,8 @@ fn hand_over<'a, S: Spread + Drop>(
     alloc: Global,
     space: &'a Space<'a, S>,
 ) -> Result<(), Fail> {
-    let mut first = Owner::start(alloc, space, 0, 2)?;
-    let mut second = Owner::start(alloc, space, 1, 2)?;
+    let mut first: Owner<'a, S, Plain> = Owner::start(alloc, space, 0, 2)?;
+    let mut second: Owner<'a, S, Plain> = Owner::start(alloc, space, 1, 2)?;
     assert_eq!(rt; (first.len(), second.len()), (1, 0));
     assert!(rt; second.is_idle(Dist::inf()));
     posts(rt, &mut first);

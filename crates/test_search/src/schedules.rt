@@ -8,6 +8,7 @@ use fdr::FdrTask;
 use netcore::WorldStep::{Deliver, Expand, Look, Offer, Rest, Send};
 use netcore::{Joined, SearchAnswer, World, WorldStep};
 use owner::Space;
+use packed::{Bits, StateForm};
 use packed_spread::{ByValue, Spread};
 use sasfile::read_sas;
 use scp::make_columns;
@@ -213,10 +214,10 @@ const DETOUR_DROPPED: &[WorldStep] = &[
 ];
 
 /// Checks that no work is left, and that the owners are settled at the cost.
-fn is_settled<S: Spread + Drop>(
+fn is_settled<S: Spread + Drop, F: StateForm + Drop>(
     rt: &impl Abort,
     alloc: Global,
-    world: &World<'_, S>,
+    world: &World<'_, S, F>,
     cost: u64,
 ) -> Result<(), Fail> {
     assert_eq!(rt; world.count(), 0);
@@ -225,10 +226,10 @@ fn is_settled<S: Spread + Drop>(
 }
 
 /// Checks that the best goal node is reached by this plan.
-fn has_plan<S: Spread + Drop>(
+fn has_plan<S: Spread + Drop, F: StateForm + Drop>(
     rt: &impl Abort,
     alloc: Global,
-    joined: &Joined<'_, S>,
+    joined: &Joined<'_, S, F>,
     plan: &[usize],
 ) -> Result<(), Fail> {
     let goal = joined.best(alloc)?.ok_or("a goal node")?;
@@ -238,10 +239,10 @@ fn has_plan<S: Spread + Drop>(
 }
 
 /// Checks the text of the certificate.
-fn has_certificate<S: Spread + Drop>(
+fn has_certificate<S: Spread + Drop, F: StateForm + Drop>(
     rt: &impl Abort,
     alloc: Global,
-    joined: &Joined<'_, S>,
+    joined: &Joined<'_, S, F>,
     text: &str,
 ) -> Result<(), Fail> {
     let certificate = cert_of(alloc, joined, CertificateKind::Sas)?;
@@ -263,7 +264,8 @@ fn run_to_the_end<'a, S: Spread + Drop>(
     space: &'a Space<'a, S>,
     steps: &[WorldStep],
     cost: u64,
-) -> Result<Joined<'a, S>, Fail> {
+) -> Result<Joined<'a, S, Bits<1>>, Fail> {
+    assert!(rt; Bits::<1>::fits(space.layout()), "states of one word");
     let world = World::run(alloc, space, 2, steps).map_err(|_| "a refused step")?;
     is_settled(rt, alloc, &world, cost)?;
     Ok(world.joined())

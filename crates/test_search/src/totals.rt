@@ -52,7 +52,7 @@ fn refuse_total<'a>(
     alloc: Global,
     space: &'a Space<'a, ByValue<'a>>,
 ) -> Result<(), Fail> {
-    let mut second = Owner::start(alloc, space, 1, 2)?;
+    let mut second: Owner<'a, ByValue<'a>, Plain> = Owner::start(alloc, space, 1, 2)?;
     let message = message_at_most_total(rt, alloc, space)?;
     assert!(rt; second.take(message).is_ok(), "memory");
     let open = Dist::fin(MAX_TOTAL).ok_or("a distance")?;

@@ -3,6 +3,7 @@
 use fdr::FdrTask;
 use netcore::{World, WorldStep};
 use owner::Space;
+use packed::{Plain, StateForm};
 use packed_spread::{ByValue, Spread};
 use scp::make_columns;
 use std::alloc::{AllocError, Global};
@@ -20,13 +21,17 @@ fn space_for<'a>(alloc: Global, task: &'a FdrTask) -> Result<Space<'a, ByValue<'
 }
 
 /// Checks that the step would change nothing, and changes nothing.
-fn idles<S: Spread + Drop>(rt: &impl Abort, world: &mut World<'_, S>, step: WorldStep) {
+fn idles<S: Spread + Drop, F: StateForm + Drop>(
+    rt: &impl Abort,
+    world: &mut World<'_, S, F>,
+    step: WorldStep,
+) {
     assert!(rt; !world.would_change(step));
     assert_eq!(rt; world.step(step), Ok(false));
 }
 
 /// Checks that two steps would change something.
-fn has_two_steps<S: Spread + Drop>(rt: &impl Abort, world: &World<'_, S>) {
+fn has_two_steps<S: Spread + Drop, F: StateForm + Drop>(rt: &impl Abort, world: &World<'_, S, F>) {
     assert_eq!(rt; world.possible_count(), 2);
     assert_eq!(rt; world.possible_step(0), Some(WorldStep::Expand(0)));
     assert_eq!(rt; world.possible_step(1), Some(WorldStep::Rest(1)));
@@ -34,7 +39,10 @@ fn has_two_steps<S: Spread + Drop>(rt: &impl Abort, world: &World<'_, S>) {
 }
 
 /// The second owner comes to rest, and one step is left.
-fn second_rests<S: Spread + Drop>(rt: &impl Abort, world: &mut World<'_, S>) {
+fn second_rests<S: Spread + Drop, F: StateForm + Drop>(
+    rt: &impl Abort,
+    world: &mut World<'_, S, F>,
+) {
     assert!(rt; world.would_change(WorldStep::Rest(1)));
     assert_eq!(rt; world.step(WorldStep::Rest(1)), Ok(true));
     assert_eq!(rt; (world.count(), world.possible_count()), (1, 1));
@@ -46,7 +54,7 @@ fn first_steps<'a, S: Spread + Drop>(
     alloc: Global,
     space: &'a Space<'a, S>,
 ) -> Result<(), Fail> {
-    let mut world = World::start(alloc, space, 2)?;
+    let mut world: World<'a, S, Plain> = World::start(alloc, space, 2)?;
     has_two_steps(rt, &world);
     idles(rt, &mut world, WorldStep::Rest(0));
     idles(rt, &mut world, WorldStep::Send(0, 1));

@@ -1,12 +1,13 @@
 //! Tables of states of two variables, with 2 and 3 values.
 
 ghost use Rattle.std.specs.Prelude.{◌≡◌, All, IsTrue};
-ghost use Rattle.fdr.specs.Tasks.{IsState};
+ghost use Rattle.fdr.specs.Tasks.{ranges, IsState};
 ghost use Rattle.closed.specs.Tables.{arrival};
 
 use closed::{ClosedTable, Entry, Message, Outcome, Parent};
+use fdr::FdrTask;
 use openlist::Rank;
-use packed::{Layout, Plain, StateForm};
+use packed::{Bits, Layout, Plain, StateForm};
 use std::alloc::Global;
 use std::process::Abort;
 use std::test::Fail;
@@ -25,9 +26,9 @@ fn parent(index: usize) -> Parent {
 }
 
 /// Checks the outcome of reaching a state from the node at that place.
-fn reaches(
+fn reaches<F: StateForm + Drop>(
     rt: &impl Abort,
-    table: &mut ClosedTable,
+    table: &mut ClosedTable<F>,
     layout: &Layout,
     state: &[u32],
     rank: Rank,
@@ -44,9 +45,9 @@ fn reaches(
 }
 
 /// Checks the entry of the table at a place.
-fn keeps(
+fn keeps<F: StateForm + Drop>(
     rt: &impl Abort,
-    table: &ClosedTable,
+    table: &ClosedTable<F>,
     index: usize,
     rank: Rank,
     from: usize,
@@ -62,86 +63,101 @@ fn keeps(
 }
 
 /// Marks the state at a place as expanded.
-fn expands(rt: &impl Abort, table: &mut ClosedTable, index: usize)
+fn expands<F: StateForm + Drop>(rt: &impl Abort, table: &mut ClosedTable<F>, index: usize)
     ensures { table.new.ranges ≡ table.old.ranges }
 {
     assert!(rt; index < table.len(), "a place");
     table.mark_expanded(index);
 }
 
-#[test]
-fn keeps_the_least_rank(rt: HostRuntime) -> Result<(), Fail> {
-    let task = states(rt.alloc(), &[2, 3], &[0, 0])?.ok_or("a task")?;
-    let layout = Layout::new(rt.alloc(), &task)?;
-    let mut table = ClosedTable::new(rt.alloc(), &task)?;
+/// A state that is reached several times keeps the least rank.
+fn keeps_the_least_rank_in<F: StateForm + Drop, R: Abort>(
+    rt: &R,
+    alloc: Global,
+    task: &FdrTask,
+    layout: &Layout,
+) -> Result<(), Fail>
+    requires layout { layout.now ≡ ranges task.now }
+    requires fits { F.Fits layout.now }
+{
+    let mut table: ClosedTable<F> = ClosedTable::new(alloc, task)?;
     let state = [1, 2];
     reaches(
-        &rt,
+        rt,
         &mut table,
-        &layout,
+        layout,
         &state,
         rank(5, 3),
         0,
         Outcome::New(0),
     )?;
     reaches(
-        &rt,
+        rt,
         &mut table,
-        &layout,
+        layout,
         &[1, 0],
         rank(1, 1),
         4,
         Outcome::New(1),
     )?;
     // the same rank, and a greater cost over fewer steps
-    reaches(
-        &rt,
-        &mut table,
-        &layout,
-        &state,
-        rank(5, 3),
-        9,
-        Outcome::Kept,
-    )?;
-    reaches(
-        &rt,
-        &mut table,
-        &layout,
-        &state,
-        rank(6, 0),
-        9,
-        Outcome::Kept,
-    )?;
-    keeps(&rt, &table, 0, rank(5, 3), 0, false);
-    expands(&rt, &mut table, 0);
-    keeps(&rt, &table, 0, rank(5, 3), 0, true);
+    reaches(rt, &mut table, layout, &state, rank(5, 3), 9, Outcome::Kept)?;
+    reaches(rt, &mut table, layout, &state, rank(6, 0), 9, Outcome::Kept)?;
+    keeps(rt, &table, 0, rank(5, 3), 0, false);
+    expands(rt, &mut table, 0);
+    keeps(rt, &table, 0, rank(5, 3), 0, true);
     // fewer steps
     reaches(
-        &rt,
+        rt,
         &mut table,
-        &layout,
+        layout,
         &state,
         rank(5, 2),
         8,
         Outcome::Better(0),
     )?;
-    keeps(&rt, &table, 0, rank(5, 2), 8, false);
-    keeps(&rt, &table, 1, rank(1, 1), 4, false);
+    keeps(rt, &table, 0, rank(5, 2), 8, false);
+    keeps(rt, &table, 1, rank(1, 1), 4, false);
+    Ok(())
+}
+
+#[test]
+fn keeps_the_least_rank(rt: HostRuntime) -> Result<(), Fail> {
+    let task = states(rt.alloc(), &[2, 3], &[0, 0])?.ok_or("a task")?;
+    let layout = Layout::new(rt.alloc(), &task)?;
+    assert!(rt; Bits::<1>::fits(&layout), "states of one word");
+    keeps_the_least_rank_in::<Bits<1>, HostRuntime>(&rt, rt.alloc(), &task, &layout)?;
+    keeps_the_least_rank_in::<Plain, HostRuntime>(&rt, rt.alloc(), &task, &layout)
+}
+
+/// A table gives back the state that it was given.
+fn gives_states_back_in<F: StateForm + Drop, R: Abort>(
+    rt: &R,
+    alloc: Global,
+    task: &FdrTask,
+    layout: &Layout,
+) -> Result<(), Fail>
+    requires layout { layout.now ≡ ranges task.now }
+    requires fits { F.Fits layout.now }
+{
+    let mut table: ClosedTable<F> = ClosedTable::new(alloc, task)?;
+    let outcome = table.improve(task.initial(), rank(0, 0), None)?;
+    assert_eq!(rt; outcome, Outcome::New(0));
+    assert_eq!(rt; table.len(), 1);
+    assert_eq!(rt; table.entry(0).parent, None);
+    let mut state = vec![in alloc; 9; task.variable_count()]?;
+    table.copy_state(0, &mut state);
+    assert_eq!(rt; state.as_slice(), [1, 2].as_slice());
     Ok(())
 }
 
 #[test]
 fn gives_states_back(rt: HostRuntime) -> Result<(), Fail> {
     let task = states(rt.alloc(), &[2, 3], &[1, 2])?.ok_or("a task")?;
-    let mut table = ClosedTable::new(rt.alloc(), &task)?;
-    let outcome = table.improve(task.initial(), rank(0, 0), None)?;
-    assert_eq!(rt; outcome, Outcome::New(0));
-    assert_eq!(rt; table.len(), 1);
-    assert_eq!(rt; table.entry(0).parent, None);
-    let mut state = vec![in rt.alloc(); 9; task.variable_count()]?;
-    table.copy_state(0, &mut state);
-    assert_eq!(rt; state.as_slice(), [1, 2].as_slice());
-    Ok(())
+    let layout = Layout::new(rt.alloc(), &task)?;
+    assert!(rt; Bits::<1>::fits(&layout), "states of one word");
+    gives_states_back_in::<Bits<1>, HostRuntime>(&rt, rt.alloc(), &task, &layout)?;
+    gives_states_back_in::<Plain, HostRuntime>(&rt, rt.alloc(), &task, &layout)
 }
 
 /// Messages of these states and ranks.
@@ -172,10 +188,10 @@ fn are_of(layout: &Layout, messages: &[Message]) -> bool
 }
 
 /// Whether the messages were taken. Checks their outcomes, and that a failure leaves the table as it was.
-fn takes(
+fn takes<F: StateForm + Drop>(
     rt: &impl Abort,
     alloc: Global,
-    table: &mut ClosedTable,
+    table: &mut ClosedTable<F>,
     messages: &[Message],
     expected: &[Outcome],
 ) -> bool
@@ -194,21 +210,27 @@ fn takes(
     }
 }
 
-#[test]
-fn takes_messages_one_after_the_other(rt: HostRuntime) -> Result<(), Fail> {
-    let task = states(rt.alloc(), &[2, 3], &[0, 0])?.ok_or("a task")?;
-    let layout = Layout::new(rt.alloc(), &task)?;
-    let mut table = ClosedTable::new(rt.alloc(), &task)?;
+/// Messages are taken one after the other.
+fn takes_messages_one_after_the_other_in<F: StateForm + Drop, R: Abort>(
+    rt: &R,
+    alloc: Global,
+    task: &FdrTask,
+    layout: &Layout,
+) -> Result<(), Fail>
+    requires layout { layout.now ≡ ranges task.now }
+    requires fits { F.Fits layout.now }
+{
+    let mut table: ClosedTable<F> = ClosedTable::new(alloc, task)?;
     reaches(
-        &rt,
+        rt,
         &mut table,
-        &layout,
+        layout,
         &[0, 0],
         rank(2, 2),
         5,
         Outcome::New(0),
     )?;
-    expands(&rt, &mut table, 0);
+    expands(rt, &mut table, 0);
     let reached = [
         ([0, 1], rank(1, 1)),
         ([0, 0], rank(3, 0)),
@@ -223,13 +245,22 @@ fn takes_messages_one_after_the_other(rt: HostRuntime) -> Result<(), Fail> {
         Outcome::Better(0),
         Outcome::Kept,
     ];
-    let messages = messages(&rt, rt.alloc(), &layout, &reached)?;
-    assert!(rt; are_of(&layout, &messages), "states");
-    if takes(&rt, rt.alloc(), &mut table, &messages, &expected) {
-        keeps(&rt, &table, 0, rank(1, 5), 6, false);
-        keeps(&rt, &table, 1, rank(1, 0), 6, false);
+    let messages = messages(rt, alloc, layout, &reached)?;
+    assert!(rt; are_of(layout, &messages), "states");
+    if takes(rt, alloc, &mut table, &messages, &expected) {
+        keeps(rt, &table, 0, rank(1, 5), 6, false);
+        keeps(rt, &table, 1, rank(1, 0), 6, false);
     } else {
-        keeps(&rt, &table, 0, rank(2, 2), 5, true);
+        keeps(rt, &table, 0, rank(2, 2), 5, true);
     }
     Ok(())
+}
+
+#[test]
+fn takes_messages_one_after_the_other(rt: HostRuntime) -> Result<(), Fail> {
+    let task = states(rt.alloc(), &[2, 3], &[0, 0])?.ok_or("a task")?;
+    let layout = Layout::new(rt.alloc(), &task)?;
+    assert!(rt; Bits::<1>::fits(&layout), "states of one word");
+    takes_messages_one_after_the_other_in::<Bits<1>, HostRuntime>(&rt, rt.alloc(), &task, &layout)?;
+    takes_messages_one_after_the_other_in::<Plain, HostRuntime>(&rt, rt.alloc(), &task, &layout)
 }

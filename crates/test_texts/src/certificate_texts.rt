@@ -81,16 +81,29 @@ fn dist(number: u64) -> Dist {
     Dist::fin(number).unwrap_or(Dist::inf())
 }
 
-#[test]
-fn reads_and_writes_again(rt: HostRuntime) -> Result<(), Fail> {
-    for (text, states) in [(K1, 2), (K2, 0), (K3, 2)] {
-        let certificate = read_cert(rt.alloc(), text)?;
-        assert_eq!(rt; certificate.bound(), dist(2));
-        assert_eq!(rt; certificate.closed().len(), states);
-        let bytes = write_cert(rt.alloc(), &certificate)?;
-        assert_eq!(rt; bytes.as_slice(), text);
+/// Whether the certificate has the bound 2 and this number of states, and its text is this.
+fn is_written(alloc: Global, certificate: &Certificate, states: usize, text: &[u8]) -> bool {
+    certificate.bound() == dist(2)
+        && certificate.closed().len() == states
+        && match write_cert(alloc, certificate) {
+            Ok(bytes) => bytes.as_slice() == text,
+            Err(_) => false,
+        }
+}
+
+/// Whether the text is read, and written again from what was read, which has the bound 2 and this number of states.
+fn is_read(alloc: Global, text: &[u8], states: usize) -> bool {
+    match read_cert(alloc, text) {
+        Ok(certificate) => is_written(alloc, &certificate, states, text),
+        Err(_) => false,
     }
-    Ok(())
+}
+
+#[test]
+fn reads_and_writes_again(rt: HostRuntime) {
+    for (text, states) in [(K1, 2), (K2, 0), (K3, 2)] {
+        assert!(rt; is_read(rt.alloc(), text, states), "{states}");
+    }
 }
 
 #[test]
@@ -185,6 +198,13 @@ fn states(rt: HostRuntime) -> Result<(), Fail> {
     Ok(())
 }
 
+/// The fault of a text with another behind it.
+fn fault_behind(alloc: Global, text: &[u8], more: &[u8]) -> Result<Option<CertFault>, AllocError> {
+    let mut bytes = Vec::from_slice(alloc, text)?;
+    bytes.extend_from_slice(more)?;
+    Ok(fault_of(alloc, &bytes))
+}
+
 #[test]
 fn ends(rt: HostRuntime) -> Result<(), Fail> {
     for (text, more, fault) in [
@@ -193,9 +213,7 @@ fn ends(rt: HostRuntime) -> Result<(), Fail> {
         (K1, b"x\ny\n".as_slice(), Some(CertFault::Trailing(17))),
         (K3, b" ".as_slice(), Some(CertFault::Trailing(9))),
     ] {
-        let mut bytes = Vec::from_slice(rt.alloc(), text)?;
-        bytes.extend_from_slice(more)?;
-        assert_eq!(rt; fault_of(rt.alloc(), &bytes), fault);
+        assert_eq!(rt; fault_behind(rt.alloc(), text, more)?, fault);
     }
     for (text, fault) in [
         (b"".as_slice(), Some(CertFault::Truncated)),
@@ -259,10 +277,14 @@ fn large_certificate(alloc: Global) -> Result<Certificate, AllocError> {
     Ok(Certificate::new(CertificateKind::Sas, Dist::inf(), columns, closed))
 }
 
+fn large_text(alloc: Global) -> Result<Vec<u8>, AllocError> {
+    let certificate = large_certificate(alloc)?;
+    write_cert(alloc, &certificate)
+}
+
 #[test]
 fn writes_a_value(rt: HostRuntime) -> Result<(), Fail> {
-    let certificate = large_certificate(rt.alloc())?;
-    let bytes = write_cert(rt.alloc(), &certificate)?;
+    let bytes = large_text(rt.alloc())?;
     assert_eq!(rt;
         bytes.as_slice(),
         b"optplan-cert 1\nsas\nbound inf\ncolumns 1\ncolumn 1\ntable 2 0 4294967295\nshares 1 7 2147483647\nvalues 2 inf 36028797018963968\nclosed 1\n0 0\nend\n".as_slice()

@@ -1,8 +1,11 @@
 //! Steps of a plan, worked out by hand.
 
+use fdr::FdrTask;
 use optplan_plans::named_steps;
 use sasfile::read_sas;
-use std::test::Fail;
+use std::alloc::Global;
+use std::process::Abort;
+use validate::Step;
 
 /// A walk from `a` to `b`, and a wait, which has no objects.
 const WALK: &str =
@@ -10,17 +13,42 @@ const WALK: &str =
 Atom at(a)\nAtom at(b)\nend_variable\n0\nbegin_state\n0\nend_state\nbegin_goal\n1\n0 1\nend_goal\n\
 2\nbegin_operator\ngo a b\n0\n1\n0 0 0 1\n1\nend_operator\nbegin_operator\nwait\n1\n0 0\n0\n1\nend_operator\n0\n";
 
-#[test]
-fn steps_are_named(rt: HostRuntime) -> Result<(), Fail> {
-    let task = read_sas(rt.alloc(), WALK.as_bytes())?;
+/// The name of an operator's action and its arguments.
+type NamedStep<'a> = (&'a str, &'a [&'a str]);
+
+fn are_texts(texts: &[String], wanted: &[&str]) -> bool {
+    texts.len() == wanted.len()
+        && texts
+            .iter()
+            .zip(wanted)
+            .all(|(text, want)| text.as_str() == *want)
+}
+
+fn are_steps(steps: &[Step], wanted: &[NamedStep<'_>]) -> bool {
+    steps.len() == wanted.len()
+        && steps.iter().zip(wanted).all(|(step, (name, arguments))| {
+            step.name.as_str() == *name && are_texts(&step.arguments, arguments)
+        })
+}
+
+/// Whether the second and then the first operator of a task of two are these steps.
+fn has_steps(rt: &impl Abort, alloc: Global, task: &FdrTask, wanted: &[NamedStep<'_>]) -> bool {
     assert_eq!(rt; task.operator_count(), 2);
-    let steps = named_steps(rt.alloc(), &task, &[1, 0])?;
-    assert_eq!(rt; steps.len(), 2);
-    assert_eq!(rt; steps[0].name.as_str(), "wait");
-    assert!(rt; steps[0].arguments.is_empty());
-    assert_eq!(rt; steps[1].name.as_str(), "go");
-    assert_eq!(rt; steps[1].arguments.len(), 2);
-    assert_eq!(rt; steps[1].arguments[0].as_str(), "a");
-    assert_eq!(rt; steps[1].arguments[1].as_str(), "b");
-    Ok(())
+    are_steps(
+        &named_steps(alloc, task, &[1, 0]).expect(rt, "memory"),
+        wanted,
+    )
+}
+
+#[test]
+fn steps_are_named(rt: HostRuntime) {
+    let task = read_sas(rt.alloc(), WALK.as_bytes()).expect(&rt, "a task");
+    assert!(rt;
+        has_steps(
+            &rt,
+            rt.alloc(),
+            &task,
+            &[("wait", &[]), ("go", &["a", "b"])]
+        )
+    );
 }

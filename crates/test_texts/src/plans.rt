@@ -1,22 +1,36 @@
 //! Plans that are read, validated and written.
 
-ghost use Rattle.std.specs.Prelude.{◌≡◌, nat_lt};
-ghost use Rattle.std.specs.List.{list_all};
-ghost use Rattle.indexmap.specs.IndexMap.{values};
-ghost use Rattle.validate.specs.LowCosts.{is_low_increase, are_few_and_low, has_low_values, has_low_costs};
+ghost use Rattle.std.specs.Prelude.{IsTrue};
+ghost use Rattle.pddl_task.specs.Limits.{max_cost};
+ghost use Rattle.pddl_task.specs.Planning.{has_small_costs};
+ghost use Rattle.validate.specs.Verdicts.{CostsAtMost};
 
-use indexmap::IndexMap;
-use pddl_names::Names;
-use pddl_task::{
-    ActionSchema, Condition, GroundAtom, GroundLiteral, Increase, LiftedAtom, LiftedEffect, Task,
-    Term, Vocabulary,
-};
+use pddl::read_task;
+use pddl_task::Task;
 use sexp::SexpFault;
-use smallvec::SmallVec;
-use std::alloc::Global;
+use std::alloc::{AllocError, Global};
 use std::process::Abort;
 use std::test::*;
 use validate::{PlanFault, plan_text, read_plan, validate, verdict_line};
+
+/// A plan's text that is written from this one, for a cost of 2 by numbers of steps and for one of 70 by the metric.
+fn rewritten(alloc: Global, text: &str) -> Result<(String, String), PlanFault> {
+    let plan = read_plan(alloc, text.as_bytes())?;
+    Ok((
+        plan_text(alloc, &plan, 2, true)?,
+        plan_text(alloc, &plan, 70, false)?,
+    ))
+}
+
+fn fault_of(alloc: Global, text: &str) -> Option<PlanFault> {
+    read_plan(alloc, text.as_bytes()).err()
+}
+
+/// Checks the text of a plan of these steps, whose cost and kind of cost is this.
+fn is_text(rt: &impl Abort, alloc: Global, text: &str, steps: &str, cost: &str) {
+    let wanted = format!(in alloc; "{steps}; cost = {cost}\n").expect(rt, "memory");
+    assert_eq!(rt; text, wanted.as_str());
+}
 
 #[test]
 fn plans_are_read_and_written(rt: HostRuntime) {
@@ -27,14 +41,14 @@ fn plans_are_read_and_written(rt: HostRuntime) {
         ("; nothing", ""),
     ];
     for (text, steps) in plans {
-        let plan = read_plan(alloc, text.as_bytes()).expect(&rt, "a plan");
-        let unit = plan_text(alloc, &plan, 2, true).expect(&rt, "memory");
-        let general = plan_text(alloc, &plan, 70, false).expect(&rt, "memory");
-        let wanted = format!(in alloc; "{steps}; cost = 2 (unit cost)\n").expect(&rt, "memory");
-        assert_eq!(rt; unit.as_str(), wanted.as_str(), "at {text}");
-        let wanted = format!(in alloc; "{steps}; cost = 70 (general cost)\n").expect(&rt, "memory");
-        assert_eq!(rt; general.as_str(), wanted.as_str(), "at {text}");
+        let (unit, general) = rewritten(alloc, text).expect(&rt, "a plan");
+        is_text(&rt, alloc, unit.as_str(), steps, "2 (unit cost)");
+        is_text(&rt, alloc, general.as_str(), steps, "70 (general cost)");
     }
+}
+
+#[test]
+fn plans_of_another_shape_are_refused(rt: HostRuntime) {
     let faults = [
         ("go a b", PlanFault::PlanShape(0)),
         ("()", PlanFault::PlanShape(0)),
@@ -44,246 +58,51 @@ fn plans_are_read_and_written(rt: HostRuntime) {
         ("c (a", PlanFault::Tree(SexpFault::Unclosed(2))),
     ];
     for (text, fault) in faults {
-        let read = read_plan(alloc, text.as_bytes());
-        assert_eq!(rt; read.err(), Some(fault), "at {text}");
+        assert_eq!(rt; fault_of(rt.alloc(), text), Some(fault), "at {text}");
     }
 }
 
-/// The numbers of the task's predicates.
-const AT: usize = 0;
+/// Goes from a place to a town over a road, at the road's length plus a fee of 10; stays where it is, where `at` is added and
+/// deleted in the order of the text. The towns are a, b and c; d is a place, and e an object.
+const JOURNEY: &str = "(define (domain journey) (:types town - place place - object)
+    (:constants a b c - town d - place e - object)
+    (:predicates (at ?x) (road ?x ?y) (locked ?x))
+    (:functions (total-cost) - number (length ?x ?y) - number)
+    (:action go :parameters (?x - place ?y - town)
+     :precondition (and (at ?x) (not (= ?x ?y)) (road ?x ?y) (not (locked ?y)))
+     :effect (and (not (at ?x)) (at ?y) (increase (total-cost) (length ?x ?y)) (increase (total-cost) 10)))
+    (:action stay :parameters (?x) :precondition (at ?x) :effect (and (at ?x) (not (at ?x)))))";
 
-const ROAD: usize = 1;
-
-const LOCKED: usize = 2;
-
-/// The numbers of the task's objects.
-const A: usize = 0;
-
-const B: usize = 1;
-
-const C: usize = 2;
-
-fn atom(rt: &impl Abort, alloc: Global, predicate: usize, objects: &[usize]) -> GroundAtom {
-    GroundAtom::new(
-        predicate,
-        SmallVec::from_slice(alloc, objects).expect(rt, "memory"),
-    )
-}
-
-fn lifted(rt: &impl Abort, alloc: Global, predicate: usize, parameters: &[usize]) -> LiftedAtom {
-    let terms = parameters
-        .iter()
-        .map(|place| Term::Parameter(*place))
-        .collect(alloc)
-        .expect(rt, "memory");
-    LiftedAtom { predicate, terms }
-}
-
-/// The conditions: at the first place, which is not the second; a road to the second, which is not locked.
-fn conditions(rt: &impl Abort, alloc: Global) -> Vec<Condition> {
-    let mut conditions = Vec::new(alloc);
-    conditions
-        .push(Condition::Positive(lifted(rt, alloc, AT, &[0])))
-        .expect(rt, "memory");
-    conditions
-        .push(Condition::Different(Term::Parameter(0), Term::Parameter(1)))
-        .expect(rt, "memory");
-    conditions
-        .push(Condition::Positive(lifted(rt, alloc, ROAD, &[0, 1])))
-        .expect(rt, "memory");
-    conditions
-        .push(Condition::Negative(lifted(rt, alloc, LOCKED, &[1])))
-        .expect(rt, "memory");
-    conditions
-}
-
-/// Effects that add or delete the atom `at` of these parameters, one after the other.
-fn effects(rt: &impl Abort, alloc: Global, places: &[(usize, bool)]) -> Vec<LiftedEffect> {
-    let mut effects = Vec::new(alloc);
-    for (place, positive) in places {
-        let atom = lifted(rt, alloc, AT, &[*place]);
-        let positive = *positive;
-        effects
-            .push(LiftedEffect { atom, positive })
-            .expect(rt, "memory");
-    }
-    effects
-}
-
-/// The action that goes from a place to a town over a road, at the road's length plus a fee of 10.
-fn go(rt: &impl Abort, alloc: Global) -> ActionSchema {
-    let mut increases = Vec::new(alloc);
-    increases
-        .push(Increase::Value(lifted(rt, alloc, 0, &[0, 1])))
-        .expect(rt, "memory");
-    increases.push(Increase::Amount(10)).expect(rt, "memory");
-    ActionSchema {
-        parameters: Vec::from_slice(alloc, &[1, 2]).expect(rt, "memory"),
-        precondition: conditions(rt, alloc),
-        effect: effects(rt, alloc, &[(0, false), (1, true)]),
-        increases,
-    }
-}
-
-/// The action that stays where it is: it adds `at` and deletes it, in the order of the text.
-fn stay(rt: &impl Abort, alloc: Global) -> ActionSchema {
-    let mut precondition = Vec::new(alloc);
-    precondition
-        .push(Condition::Positive(lifted(rt, alloc, AT, &[0])))
-        .expect(rt, "memory");
-    ActionSchema {
-        parameters: Vec::from_slice(alloc, &[0]).expect(rt, "memory"),
-        precondition,
-        effect: effects(rt, alloc, &[(0, true), (0, false)]),
-        increases: Vec::new(alloc),
-    }
-}
-
-fn schemas(rt: &impl Abort, alloc: Global) -> Vec<ActionSchema> {
-    let mut schemas = Vec::new(alloc);
-    schemas.push(go(rt, alloc)).expect(rt, "memory");
-    schemas.push(stay(rt, alloc)).expect(rt, "memory");
-    schemas
-}
-
-/// The initial state: at a, which is locked; roads lead from a to b and back, and from b to c.
-fn initial(rt: &impl Abort, alloc: Global) -> Vec<GroundAtom> {
-    let mut initial = Vec::new(alloc);
-    initial.push(atom(rt, alloc, AT, &[A])).expect(rt, "memory");
-    for (start, end) in [(A, B), (B, A), (B, C)] {
-        initial
-            .push(atom(rt, alloc, ROAD, &[start, end]))
-            .expect(rt, "memory");
-    }
-    initial
-        .push(atom(rt, alloc, LOCKED, &[A]))
-        .expect(rt, "memory");
-    initial
-}
-
-/// The lengths of the roads, except that of the road back to a.
-fn lengths(rt: &impl Abort, alloc: Global) -> IndexMap<GroundAtom, u64> {
-    let mut lengths = IndexMap::new(alloc);
-    for (start, end, length) in [(A, B, 3), (B, C, 4)] {
-        lengths
-            .insert(atom(rt, alloc, 0, &[start, end]), length)
-            .expect(rt, "memory");
-    }
-    lengths
-}
-
-/// Goals that the atom `at` of these objects holds or does not hold.
-fn goal(rt: &impl Abort, alloc: Global, places: &[(usize, bool)]) -> Vec<GroundLiteral> {
-    let mut goal = Vec::new(alloc);
-    for (place, positive) in places {
-        let atom = atom(rt, alloc, AT, &[*place]);
-        let positive = *positive;
-        goal.push(GroundLiteral { atom, positive })
-            .expect(rt, "memory");
-    }
-    goal
-}
-
-fn named(rt: &impl Abort, alloc: Global, words: &[&str]) -> Names {
-    let mut names = Names::new(alloc);
-    for word in words {
-        let _number = names.add(alloc, word).expect(rt, "memory");
-    }
-    names
-}
-
-fn vocabulary(rt: &impl Abort, alloc: Global) -> Vocabulary {
-    Vocabulary {
-        objects: named(rt, alloc, &["a", "b", "c", "d", "e"]),
-        predicates: named(rt, alloc, &["at", "road", "locked"]),
-        functions: named(rt, alloc, &["length"]),
-        schemas: named(rt, alloc, &["go", "stay"]),
-    }
-}
-
-/// Types: object, place below it, and town below that. The towns are a, b and c; d is a place, and e an object.
-fn journey(rt: &impl Abort, alloc: Global, metric: bool, goals: &[(usize, bool)]) -> Task {
-    let supertypes = Vec::from_slice(alloc, &[0, 0, 1]).expect(rt, "memory");
-    let object_types = Vec::from_slice(alloc, &[2, 2, 2, 1, 0]).expect(rt, "memory");
-    let arities = Vec::from_slice(alloc, &[1, 2, 1]).expect(rt, "memory");
-    Task {
-        supertypes,
-        object_types,
-        arities,
-        schemas: schemas(rt, alloc),
-        initial: initial(rt, alloc),
-        goal: goal(rt, alloc, goals),
-        values: lengths(rt, alloc),
-        metric,
-        vocabulary: vocabulary(rt, alloc),
-    }
-}
-
-/// A number, a value or an amount below this is low.
-const LOW: u64 = 1000;
-
-fn is_low_increase(increase: &Increase) -> bool
-    ensures { result ≡ is_low_increase increase.now }
-{
-    match increase {
-        Increase::Amount(amount) => *amount < LOW,
-        Increase::Value(_) => true,
-    }
-}
-
-fn are_few_and_low(increases: &[Increase]) -> bool
-    ensures { result ≡ are_few_and_low increases.now }
-{
-    match increases {
-        [] => true,
-        [one] => is_low_increase(one),
-        [one, two] => is_low_increase(one) && is_low_increase(two),
-        _ => false,
-    }
-}
-
-fn are_low(lengths: &IndexMap<GroundAtom, u64>) -> bool
-    ensures { result ≡ list_all (λ v. nat_lt v 1000) (values lengths.now) }
-{
-    lengths.values().all(|value| *value < LOW)
-}
-
-fn cost_little(schemas: &[ActionSchema]) -> bool
-    ensures { result ≡ list_all (λ s. are_few_and_low s.increases) schemas.now }
-{
-    schemas
-        .iter()
-        .all(|schema| are_few_and_low(&schema.increases))
-}
-
-fn has_low_values(task: &Task) -> bool
-    ensures { result ≡ has_low_values task.now }
-{
-    are_low(&task.values)
-}
-
-/// Whether each schema has at most two increases, and all their amounts and the task's values are low.
-fn has_low_costs(task: &Task) -> bool
-    ensures { result ≡ has_low_costs task.now }
-{
-    has_low_values(task) && cost_little(&task.schemas)
-}
+/// At a, which is locked; roads lead from a to b and back, and from b to c. The road back to a has no length.
+const AT_A: &str = "(define (problem p) (:init (at a) (road a b) (road b a) (road b c) (locked a)
+    (= (length a b) 3) (= (length b c) 4)) ";
 
 /// The line of the verdict on a plan.
-#[tactic(auto, using(validate::proofs::LowCosts::low_costs_fit))]
-fn line(rt: &impl Abort, alloc: Global, task: &Task, text: &str) -> String {
-    let plan = read_plan(alloc, text.as_bytes()).expect(rt, "a plan");
-    if !has_low_costs(task) || !task.has_small_costs() {
-        return String::new(alloc);
-    }
-    let verdict = validate(alloc, task, &plan).expect(rt, "memory");
-    verdict_line(alloc, task, &verdict).expect(rt, "memory")
+fn line_of(alloc: Global, task: &Task, plan: &str) -> Result<String, AllocError>
+    requires small { IsTrue (has_small_costs task.now) }
+    requires costs { CostsAtMost task.now max_cost }
+{
+    let Ok(plan) = read_plan(alloc, plan.as_bytes()) else {
+        return String::from_str(alloc, "no plan");
+    };
+    let verdict = validate(alloc, task, &plan)?;
+    verdict_line(alloc, task, &verdict)
 }
 
-/// Checks the line that is printed for each of the plans.
-fn expect_lines(rt: &impl Abort, alloc: Global, task: &Task, lines: &[(&str, &str)]) {
+/// The line of the verdict on a plan for the journey with this goal.
+#[tactic(auto, unfolding(validate::specs::Verdicts::CostsAtMost))]
+fn line(alloc: Global, problem: &str, plan: &str) -> Result<String, AllocError> {
+    match read_task(alloc, JOURNEY.as_bytes(), problem.as_bytes()) {
+        Ok(task) => line_of(alloc, &task, plan),
+        Err(_) => String::from_str(alloc, "no task"),
+    }
+}
+
+/// Checks the line that is printed for each of the plans of the journey with this goal, and a metric or none.
+fn expect_lines(rt: &impl Abort, alloc: Global, goal: &str, lines: &[(&str, &str)]) {
+    let problem = format!(in alloc; "{AT_A}{goal})").expect(rt, "memory");
     for (plan, wanted) in lines {
-        let line = line(rt, alloc, task, plan);
+        let line = line(alloc, problem.as_str(), plan).expect(rt, "memory");
         assert_eq!(rt; line.as_str(), *wanted, "at {plan}");
     }
 }
@@ -304,8 +123,7 @@ fn steps_name_actions(rt: HostRuntime) {
         ("(go a a)", "no such action 1\n"),
         ("(fly)(go)", "no such action 1\n"),
     ];
-    let task = journey(&rt, rt.alloc(), false, &[(C, true)]);
-    expect_lines(&rt, rt.alloc(), &task, &lines);
+    expect_lines(&rt, rt.alloc(), "(:goal (at c))", &lines);
 }
 
 #[test]
@@ -320,8 +138,7 @@ fn steps_apply(rt: HostRuntime) {
         // what is deleted and added stays true
         ("(stay a)(stay a)(GO A B)(go b c)", "valid 4\n"),
     ];
-    let task = journey(&rt, rt.alloc(), false, &[(C, true)]);
-    expect_lines(&rt, rt.alloc(), &task, &lines);
+    expect_lines(&rt, rt.alloc(), "(:goal (at c))", &lines);
 }
 
 #[test]
@@ -331,8 +148,7 @@ fn goals_are_met(rt: HostRuntime) {
         ("(go a b)", "goal open (at c)\n"),
         ("(go a b)(go b c)", "valid 2\n"),
     ];
-    let task = journey(&rt, rt.alloc(), false, &[(C, true), (A, false)]);
-    expect_lines(&rt, rt.alloc(), &task, &lines);
+    expect_lines(&rt, rt.alloc(), "(:goal (and (at c) (not (at a))))", &lines);
 }
 
 #[test]
@@ -343,15 +159,13 @@ fn goals_are_avoided(rt: HostRuntime) {
         ("(go a b)", "goal open (at c)\n"),
         ("(go a b)(go b c)", "valid 2\n"),
     ];
-    let task = journey(&rt, rt.alloc(), false, &[(A, false), (C, true)]);
-    expect_lines(&rt, rt.alloc(), &task, &lines);
+    expect_lines(&rt, rt.alloc(), "(:goal (and (not (at a)) (at c)))", &lines);
 }
 
 #[test]
 fn no_goal_is_met(rt: HostRuntime) {
     let lines = [("", "valid 0\n"), ("(go b c)", "not applicable 1 (at b)\n")];
-    let task = journey(&rt, rt.alloc(), false, &[]);
-    expect_lines(&rt, rt.alloc(), &task, &lines);
+    expect_lines(&rt, rt.alloc(), "(:goal ())", &lines);
 }
 
 #[test]
@@ -365,6 +179,10 @@ fn steps_cost_their_increases(rt: HostRuntime) {
         ("(go a b)(go b a)", "no such action 2\n"),
         ("(go a b)", "goal open (at c)\n"),
     ];
-    let task = journey(&rt, rt.alloc(), true, &[(C, true)]);
-    expect_lines(&rt, rt.alloc(), &task, &lines);
+    expect_lines(
+        &rt,
+        rt.alloc(),
+        "(:goal (at c)) (:metric minimize (total-cost))",
+        &lines,
+    );
 }

@@ -1,6 +1,6 @@
 //! Texts that are read, and their first faults, worked out by hand.
 
-use fdr::{Fact, FdrTask, TaskLimit};
+use fdr::{Fact, FdrTask, Operator, TaskLimit};
 use sasfile::SasFault::*;
 use sasfile::{SasFault, read_sas};
 use std::alloc::{AllocError, Global};
@@ -32,66 +32,145 @@ fn fault_of(alloc: Global, text: &[u8]) -> Option<SasFault> {
     read_sas(alloc, text).err()
 }
 
-/// Reads the walk with another text in place of a line.
-fn edited(alloc: Global, line: usize, text: &str) -> Result<FdrTask, SasFault> {
-    read_sas(alloc, &with_line(alloc, line, text.as_bytes())?)
+/// The fault of the walk with another text in place of a line.
+fn edited_fault(alloc: Global, line: usize, text: &str) -> Result<Option<SasFault>, AllocError> {
+    let edited = with_line(alloc, line, text.as_bytes())?;
+    Ok(fault_of(alloc, &edited))
 }
 
 /// A line of the walk, texts in its place, and the fault of each.
 type Row = (usize, &'static [&'static str], SasFault);
 
+fn names_fault(rt: &impl Abort, alloc: Global, line: usize, text: &str, fault: SasFault) {
+    let found = edited_fault(alloc, line, text).expect(rt, "memory");
+    assert_eq!(rt; found, Some(fault), "line {line}: {text}");
+}
+
 fn names(rt: &impl Abort, alloc: Global, rows: &[Row]) {
     for (line, texts, fault) in rows {
         for text in *texts {
-            let found = edited(alloc, *line, text).err();
-            assert_eq!(rt; found, Some(*fault), "line {line}: {text}");
+            names_fault(rt, alloc, *line, text, *fault);
         }
     }
 }
 
-#[test]
-fn reads_the_walk(rt: HostRuntime) -> Result<(), Fail> {
-    let task = read_sas(rt.alloc(), WALK.as_bytes())?;
-    assert!(rt; !task.has_metric());
-    assert_eq!(rt; (task.variable_count(), task.operator_count()), (1, 2));
-    assert_eq!(rt; task.initial(), [0].as_slice());
-    let at = |value| Fact { variable: 0, value };
-    assert_eq!(rt; task.goal(), [at(2)].as_slice());
-    let rows = [("go a b", 0, 1), ("go b c", 1, 2)];
-    for (operator, (name, before, after)) in task.operators().iter().zip(rows) {
-        assert_eq!(rt; operator.name.as_str(), name);
-        assert_eq!(rt; operator.precondition.as_slice(), [at(before)].as_slice());
-        assert_eq!(rt; operator.effect.as_slice(), [at(after)].as_slice());
-        assert_eq!(rt; operator.cost.get(), 1);
+/// The parts of an operator.
+#[derive(Clone, Copy)]
+struct OperatorRow<'a> {
+    name: &'a str,
+    precondition: &'a [Fact],
+    effect: &'a [Fact],
+    cost: u64,
+}
+
+/// The parts of a task, and its number of variables.
+#[derive(Clone, Copy)]
+struct TaskRow<'a> {
+    metric: bool,
+    variables: usize,
+    initial: &'a [u32],
+    goal: &'a [Fact],
+    operators: &'a [OperatorRow<'a>],
+}
+
+const fn fact(variable: usize, value: u32) -> Fact {
+    Fact { variable, value }
+}
+
+fn is_operator(operator: &Operator, row: &OperatorRow<'_>) -> bool {
+    operator.name.as_str() == row.name
+        && operator.precondition.as_slice() == row.precondition
+        && operator.effect.as_slice() == row.effect
+        && operator.cost.get() == row.cost
+}
+
+fn are_operators(operators: &[Operator], rows: &[OperatorRow<'_>]) -> bool {
+    operators.len() == rows.len()
+        && operators
+            .iter()
+            .zip(rows)
+            .all(|(operator, row)| is_operator(operator, row))
+}
+
+fn is_task(task: &FdrTask, row: &TaskRow<'_>) -> bool {
+    task.has_metric() == row.metric
+        && task.variable_count() == row.variables
+        && task.initial() == row.initial
+        && task.goal() == row.goal
+        && are_operators(task.operators(), row.operators)
+}
+
+/// Whether the text spells a task of these parts.
+fn spells(alloc: Global, text: &[u8], row: &TaskRow<'_>) -> bool {
+    match read_sas(alloc, text) {
+        Ok(task) => is_task(&task, row),
+        Err(_) => false,
     }
-    Ok(())
+}
+
+/// The facts of the walk: at `a`, at `b` and at `c`.
+const AT_A: Fact = Fact {
+    variable: 0,
+    value: 0,
+};
+
+const AT_B: Fact = Fact {
+    variable: 0,
+    value: 1,
+};
+
+const AT_C: Fact = Fact {
+    variable: 0,
+    value: 2,
+};
+
+/// The walk's task.
+const WALK_TASK: TaskRow<'static> = TaskRow {
+    metric: false,
+    variables: 1,
+    initial: &[0],
+    goal: &[AT_C],
+    operators: &[
+        OperatorRow {
+            name: "go a b",
+            precondition: &[AT_A],
+            effect: &[AT_B],
+            cost: 1,
+        },
+        OperatorRow {
+            name: "go b c",
+            precondition: &[AT_B],
+            effect: &[AT_C],
+            cost: 1,
+        },
+    ],
+};
+
+#[test]
+fn reads_the_walk(rt: HostRuntime) {
+    assert!(rt; spells(rt.alloc(), WALK.as_bytes(), &WALK_TASK));
 }
 
 /// Prevail conditions come before the values before effects; the effect with `-1` has no condition.
 #[test]
-fn reads_prevail_conditions_first(rt: HostRuntime) -> Result<(), Fail> {
+fn reads_prevail_conditions_first(rt: HostRuntime) {
     let text = b"begin_version\n3\nend_version\nbegin_metric\n1\nend_metric\n3\n\
 begin_variable\nvar0\n-1\n2\na\nb\nend_variable\nbegin_variable\nvar1\n-1\n2\na\nb\nend_variable\n\
 begin_variable\nvar2\n-1\n2\na\nb\nend_variable\n0\nbegin_state\n0\n1\n0\nend_state\n\
 begin_goal\n2\n2 1\n0 1\nend_goal\n1\nbegin_operator\nGo  A;(b\n1\n2 0\n2\n0 1 1 0\n0 0 -1 1\n7\nend_operator\n0";
-    let task = read_sas(rt.alloc(), text)?;
-    assert!(rt; task.has_metric() && task.operator_count() == 1);
-    assert_eq!(rt; task.initial(), [0, 1, 0].as_slice());
-    let fact = |variable, value| Fact { variable, value };
-    assert_eq!(rt; task.goal(), [fact(2, 1), fact(0, 1)].as_slice());
-    for operator in task.operators() {
-        assert_eq!(rt; operator.name.as_str(), "Go  A;(b");
-        assert_eq!(rt;
-            operator.precondition.as_slice(),
-            [fact(2, 0), fact(1, 1)].as_slice()
-        );
-        assert_eq!(rt;
-            operator.effect.as_slice(),
-            [fact(1, 0), fact(0, 1)].as_slice()
-        );
-        assert_eq!(rt; operator.cost.get(), 7);
-    }
-    Ok(())
+    let row = TaskRow {
+        metric: true,
+        variables: 3,
+        initial: &[0, 1, 0],
+        goal: &[fact(2, 1), fact(0, 1)],
+        operators: &[OperatorRow {
+            name: "Go  A;(b",
+            precondition: &[fact(2, 0), fact(1, 1)],
+            effect: &[fact(1, 0), fact(0, 1)],
+            cost: 7,
+        }],
+    };
+    assert!(rt; spells(rt.alloc(), text, &row));
 }
 
 #[test]
@@ -115,14 +194,12 @@ fn reads_other_spellings(rt: HostRuntime) -> Result<(), Fail> {
     ];
     for (line, texts) in rows {
         for text in texts {
-            assert!(rt;
-                edited(rt.alloc(), line, text).is_ok(),
-                "line {line}: {text}"
-            );
+            let fault = edited_fault(rt.alloc(), line, text)?;
+            assert_eq!(rt; fault, None, "line {line}: {text}");
         }
     }
     let crlf = WALK.replace(rt.alloc(), "\n", "\r\n")?;
-    assert!(rt; read_sas(rt.alloc(), crlf.as_bytes()).is_ok());
+    assert_eq!(rt; fault_of(rt.alloc(), crlf.as_bytes()), None);
     Ok(())
 }
 
@@ -135,7 +212,7 @@ fn refuses_fronts(rt: HostRuntime) {
         let is_named = matches!(fault, Some(SasFault::Expected(_) | SasFault::Truncated));
         assert!(rt; is_named, "the first {len} bytes");
     }
-    assert!(rt; read_sas(rt.alloc(), &text[..text.len() - 1]).is_ok());
+    assert_eq!(rt; fault_of(rt.alloc(), &text[..text.len() - 1]), None);
 }
 
 /// Lines of another form than expected, with the line that the fault names.
@@ -237,10 +314,15 @@ fn names_other_faults(rt: HostRuntime) {
 }
 
 #[test]
-fn reads_a_task_without_variables(rt: HostRuntime) -> Result<(), Fail> {
+fn reads_a_task_without_variables(rt: HostRuntime) {
     let text = b"begin_version\n3\nend_version\nbegin_metric\n0\nend_metric\n0\n0\n\
 begin_state\nend_state\nbegin_goal\n0\nend_goal\n0\n0";
-    let task = read_sas(rt.alloc(), text)?;
-    assert_eq!(rt; (task.variable_count(), task.operator_count()), (0, 0));
-    Ok(())
+    let row = TaskRow {
+        metric: false,
+        variables: 0,
+        initial: &[],
+        goal: &[],
+        operators: &[],
+    };
+    assert!(rt; spells(rt.alloc(), text, &row));
 }

@@ -9,20 +9,9 @@ ghost use Rattle.translate_theory.specs.Translations.{value_names_of};
 ghost use Rattle.translate_theory.specs.Variables.{variable_at, variables_at};
 
 use ground_atoms::Atoms;
-use pddl_names::Names;
 use pddl_task::{GroundAction, GroundAtom, Vocabulary};
 use std::alloc::{AllocError, Global};
 use translate_theory::ListedVariable;
-
-/// The name with this number, or the empty text if there is none.
-fn name_of(names: &Names, number: usize) -> &str
-    ensures { result.now ≡ slice_index_or names.now number [] }
-{
-    match names.name(number) {
-        Some(name) => name,
-        None => "",
-    }
-}
 
 /// Appends the name of each object to the text, after `before`.
 fn push_each(
@@ -36,7 +25,7 @@ fn push_each(
 {
     for object in objects {
         text.push_str(before)?;
-        text.push_str(name_of(&vocabulary.objects, *object))?;
+        text.push_str(vocabulary.objects.name_or_empty(*object))?;
     }
     Ok(())
 }
@@ -51,7 +40,7 @@ fn push_objects(
         string_bytes text.old ++ joined (codes ", ") (map (object_name vocabulary.now) objects.now)) }
 {
     if let Some((first, others)) = objects.split_first() {
-        text.push_str(name_of(&vocabulary.objects, *first))?;
+        text.push_str(vocabulary.objects.name_or_empty(*first))?;
         push_each(text, vocabulary, ", ", others)?;
     }
     Ok(())
@@ -65,7 +54,7 @@ fn push_atom(
 ) -> Result<(), AllocError>
     ensures { OnOk result (string_bytes text.new ≡ string_bytes text.old ++ atom_text vocabulary.now atom.now) }
 {
-    text.push_str(name_of(&vocabulary.predicates, atom.predicate))?;
+    text.push_str(vocabulary.predicates.name_or_empty(atom.predicate))?;
     text.push_str("(")?;
     push_objects(text, vocabulary, &atom.objects)?;
     text.push_str(")")?;
@@ -171,7 +160,7 @@ pub fn action_name(
 ) -> Result<String, AllocError>
     ensures { IfOk result (λ text. string_bytes text ≡ action_name vocabulary.now action.now) }
 {
-    let mut text = String::from_str(alloc, name_of(&vocabulary.schemas, action.schema))?;
+    let mut text = String::from_str(alloc, vocabulary.schemas.name_or_empty(action.schema))?;
     push_each(&mut text, vocabulary, " ", &action.objects)?;
     Ok(text)
 }

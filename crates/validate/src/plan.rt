@@ -7,7 +7,6 @@ ghost use Rattle.validate.specs.PlanTexts.{max_steps};
 use sexp::SexpFault;
 use std::alloc::{AllocError, AllocFailed};
 use std::marker::Model;
-use thiserror::Error;
 
 /// A step of a plan: the name of an action schema, and the names of the objects for its parameters. Names that are read
 /// from a text are in lower case.
@@ -46,18 +45,14 @@ impl Model for Plan {
 }
 
 /// Why a text is not a plan.
-#[derive(Clone, Copy, Debug, PartialEq, Eq, Error)]
+#[derive(Clone, Copy, Debug, PartialEq, Eq)]
 pub enum PlanFault {
-    #[error("out of memory")]
     OutOfMemory,
     /// The text is not a list of expressions (F1 to F5).
-    #[error("{0}")]
     Tree(SexpFault),
     /// F25: a word outside a list, an empty list, or a list inside one. The place is a byte, counted from 0.
-    #[error("at byte {0} stands something else than a list of words")]
     PlanShape(usize),
     /// F26: more than 1,048,576 steps.
-    #[error("the plan has too many steps")]
     PlanLimit,
 }
 

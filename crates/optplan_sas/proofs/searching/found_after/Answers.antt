@@ -1,17 +1,22 @@
-use Rattle.std.proofs.Common.{◌∙◌}
+use Rattle.std.proofs.Common.{subst}
+use Rattle.std.specs.Prelude.{IfOk, IfErr}
+use Rattle.fdr.specs.Tasks.{FiniteDomainTask}
 use Rattle.cert_value.specs.Views.{kind_of}
-use Rattle.optplan_sas.proofs.WorldEnds.{found_after_steps}
+use Rattle.optplan_sas.specs.Findings.{IsFinding}
+use Rattle.optplan_sas.specs.Searches.{IsSettledAfter, IsShortAfter, IsRefusedAfter}
 use Rattle.optplan_sas.proofs.searching.found_after.Goals as goal
 
-pub returns-in-Ok-clause-found : goal.returns-in-Ok-clause-found
-returns-in-Ok-clause-found c =
-    found_after_steps c.args.options.now c.args.task.now (kind_of c.args.kind) c.in_ok-space.space
-    (record { task_is = c.in_ok-space.ensures.task; limit_is = c.in_ok-space.ensures.limit })
-    c.args.steps.now c.in-Ok.world c.joined.result c.in_ok-found_by-in-Ok.field-0 c.in-Ok.ensures.space
-    (record {
-      after = rw (← c.workers.ensures.value) c.in-Ok.ensures.run;
-      space_is = c.in-Ok.ensures.space;
-      owners = c.in-Ok.ensures.owners ∙ c.workers.ensures.value;
-    })
-    (record { space = c.joined.ensures.space; owners = c.joined.ensures.owners; left = c.joined.ensures.left })
-    c.in_ok-found_by-in-Ok.ensures
+pub returns-clause-found : goal.returns-clause-found
+returns-clause-found c =
+    let steps = c.args.steps.now in
+    let options = c.args.options.now in
+    subst
+    (λ (t : FiniteDomainTask). IfOk c.after_steps_in_smallest_form.result
+    (IsFinding t (kind_of c.args.kind) (IsSettledAfter options steps t) (IsShortAfter options steps t)))
+    c.in_ok-space.ensures.task_is c.after_steps_in_smallest_form.ensures.found
+
+pub returns-clause-refused : goal.returns-clause-refused
+returns-clause-refused c =
+    subst
+    (λ (t : FiniteDomainTask). IfErr c.after_steps_in_smallest_form.result (IsRefusedAfter c.args.options.now c.args.steps.now t))
+    c.in_ok-space.ensures.task_is c.after_steps_in_smallest_form.ensures.refused

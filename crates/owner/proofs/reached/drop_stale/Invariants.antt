@@ -4,11 +4,11 @@ use Rattle.owner.specs.Queues.{AreQueued}
 use Rattle.owner.proofs.reached.drop_stale.Given as goal
 
 abbrev pub invariant-loop-entry : goal.invariant-loop-entry
-invariant-loop-entry l =
+invariant-loop-entry g l =
     record {
-      below : All (λ e. e.index < length l.table.nodes) l.heap.entries;
-      queued : (h : List ℕ → Distance) → AreQueued h l.table.nodes l.fn.heap.entries → AreQueued h l.table.nodes l.heap.entries;
+      below : All (λ e. e.index < length l.table.nodes) (g.L.OpenList.entries l.list);
+      queued : (h : List ℕ → Distance) → AreQueued h l.table.nodes (g.L.OpenList.entries l.fn.list) → AreQueued h l.table.nodes (g.L.OpenList.entries l.list);
     }
 
 abbrev pub decreases-loop-entry : goal.decreases-loop-entry
-decreases-loop-entry l = length l.heap.entries
+decreases-loop-entry g l = length (g.L.OpenList.entries l.list)

@@ -10,7 +10,7 @@ invariant_of-result g c =
     let flags : c.in_ok-vec-2.field-0.items ≡ replicate c.args.owners false = c.in_ok-vec-2.ensures.items_if_clones_equal (λ y e. e) in
     rw (c.in_ok-empty_queues.ensures, seen, c.inf-2.ensures, flags)
     (start_kept g.S.Spread.owner c.args.space.now c.in_ok-first_owners.field-0.items c.args.owners c.in_ok-first_owners.ensures.len
-    c.in_ok-first_owners.ensures.each (λ state. g.met.S.Spread.is_below c.args.space.now.spread state c.args.owners c.requires) c.requires)
+    c.in_ok-first_owners.ensures.each (λ state. g.met.S.Spread.is_below c.args.space.now.spread state c.args.owners c.requires.owners) c.requires.owners)
 
 pub returns-clause-started : goal.returns-clause-started
 returns-clause-started g c =
@@ -19,4 +19,4 @@ returns-clause-started g c =
     let flags : c.in_ok-vec-2.field-0.items ≡ replicate c.args.owners false = c.in_ok-vec-2.ensures.items_if_clones_equal (λ y e. e) in
     rw (c.in_ok-empty_queues.ensures, seen, c.inf-2.ensures, flags)
     (start_shown g.S.Spread.owner c.args.space.now c.in_ok-first_owners.field-0.items c.args.owners c.in_ok-first_owners.ensures.len
-    c.in_ok-first_owners.ensures.each (λ state. g.met.S.Spread.is_below c.args.space.now.spread state c.args.owners c.requires))
+    c.in_ok-first_owners.ensures.each (λ state. g.met.S.Spread.is_below c.args.space.now.spread state c.args.owners c.requires.owners))

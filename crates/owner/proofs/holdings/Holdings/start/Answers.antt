@@ -12,21 +12,21 @@ invariant_of-result-2 g c =
     subst P (sym c.reached-2.view_is)
     (elim c.if-owner_of-worker.branch [
       | then-owner_of-worker+in_ok-reach+then-is_goal w ↦ subst P (sym w.reached-is)
-          (start_kept g.S.Spread.owner c.args.space.now w.reach.new.self c.args.worker c.args.owners c.in_ok-empty.field-0 c.if-owner_of-worker.best c.requires c.in_ok-empty.ensures
+          (start_kept g.S.Spread.owner c.args.space.now w.reach.new.self c.args.worker c.args.owners c.in_ok-empty.field-0 c.if-owner_of-worker.best c.requires.worker c.in_ok-empty.ensures
           (w.in_ok-reach.ensures.space ∙ ap (λ (r : ReachedOf g.row.S.Denot). r.space) c.in_ok-reached.ensures)
           (first_kept g.S.Spread.owner c.args.space.now c.args.worker c.args.owners w.initial-then-owner_of-worker.result.now c.in_ok-reached.reached w.reach.new.self c.in_ok-reached.ensures w.in_ok-reach.ensures.nodes
           (subst (λ (t : FiniteDomainTask). IsState (ranges t) w.initial-then-owner_of-worker.result.now) c.task-task.ensures w.initial-then-owner_of-worker.ensures.state)
           (ap (λ st. g.S.Spread.owner c.args.space.now.spread st c.args.owners) (w.initial-then-owner_of-worker.ensures.value ∙ sym c.initial.ensures.value)
           ∙ sym c.owner_of.ensures.value ∙ w.if-owner_of-worker.true)))
       | then-owner_of-worker+in_ok-reach+else-is_goal w ↦ subst P (sym w.reached-is)
-          (start_kept g.S.Spread.owner c.args.space.now w.reach.new.self c.args.worker c.args.owners c.in_ok-empty.field-0 c.if-owner_of-worker.best c.requires c.in_ok-empty.ensures
+          (start_kept g.S.Spread.owner c.args.space.now w.reach.new.self c.args.worker c.args.owners c.in_ok-empty.field-0 c.if-owner_of-worker.best c.requires.worker c.in_ok-empty.ensures
           (w.in_ok-reach.ensures.space ∙ ap (λ (r : ReachedOf g.row.S.Denot). r.space) c.in_ok-reached.ensures)
           (first_kept g.S.Spread.owner c.args.space.now c.args.worker c.args.owners w.initial-then-owner_of-worker.result.now c.in_ok-reached.reached w.reach.new.self c.in_ok-reached.ensures w.in_ok-reach.ensures.nodes
           (subst (λ (t : FiniteDomainTask). IsState (ranges t) w.initial-then-owner_of-worker.result.now) c.task-task.ensures w.initial-then-owner_of-worker.ensures.state)
           (ap (λ st. g.S.Spread.owner c.args.space.now.spread st c.args.owners) (w.initial-then-owner_of-worker.ensures.value ∙ sym c.initial.ensures.value)
           ∙ sym c.owner_of.ensures.value ∙ w.if-owner_of-worker.true)))
       | else-owner_of-worker w ↦ subst P (sym w.reached-is)
-          (start_kept g.S.Spread.owner c.args.space.now c.in_ok-reached.reached c.args.worker c.args.owners c.in_ok-empty.field-0 c.if-owner_of-worker.best c.requires c.in_ok-empty.ensures
+          (start_kept g.S.Spread.owner c.args.space.now c.in_ok-reached.reached c.args.worker c.args.owners c.in_ok-empty.field-0 c.if-owner_of-worker.best c.requires.worker c.in_ok-empty.ensures
           (ap (λ (r : ReachedOf g.row.S.Denot). r.space) c.in_ok-reached.ensures)
           (none_kept g.S.Spread.owner c.args.space.now c.args.worker c.args.owners c.in_ok-reached.reached c.in_ok-reached.ensures))
     ])

@@ -1,6 +1,5 @@
 use Rattle.std.proofs.Common.{sym, ap, ◌∙◌, subst, cond}
 use Rattle.cost.specs.Distances.{Finite, lesser}
-use Rattle.cost.proofs.DistanceLaws.{ord_min-is_lesser}
 use Rattle.fdr.specs.Tasks.{FiniteDomainTask, is_goal_state}
 use Rattle.owner_theory.specs.Owners.{took}
 use Rattle.owner.specs.Spaces.{SpaceOf}
@@ -9,24 +8,16 @@ use Rattle.owner.specs.Queues.{message_at}
 use Rattle.owner.proofs.Owning.{taken_kept, taken_is}
 use Rattle.owner.proofs.holdings.Holdings.take.Goals as goal
 
-pub invariant_of-self-then-is_goal : goal.invariant_of-self-then-is_goal
-invariant_of-self-then-is_goal g c =
-    taken_kept g.S.Spread.owner _ c.reach.new.self.space c.reach.new.self.nodes c.min-self-inside.result c.args.state.now c.args.rank c.args.parent
+pub invariant_of-self-2 : goal.invariant_of-self-2
+invariant_of-self-2 g c =
+    taken_kept g.S.Spread.owner _ c.reach.new.self.space c.reach.new.self.nodes c.best_with-self-inside.result c.args.state.now c.args.rank c.args.parent
     c.self.invariant
     (subst (λ (o : OwnerOf g.row.S.Denot). IsMessageTo (space_of g.S.Spread.owner o) o.worker (message_at c.args.state.now c.args.rank c.args.parent))
     (sym c.self.view_is) c.requires)
     c.in_ok-reach.ensures.space c.in_ok-reach.ensures.nodes
 
-pub invariant_of-self-else-is_goal : goal.invariant_of-self-else-is_goal
-invariant_of-self-else-is_goal g c =
-    taken_kept g.S.Spread.owner _ c.reach.new.self.space c.reach.new.self.nodes c.self.inside.best c.args.state.now c.args.rank c.args.parent
-    c.self.invariant
-    (subst (λ (o : OwnerOf g.row.S.Denot). IsMessageTo (space_of g.S.Spread.owner o) o.worker (message_at c.args.state.now c.args.rank c.args.parent))
-    (sym c.self.view_is) c.requires)
-    c.in_ok-reach.ensures.space c.in_ok-reach.ensures.nodes
-
-pub returns-then-is_goal-clause-taken : goal.returns-then-is_goal-clause-taken
-returns-then-is_goal-clause-taken g c = λ bound.
+pub returns-clause-taken : goal.returns-clause-taken
+returns-clause-taken g c = λ bound.
     let o : OwnerOf g.row.S.Denot = record {
       space = c.self.inside.reached.space;
       worker = c.self.inside.worker;
@@ -36,27 +27,9 @@ returns-then-is_goal-clause-taken g c = λ bound.
       expansions = c.self.inside.expansions;
     } in
     let task = c.task.ensures ∙ ap (λ (s : SpaceOf g.row.S.Denot). s.task) (c.space.ensures ∙ c.in_ok-reach.ensures.space) in
-    let is_goal = c.if-is_goal.ensures ∙ ap (λ (t : FiniteDomainTask). is_goal_state t c.args.state.now) task in
-    let best = c.min-self-inside.ensures ∙ (ord_min-is_lesser o.best c.finite.result ∙ (ap (lesser o.best) c.finite.ensures
-    ∙ ap (λ b. cond b (lesser o.best (Finite c.args.rank.cost)) o.best) is_goal)) in
-    taken_is g.S.Spread.owner o c.reach.new.self.space c.reach.new.self.nodes c.min-self-inside.result bound c.args.state.now c.args.rank
+    let best = c.best_with-self-inside.ensures
+    ∙ ap (λ (t : FiniteDomainTask). cond (is_goal_state t c.args.state.now) (lesser o.best (Finite c.args.rank.cost)) o.best) task in
+    taken_is g.S.Spread.owner o c.reach.new.self.space c.reach.new.self.nodes c.best_with-self-inside.result bound c.args.state.now c.args.rank
     c.args.parent c.in_ok-reach.ensures.nodes best
-    ∙ ap (λ (x : OwnerOf g.row.S.Denot). took (space_of g.S.Spread.owner x) (under x bound) (message_at c.args.state.now c.args.rank c.args.parent))
-    c.self.view_is
-
-pub returns-else-is_goal-clause-taken : goal.returns-else-is_goal-clause-taken
-returns-else-is_goal-clause-taken g c = λ bound.
-    let o : OwnerOf g.row.S.Denot = record {
-      space = c.self.inside.reached.space;
-      worker = c.self.inside.worker;
-      nodes = c.self.inside.reached.nodes;
-      outboxes = c.self.inside.outboxes;
-      best = c.self.inside.best;
-      expansions = c.self.inside.expansions;
-    } in
-    let task = c.task.ensures ∙ ap (λ (s : SpaceOf g.row.S.Denot). s.task) (c.space.ensures ∙ c.in_ok-reach.ensures.space) in
-    let is_goal = c.if-is_goal.ensures ∙ ap (λ (t : FiniteDomainTask). is_goal_state t c.args.state.now) task in
-    taken_is g.S.Spread.owner o c.reach.new.self.space c.reach.new.self.nodes c.self.inside.best bound c.args.state.now c.args.rank
-    c.args.parent c.in_ok-reach.ensures.nodes (ap (λ b. cond b (lesser o.best (Finite c.args.rank.cost)) o.best) is_goal)
     ∙ ap (λ (x : OwnerOf g.row.S.Denot). took (space_of g.S.Spread.owner x) (under x bound) (message_at c.args.state.now c.args.rank c.args.parent))
     c.self.view_is

@@ -1,0 +1,15 @@
+use Rattle.std.proofs.Common.{◌≡◌, ◌≤◌, ◌++◌, length, take, drop, map, fold}
+use Rattle.closed.specs.Tables.{reached, outcomes_of, arrival}
+use Rattle.closed.specs.Entries.{taken_back}
+use Rattle.closed.proofs.table.ClosedTable.reach_all.Given as goal
+
+abbrev pub invariant-loop-message : goal.invariant-loop-message
+invariant-loop-message g l = record {
+  nodes : fold reached l.self.nodes (map arrival (drop l.message-index l.messages))
+      ≡ fold reached l.initial.self.nodes (map arrival l.messages);
+  outcomes : l.outcomes.items ++ outcomes_of l.self.nodes (map arrival (drop l.message-index l.messages))
+      ≡ outcomes_of l.initial.self.nodes (map arrival l.messages);
+  ranges : l.self.ranges ≡ l.initial.self.ranges;
+  no_fewer : length l.initial.self.nodes ≤ length l.self.nodes;
+  taken_back : taken_back l.replaced.items (take (length l.initial.self.nodes) l.self.nodes) ≡ l.initial.self.nodes;
+}

@@ -1,0 +1,13 @@
+use Rattle.std.proofs.Common.{subst}
+use Rattle.std.specs.Prelude.{All}
+use Rattle.fdr.specs.Tasks.{IsState}
+use Rattle.closed.specs.Tables.{Table}
+use Rattle.closed.proofs.Entries.{All-states}
+use Rattle.closed.proofs.table.ClosedTable.recall.Goals as goal
+
+pub returns : goal.returns
+returns g c =
+    let ranges = c.self.inside.layout in
+    subst (λ (t : Table). All (λ n. IsState t.ranges n.state) t.nodes) c.self.view_is
+    (All-states (g.F.StateForm.values ranges) (g.F.StateForm.IsForm ranges) (IsState ranges) (g.met.F.StateForm.state ranges)
+    c.self.inside.entries.entries c.self.invariant.keys)

@@ -1,0 +1,14 @@
+use Rattle.std.proofs.Common.{List, take, sym, ap, ◌∙◌}
+use Rattle.std.proofs.lemmas.List.{take-map}
+use Rattle.closed.specs.declared.small_entry.SmallEntry.{SmallEntry}
+use Rattle.closed.specs.Tables.{Table, node_with}
+use Rattle.closed.specs.Entries.{entry_in, nodes_of}
+use Rattle.closed.proofs.table.ClosedTable.truncate.Goals as goal
+
+pub returns-clause-nodes : goal.returns-clause-nodes
+returns-clause-nodes g c =
+    let values = g.F.StateForm.values c.self.inside.layout in
+    ap (λ (es : List (g.row.F.Denot × SmallEntry)). nodes_of values es) c.truncate.ensures.entries
+    ∙ sym
+    (take-map (λ (p : g.row.F.Denot × SmallEntry). node_with (values p.0) (entry_in p.1)) c.args.len c.self.inside.entries.entries)
+    ∙ ap (λ (t : Table). take c.args.len t.nodes) c.self.view_is

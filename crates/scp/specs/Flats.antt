@@ -1,0 +1,17 @@
+-- The tables of columns as blocks of rows.
+use Rattle.std.specs.Prelude.{ℕ, List, Vec}
+use Rattle.std.specs.Global.{Global}
+use Rattle.scp.specs.declared.flat.Flat.{Flat}
+use Rattle.scp.specs.declared.flat.Flat.TheVariants.{Short, Middle, Long}
+use Rattle.scp.specs.Rows.{PatternRows}
+
+-- the greatest word
+abbrev pub most_in : Flat → ℕ
+most_in (Short blocks) = 65535
+most_in (Middle blocks) = 4294967295
+most_in (Long blocks) = 9223372036854775809
+
+abbrev pub blocks_in : Flat → List (Vec PatternRows Global)
+blocks_in (Short blocks) = blocks.items
+blocks_in (Middle blocks) = blocks.items
+blocks_in (Long blocks) = blocks.items

@@ -1,0 +1,159 @@
+//! Blocks: the tables of at most eight columns, whose values lie side by side.
+
+ghost use Rattle.std.specs.Prelude.{◌≡◌, ℕ, List, ◌<◌, ◌≤◌, length, map, slice_get, All, IfOk, OnOk, IfSome, IsSomeAnd};
+ghost use Rattle.cost.specs.Distances.{greatest};
+ghost use Rattle.fdr.specs.Tasks.{ranges, IsState};
+ghost use Rattle.abstraction.specs.Abstractions.{value_at};
+ghost use Rattle.abstraction.specs.Columns.{column_value};
+ghost use Rattle.scp.specs.ColumnTables.{on_projection};
+ghost use Rattle.scp.specs.Rows.{lane_sum, Gains, AreOf, IsBlockOf, HasWord, value_of, blocks_value};
+
+use crate::column::projection_to;
+use crate::pattern_rows::{PatternRows, sums};
+use crate::row::Row;
+use crate::table::ColumnTable;
+use abstraction::Projection;
+use cost::Dist;
+use fdr::FdrTask;
+use std::alloc::{AllocError, Global};
+
+/// The place of the rows of a pattern, if there are any.
+fn place_of<R: Row>(patterns: &[PatternRows<'_, R>], pattern: &[usize]) -> Option<usize>
+    ensures { IfSome result (λ k. IsSomeAnd (slice_get patterns.now k) (λ p. p.pattern ≡ pattern.now)) }
+{
+    for place in 0..patterns.len() {
+        if patterns[place].pattern() == pattern {
+            return Some(place);
+        }
+    }
+    None
+}
+
+/// Appends rows of zeros for a projection, and returns their place.
+fn push_pattern<'a, R: Row>(
+    alloc: Global,
+    task: &'a FdrTask,
+    patterns: &mut Vec<PatternRows<'a, R>>,
+    projection: &Projection<'_>,
+) -> Result<usize, AllocError>
+    requires task { projection.now.task ≡ task.now }
+    requires of_task { AreOf task.now patterns.old.items }
+    ensures of_task { OnOk result (AreOf task.now patterns.new.items) }
+    ensures place { IfOk result (λ k. IsSomeAnd (slice_get patterns.new.items k) (λ p. p.pattern ≡ projection.now.pattern)) }
+    ensures sums { OnOk result ((state : List ℕ) (lane : ℕ) →
+        lane_sum state lane patterns.new.items ≡ lane_sum state lane patterns.old.items) }
+{
+    let place = patterns.len();
+    let projection = projection_to(alloc, task, projection.pattern())?;
+    patterns.push(PatternRows::new(alloc, projection)?)?;
+    Ok(place)
+}
+
+/// The place of the rows of a projection's pattern. Where there are none, rows of zeros are appended.
+fn rows_of<'a, R: Row>(
+    alloc: Global,
+    task: &'a FdrTask,
+    patterns: &mut Vec<PatternRows<'a, R>>,
+    projection: &Projection<'_>,
+) -> Result<usize, AllocError>
+    requires task { projection.now.task ≡ task.now }
+    requires of_task { AreOf task.now patterns.old.items }
+    ensures of_task { OnOk result (AreOf task.now patterns.new.items) }
+    ensures place { IfOk result (λ k. IsSomeAnd (slice_get patterns.new.items k) (λ p. p.pattern ≡ projection.now.pattern)) }
+    ensures sums { OnOk result ((state : List ℕ) (lane : ℕ) →
+        lane_sum state lane patterns.new.items ≡ lane_sum state lane patterns.old.items) }
+{
+    match place_of(patterns, projection.pattern()) {
+        Some(place) => Ok(place),
+        None => push_pattern(alloc, task, patterns, projection),
+    }
+}
+
+/// Adds the values of a table in one lane.
+fn add_table<'a, R: Row>(
+    alloc: Global,
+    task: &'a FdrTask,
+    patterns: &mut Vec<PatternRows<'a, R>>,
+    lane: usize,
+    table: &ColumnTable<'_>,
+) -> Result<(), AllocError>
+    requires lane { lane < 8 }
+    requires task { table.now.task ≡ task.now }
+    requires of_task { AreOf task.now patterns.old.items }
+    ensures { OnOk result (Gains task.now R.most lane (λ state. value_at state (on_projection table.now)) patterns.old.items patterns.new.items) }
+{
+    let projection = table.projection();
+    let place = rows_of(alloc, task, patterns, projection)?;
+    patterns[place].add_table(lane, &table.table().values);
+    Ok(())
+}
+
+/// Adds the values of the tables of a column in one lane.
+fn add_column<'a, R: Row>(
+    alloc: Global,
+    task: &'a FdrTask,
+    patterns: &mut Vec<PatternRows<'a, R>>,
+    lane: usize,
+    column: &[ColumnTable<'_>],
+) -> Result<(), AllocError>
+    requires lane { lane < 8 }
+    requires task { All (λ t. t.task ≡ task.now) column.now }
+    requires of_task { AreOf task.now patterns.old.items }
+    ensures { OnOk result (Gains task.now R.most lane (λ state. column_value state (map on_projection column.now)) patterns.old.items patterns.new.items) }
+{
+    for table in column {
+        add_table(alloc, task, patterns, lane, table)?;
+    }
+    Ok(())
+}
+
+/// The block of at most eight columns.
+fn make_block<'a, R: Row>(
+    alloc: Global,
+    task: &'a FdrTask,
+    columns: &[Vec<ColumnTable<'_>>],
+) -> Result<Vec<PatternRows<'a, R>>, AllocError>
+    requires few { length columns.now ≤ 8 }
+    requires task { All (λ column. All (λ t. t.task ≡ task.now) column.items) columns.now }
+    ensures { IfOk result (λ patterns. IsBlockOf task.now R.most columns.now patterns.items) }
+{
+    let mut patterns = Vec::new(alloc);
+    for lane in 0..columns.len() {
+        add_column(alloc, task, &mut patterns, lane, &columns[lane])?;
+    }
+    Ok(patterns)
+}
+
+/// The blocks of columns. Fails only if allocation fails.
+pub(crate) fn make_blocks<'a, R: Row>(
+    alloc: Global,
+    task: &'a FdrTask,
+    columns: &[Vec<ColumnTable<'_>>],
+) -> Result<Vec<Vec<PatternRows<'a, R>>>, AllocError>
+    requires { All (λ column. All (λ t. t.task ≡ task.now) column.items) columns.now }
+    ensures of_task { IfOk result (λ blocks. All (λ b. AreOf task.now b.items) blocks.items) }
+    ensures value { 0 < R.most → IfOk result (λ blocks. (state : List ℕ) → IsState (ranges task.now) state →
+        All (λ column. HasWord R.most (value_of state column)) columns.now →
+        blocks_value R.most state blocks.items ≡ greatest (map (value_of state) columns.now)) }
+{
+    let mut blocks = Vec::new(alloc);
+    let mut first = 0;
+    while first < columns.len() {
+        let end = columns.len().min(first + 8);
+        blocks.push(make_block(alloc, task, &columns[first..end])?)?;
+        first = end;
+    }
+    Ok(blocks)
+}
+
+/// The greatest value of blocks at a state.
+pub(crate) fn greatest_value<R: Row>(blocks: &[Vec<PatternRows<'_, R>>], state: &[u32]) -> Dist
+    requires { All (λ b. All (λ p. IsState (ranges p.task) state.now) b.items) blocks.now }
+    ensures { result ≡ blocks_value R.most state.now blocks.now }
+{
+    let mut greatest = Dist::ZERO;
+    for block in blocks {
+        greatest = greatest.max(sums(block, state).greatest());
+    }
+    greatest
+}

@@ -1,0 +1,117 @@
+//! Patterns with the values of the tables of several columns side by side.
+
+ghost use Rattle.std.specs.Prelude.{◌≡◌, ◌≢◌, ℕ, List, ◌+◌, ◌<◌, min, map, length, slice_index, slice_index_or, All, IfOk};
+ghost use Rattle.cost.specs.Distances.{Infinite};
+ghost use Rattle.fdr.specs.Tasks.{ranges, IsState};
+ghost use Rattle.abstraction.specs.Projections.{size_of, index_of};
+ghost use Rattle.scp.specs.Rows.{word_of, word_in, word_at, lane_sum, added};
+
+use crate::row::Row;
+use abstraction::{Abstraction, Projection};
+use cert_value::Values;
+use std::alloc::{AllocError, Global};
+use std::marker::Model;
+
+/// Rows of zeros.
+fn zero_rows<R: Row>(alloc: Global, count: usize) -> Result<Vec<R>, AllocError>
+    ensures len { IfOk result (λ rows. length rows.items ≡ count) }
+    ensures zero { IfOk result (λ rows. (i lane : ℕ) → word_in (map R.words rows.items) i lane ≡ 0) }
+{
+    let mut rows = Vec::with_capacity(alloc, count)?;
+    for index in 0..count {
+        let _ = index;
+        rows.push(R::zero())?;
+    }
+    Ok(rows)
+}
+
+/// Adds the words of the values to the rows in one lane.
+fn add_values<R: Row>(rows: &mut [R], lane: usize, values: &Values)
+    requires lane { lane < 8 }
+    requires len { length values.now ≡ length rows.old }
+    ensures len { length rows.new ≡ length rows.old }
+    ensures lane { (i : ℕ) → i < length rows.old → word_in (map R.words rows.new) i lane
+        ≡ min (word_in (map R.words rows.old) i lane + word_of R.most (slice_index_or values.now i Infinite)) R.most }
+    ensures others { (i other : ℕ) → other ≢ lane →
+        word_in (map R.words rows.new) i other ≡ word_in (map R.words rows.old) i other }
+{
+    for index in 0..rows.len() {
+        rows[index].add_value(lane, values.get(index));
+    }
+}
+
+/// A projection with a row for each abstract state.
+#[derive(Drop)]
+pub(crate) struct PatternRows<'a, R: Row> {
+    projection: Projection<'a>,
+    rows: Vec<R>,
+}
+
+impl<'a, R: Row> Model for PatternRows<'a, R> {
+    ghost use Rattle.std.specs.Prelude.{◌≡◌, map, length};
+    ghost use Rattle.fdr.specs.Tasks.{ranges};
+    ghost use Rattle.abstraction.specs.Projections.{size_of};
+    ghost use Rattle.scp.specs.Rows as spec;
+
+    ghost Value = { spec.PatternRows };
+
+    ghost view = { λ p. record { task = p.projection.task; pattern = p.projection.pattern; rows = map R.words p.rows.items } };
+
+    ghost invariant = { λ p. length p.rows.items ≡ size_of (ranges p.projection.task) p.projection.pattern };
+}
+
+impl<'a, R: Row> PatternRows<'a, R> {
+    /// A row of zeros for each abstract state of the projection. Fails only if allocation fails.
+    pub(crate) fn new(
+        alloc: Global,
+        projection: Projection<'a>,
+    ) -> Result<PatternRows<'a, R>, AllocError>
+        ensures task { IfOk result (λ p. p.task ≡ projection.entry.task) }
+        ensures pattern { IfOk result (λ p. p.pattern ≡ projection.entry.pattern) }
+        ensures zero { IfOk result (λ p. (state : List ℕ) (lane : ℕ) → word_at state lane p ≡ 0) }
+    {
+        let rows = zero_rows(alloc, projection.size())?;
+        Ok(PatternRows { projection, rows })
+    }
+
+    /// The pattern.
+    pub(crate) fn pattern(&self) -> &[usize]
+        ensures { result.now ≡ self.now.pattern }
+    {
+        self.projection.pattern()
+    }
+
+    /// Adds the values of a table in one lane.
+    pub(crate) fn add_table(&mut self, lane: usize, values: &Values)
+        requires lane { lane < 8 }
+        requires len { length values.now ≡ size_of (ranges self.old.task) self.old.pattern }
+        ensures task { self.new.task ≡ self.old.task }
+        ensures pattern { self.new.pattern ≡ self.old.pattern }
+        ensures words { (state : List ℕ) → IsState (ranges self.old.task) state → (other : ℕ) →
+            min (word_at state other self.new) R.most
+            ≡ min (word_at state other self.old + added R.most lane
+            (slice_index_or values.now (index_of (ranges self.old.task) self.old.pattern state) Infinite) other) R.most }
+    {
+        add_values(&mut self.rows, lane, values);
+    }
+
+    /// Adds the row of the state.
+    fn add_to(&self, state: &[u32], sums: &mut R)
+        requires { IsState (ranges self.now.task) state.now }
+        ensures { (lane : ℕ) → slice_index (R.words sums.new) lane ≡ min (slice_index (R.words sums.old) lane + word_at state.now lane self.now) R.most }
+    {
+        sums.add(&self.rows[self.projection.index(state)]);
+    }
+}
+
+/// The sums of the rows of a state, lane by lane. A sum that is too great is the greatest word.
+pub(crate) fn sums<R: Row>(patterns: &[PatternRows<'_, R>], state: &[u32]) -> R
+    requires { All (λ p. IsState (ranges p.task) state.now) patterns.now }
+    ensures { (lane : ℕ) → slice_index (R.words result) lane ≡ min (lane_sum state.now lane patterns.now) R.most }
+{
+    let mut sums = R::zero();
+    for pattern in patterns {
+        pattern.add_to(state, &mut sums);
+    }
+    sums
+}
