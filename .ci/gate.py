@@ -16,7 +16,7 @@ import tempfile
 import time
 
 from repository import Record, Repository
-from seconds import ProverSeconds
+from seconds import ProverSeconds, free_bytes
 
 TOP = os.path.dirname(os.path.dirname(os.path.abspath(__file__)))
 RECORD = f"{TOP}/.ci/refused.txt"
@@ -30,6 +30,7 @@ earlier runs kept there, and may be ended at any time."""
 SECONDS_OF_A_RUN = 9900
 SECONDS_WITHOUT_EDITS = 16600
 SECONDS_OF_AN_EDIT = 46
+GIB = 2**30
 REFUSED = re.compile(r"rt: must-fail (\w+)/(\S+): refused, as it must be(.*)")
 BY_NAME_ONLY = "only because a proof file names"
 
@@ -96,7 +97,7 @@ def try_crates(repository, record, tried):
     for name in repository.with_edits():
         if name not in tried:
             shutil.rmtree(f"{repository.folder(name)}/must-fail")
-    lines, started = [""], time.time()
+    lines, started, free = [""], time.time(), free_bytes()
 
     def tell(line):
         # The last line stays behind what is said here.
@@ -106,7 +107,8 @@ def try_crates(repository, record, tried):
     status, seconds = run_toolchain(repository.top, tell)
     refused, weak = sorted_edits(repository.top, lines)
     print("\n".join(seconds.table()))
-    say(f"{(time.time() - started) / 60:.1f} minutes on {len(os.sched_getaffinity(0))} processors")
+    say(f"{(time.time() - started) / 60:.1f} minutes on {len(os.sched_getaffinity(0))} processors; of {free / GIB:.1f} GiB of free disk "
+        f"never less than {seconds.least_free / GIB:.1f} were left")
     tell_weak(weak)
     record.add(repository, [it for it in tried if refused.issuperset(repository.edits(it))])
     # (the toolchain's count is the last line)

@@ -1,11 +1,18 @@
-"""The processor seconds of the prover's processes, by crate and by what they prove, read from /proc as long as they run."""
+"""What the prover's processes take: the processor seconds of each crate, by what they prove, read from /proc, and room on the disk."""
 
 import collections
 import os
+import shutil
+import tempfile
 import threading
 
 INTERVAL = 0.5
 KINDS = ("proof", "tests", "edits")
+
+
+def free_bytes():
+    """The room that is left on the disk of temporary folders."""
+    return shutil.disk_usage(tempfile.gettempdir()).free
 
 
 class ProverSeconds(threading.Thread):
@@ -20,11 +27,13 @@ class ProverSeconds(threading.Thread):
         self.on_crate = on_crate
         self.seen = {}
         self.crates = set()
+        self.least_free = free_bytes()
         self.ended = threading.Event()
         self.start()
 
     def run(self):
         while not self.ended.wait(INTERVAL):
+            self.least_free = min(self.least_free, free_bytes())
             for process in filter(str.isdigit, os.listdir("/proc") if os.path.isdir("/proc") else []):
                 try:
                     self.look(process)
