@@ -31,12 +31,21 @@ SECONDS_OF_A_RUN = 9900
 SECONDS_WITHOUT_EDITS = 16600
 SECONDS_OF_AN_EDIT = 46
 GIB = 2**30
+# The room that a run takes on the disk, at most.
+BYTES_OF_A_RUN = 16 * GIB
 REFUSED = re.compile(r"rt: must-fail (\w+)/(\S+): refused, as it must be(.*)")
 BY_NAME_ONLY = "only because a proof file names"
 
 
 def say(text):
     print(f"gate: {text}", flush=True)
+
+
+def take_room():
+    """Moves temporary folders, those of the toolchain too, beside the repository where only there is room enough for a run."""
+    beside = f"{TOP}/.git"
+    if free_bytes() < BYTES_OF_A_RUN and os.path.isdir(beside) and shutil.disk_usage(beside).free > 2 * free_bytes():
+        os.environ["TMPDIR"] = tempfile.tempdir = beside
 
 
 @contextlib.contextmanager
@@ -118,6 +127,7 @@ def try_crates(repository, record, tried):
 
 def gate(tries_all):
     record, started = Record(RECORD), time.time()
+    take_room()
     with last_commit() as copy:
         repository = Repository(copy)
         unfit = repository.unfit_edits()
