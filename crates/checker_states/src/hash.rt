@@ -11,6 +11,10 @@ const STEP: u64 = 11_400_714_819_323_198_485;
 /// 2^32, which separates the upper half of a hash from the lower half.
 const HALF: u64 = 4_294_967_296;
 
+/// How many homes lie side by side for states that differ in the last variables alone: two lines of the cache of most
+/// processors. With more of them, runs of taken slots grow longer.
+const NEAR_SLOTS: u64 = 16;
+
 /// A number whose bits look random (splitmix64: Steele, Lea and Flood 2014, Fast splittable pseudorandom number generators).
 fn scrambled(number: u64) -> u64 {
     let first = (number ^ (number >> 30)).wrapping_mul(13_787_848_793_156_543_929);
@@ -18,14 +22,45 @@ fn scrambled(number: u64) -> u64 {
     second ^ (second >> 31)
 }
 
-/// An odd multiplier for each variable. Which they are does not matter to an answer. Fails only if allocation fails.
-pub(crate) fn multipliers(alloc: Global, count: usize) -> Result<Vec<u64>, AllocError> {
-    let mut multipliers = Vec::with_capacity(alloc, count)?;
+/// The multiplier of a variable whose value moves the home by `stride` slots, and the lower half of a hash at random.
+fn near_multiplier(stride: u64, slots: usize, random: u64) -> u64
+    requires { 0 < slots }
+{
+    let one_slot = HALF / slots as u64;
+    stride
+        .wrapping_mul(one_slot)
+        .wrapping_mul(HALF)
+        .wrapping_add(random % HALF)
+}
+
+/// A multiplier for each variable, by the greatest value of each. Which they are does not matter to an answer. Fails only if
+/// allocation fails.
+///
+/// A state's home is at random but for its last variables, as many as have at most `NEAR_SLOTS` combinations of values: these
+/// number adjacent homes. Closed states are in lexicographic order, so one differs from the next mostly in the last variables
+/// alone, and so do their successors under one operator: their slots lie side by side, and mostly in the cache.
+pub(crate) fn multipliers(
+    alloc: Global,
+    greatest: &[u32],
+    slots: usize,
+) -> Result<Vec<u64>, AllocError>
+    requires { 0 < slots }
+{
+    let mut multipliers = Vec::with_capacity(alloc, greatest.len())?;
     let mut number: u64 = 0;
-    for _ in 0..count {
+    let mut stride: u64 = 1;
+    for value in greatest.iter().rev() {
         number = number.wrapping_add(STEP);
-        multipliers.push(scrambled(number) | 1)?;
+        let random = scrambled(number);
+        let next = stride.saturating_mul(u64::from(*value) + 1);
+        if next <= NEAR_SLOTS {
+            multipliers.push(near_multiplier(stride, slots, random))?;
+        } else {
+            multipliers.push(random | 1)?;
+        }
+        stride = next;
     }
+    multipliers.reverse();
     Ok(multipliers)
 }
 

@@ -48,6 +48,28 @@ fn slot_count(places: usize) -> usize
     places.saturating_mul(2).clamp(1, u32::MAX as usize)
 }
 
+/// Raises each number to that of the state, if that is greater.
+fn raise(greatest: &mut [u32], state: &[u32])
+    requires { length greatest.old ≡ length state.now }
+    ensures { length greatest.new ≡ length greatest.old }
+{
+    for variable in 0..state.len() {
+        greatest[variable] = greatest[variable].max(state[variable]);
+    }
+}
+
+/// Raises the numbers to the greatest value of each variable. `state` is a buffer for the values of one state.
+fn raise_to_all(closed: &ClosedList, greatest: &mut [u32], state: &mut [u32])
+    requires buffer { All (λ e. length e.state ≡ length state.old) closed.now }
+    requires greatest { length greatest.old ≡ length state.old }
+    ensures { length state.new ≡ length state.old }
+{
+    for place in 0..closed.len() {
+        closed.copy_state(place, state);
+        raise(greatest, state);
+    }
+}
+
 /// Adds every state. `state` is a buffer for the values of one state.
 fn fill(closed: &ClosedList, multipliers: &[u64], slots: &mut [Slot], state: &mut [u32])
     requires none { IndexesTo 0 multipliers.now closed.now slots.old }
@@ -106,8 +128,10 @@ impl<'a> ClosedIndex<'a> {
             return Err(AllocError);
         }
         let mut state = closed.buffer(alloc)?;
-        let multipliers = multipliers(alloc, state.len())?;
+        let mut greatest = vec![in alloc; 0; state.len()]?;
+        raise_to_all(closed, &mut greatest, &mut state);
         let mut slots = vec![in alloc; Slot::EMPTY; slot_count(closed.len())]?;
+        let multipliers = multipliers(alloc, &greatest, slots.len())?;
         fill(closed, &multipliers, &mut slots, &mut state);
         Ok(ClosedIndex {
             closed,
