@@ -1,8 +1,8 @@
 //! The slots of an index.
 
-ghost use Rattle.std.specs.Prelude.{◌≡◌, ◌+◌, ◌<◌, ◌≤◌, ◌^◌, length};
+ghost use Rattle.std.specs.Prelude.{◌≡◌, ◌+◌, ◌<◌, ◌^◌, length};
 ghost use Rattle.checker_states.specs.Slots as spec;
-ghost use Rattle.checker_states.specs.Slots.{IsFirstEmpty, AddsSlot, empties, slot_after};
+ghost use Rattle.checker_states.specs.Slots.{IsFirstEmpty, AddsSlot, empties};
 
 use crate::hash::tag_of;
 
