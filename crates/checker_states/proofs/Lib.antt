@@ -1,5 +1,6 @@
-pub mod Walks
-pub mod Building
+pub mod Hashing
+pub mod Probing
+pub mod Indexing
 pub mod StateLaws
 pub mod FirstPlaces
 pub mod Saturation

@@ -4,7 +4,7 @@ use Rattle.std.proofs.Common.{◌≡◌, ◌⊎◌, ℕ, ◌+◌, ◌-◌, ◌^�
 use Rattle.std.specs.Prelude.{All, nat_eq, nat_le, option_map, slice_get}
 use Rattle.std.proofs.lemmas.Option.{slice_get-get_or}
 use Rattle.std.specs.Cmp.Lexicographic.{pointwise}
-use Rattle.std.proofs.lemmas.Bool.{le-leb, lt-leb, cases_lt}
+use Rattle.std.proofs.lemmas.Bool.{le-leb, leb-true, lt-leb, cases_lt}
 use Rattle.std.proofs.lemmas.List.Elements.{All-head, All-tail}
 use Rattle.cost.specs.Distances.{Distance, Finite, Infinite, is_at_most, ◌+ᵈ◌, IsWithin}
 use Rattle.fdr.specs.Tasks.{FiniteDomainTask}
@@ -34,11 +34,28 @@ bound_kept bound Infinite total within = refl
 bound_kept Infinite (Finite h) total within = refl
 bound_kept (Finite b) (Finite h) total within = same_test b (min total (2 ^ 64 - 1) + h) (total + h) (λ p. omega arith) (λ p. omega arith)
 
+-- a bound that a cost reaches is reached by a greater cost and what is still to be paid
+reaches_further : (bound h : Distance) (cost total : ℕ) → cost ≤ total → is_at_most bound (Finite cost) ≡ true → is_at_most bound (Finite total +ᵈ h) ≡ true
+reaches_further Infinite Infinite cost total l e = refl
+reaches_further (Finite b) Infinite cost total l e = refl
+reaches_further Infinite (Finite h) cost total l e = e
+reaches_further (Finite b) (Finite h) cost total l e = le-leb b (total + h) (omega (arith, leb-true b cost e, l))
+
+or_true : (b : Bool) → (b || true) ≡ true
+or_true true = refl
+or_true false = refl
+
 module _ (task : FiniteDomainTask) (c : CertificateValue) (state : List ℕ) (cost total : ℕ) (kept : cost ≡ min total (2 ^ 64 - 1))
     (costs : All (λ e. e.cost < 2 ^ 64) c.closed) (indexed : List Entry) (index : indexed ≡ c.closed)
   where
     listed_is : is_listed indexed state cost ≡ is_listed c.closed state total
     listed_is = rw (index, kept) (listed_kept c.closed state total costs)
+
+    -- a state whose cost reaches the bound is covered
+    pub covered_paid : is_at_most c.bound (Finite cost) ≡ true → is_covered task c state total ≡ true
+    covered_paid e =
+        ap (λ (b : Bool). is_listed c.closed state total || b) (reaches_further c.bound (heuristic_of task c.columns state) cost total (omega (arith, kept)) e)
+        ∙ or_true (is_listed c.closed state total)
 
     -- a state that is listed is covered
     pub covered_listed : is_listed indexed state cost ≡ true → is_covered task c state total ≡ true

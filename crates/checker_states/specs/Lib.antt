@@ -1,8 +1,6 @@
-pub mod Buckets
-pub mod Links
-pub mod Chains
+pub mod Hashes
+pub mod Slots
 pub mod Lists
-pub mod Rooms
 pub mod Indexes
 pub mod Places
 pub mod Coverings

@@ -8,6 +8,7 @@ ghost use Rattle.checker_clauses.specs.Clauses.{is_covered};
 ghost use Rattle.checker_clauses.specs.Violations.{IsMet, IsFoundIn};
 ghost use Rattle.checker_states.specs.Places.{passes_successor, IsFirstFailing};
 
+use crate::goals::reaches;
 use crate::index::ClosedIndex;
 use cert_value::{Certificate, ClosedList};
 use checker_clauses::Violation;
@@ -78,16 +79,18 @@ impl<'a> Coverage<'a> {
         })
     }
 
-    /// Whether a state that was reached at this cost is covered. The cost 2^64 - 1 also represents every greater cost.
+    /// Whether a state that was reached at this cost is covered. The cost 2^64 - 1 also represents every greater cost. A cost
+    /// that reaches the bound by itself spares the look-up.
     fn is_covered(&self, state: &[u32], cost: u64) -> bool
         requires { IsState (ranges self.now.task) state.now }
         ensures { (total : ℕ) → cost ≡ min total (2 ^ 64 - 1)
             → result ≡ is_covered self.now.task self.now.certificate state.now total }
     {
-        self.index.is_listed(state, cost)
-            || self
-                .heuristic
-                .reaches(state, cost, self.certificate.bound())
+        let bound = self.certificate.bound();
+        if reaches(bound, cost) {
+            return true;
+        }
+        self.index.is_listed(state, cost) || self.heuristic.reaches(state, cost, bound)
     }
 
     /// Returns the violation of the clause C6: the initial state is not covered at the cost 0. Returns `None` if it is.

@@ -13,7 +13,7 @@ use fdr::FdrTask;
 use std::alloc::{AllocError, Global};
 
 /// Whether a cost is at least the bound.
-fn reaches(bound: Dist, cost: u64) -> bool
+pub(crate) fn reaches(bound: Dist, cost: u64) -> bool
     ensures { result ≡ is_at_most bound (Finite cost) }
 {
     match bound.get() {

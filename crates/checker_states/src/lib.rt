@@ -2,12 +2,11 @@
 //! the values of its states.
 #![tactic(auto)]
 
-mod chains;
 mod coverage;
 mod goals;
 mod hash;
 mod index;
-mod links;
+mod slots;
 mod states;
 
 pub use coverage::Coverage;

@@ -1,6 +1,7 @@
-use Rattle.std.proofs.Common.{◌≡◌, take}
-use Rattle.checker_states.specs.Buckets.{hash_of}
+use Rattle.std.proofs.Common.{◌≡◌, drop}
+use Rattle.checker_states.specs.Hashes.{hash_of, hash_from}
 use Rattle.checker_states.proofs.hash.hash_of.Given as goal
 
-abbrev pub invariant-loop-value : goal.invariant-loop-value
-invariant-loop-value l = l.hash ≡ hash_of (take l.value-index l.state)
+abbrev pub invariant-loop-variable : goal.invariant-loop-variable
+invariant-loop-variable l =
+    hash_from l.hash (drop l.variable l.multipliers) (drop l.variable l.state) ≡ hash_of l.multipliers l.state

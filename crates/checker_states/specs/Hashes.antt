@@ -1,0 +1,23 @@
+-- The hash of a state, and what is taken of it: the slot from which the state is looked for, and a tag.
+use Rattle.std.specs.Prelude.{ℕ, ◌+◌, ◌*◌, ◌/◌, ◌%◌, ◌^◌, List, [], ◌∷◌}
+
+-- the hash with one more value, times a multiplier
+unfoldable pub mixed : ℕ → ℕ → ℕ → ℕ
+mixed hash multiplier value = (hash + multiplier * value % 2 ^ 64) % 2 ^ 64
+
+-- the hash with these values, each times its multiplier
+abbrev pub hash_from : ℕ → List ℕ → List ℕ → ℕ
+hash_from hash [] values = hash
+hash_from hash (multiplier ∷ multipliers) [] = hash
+hash_from hash (multiplier ∷ multipliers) (value ∷ values) = hash_from (mixed hash multiplier value) multipliers values
+
+abbrev pub hash_of : List ℕ → List ℕ → ℕ
+hash_of multipliers state = hash_from 0 multipliers state
+
+-- the slot from which a state with this hash is looked for, where there are so many slots
+unfoldable pub home_of : ℕ → ℕ → ℕ
+home_of hash slots = hash / 2 ^ 32 * slots / 2 ^ 32
+
+-- the tag of a state with this hash
+unfoldable pub tag_of : ℕ → ℕ
+tag_of hash = hash % 2 ^ 16
