@@ -1,0 +1,37 @@
+-- What is taken from rings between rounds.
+use Rattle.std.specs.Prelude.{◌≡◌, ℕ, zero, suc, List, [], ◌∷◌, ◌++◌, length, drop}
+use Rattle.cost.specs.Distances.{Distance}
+use Rattle.owner_theory.specs.Owners.{At, SearchSpace, Message, Owner, took}
+use Rattle.owner.specs.Owned.{space_of, under}
+use Rattle.worker.specs.Workers.{WorkerOf, sent_to, received_from, AreSameOuts, AreSameIns}
+use Rattle.engine_team.specs.Teams.{TeamOf, sent_by, AreEmpty}
+
+-- the owner after it takes these messages, the first one first
+abbrev pub took_each : SearchSpace → Owner → List Message → Owner
+took_each space o [] = o
+took_each space o (m ∷ ms) = took_each space (took space o m) ms
+
+-- the messages in the rings from the workers 0 to n - 1, worker by worker: those that were sent and not received, the oldest first
+abbrev pub in_rings : (ℕ → List Message) → (ℕ → List Message) → ℕ → List Message
+in_rings sent received zero = []
+in_rings sent received (suc n) = in_rings sent received n ++ drop (length (received n)) (sent n)
+
+-- these messages are taken by the owner, in this order; nothing is sent, and the worker is otherwise as it was, but for what it
+-- knows of its links, and its units
+pub record HasTakenEach {S : Type 0} (owner : S → List ℕ → ℕ → ℕ) (ms : List Message) (old new : WorkerOf S) : Type 0 where
+  pub took : (bound : Distance) → under new.owner bound ≡ took_each (space_of owner old.owner) (under old.owner bound) ms
+  pub others : new.owner ≡ record old.owner { nodes = new.owner.nodes; best = new.owner.best }
+  pub sent : (to : ℕ) → sent_to new.outs to ≡ sent_to old.outs to
+  pub outs : AreSameOuts old.outs new.outs
+  pub ins : AreSameIns old.ins new.ins
+  pub worker : new ≡ record old { owner = new.owner; outs = new.outs; ins = new.ins; resting = new.resting; taken = new.taken }
+
+-- each worker has taken what was in the rings to it, and the rings are empty
+pub record IsDrained {S : Type 0} (owner : S → List ℕ → ℕ → ℕ) (old new : TeamOf S) : Type 0 where
+  pub space : new.space ≡ old.space
+  pub count : length new.workers ≡ length old.workers
+  pub best : new.best ≡ old.best
+  pub each : (v : ℕ) (a b : WorkerOf S) → At old.workers v a → At new.workers v b
+      → HasTakenEach owner (in_rings (λ u. sent_by old.workers u v) (received_from a.ins) (length old.workers)) a b
+  pub none_aside : (v : ℕ) (w : WorkerOf S) → At new.workers v w → w.misfits ≡ []
+  pub empty : AreEmpty new.workers
