@@ -1,9 +1,9 @@
 -- What is taken from rings between rounds.
-use Rattle.std.specs.Prelude.{◌≡◌, ℕ, zero, suc, List, [], ◌∷◌, ◌++◌, length, drop}
+use Rattle.std.specs.Prelude.{◌≡◌, ◌≢◌, ℕ, zero, suc, ◌<◌, ◌≤◌, List, [], ◌∷◌, ◌++◌, length, drop}
 use Rattle.cost.specs.Distances.{Distance}
-use Rattle.owner_theory.specs.Owners.{At, SearchSpace, Message, Owner, took}
+use Rattle.owner_theory.specs.Owners.{At, SearchSpace, Message, Owner, put, took}
 use Rattle.owner.specs.Owned.{space_of, under}
-use Rattle.worker.specs.Workers.{WorkerOf, sent_to, received_from, AreSameOuts, AreSameIns}
+use Rattle.worker.specs.Workers.{WorkerOf, sent_to, received_from, known_from, AreSameOuts, AreSameIns}
 use Rattle.engine_team.specs.Teams.{TeamOf, sent_by, AreEmpty}
 
 -- the owner after it takes these messages, the first one first
@@ -35,3 +35,52 @@ pub record IsDrained {S : Type 0} (owner : S → List ℕ → ℕ → ℕ) (old 
       → HasTakenEach owner (in_rings (λ u. sent_by old.workers u v) (received_from a.ins) (length old.workers)) a b
   pub none_aside : (v : ℕ) (w : WorkerOf S) → At new.workers v w → w.misfits ≡ []
   pub empty : AreEmpty new.workers
+
+-- ---- link by link
+
+-- nothing is taken or received, and the worker is as it was, but for what it knows of its links, and its units
+pub record IsLookedAt {S : Type 0} (owner : S → List ℕ → ℕ → ℕ) (old new : WorkerOf S) : Type 0 where
+  pub taken : HasTakenEach owner [] old new
+  pub received : (from : ℕ) → received_from new.ins from ≡ received_from old.ins from
+
+pub record AreLookedAt {S : Type 0} (owner : S → List ℕ → ℕ → ℕ) (old new : List (WorkerOf S)) : Type 0 where
+  pub len : length new ≡ length old
+  pub each : (v : ℕ) (a b : WorkerOf S) → At old v a → At new v b → IsLookedAt owner a b
+
+-- the ends of the link from one worker to another were looked at together; so many messages are in its ring
+pub record IsLinkMatched {S : Type 0} (owner : S → List ℕ → ℕ → ℕ) (from to : ℕ) (old new : List (WorkerOf S)) (count : ℕ) : Type 0 where
+  pub looked : AreLookedAt owner old new
+  pub all : (b : WorkerOf S) → At new to b → received_from b.ins from ++ known_from b.ins from ≡ sent_by old from to
+  pub counted : (b : WorkerOf S) → At new to b → count ≡ length (known_from b.ins from)
+
+-- the worker has taken what was in the ring of one link, over which this was sent
+pub record HasEmptied {S : Type 0} (owner : S → List ℕ → ℕ → ℕ) (from : ℕ) (sent : List Message) (old new : WorkerOf S) : Type 0 where
+  pub taken : HasTakenEach owner (drop (length (received_from old.ins from)) sent) old new
+  pub received : (u : ℕ) → received_from new.ins u ≡ put (received_from old.ins) from sent u
+
+-- the worker of that number has taken what was in the ring from another one
+pub record IsLinkEmptied {S : Type 0} (owner : S → List ℕ → ℕ → ℕ) (from to : ℕ) (old new : List (WorkerOf S)) : Type 0 where
+  pub len : length new ≡ length old
+  pub receiver : (a b : WorkerOf S) → At old to a → At new to b → HasEmptied owner from (sent_by old from to) a b
+  pub none_aside : (b : WorkerOf S) → At new to b → b.misfits ≡ []
+  pub others : (v : ℕ) (a b : WorkerOf S) → v ≢ to → At old v a → At new v b → IsLookedAt owner a b
+
+-- the worker has taken what was in the rings from the workers 0 to n - 1, each of which has sent this to it
+pub record HasEmptiedEach {S : Type 0} (owner : S → List ℕ → ℕ → ℕ) (sent : ℕ → List Message) (n : ℕ) (old new : WorkerOf S) : Type 0 where
+  pub taken : HasTakenEach owner (in_rings sent (received_from old.ins) n) old new
+  pub below : (u : ℕ) → u < n → received_from new.ins u ≡ sent u
+  pub others : (u : ℕ) → n ≤ u → received_from new.ins u ≡ received_from old.ins u
+
+-- the worker of that number has taken what was in the rings from the workers 0 to n - 1
+pub record AreLinksEmptied {S : Type 0} (owner : S → List ℕ → ℕ → ℕ) (n to : ℕ) (old new : List (WorkerOf S)) : Type 0 where
+  pub len : length new ≡ length old
+  pub receiver : (a b : WorkerOf S) → At old to a → At new to b → HasEmptiedEach owner (λ u. sent_by old u to) n a b
+  pub none_aside : (b : WorkerOf S) → At new to b → b.misfits ≡ []
+  pub others : (v : ℕ) (a b : WorkerOf S) → v ≢ to → At old v a → At new v b → IsLookedAt owner a b
+
+-- the workers 0 to n - 1 have taken what was in the rings to them
+pub record AreDrained {S : Type 0} (owner : S → List ℕ → ℕ → ℕ) (n : ℕ) (old new : List (WorkerOf S)) : Type 0 where
+  pub len : length new ≡ length old
+  pub below : (v : ℕ) (a b : WorkerOf S) → v < n → At old v a → At new v b
+      → HasEmptiedEach owner (λ u. sent_by old u v) (length old) a b × (b.misfits ≡ [])
+  pub others : (v : ℕ) (a b : WorkerOf S) → n ≤ v → At old v a → At new v b → IsLookedAt owner a b

@@ -12,11 +12,13 @@ pub record TeamOf (S : Type 0) : Type 0 where
   pub workers : List (WorkerOf S)
   pub best : Distance
 
--- the worker of that number of so many in a space; memory did not run out in it, and no message in its outboxes is uncounted
+-- the worker of that number of so many in a space, with a link to each and from each; memory did not run out in it, and no message in
+-- its outboxes is uncounted
 pub record IsMember {S : Type 0} (searched_space : SpaceOf S) (workers v : ℕ) (w : WorkerOf S) : Type 0 where
   pub space : w.owner.space ≡ searched_space
   pub number : w.owner.worker ≡ v
-  pub owners : length w.owner.outboxes ≡ workers
+  pub outs : length w.outs ≡ workers
+  pub ins : length w.ins ≡ workers
   pub whole : w.spent ≡ false
   pub counted : w.uncounted ≡ 0
 

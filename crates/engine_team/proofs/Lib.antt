@@ -1,0 +1,4 @@
+pub mod Places
+pub mod Taking
+pub mod Members
+pub mod Fitting
