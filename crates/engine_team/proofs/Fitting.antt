@@ -16,7 +16,8 @@ use Rattle.closed.specs.Tables.{message_of}
 use Rattle.owner.specs.Spaces.{SpaceOf, searched}
 use Rattle.owner.specs.Owned.{OwnerOf, space_of}
 use Rattle.links.specs.declared.ends.In.{In as InOf}
-use Rattle.links.specs.Ends.{received}
+use Rattle.links.specs.declared.ends.Out.{Out}
+use Rattle.links.specs.Ends.{sent, received}
 use Rattle.extract.proofs.Places.{at_some}
 use Rattle.worker.specs.Workers.{WorkerOf, IsKept, IsWorking, sent_to, received_from}
 use Rattle.engine_team.specs.Teams.{IsMember, AreMembers, sent_by}
@@ -56,6 +57,14 @@ received_in i = map message_of (received i)
 pub received_past : (ins : List InOf) (u : ℕ) → length ins ≤ u → received_from ins u ≡ []
 unfolding received_in
 received_past ins u le = list_past (map received_in ins) u (let long = length-map ins received_in in omega (arith, long))
+
+sent_in : Out → List Message
+sent_in o = map message_of (sent o)
+
+-- nothing was sent to a number past the last worker
+pub outs_past : (outs : List Out) (v : ℕ) → length outs ≤ v → sent_to outs v ≡ []
+unfolding sent_in
+outs_past outs v le = list_past (map sent_in outs) v (let long = length-map outs sent_in in omega (arith, long))
 
 no_element : {X : Type 0} (xs : List X) → ((i : ℕ) (x : X) → At xs i x → ⊥) → xs ≡ []
 no_element [] none = refl

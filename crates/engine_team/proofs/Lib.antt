@@ -2,3 +2,8 @@ pub mod Places
 pub mod Taking
 pub mod Members
 pub mod Fitting
+pub mod Matching
+pub mod Emptying
+pub mod Choice
+pub mod Joining
+pub mod Starting

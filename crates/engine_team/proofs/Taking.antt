@@ -5,9 +5,8 @@ use Rattle.owner_theory.specs.Owners.{SearchSpace, Message, Owner, took}
 use Rattle.owner.specs.Owned.{OwnerOf, space_of, under}
 use Rattle.links.specs.declared.ends.Out.{Out}
 use Rattle.links.specs.declared.ends.In.{In}
-use Rattle.worker.specs.Workers.{WorkerOf, sent_to, AreSameOuts, AreSameIns}
+use Rattle.worker.specs.Workers.{WorkerOf, sent_to}
 use Rattle.worker.specs.Turns.{HasTaken}
-use Rattle.worker.proofs.Rows.{outs_same, outs_through, ins_same, ins_through}
 use Rattle.engine_team.specs.Draining.{took_each, HasTakenEach}
 
 took_more : (space : SearchSpace) (o : Owner) (ms ns : List Message) → took_each space o (ms ++ ns) ≡ took_each space (took_each space o ms) ns
@@ -26,21 +25,21 @@ module _ {S : Type 0} (owner : S → List ℕ → ℕ → ℕ) where
   -- nothing is taken
   pub takes_none : (old new : WorkerOf S) (outs : List Out) (ins : List In) (r : Bool) (t : ℕ)
       → new ≡ record old { outs = outs; ins = ins; resting = r; taken = t } → ((to : ℕ) → sent_to outs to ≡ sent_to old.outs to)
-      → AreSameOuts old.outs outs → AreSameIns old.ins ins → HasTakenEach owner [] old new
+      → length outs ≡ length old.outs → length ins ≡ length old.ins → HasTakenEach owner [] old new
   takes_none old new outs ins r t e sent same_outs same_ins =
       let same : new.owner ≡ old.owner = ap (λ (w : WorkerOf S). w.owner) e in
       record {
         took = λ bound. ap (λ (o : OwnerOf S). under o bound) same;
         others = same ∙ (λ j. let o : OwnerOf S = sym same j in let after : OwnerOf S = record old.owner { nodes = o.nodes; best = o.best } in after);
         sent = λ to. ap (λ (w : WorkerOf S). sent_to w.outs to) e ∙ sent to;
-        outs = subst (AreSameOuts old.outs) (sym (ap (λ (w : WorkerOf S). w.outs) e)) same_outs;
-        ins = subst (AreSameIns old.ins) (sym (ap (λ (w : WorkerOf S). w.ins) e)) same_ins;
+        outs = ap (λ (w : WorkerOf S). length w.outs) e ∙ same_outs;
+        ins = ap (λ (w : WorkerOf S). length w.ins) e ∙ same_ins;
         worker = changed old new old.owner outs ins r t e;
       }
 
   -- it is the same worker
   pub takes_nothing : (w : WorkerOf S) → HasTakenEach owner [] w w
-  takes_nothing w = takes_none w w w.outs w.ins w.resting w.taken refl (λ to. refl) (outs_same w.outs) (ins_same w.ins)
+  takes_nothing w = takes_none w w w.outs w.ins w.resting w.taken refl (λ to. refl) refl refl
 
   pub takes_one : (from : ℕ) (old new : WorkerOf S) (t : HasTaken owner from old new) → HasTakenEach owner (t.message ∷ []) old new
   takes_one from old new t =
@@ -49,8 +48,8 @@ module _ {S : Type 0} (owner : S → List ℕ → ℕ → ℕ) where
         took = t.took;
         others = t.others;
         sent = λ to. ap (λ (os : List Out). sent_to os to) same;
-        outs = subst (AreSameOuts old.outs) (sym same) (outs_same old.outs);
-        ins = t.popped.ends;
+        outs = ap length same;
+        ins = t.popped.ends.len;
         worker = changed old new new.owner old.outs new.ins old.resting (suc old.taken) t.worker;
       }
 
@@ -63,8 +62,8 @@ module _ {S : Type 0} (owner : S → List ℕ → ℕ → ℕ) where
         ∙ sym (took_more (space_of owner a.owner) (under a.owner bound) ms ns)));
     others = q.others ∙ ap (λ (o : OwnerOf S). let after : OwnerOf S = record o { nodes = c.owner.nodes; best = c.owner.best } in after) p.others;
     sent = λ to. q.sent to ∙ p.sent to;
-    outs = outs_through a.outs b.outs c.outs p.outs q.outs;
-    ins = ins_through a.ins b.ins c.ins p.ins q.ins;
+    outs = q.outs ∙ p.outs;
+    ins = q.ins ∙ p.ins;
     worker = q.worker ∙ ap (λ (w : WorkerOf S).
         let after : WorkerOf S = record w { owner = c.owner; outs = c.outs; ins = c.ins; resting = c.resting; taken = c.taken } in after) p.worker;
   }

@@ -1,10 +1,10 @@
 -- What is taken from rings between rounds.
 use Rattle.std.specs.Prelude.{◌≡◌, ◌≢◌, ℕ, zero, suc, ◌<◌, ◌≤◌, List, [], ◌∷◌, ◌++◌, length, drop}
 use Rattle.cost.specs.Distances.{Distance}
-use Rattle.owner_theory.specs.Owners.{At, SearchSpace, Message, Owner, put, took}
+use Rattle.owner_theory.specs.Owners.{At, SearchSpace, Message, Owner, took}
 use Rattle.owner.specs.Owned.{space_of, under}
-use Rattle.worker.specs.Workers.{WorkerOf, sent_to, received_from, known_from, AreSameOuts, AreSameIns}
-use Rattle.engine_team.specs.Teams.{TeamOf, sent_by, AreEmpty}
+use Rattle.worker.specs.Workers.{WorkerOf, sent_to, received_from, known_from}
+use Rattle.engine_team.specs.Teams.{TeamOf, AreAllLinked, sent_by, AreEmpty}
 
 -- the owner after it takes these messages, the first one first
 abbrev pub took_each : SearchSpace → Owner → List Message → Owner
@@ -22,8 +22,8 @@ pub record HasTakenEach {S : Type 0} (owner : S → List ℕ → ℕ → ℕ) (m
   pub took : (bound : Distance) → under new.owner bound ≡ took_each (space_of owner old.owner) (under old.owner bound) ms
   pub others : new.owner ≡ record old.owner { nodes = new.owner.nodes; best = new.owner.best }
   pub sent : (to : ℕ) → sent_to new.outs to ≡ sent_to old.outs to
-  pub outs : AreSameOuts old.outs new.outs
-  pub ins : AreSameIns old.ins new.ins
+  pub outs : length new.outs ≡ length old.outs
+  pub ins : length new.ins ≡ length old.ins
   pub worker : new ≡ record old { owner = new.owner; outs = new.outs; ins = new.ins; resting = new.resting; taken = new.taken }
 
 -- each worker has taken what was in the rings to it, and the rings are empty
@@ -45,6 +45,7 @@ pub record IsLookedAt {S : Type 0} (owner : S → List ℕ → ℕ → ℕ) (old
 
 pub record AreLookedAt {S : Type 0} (owner : S → List ℕ → ℕ → ℕ) (old new : List (WorkerOf S)) : Type 0 where
   pub len : length new ≡ length old
+  pub links : AreAllLinked new
   pub each : (v : ℕ) (a b : WorkerOf S) → At old v a → At new v b → IsLookedAt owner a b
 
 -- the ends of the link from one worker to another were looked at together; so many messages are in its ring
@@ -56,11 +57,13 @@ pub record IsLinkMatched {S : Type 0} (owner : S → List ℕ → ℕ → ℕ) (
 -- the worker has taken what was in the ring of one link, over which this was sent
 pub record HasEmptied {S : Type 0} (owner : S → List ℕ → ℕ → ℕ) (from : ℕ) (sent : List Message) (old new : WorkerOf S) : Type 0 where
   pub taken : HasTakenEach owner (drop (length (received_from old.ins from)) sent) old new
-  pub received : (u : ℕ) → received_from new.ins u ≡ put (received_from old.ins) from sent u
+  pub all : received_from new.ins from ≡ sent
+  pub others : (u : ℕ) → u ≢ from → received_from new.ins u ≡ received_from old.ins u
 
 -- the worker of that number has taken what was in the ring from another one
 pub record IsLinkEmptied {S : Type 0} (owner : S → List ℕ → ℕ → ℕ) (from to : ℕ) (old new : List (WorkerOf S)) : Type 0 where
   pub len : length new ≡ length old
+  pub links : AreAllLinked new
   pub receiver : (a b : WorkerOf S) → At old to a → At new to b → HasEmptied owner from (sent_by old from to) a b
   pub none_aside : (b : WorkerOf S) → At new to b → b.misfits ≡ []
   pub others : (v : ℕ) (a b : WorkerOf S) → v ≢ to → At old v a → At new v b → IsLookedAt owner a b
@@ -74,6 +77,7 @@ pub record HasEmptiedEach {S : Type 0} (owner : S → List ℕ → ℕ → ℕ) 
 -- the worker of that number has taken what was in the rings from the workers 0 to n - 1
 pub record AreLinksEmptied {S : Type 0} (owner : S → List ℕ → ℕ → ℕ) (n to : ℕ) (old new : List (WorkerOf S)) : Type 0 where
   pub len : length new ≡ length old
+  pub links : AreAllLinked new
   pub receiver : (a b : WorkerOf S) → At old to a → At new to b → HasEmptiedEach owner (λ u. sent_by old u to) n a b
   pub none_aside : (b : WorkerOf S) → At new to b → b.misfits ≡ []
   pub others : (v : ℕ) (a b : WorkerOf S) → v ≢ to → At old v a → At new v b → IsLookedAt owner a b
@@ -81,6 +85,7 @@ pub record AreLinksEmptied {S : Type 0} (owner : S → List ℕ → ℕ → ℕ)
 -- the workers 0 to n - 1 have taken what was in the rings to them
 pub record AreDrained {S : Type 0} (owner : S → List ℕ → ℕ → ℕ) (n : ℕ) (old new : List (WorkerOf S)) : Type 0 where
   pub len : length new ≡ length old
+  pub links : AreAllLinked new
   pub below : (v : ℕ) (a b : WorkerOf S) → v < n → At old v a → At new v b
       → HasEmptiedEach owner (λ u. sent_by old u v) (length old) a b × (b.misfits ≡ [])
   pub others : (v : ℕ) (a b : WorkerOf S) → n ≤ v → At old v a → At new v b → IsLookedAt owner a b
