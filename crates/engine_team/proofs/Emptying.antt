@@ -270,7 +270,16 @@ module _ {S : Type 0} (owner : S → List ℕ → ℕ → ℕ) where
 
       taken_more : (old : List (WorkerOf S)) (waiting i : ℕ) → IsEmptying from to old now waiting i → HasTaken owner from c d
           → IsEmptying from to old next waiting (i + 1)
-      taken_more old waiting i e t = record {
+      taken_more old waiting i e t =
+        let now_here : (y : WorkerOf S) → At next to y → received_from y.ins from ≡ received_from b.ins from ++ t.message ∷ [] =
+        λ y at_y. (m.looked.each to d y at_d at_y).received from
+        ∙ (t.popped.link from
+        ∙ (put_here (received_from c.ins) from (received_from c.ins from ++ t.message ∷ [])
+        ∙ ap (λ is. received_from is from ++ t.message ∷ []) same_ins)) in
+        let all : (y : WorkerOf S) → At next to y → received_from y.ins from ++ known_from y.ins from ≡ sent_by old from to =
+        λ y at_y. m.all y at_y
+        ∙ (sent_kept now mid mid_kept from to ∙ sent_kept old now (emptying_have from to waiting i old now e) from to) in
+        record {
         len = m.looked.len ∙ (mid_kept.len ∙ e.len);
         links = m.looked.links;
         taken = e.taken ++ t.message ∷ [];
@@ -300,16 +309,6 @@ module _ {S : Type 0} (owner : S → List ℕ → ℕ → ℕ) where
             let (x, at_x) = earlier mid next (looked_have mid next m.looked) v y at_y in
             looked_through a x y (e.others v a x ne at_a (mid_elsewhere v x ne at_x)) (m.looked.each v x y at_x at_y);
       }
-        where
-          now_here : (y : WorkerOf S) → At next to y → received_from y.ins from ≡ received_from b.ins from ++ t.message ∷ []
-          now_here y at_y = (m.looked.each to d y at_d at_y).received from
-              ∙ (t.popped.link from
-              ∙ (put_here (received_from c.ins) from (received_from c.ins from ++ t.message ∷ [])
-              ∙ ap (λ is. received_from is from ++ t.message ∷ []) same_ins));
-
-          all : (y : WorkerOf S) → At next to y → received_from y.ins from ++ known_from y.ins from ≡ sent_by old from to
-          all y at_y = m.all y at_y
-              ∙ (sent_kept now mid mid_kept from to ∙ sent_kept old now (emptying_have from to waiting i old now e) from to)
 
       pub one_message_more : (old : List (WorkerOf S)) (waiting i : ℕ) → IsEmptying from to old now waiting i → i < waiting → from < length now
           → IsSearchSpace (searched owner space (length next))

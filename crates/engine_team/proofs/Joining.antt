@@ -72,17 +72,17 @@ module _ {S : Type 0} (owner : S → List ℕ → ℕ → ℕ) (t : TeamOf S) (t
           (λ (w_lt : w < n). let (a, at_a) = at_some t.workers w w_lt in
           let was_sent : sent w v ≡ sent_to a.outs v = λ j. at_or-there t.workers (λ x. sent_to x.outs) (λ u. []) w a at_a j v in ⊎_elim
           (λ (v_lt : v < n). let (b, at_b) = at_some t.workers v v_lt in
-          was_sent ∙ (sym (empty w v a b at_a at_b) ∙ (λ j. at_or-there t.workers (λ x. received_from x.ins) (λ u. []) v b at_b (~ j) w)))
+          was_sent ∙ (sym (empty w v a b at_a at_b) ∙ (λ j. sym (at_or-there t.workers (λ x. received_from x.ins) (λ u. []) v b at_b) j w)))
           (λ (v_le : n ≤ v).
           was_sent ∙ (outs_past a.outs v (let long = (team.members.each w a at_a).outs in omega (arith, long, v_le))
-          ∙ (λ j. at_or-past t.workers (λ x. received_from x.ins) (λ u. []) v v_le (~ j) w)))
+          ∙ (λ j. sym (at_or-past t.workers (λ x. received_from x.ins) (λ u. []) v v_le) j w)))
           (cases_lt v n))
           (λ (w_le : n ≤ w).
           let none_sent : sent w v ≡ [] = λ j. at_or-past t.workers (λ x. sent_to x.outs) (λ u. []) w w_le j v in ⊎_elim
           (λ (v_lt : v < n). let (b, at_b) = at_some t.workers v v_lt in
           none_sent ∙ (sym (received_past b.ins w (let long = (team.members.each v b at_b).ins in omega (arith, long, w_le)))
-          ∙ (λ j. at_or-there t.workers (λ x. received_from x.ins) (λ u. []) v b at_b (~ j) w)))
-          (λ (v_le : n ≤ v). none_sent ∙ (λ j. at_or-past t.workers (λ x. received_from x.ins) (λ u. []) v v_le (~ j) w))
+          ∙ (λ j. sym (at_or-there t.workers (λ x. received_from x.ins) (λ u. []) v b at_b) j w)))
+          (λ (v_le : n ≤ v). none_sent ∙ (λ j. sym (at_or-past t.workers (λ x. received_from x.ins) (λ u. []) v v_le) j w))
           (cases_lt v n))
           (cases_lt w n)
 

@@ -1,5 +1,5 @@
 -- The workers of a team stay its workers while messages are taken.
-use Rattle.std.proofs.Common.{◌≡◌, ◌≢◌, ◌⊎◌, ℕ, ◌<◌, ◌≤◌, false, List, [], ◌∷◌, length, map, Some, refl, sym, ap, ◌∙◌, subst, inl, inr, ⊎_elim, arith}
+use Rattle.std.proofs.Common.{◌≡◌, ◌≢◌, ◌⊎◌, ℕ, ◌<◌, ◌≤◌, false, List, [], ◌∷◌, length, map, get_or, Some, refl, sym, ap, ◌∙◌, subst, inl, inr, ⊎_elim, arith}
 use Rattle.std.specs.Prelude.{slice_get, slice_set}
 use Rattle.std.proofs.lemmas.Bool.{cases_lt}
 use Rattle.std.proofs.lemmas.List.{length-set}
@@ -28,7 +28,7 @@ pub linked_after : (os : List Out) (to : ℕ) (is js : List In) (from : ℕ) →
 linked_after os to is js from ins linked o j at_o at_j =
     let lt = slice_get_within js from j at_j in
     let at_i = slice_get-get_or is from j (omega (arith, lt, ins.len)) in
-    ends_kept o _ j (linked o _ at_o at_i) (ins.each from _ j at_i at_j)
+    ends_kept o (get_or is from j) j (linked o (get_or is from j) at_o at_i) (ins.each from (get_or is from j) j at_i at_j)
 
 module _ {S : Type 0} where
   -- a worker of a team stays one, and has sent nothing more

@@ -15,7 +15,7 @@ use Rattle.extract.proofs.Places.{at_below, at_get, at_some}
 use Rattle.owner_theory.proofs.Lists.{at_get as at_of}
 use Rattle.worker.specs.Matching.{AreLinked}
 use Rattle.worker.specs.Workers.{WorkerOf, IsFirstWorker, sent_to, received_from}
-use Rattle.engine_team.specs.Teams.{TeamOf, IsTeam, IsFirstTeam, AreFreshLinks, AreFirstWorkers}
+use Rattle.engine_team.specs.Teams.{TeamOf, IsTeam, IsFirstTeam, IsFirst, AreFreshLinks, AreFirstWorkers}
 use Rattle.engine_team.proofs.Fitting.{outs_past, received_past}
 
 sent_get : (os : List Out) (v : ℕ) (o : Out) → slice_get os v ≡ Some o → sent_to os v ≡ map message_of (sent o)
@@ -40,19 +40,19 @@ module _ (capacity n : ℕ) (outs : List (List Out)) (ins : List (List In)) (fre
   link_at u v os is o i at_os at_o at_is at_i = fresh.matched u v os is o i (at_get outs u os at_os) at_o (at_get ins v is at_is) at_i
 
   row_out : (u : ℕ) (os : List Out) → At outs u os → length os ≡ n
-  row_out u os at = fresh.outs.1 u os (at_get outs u os at)
+  row_out u os at = fresh.senders.1 u os (at_get outs u os at)
 
   row_in : (v : ℕ) (is : List In) → At ins v is → length is ≡ n
-  row_in v is at = fresh.ins.1 v is (at_get ins v is at)
+  row_in v is at = fresh.receivers.1 v is (at_get ins v is at)
 
   -- the ends at a place, where the row of one is given
   fresh_out : (u v : ℕ) (os : List Out) (o : Out) → At outs u os → slice_get os v ≡ Some o → (i : In) × IsFresh capacity o i
   fresh_out u v os o at_os at_o =
       let u_lt = at_below outs u os at_os in
       let v_lt = slice_get_within os v o at_o in
-      let tall = fresh.outs.0 in
+      let tall = fresh.senders.0 in
       let wide = row_out u os at_os in
-      let tall_in = fresh.ins.0 in
+      let tall_in = fresh.receivers.0 in
       let (is, at_is) = at_some ins v (omega (arith, v_lt, wide, tall_in)) in
       let wide_in = row_in v is at_is in
       let (i, at_i) = at_some is u (omega (arith, u_lt, tall, wide_in)) in
@@ -62,8 +62,8 @@ module _ (capacity n : ℕ) (outs : List (List Out)) (ins : List (List In)) (fre
   fresh_in u v is i at_is at_i =
       let v_lt = at_below ins v is at_is in
       let u_lt = slice_get_within is u i at_i in
-      let tall = fresh.outs.0 in
-      let tall_in = fresh.ins.0 in
+      let tall = fresh.senders.0 in
+      let tall_in = fresh.receivers.0 in
       let wide_in = row_in v is at_is in
       let (os, at_os) = at_some outs u (omega (arith, u_lt, wide_in, tall)) in
       let wide = row_out u os at_os in
@@ -95,13 +95,13 @@ module _ (capacity n : ℕ) (outs : List (List Out)) (ins : List (List In)) (fre
         each = λ v w at. let one = first.each v w at in record {
           space = one.is.space;
           number = one.is.number;
-          outs = row_out v w.outs one.outs ∙ sym first.len;
-          ins = row_in v w.ins one.ins ∙ sym first.len;
+          outs = row_out v w.outs one.sends ∙ sym first.len;
+          ins = row_in v w.ins one.receives ∙ sym first.len;
           whole = one.is.spent;
           counted = one.is.uncounted;
         };
         links = λ u v a b at_a at_b o i at_o at_i.
-            (link_at u v a.outs b.ins o i (first.each u a at_a).outs at_o (first.each v b at_b).ins at_i).ends;
+            (link_at u v a.outs b.ins o i (first.each u a at_a).sends at_o (first.each v b at_b).receives at_i).ends;
       };
       best = sym (least_infinite ws (λ v w at. (first.each v w at).is.offered));
       bounded = λ v w at. subst (λ d. Infinite ≤ᵈ d) (sym (first.each v w at).is.seen) tt;
@@ -112,9 +112,9 @@ module _ (capacity n : ℕ) (outs : List (List Out)) (ins : List (List In)) (fre
       space = refl;
       count = first.len;
       each = λ v w at. (first.each v w at).is;
-      none_sent = λ v w at. (none_sent v w.outs (first.each v w at).outs).1;
-      none_received = λ v w at. (none_received v w.ins (first.each v w at).ins).1;
-      room = λ v w at to o at_o. (fresh_out v to w.outs o (first.each v w at).outs at_o).1.room_is;
+      none_sent = λ v w at. (none_sent v w.outs (first.each v w at).sends).1;
+      none_received = λ v w at. (none_received v w.ins (first.each v w at).receives).1;
+      room = λ v w at to o at_o. (fresh_out v to w.outs o (first.each v w at).sends at_o).1.room_is;
       best = refl;
     }
 
@@ -125,3 +125,52 @@ at_snoc [] y (suc i) x at = absurd at
 at_snoc (z ∷ xs) y zero x at = inl at
 at_snoc (z ∷ xs) y (suc i) x at = ⊎_elim (λ (h : At xs i x). inl h)
     (λ (h : (i ≡ length xs) × (y ≡ x)). inr (ap suc h.0, h.1)) (at_snoc xs y i x at)
+
+module _ {S : Type 0} (space : SpaceOf S) (n : ℕ) (outs : List (List Out)) (ins : List (List In)) where
+  -- the first workers at the start, and the ends that are left for the others
+  pub record AreStarting (ws : List (WorkerOf S)) (left_outs : List (List Out)) (left_ins : List (List In)) : Type 0 where
+    pub count : length ws + length left_outs ≡ n
+    pub both : length left_ins ≡ length left_outs
+    pub outs_at : (j : ℕ) (os : List Out) → At left_outs j os → At outs (length ws + j) os
+    pub ins_at : (j : ℕ) (is : List In) → At left_ins j is → At ins (length ws + j) is
+    pub each : (v : ℕ) (w : WorkerOf S) → At ws v w → IsFirst space n outs ins v w
+
+  pub none_started : HasSize n n outs → HasSize n n ins → AreStarting [] outs ins
+  none_started tall tall_in = record {
+    count = let long = tall.0 in omega (arith, long);
+    both = tall_in.0 ∙ sym tall.0;
+    outs_at = λ j os at. let same : j ≡ 0 + j = omega arith in subst (λ k. At outs k os) same at;
+    ins_at = λ j is at. let same : j ≡ 0 + j = omega arith in subst (λ k. At ins k is) same at;
+    each = λ v w at. absurd at;
+  }
+
+  pub one_started : (ws : List (WorkerOf S)) (w : WorkerOf S) (os : List Out) (left_outs : List (List Out)) (is : List In) (left_ins : List (List In))
+      → AreStarting ws (os ∷ left_outs) (is ∷ left_ins) → IsFirstWorker space (length ws) n os is w → AreStarting (ws ++ w ∷ []) left_outs left_ins
+  one_started ws w os left_outs is left_ins p first =
+      let long = length-append ws (w ∷ []) in record {
+        count = let count = p.count in omega (arith, long, count);
+        both = let both = p.both in omega (arith, both);
+        outs_at = λ j xs at. let same : length ws + suc j ≡ length (ws ++ w ∷ []) + j = omega (arith, long) in
+            subst (λ k. At outs k xs) same (p.outs_at (suc j) xs at);
+        ins_at = λ j xs at. let same : length ws + suc j ≡ length (ws ++ w ∷ []) + j = omega (arith, long) in
+            subst (λ k. At ins k xs) same (p.ins_at (suc j) xs at);
+        each = λ v x at. ⊎_elim (λ (h : At ws v x). p.each v x h)
+            (λ (h : (v ≡ length ws) × (w ≡ x)).
+            subst (λ k. IsFirst space n outs ins k x) (sym h.0) (subst (IsFirst space n outs ins (length ws)) h.1 one))
+            (at_snoc ws w v x at);
+      }
+    where
+      none_more : length ws + 0 ≡ length ws
+      none_more = omega arith
+
+      one : IsFirst space n outs ins (length ws) w
+      one = record {
+        is = subst (λ (xs : List Out). IsFirstWorker space (length ws) n xs w.ins w) (sym first.outs)
+            (subst (λ (xs : List In). IsFirstWorker space (length ws) n os xs w) (sym first.ins) first);
+        sends = subst (λ (xs : List Out). At outs (length ws) xs) (sym first.outs) (subst (λ k. At outs k os) none_more (p.outs_at 0 os refl));
+        receives = subst (λ (xs : List In). At ins (length ws) xs) (sym first.ins) (subst (λ k. At ins k is) none_more (p.ins_at 0 is refl));
+      }
+
+  pub all_started : (ws : List (WorkerOf S)) (left_outs : List (List Out)) (left_ins : List (List In)) → AreStarting ws left_outs left_ins
+      → length left_outs ≡ 0 → AreFirstWorkers space n outs ins ws
+  all_started ws left_outs left_ins p none = record { len = let count = p.count in omega (arith, count, none); each = p.each }

@@ -46,16 +46,16 @@ pub record IsTeam {S : Type 0} (t : TeamOf S) : Type 0 where
 
 -- the ends of new links between so many workers, each with this room: the rows of sending ends by sender, of receiving ends by receiver
 pub record AreFreshLinks (capacity workers : ℕ) (outs : List (List Out)) (ins : List (List In)) : Type 0 where
-  pub outs : HasSize workers workers outs
-  pub ins : HasSize workers workers ins
+  pub senders : HasSize workers workers outs
+  pub receivers : HasSize workers workers ins
   pub matched : AreMatched capacity outs ins
 
 -- the worker of that number at the start, with its ends of these links
 pub record IsFirst {S : Type 0} (searched_space : SpaceOf S) (workers : ℕ) (outs : List (List Out)) (ins : List (List In)) (v : ℕ) (w : WorkerOf S)
     : Type 0 where
   pub is : IsFirstWorker searched_space v workers w.outs w.ins w
-  pub outs : At outs v w.outs
-  pub ins : At ins v w.ins
+  pub sends : At outs v w.outs
+  pub receives : At ins v w.ins
 
 -- so many workers at the start
 pub record AreFirstWorkers {S : Type 0} (searched_space : SpaceOf S) (workers : ℕ) (outs : List (List Out)) (ins : List (List In))

@@ -1,6 +1,7 @@
 //! The rings between workers, which are emptied between rounds, while no other thread has a worker.
 
-ghost use Rattle.std.specs.Prelude.{◌≡◌, ℕ, ◌×◌, ◌<◌, [], length, IfOk};
+ghost use Rattle.std.specs.Prelude.{◌≡◌, ◌≢◌, ℕ, ◌+◌, ◌<◌, ◌≤◌, [], length, IfOk};
+ghost use Rattle.std.specs.List.{insert};
 ghost use Rattle.owner_theory.specs.Owners.{At};
 ghost use Rattle.owner.specs.Spaces.{SpaceOf};
 ghost use Rattle.worker.specs.Workers.{WorkerOf, IsKept};
@@ -14,100 +15,128 @@ use std::alloc::AllocError;
 use worker::Worker;
 
 /// What holds of each worker, stated as a contract for all of them.
-pub(crate) fn recall_each<S: Spread + Drop, F: StateForm + Drop>(workers: &[Worker<'_, S, F>])
-    ensures { (v : ℕ) (w : WorkerOf S) → At workers.now v w → IsKept S.owner w }
+pub(crate) fn recall_each<S: Spread + Drop, F: StateForm + Drop>(workers: &Vec<Worker<'_, S, F>>)
+    ensures { (v : ℕ) (w : WorkerOf S) → At workers.now.items v w → IsKept S.owner w }
 {
     for worker in workers {
         worker.recall();
     }
 }
 
-/// The number of messages in the ring from one of these workers to another one, or to itself. Allocates nothing.
-fn match_link<S: Spread + Drop, F: StateForm + Drop>(
-    workers: &mut [Worker<'_, S, F>],
+/// The place of worker `from` among all workers but worker `to`.
+fn place_beside(from: usize, to: usize) -> usize
+    requires { from ≢ to }
+    ensures before { from < to → result ≡ from }
+    ensures behind { to ≤ from → result + 1 ≡ from }
+{
+    if from < to { from } else { from - 1 }
+}
+
+/// The number of messages in the ring from worker `from` to the receiver, which is worker `to` and stands beside the others. Allocates
+/// nothing.
+fn match_link<'a, S: Spread + Drop, F: StateForm + Drop>(
+    others: &mut Vec<Worker<'a, S, F>>,
+    receiver: &mut Worker<'a, S, F>,
     from: usize,
     to: usize,
 ) -> usize
-    requires from { from < length workers.old }
-    requires to { to < length workers.old }
-    requires members { (space : SpaceOf S) × AreMembers space workers.old }
-    ensures { IsLinkMatched S.owner from to workers.old workers.new result }
+    requires from { from ≤ length others.old.items }
+    requires to { to ≤ length others.old.items }
+    requires members { (space : SpaceOf S) × AreMembers space (insert others.old.items to receiver.old) }
+    ensures { IsLinkMatched S.owner from to (insert others.old.items to receiver.old) (insert others.new.items to receiver.new) result }
 {
     if from == to {
-        workers[to].match_own_link()
-    } else if from < to {
-        let (front, back) = workers.split_at_mut(to);
-        front[from].match_link(&mut back[0])
-    } else {
-        let (front, back) = workers.split_at_mut(from);
-        back[0].match_link(&mut front[to])
+        return receiver.match_own_link();
     }
+    let place = place_beside(from, to);
+    others[place].match_link(receiver)
 }
 
-/// Looks at both ends of each link to one of these workers, so that it is known that no message which stands aside came over one of
-/// them. Allocates nothing.
-fn match_links<S: Spread + Drop, F: StateForm + Drop>(workers: &mut [Worker<'_, S, F>], to: usize)
-    requires to { to < length workers.old }
-    requires members { (space : SpaceOf S) × AreMembers space workers.old }
-    ensures matched { AreLookedAt S.owner workers.old workers.new }
-    ensures none_aside { (w : WorkerOf S) → At workers.new to w → w.misfits ≡ [] }
+/// Looks at both ends of each link to the receiver, so that it is known that no message stands aside in it. Allocates nothing.
+fn match_links<'a, S: Spread + Drop, F: StateForm + Drop>(
+    others: &mut Vec<Worker<'a, S, F>>,
+    receiver: &mut Worker<'a, S, F>,
+    to: usize,
+)
+    requires to { to ≤ length others.old.items }
+    requires members { (space : SpaceOf S) × AreMembers space (insert others.old.items to receiver.old) }
+    ensures looked { AreLookedAt S.owner (insert others.old.items to receiver.old) (insert others.new.items to receiver.new) }
+    ensures none_aside { receiver.new.misfits ≡ [] }
 {
-    for from in 0..workers.len() {
-        let _ = match_link(workers, from, to);
+    for from in 0..receiver.workers() {
+        let _ = match_link(others, receiver, from, to);
     }
-    recall_each(workers);
-    workers[to].owner().recall();
+    recall_each(others);
+    receiver.recall();
+    receiver.owner().recall();
 }
 
-/// One of these workers takes all messages in the ring from another one, or from itself. Fails only if allocation fails.
-fn empty_link<S: Spread + Drop, F: StateForm + Drop>(
-    workers: &mut [Worker<'_, S, F>],
+/// The receiver takes all messages in the ring from worker `from`. Fails only if allocation fails.
+fn empty_ring<'a, S: Spread + Drop, F: StateForm + Drop>(
+    others: &mut Vec<Worker<'a, S, F>>,
+    receiver: &mut Worker<'a, S, F>,
     from: usize,
     to: usize,
 ) -> Result<(), AllocError>
-    requires from { from < length workers.old }
-    requires to { to < length workers.old }
-    requires members { (space : SpaceOf S) × AreMembers space workers.old }
-    requires none_aside { (w : WorkerOf S) → At workers.old to w → w.misfits ≡ [] }
-    ensures { IfOk result (λ _. IsLinkEmptied S.owner from to workers.old workers.new) }
+    requires from { from ≤ length others.old.items }
+    requires to { to ≤ length others.old.items }
+    requires members { (space : SpaceOf S) × AreMembers space (insert others.old.items to receiver.old) }
+    requires none_aside { receiver.old.misfits ≡ [] }
+    ensures { IfOk result (λ _. IsLinkEmptied S.owner from to (insert others.old.items to receiver.old) (insert others.new.items to receiver.new)) }
 {
-    let waiting = match_link(workers, from, to);
+    let waiting = match_link(others, receiver, from, to);
     for _ in 0..waiting {
-        workers[to].begin_round(); // what is taken here is counted in no round
-        let _ = workers[to].receive(from)?;
-        let _ = match_link(workers, from, to);
-        workers[from].recall();
-        workers[to].recall();
-        workers[to].owner().recall();
+        receiver.begin_round(); // what is taken here is counted in no round
+        let _ = receiver.receive(from)?;
+        let _ = match_link(others, receiver, from, to);
+        recall_each(others);
+        receiver.recall();
+        receiver.owner().recall();
+    }
+    Ok(())
+}
+
+/// The receiver takes all messages in the rings to it. Fails only if allocation fails.
+fn empty_rings<'a, S: Spread + Drop, F: StateForm + Drop>(
+    others: &mut Vec<Worker<'a, S, F>>,
+    receiver: &mut Worker<'a, S, F>,
+    to: usize,
+) -> Result<(), AllocError>
+    requires to { to ≤ length others.old.items }
+    requires members { (space : SpaceOf S) × AreMembers space (insert others.old.items to receiver.old) }
+    ensures { IfOk result (λ _. AreLinksEmptied S.owner (length (insert others.old.items to receiver.old)) to (insert others.old.items to receiver.old) (insert others.new.items to receiver.new)) }
+{
+    match_links(others, receiver, to);
+    for from in 0..receiver.workers() {
+        empty_ring(others, receiver, from, to)?;
     }
     Ok(())
 }
 
 /// One of these workers takes all messages in the rings to it. Fails only if allocation fails.
-fn empty_links<S: Spread + Drop, F: StateForm + Drop>(
-    workers: &mut [Worker<'_, S, F>],
+fn empty_rings_to<S: Spread + Drop, F: StateForm + Drop>(
+    workers: &mut Vec<Worker<'_, S, F>>,
     to: usize,
 ) -> Result<(), AllocError>
-    requires to { to < length workers.old }
-    requires members { (space : SpaceOf S) × AreMembers space workers.old }
-    ensures { IfOk result (λ _. AreLinksEmptied S.owner (length workers.old) to workers.old workers.new) }
+    requires to { to < length workers.old.items }
+    requires members { (space : SpaceOf S) × AreMembers space workers.old.items }
+    ensures { IfOk result (λ _. AreLinksEmptied S.owner (length workers.old.items) to workers.old.items workers.new.items) }
 {
-    match_links(workers, to);
-    for from in 0..workers.len() {
-        empty_link(workers, from, to)?;
-    }
+    let mut receiver = workers.remove(to);
+    empty_rings(workers, &mut receiver, to)?;
+    workers.insert(to, receiver)?;
     Ok(())
 }
 
-/// These workers take all messages in the rings between them. Fails only if allocation fails.
+/// Each of these workers takes all messages in the rings to it. Fails only if allocation fails.
 fn empty_all<S: Spread + Drop, F: StateForm + Drop>(
-    workers: &mut [Worker<'_, S, F>],
+    workers: &mut Vec<Worker<'_, S, F>>,
 ) -> Result<(), AllocError>
-    requires { (space : SpaceOf S) × AreMembers space workers.old }
-    ensures { IfOk result (λ _. AreDrained S.owner (length workers.old) workers.old workers.new) }
+    requires { (space : SpaceOf S) × AreMembers space workers.old.items }
+    ensures { IfOk result (λ _. AreDrained S.owner (length workers.old.items) workers.old.items workers.new.items) }
 {
     for to in 0..workers.len() {
-        empty_links(workers, to)?;
+        empty_rings_to(workers, to)?;
     }
     Ok(())
 }

@@ -17,7 +17,7 @@ fn owners_of<'a, S: Spread + Drop, F: StateForm + Drop>(
     alloc: Global,
     workers: Vec<Worker<'a, S, F>>,
 ) -> Result<Vec<Owner<'a, S, F>>, AllocError>
-    ensures { IfOk result (λ owners. owners.items ≡ map (λ w. w.owner) workers.items) }
+    ensures { IfOk result (λ owners. owners.items ≡ map (λ w. w.owner) workers.entry.items) }
 {
     let mut owners = Vec::with_capacity(alloc, workers.len())?;
     for worker in workers {
