@@ -1,5 +1,5 @@
 -- A team at its start.
-use Rattle.std.proofs.Common.{◌≡◌, ℕ, zero, suc, ◌+◌, ◌<◌, ◌≤◌, ◌⊎◌, List, [], ◌∷◌, ◌++◌, length, map, drop, Some, refl, sym, ap, ◌∙◌, subst, inl, inr, ⊎_elim, arith, length-append}
+use Rattle.std.proofs.Common.{◌≡◌, ℕ, zero, suc, ◌+◌, ◌<◌, ◌≤◌, ◌⊎◌, List, [], ◌∷◌, ◌++◌, length, map, drop, Vec, Some, refl, sym, ap, ◌∙◌, subst, inl, inr, ⊎_elim, arith, length-append}
 use Rattle.std.specs.Prelude.{slice_get}
 use Rattle.std.proofs.lemmas.Bool.{cases_lt}
 use Rattle.std.proofs.lemmas.Option.{slice_get_within}
@@ -10,7 +10,7 @@ use Rattle.owner.specs.Spaces.{SpaceOf}
 use Rattle.links.specs.declared.ends.Out.{Out}
 use Rattle.links.specs.declared.ends.In.{In}
 use Rattle.links.specs.Ends.{sent, received, room, IsFresh}
-use Rattle.links.specs.Tables.{HasSize, AreMatched}
+use Rattle.links.specs.Tables.{rows, HasSize, AreMatched}
 use Rattle.extract.proofs.Places.{at_below, at_get, at_some}
 use Rattle.owner_theory.proofs.Lists.{at_get as at_of}
 use Rattle.worker.specs.Matching.{AreLinked}
@@ -174,3 +174,16 @@ module _ {S : Type 0} (space : SpaceOf S) (n : ℕ) (outs : List (List Out)) (in
   pub all_started : (ws : List (WorkerOf S)) (left_outs : List (List Out)) (left_ins : List (List In)) → AreStarting ws left_outs left_ins
       → length left_outs ≡ 0 → AreFirstWorkers space n outs ins ws
   all_started ws left_outs left_ins p none = record { len = let count = p.count in omega (arith, count, none); each = p.each }
+
+pub rows_long : {A G : Type 0} (vs : List (Vec A G)) → length (rows vs) ≡ length vs
+rows_long [] = refl
+rows_long (v ∷ vs) = ap suc (rows_long vs)
+
+-- the ends of a table of links
+pub fresh_rows : {G H : Type 0} (capacity n : ℕ) (outs : List (Vec Out G)) (ins : List (Vec In H)) → HasSize n n (rows outs) → HasSize n n (rows ins)
+    → AreMatched capacity (rows outs) (rows ins) → (length outs ≡ n) × AreFreshLinks capacity (length outs) (rows outs) (rows ins)
+fresh_rows capacity n outs ins tall tall_in matched =
+    let long : length outs ≡ n = sym (rows_long outs) ∙ tall.0 in (
+      long,
+      subst (λ k. AreFreshLinks capacity k (rows outs) (rows ins)) (sym long) (record { senders = tall; receivers = tall_in; matched = matched }),
+    )

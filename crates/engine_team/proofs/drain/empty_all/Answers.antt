@@ -10,7 +10,7 @@ loop-to-init g c = none_drained g.S.Spread.owner c.args.workers.now.items c.requ
 
 pub empty_rings_to-requires : goal.empty_rings_to-requires
 empty_rings_to-requires g c = record {
-  to = lt_as c.loop-to.to c.len-to-end.result _ _ c.loop-to-test.true c.len-to-end.ensures c.loop-to.invariant.len;
+  to = lt_as c.loop-to.to c.len-to-end.result _ _ c.loop-to-test.true (c.len-to-end.ensures ∙ c.args.workers.now.ok.0) c.loop-to.invariant.len;
   members = (
     c.requires.0,
     members_kept c.args.workers.now.items c.loop-to.workers.items
@@ -27,4 +27,4 @@ loop-to-preserved g c =
 pub returns : goal.returns
 returns g c =
     subst (λ n. AreDrained g.S.Spread.owner n c.args.workers.now.items c.loop-to.workers.items)
-    (end_is c.loop-to.to c.len-to-end.result _ c.loop-to-test.false c.loop-to.auto.to-end c.len-to-end.ensures) c.loop-to.invariant
+    (end_is c.loop-to.to c.len-to-end.result _ c.loop-to-test.false c.loop-to.auto.to-end (c.len-to-end.ensures ∙ c.args.workers.now.ok.0)) c.loop-to.invariant

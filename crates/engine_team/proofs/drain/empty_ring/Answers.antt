@@ -45,7 +45,7 @@ loop-preserved g c =
     c.args.from c.match_link-waiting.result c.loop.counter c.loop.others.items c.loop.receiver c.begin_round.new.self c.loop.invariant.1 c.loop.invariant.0
     c.begin_round.ensures c.receive.new.self _ c.in_ok-receive.ensures.received c.match_link.new.others.items c.match_link.new.receiver c.match_link.result
           len c.match_link.ensures c.loop-test.true c.requires.from c.recall_each.ensures c.recall.ensures c.owner.result.now c.owner.ensures
-          c.recall-2.ensures.space,
+          c.recall-in-loop.ensures.space,
       len,
     )
 
