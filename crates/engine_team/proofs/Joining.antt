@@ -1,5 +1,5 @@
 -- The workers of a team whose rings are empty are at the end of a lawful family.
-use Rattle.std.proofs.Common.{◌≡◌, ℕ, zero, suc, ◌+◌, ◌<◌, ◌≤◌, false, List, [], ◌∷◌, ◌++◌, length, map, refl, sym, ap, ◌∙◌, subst, ⊎_elim, arith}
+use Rattle.std.proofs.Common.{◌≡◌, ℕ, zero, suc, ◌+◌, ◌<◌, ◌≤◌, false, List, [], ◌∷◌, ◌++◌, length, map, get_or, refl, sym, ap, ◌∙◌, subst, ⊎_elim, arith}
 use Rattle.std.proofs.Math.Logic.{∥∥₁_elim}
 use Rattle.std.proofs.lemmas.Bool.{cases_lt}
 use Rattle.std.proofs.lemmas.List.{append-nil, length-map}
@@ -15,14 +15,14 @@ use Rattle.owner_theory.specs.Threads.{IsWorker, AreJoined}
 use Rattle.owner_theory.proofs.Distances.{least_of_at_most}
 use Rattle.owner_theory.proofs.Joins.{begins, joined_lawful}
 use Rattle.owner.specs.Spaces.{SpaceOf, searched}
-use Rattle.owner.specs.Owned.{OwnerOf, max_total}
+use Rattle.owner.specs.Owned.{OwnerOf, max_total, space_of}
 use Rattle.extract.specs.Ends.{EndOf, IsForm, IsEndOf}
 use Rattle.extract.proofs.Leasts.{at_most_least_of}
-use Rattle.extract.proofs.Places.{all_at, at_below, at_some}
+use Rattle.extract.proofs.Places.{all_at, at_below, at_read, at_some}
 use Rattle.worker.specs.Workers.{WorkerOf, IsKept, IsWorking, sent_to, received_from}
 use Rattle.engine_team.specs.Teams.{TeamOf, IsTeam, AreEmpty, sent_by}
 use Rattle.engine_team.proofs.Choice.{IsChoice, choice}
-use Rattle.engine_team.proofs.Fitting.{outs_past, received_past, sent_at, sent_past, works_as}
+use Rattle.engine_team.proofs.Fitting.{outs_past, space_is, received_past, sent_at, sent_past, works_as}
 
 -- what a worker of a list has, and what stands for it past the last one
 abbrev at_or : {W X : Type 0} → List W → (W → X) → X → ℕ → X
@@ -171,3 +171,22 @@ module _ {S : Type 0} (owner : S → List ℕ → ℕ → ℕ) (t : TeamOf S) (t
         );
     left = All-nil (λ p. IsState (ranges t.space.task) p.message.state × (p.message.cost ≤ max_total));
   }
+
+  -- the same, as the code puts it together
+  pub lawful_as : (os : List (OwnerOf S)) (left : List Packet) → os ≡ map (λ w. w.owner) t.workers → left ≡ []
+      → ∥ ((f : Family) × IsEndOf owner (record { space = t.space; owners = os; left = left }) f) ∥₁
+  lawful_as os left owners_are none =
+      subst (λ (e : EndOf S). ∥ ((f : Family) × IsEndOf owner e f) ∥₁) (λ j. record { space = t.space; owners = sym owners_are j; left = sym none j }) some_family
+
+  pub form_as : (os : List (OwnerOf S)) (left : List Packet) → os ≡ map (λ w. w.owner) t.workers → left ≡ []
+      → IsForm (record { space = t.space; owners = os; left = left })
+  form_as os left owners_are none =
+      subst (λ (e : EndOf S). IsForm e) (λ j. record { space = t.space; owners = sym owners_are j; left = sym none j }) form_of
+
+-- what is searched, from the first worker
+pub team_space : {S : Type 0} (owner : S → List ℕ → ℕ → ℕ) (t : TeamOf S) (team : IsTeam t) → ((v : ℕ) (w : WorkerOf S) → At t.workers v w → IsKept owner w)
+    → (a : WorkerOf S) → a ≡ get_or t.workers 0 a → (o : OwnerOf S) → o ≡ a.owner → IsSearchSpace (space_of owner o)
+    → IsSearchSpace (searched owner t.space (length t.workers))
+team_space owner t team kept a is o same ok =
+    let at = at_read t.workers 0 a team.some is in
+    subst IsSearchSpace (ap (λ x. space_of owner x) same ∙ space_is owner t.space (length t.workers) 0 a (team.members.each 0 a at) (kept 0 a at)) ok

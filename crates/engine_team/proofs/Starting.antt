@@ -175,6 +175,38 @@ module _ {S : Type 0} (space : SpaceOf S) (n : ℕ) (outs : List (List Out)) (in
       → length left_outs ≡ 0 → AreFirstWorkers space n outs ins ws
   all_started ws left_outs left_ins p none = record { len = let count = p.count in omega (arith, count, none); each = p.each }
 
+module _ (capacity n : ℕ) (outs : List (List Out)) (ins : List (List In)) (fresh : AreFreshLinks capacity n outs ins) {S : Type 0} (space : SpaceOf S) where
+  pub starts : (ws : List (WorkerOf S)) (los : List (List Out)) (lis : List (List In)) → ws ≡ [] → los ≡ outs → lis ≡ ins → AreStarting space n outs ins ws los lis
+  starts ws los lis none a b =
+      subst (λ xs. AreStarting space n outs ins xs los lis) (sym none)
+      (subst (λ xs. AreStarting space n outs ins [] xs lis) (sym a)
+      (subst (λ xs. AreStarting space n outs ins [] outs xs) (sym b) (none_started space n outs ins fresh.senders fresh.receivers)))
+
+  module _ (ws : List (WorkerOf S)) (los : List (List Out)) (lis : List (List In)) (os : List Out) (is : List In) (rest_outs : List (List Out))
+      (rest_ins : List (List In)) (p : AreStarting space n outs ins ws los lis) (a : los ≡ os ∷ rest_outs) (b : lis ≡ is ∷ rest_ins) where
+    as_next : AreStarting space n outs ins ws (os ∷ rest_outs) (is ∷ rest_ins)
+    as_next = subst (λ xs. AreStarting space n outs ins ws (os ∷ rest_outs) xs) b (subst (λ xs. AreStarting space n outs ins ws xs lis) a p)
+
+    none_more : length ws + 0 ≡ length ws
+    none_more = omega arith
+
+    pub next_sends : (count : ℕ) → count ≡ n → (length os ≡ count) × ((v : ℕ) → sent_to os v ≡ [])
+    next_sends count e =
+        let one = none_sent capacity n outs ins fresh (length ws) os (subst (λ k. At outs k os) none_more (as_next.outs_at 0 os refl)) in
+        (one.0 ∙ sym e, one.1)
+
+    pub next_receives : (count : ℕ) → count ≡ n → (length is ≡ count) × ((u : ℕ) → received_from is u ≡ [])
+    next_receives count e =
+        let one = none_received capacity n outs ins fresh (length ws) is (subst (λ k. At ins k is) none_more (as_next.ins_at 0 is refl)) in
+        (one.0 ∙ sym e, one.1)
+
+    pub next_started : (number count : ℕ) (w : WorkerOf S) (now : List (WorkerOf S)) → number ≡ length ws → count ≡ n
+        → IsFirstWorker space number count os is w → now ≡ ws ++ w ∷ [] → AreStarting space n outs ins now rest_outs rest_ins
+    next_started number count w now at total first is_now =
+        subst (λ xs. AreStarting space n outs ins xs rest_outs rest_ins) (sym is_now)
+        (one_started space n outs ins ws w os rest_outs is rest_ins as_next
+        (subst (λ k. IsFirstWorker space k n os is w) at (subst (λ m. IsFirstWorker space number m os is w) total first)))
+
 pub rows_long : {A G : Type 0} (vs : List (Vec A G)) → length (rows vs) ≡ length vs
 rows_long [] = refl
 rows_long (v ∷ vs) = ap suc (rows_long vs)
@@ -187,3 +219,16 @@ fresh_rows capacity n outs ins tall tall_in matched =
       long,
       subst (λ k. AreFreshLinks capacity k (rows outs) (rows ins)) (sym long) (record { senders = tall; receivers = tall_in; matched = matched }),
     )
+
+-- the team of all of them
+module _ {S : Type 0} (capacity n count : ℕ) (outs : List (List Out)) (ins : List (List In)) (fresh : AreFreshLinks capacity n outs ins)
+    (space : SpaceOf S) (ws : List (WorkerOf S)) (first : AreFirstWorkers space n outs ins ws) (same : n ≡ count) (d : Distance) (none : d ≡ Infinite) where
+  pub starts_team : 0 < count → IsTeam (record { space = space; workers = ws; best = d })
+  starts_team some = subst (λ b. IsTeam (record { space = space; workers = ws; best = b })) (sym none)
+      (first_is_team capacity n outs ins fresh space ws first (omega (arith, some, same)))
+
+  pub starts_first : (room : ℕ) → capacity ≡ room → IsFirstTeam space count room (record { space = space; workers = ws; best = d })
+  starts_first room is = subst (λ b. IsFirstTeam space count room (record { space = space; workers = ws; best = b })) (sym none)
+      (subst (λ c. IsFirstTeam space count c (record { space = space; workers = ws; best = Infinite })) is
+      (subst (λ m. IsFirstTeam space m capacity (record { space = space; workers = ws; best = Infinite })) same
+      (first_team capacity n outs ins fresh space ws first)))
