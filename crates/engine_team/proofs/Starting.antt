@@ -207,6 +207,9 @@ module _ (capacity n : ℕ) (outs : List (List Out)) (ins : List (List In)) (fre
         (one_started space n outs ins ws w os rest_outs is rest_ins as_next
         (subst (λ k. IsFirstWorker space k n os is w) at (subst (λ m. IsFirstWorker space number m os is w) total first)))
 
+pub either : {A B P : Type 0} → A ⊎ B → (A → P) → (B → P) → P
+either s f g = ⊎_elim f g s
+
 pub rows_long : {A G : Type 0} (vs : List (Vec A G)) → length (rows vs) ≡ length vs
 rows_long [] = refl
 rows_long (v ∷ vs) = ap suc (rows_long vs)

@@ -1,6 +1,6 @@
 use Rattle.std.proofs.Common.{◌≡◌, ◌∙◌, rules, [], ◌∷◌, length, sym, ap}
 use Rattle.links.specs.Tables.{rows}
-use Rattle.engine_team.proofs.Starting.{starts, next_sends, next_receives, next_started, all_started, rows_long}
+use Rattle.engine_team.proofs.Starting.{starts, next_sends, next_receives, next_started, all_started, either, rows_long}
 use Rattle.engine_team.proofs.team.first_workers.Goals as goal
 
 pub loop-outs-init : goal.loop-outs-init
@@ -41,6 +41,9 @@ loop-outs-preserved g c =
 
 pub returns : goal.returns
 returns g c =
-    let first : length c.loop-outs.outs-iterator.a.rest.items ≡ 0 = search rules in
     all_started c.args.space.now (length c.args.links.outs.items) (rows c.args.links.outs.items) (rows c.args.links.ins.items) c.loop-outs.workers.items
-    _ _ c.loop-outs.invariant (rows_long c.loop-outs.outs-iterator.a.rest.items ∙ first)
+    _ _ c.loop-outs.invariant
+    (either c.in-None.ensures.steps
+    (λ h. rows_long c.loop-outs.outs-iterator.a.rest.items ∙ (sym c.loop-outs.outs-iterator.a.rest.ok.0 ∙ h.1.0))
+    (λ h. sym c.loop-outs.invariant.both
+    ∙ (rows_long c.loop-outs.outs-iterator.b.rest.items ∙ (sym c.loop-outs.outs-iterator.b.rest.ok.0 ∙ h.1.0))))
