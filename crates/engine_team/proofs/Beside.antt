@@ -1,12 +1,11 @@
 -- A worker that stands beside the others, which it is one of.
-use Rattle.std.proofs.Common.{◌≡◌, ◌≢◌, ◌⊎◌, ℕ, zero, suc, ◌+◌, ◌-◌, ◌<◌, ◌≤◌, List, [], ◌∷◌, ◌++◌, length, take, drop, get_or, refl, sym, ap, ◌∙◌, subst, inl, inr, ⊎_elim, arith}
+use Rattle.std.proofs.Common.{◌≡◌, ◌≢◌, ◌⊎◌, ℕ, zero, suc, ◌+◌, ◌<◌, ◌≤◌, List, [], ◌∷◌, length, get_or, refl, sym, ap, ◌∙◌, subst, inl, inr, ⊎_elim, arith}
 use Rattle.std.specs.Prelude.{slice_set}
 use Rattle.std.specs.List.{insert, remove}
 use Rattle.std.proofs.lemmas.Bool.{cases_lt}
 use Rattle.std.proofs.lemmas.List.{length-set}
 use Rattle.owner_theory.specs.Owners.{At}
 use Rattle.owner_theory.specs.Families.{IsSearchSpace}
-use Rattle.owner_theory.proofs.Lists.{at_once}
 use Rattle.owner.specs.Spaces.{SpaceOf, searched}
 use Rattle.owner.specs.Owned.{space_of}
 use Rattle.extract.proofs.Places.{at_below, at_read}
@@ -188,10 +187,6 @@ module _ {S : Type 0} (owner : S → List ℕ → ℕ → ℕ) (space : SpaceOf 
       other_ring c s n m sent received =
           two_changed space (insert xs to r) are owner from to a c r s n ne at_sender at_receiver m sent received
           (insert (slice_set xs place c) to s) (set_sender c s)
-
-  pub within_all : (from count : ℕ) → from < count → count ≡ length r.outs → from ≤ length xs
-  within_all from count lt is =
-      let outs = (are.each to r at_receiver).outs in let long = length_inserted xs to r in omega (arith, lt, is, outs, long)
 
   pub count_is : (count : ℕ) → count ≡ length r.outs → count ≡ length (insert xs to r)
   count_is count is = is ∙ (are.each to r at_receiver).outs

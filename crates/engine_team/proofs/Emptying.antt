@@ -1,11 +1,11 @@
 -- Rings are emptied, link by link.
-use Rattle.std.proofs.Common.{◌≡◌, ◌≢◌, ◌⊎◌, ℕ, zero, suc, ◌+◌, ◌<◌, ◌≤◌, ◌==◌, Bool, true, false, List, [], ◌∷◌, ◌++◌, length, map, drop, refl, sym, ap, ◌∙◌, subst, inl, inr, ⊎_elim, true≢false, arith, append_assoc, length-append, add-one}
+use Rattle.std.proofs.Common.{◌≡◌, ◌≢◌, ℕ, zero, suc, ◌+◌, ◌<◌, ◌≤◌, false, List, [], ◌∷◌, ◌++◌, length, map, drop, refl, sym, ap, ◌∙◌, subst, ⊎_elim, true≢false, arith, append_assoc, length-append, add-one}
 use Rattle.std.specs.Prelude.{slice_get, slice_set, Some}
 use Rattle.std.proofs.Math.Seq.{drop-append_seam}
 use Rattle.std.proofs.lemmas.Bool.{cases_eq, cases_lt, eq-eqb}
-use Rattle.std.proofs.lemmas.List.{append-nil, length-set}
-use Rattle.cost.specs.Distances.{Distance, ◌≤ᵈ◌, least}
-use Rattle.owner_theory.specs.Owners.{At, Message, Packet, put}
+use Rattle.std.proofs.lemmas.List.{append-nil}
+use Rattle.cost.specs.Distances.{◌≤ᵈ◌, least}
+use Rattle.owner_theory.specs.Owners.{At, Message, put}
 use Rattle.owner_theory.specs.Families.{IsSearchSpace}
 use Rattle.owner_theory.proofs.Lists.{at_once, put_cases}
 use Rattle.closed.specs.Tables.{message_of}
@@ -16,11 +16,11 @@ use Rattle.extract.proofs.Places.{at_below, at_some}
 use Rattle.worker.specs.Workers.{WorkerOf, IsKept, AreSameIns, sent_to, received_from, known_from}
 use Rattle.worker.specs.declared.outcome.Received.{Received}
 use Rattle.worker.specs.declared.outcome.Received.TheVariants.{Taken, Nothing, SetAside}
-use Rattle.worker.specs.Turns.{HasReceived, HasTaken, HasNothingTaken, HasSetAside, HasPopped}
+use Rattle.worker.specs.Turns.{HasReceived, HasTaken}
 use Rattle.worker.proofs.Rows.{ins_same}
-use Rattle.engine_team.specs.Teams.{TeamOf, IsMember, AreMembers, AreAllLinked, IsTeam, sent_by}
+use Rattle.engine_team.specs.Teams.{TeamOf, AreMembers, AreAllLinked, IsTeam, sent_by}
 use Rattle.engine_team.specs.Draining.{in_rings, HasTakenEach, IsDrained, IsLookedAt, AreLookedAt, IsLinkMatched, HasEmptied, IsLinkEmptied, HasEmptiedEach, AreLinksEmptied, AreDrained}
-use Rattle.engine_team.proofs.Fitting.{sent_at, sent_past, none_aside, none_aside_from}
+use Rattle.engine_team.proofs.Fitting.{sent_at, none_aside_from}
 use Rattle.engine_team.proofs.Members.{Keeps, HaveKept, taken_keeps, earlier, later, members_kept, sent_kept, set_kept, set_linked}
 use Rattle.engine_team.proofs.Places.{at_set, at_here}
 use Rattle.engine_team.proofs.Taking.{takes_none, takes_nothing, takes_one, takes_through}
@@ -271,44 +271,44 @@ module _ {S : Type 0} (owner : S → List ℕ → ℕ → ℕ) where
       taken_more : (old : List (WorkerOf S)) (waiting i : ℕ) → IsEmptying from to old now waiting i → HasTaken owner from c d
           → IsEmptying from to old next waiting (i + 1)
       taken_more old waiting i e t =
-        let now_here : (y : WorkerOf S) → At next to y → received_from y.ins from ≡ received_from b.ins from ++ t.message ∷ [] =
-        λ y at_y. (m.looked.each to d y at_d at_y).received from
-        ∙ (t.popped.link from
-        ∙ (put_here (received_from c.ins) from (received_from c.ins from ++ t.message ∷ [])
-        ∙ ap (λ is. received_from is from ++ t.message ∷ []) same_ins)) in
-        let all : (y : WorkerOf S) → At next to y → received_from y.ins from ++ known_from y.ins from ≡ sent_by old from to =
-        λ y at_y. m.all y at_y
-        ∙ (sent_kept now mid mid_kept from to ∙ sent_kept old now (emptying_have from to waiting i old now e) from to) in
-        record {
-        len = m.looked.len ∙ (mid_kept.len ∙ e.len);
-        links = m.looked.links;
-        taken = e.taken ++ t.message ∷ [];
-        receiver = λ a y at_a at_y.
-            taken_looked (e.taken ++ t.message ∷ []) a d y
-            (takes_through owner e.taken (t.message ∷ []) a b d (e.receiver a b at_a at_b)
-            (takes_through owner [] (t.message ∷ []) b c d (begun_keeps b c (are.each to b at_b).counted begun) (takes_one owner from c d t)))
-            (m.looked.each to d y at_d at_y);
-        here = λ a y at_a at_y. now_here y at_y
-            ∙ (ap (λ ms. ms ++ t.message ∷ []) (e.here a b at_a at_b) ∙ append_assoc (received_from a.ins from) e.taken (t.message ∷ []));
-        there = λ a y at_a at_y u ne. (m.looked.each to d y at_d at_y).received u
-            ∙ (t.popped.link u
-            ∙ (put_there (received_from c.ins) from (received_from c.ins from ++ t.message ∷ []) u ne
-            ∙ (ap (λ is. received_from is u) same_ins ∙ e.there a b at_a at_b u ne)));
-        all = λ y at_y. all y at_y;
-        few = λ y at_y.
-            let was = ap length (e.all b at_b) in let is = ap length (all y at_y) in
-            let long_was = length-append (received_from b.ins from) (known_from b.ins from) in
-            let long_is = length-append (received_from y.ins from) (known_from y.ins from) in
-            let longer = ap length (now_here y at_y) in
-            let one = length-append (received_from b.ins from) (t.message ∷ []) in
-            let few = e.few b at_b in
-            omega (arith, was, is, long_was, long_is, longer, one, few);
-        none_aside = λ y at_y. looked_aside d y (m.looked.each to d y at_d at_y)
-            ∙ (ap (λ (w : WorkerOf S). w.misfits) t.worker ∙ (ap (λ (w : WorkerOf S). w.misfits) begun ∙ e.none_aside b at_b));
-        others = λ v a y ne at_a at_y.
-            let (x, at_x) = earlier mid next (looked_have mid next m.looked) v y at_y in
-            looked_through a x y (e.others v a x ne at_a (mid_elsewhere v x ne at_x)) (m.looked.each v x y at_x at_y);
-      }
+          let now_here : (y : WorkerOf S) → At next to y → received_from y.ins from ≡ received_from b.ins from ++ t.message ∷ [] =
+          λ y at_y. (m.looked.each to d y at_d at_y).received from
+          ∙ (t.popped.link from
+          ∙ (put_here (received_from c.ins) from (received_from c.ins from ++ t.message ∷ [])
+          ∙ ap (λ is. received_from is from ++ t.message ∷ []) same_ins)) in
+          let all : (y : WorkerOf S) → At next to y → received_from y.ins from ++ known_from y.ins from ≡ sent_by old from to =
+          λ y at_y. m.all y at_y
+          ∙ (sent_kept now mid mid_kept from to ∙ sent_kept old now (emptying_have from to waiting i old now e) from to) in
+          record {
+            len = m.looked.len ∙ (mid_kept.len ∙ e.len);
+            links = m.looked.links;
+            taken = e.taken ++ t.message ∷ [];
+            receiver = λ a y at_a at_y.
+                taken_looked (e.taken ++ t.message ∷ []) a d y
+                (takes_through owner e.taken (t.message ∷ []) a b d (e.receiver a b at_a at_b)
+                (takes_through owner [] (t.message ∷ []) b c d (begun_keeps b c (are.each to b at_b).counted begun) (takes_one owner from c d t)))
+                (m.looked.each to d y at_d at_y);
+            here = λ a y at_a at_y. now_here y at_y
+                ∙ (ap (λ ms. ms ++ t.message ∷ []) (e.here a b at_a at_b) ∙ append_assoc (received_from a.ins from) e.taken (t.message ∷ []));
+            there = λ a y at_a at_y u ne. (m.looked.each to d y at_d at_y).received u
+                ∙ (t.popped.link u
+                ∙ (put_there (received_from c.ins) from (received_from c.ins from ++ t.message ∷ []) u ne
+                ∙ (ap (λ is. received_from is u) same_ins ∙ e.there a b at_a at_b u ne)));
+            all = λ y at_y. all y at_y;
+            few = λ y at_y.
+                let was = ap length (e.all b at_b) in let is = ap length (all y at_y) in
+                let long_was = length-append (received_from b.ins from) (known_from b.ins from) in
+                let long_is = length-append (received_from y.ins from) (known_from y.ins from) in
+                let longer = ap length (now_here y at_y) in
+                let one = length-append (received_from b.ins from) (t.message ∷ []) in
+                let few = e.few b at_b in
+                omega (arith, was, is, long_was, long_is, longer, one, few);
+            none_aside = λ y at_y. looked_aside d y (m.looked.each to d y at_d at_y)
+                ∙ (ap (λ (w : WorkerOf S). w.misfits) t.worker ∙ (ap (λ (w : WorkerOf S). w.misfits) begun ∙ e.none_aside b at_b));
+            others = λ v a y ne at_a at_y.
+                let (x, at_x) = earlier mid next (looked_have mid next m.looked) v y at_y in
+                looked_through a x y (e.others v a x ne at_a (mid_elsewhere v x ne at_x)) (m.looked.each v x y at_x at_y);
+          }
 
       pub one_message_more : (old : List (WorkerOf S)) (waiting i : ℕ) → IsEmptying from to old now waiting i → i < waiting → from < length now
           → IsSearchSpace (searched owner space (length next))
@@ -425,11 +425,12 @@ module _ {S : Type 0} (owner : S → List ℕ → ℕ → ℕ) where
         let one = q.others v b c (omega (arith, lower)) at_b at_c in
         (emptied_looked (λ u. sent_by old u v) (length old) a b c was.0 one, looked_aside b c one ∙ was.1))
         (λ (le : to ≤ v). let is : to ≡ v = omega arith in
-        subst (λ k. HasEmptiedEach owner (λ u. sent_by old u k) (length old) a c × (c.misfits ≡ [])) is
-        (looked_emptied (λ u. sent_by old u to) (λ u. sent_by now u to) (length old) (length now) a b c (p.others v a b le at_a at_b)
-        (q.receiver b c (subst (λ k. At now k b) (sym is) at_b) (subst (λ k. At next k c) (sym is) at_c))
-        (λ j u. sent_kept old now have u to j) p.len,
-        q.none_aside c (subst (λ k. At next k c) (sym is) at_c)))
+        subst (λ k. HasEmptiedEach owner (λ u. sent_by old u k) (length old) a c × (c.misfits ≡ [])) is (
+          looked_emptied (λ u. sent_by old u to) (λ u. sent_by now u to) (length old) (length now) a b c (p.others v a b le at_a at_b)
+              (q.receiver b c (subst (λ k. At now k b) (sym is) at_b) (subst (λ k. At next k c) (sym is) at_c))
+              (λ j u. sent_kept old now have u to j) p.len,
+          q.none_aside c (subst (λ k. At next k c) (sym is) at_c),
+        ))
         (cases_lt v to);
     others = λ v a c le at_a at_c. let (b, at_b) = later old now have v a at_a in
         looked_through a b c (p.others v a b (omega (arith, le)) at_a at_b) (q.others v b c (omega (arith, le)) at_b at_c);

@@ -1,12 +1,12 @@
 -- No message stands aside that came over a link whose ends were looked at together.
-use Rattle.std.proofs.Common.{◌≡◌, ℕ, zero, suc, ◌+◌, ◌<◌, ◌≤◌, Bool, true, false, ◌&&◌, ◌==◌, List, [], ◌∷◌, ◌++◌, length, map, refl, sym, ap, ◌∙◌, subst, inl, inr, ⊎_elim, true≢false, arith}
+use Rattle.std.proofs.Common.{◌≡◌, ℕ, zero, suc, ◌<◌, ◌≤◌, true, ◌==◌, List, [], ◌∷◌, ◌++◌, length, map, refl, sym, ap, ◌∙◌, subst, inr, ⊎_elim, true≢false, arith}
 use Rattle.std.proofs.lemmas.Bool.{and_from, eq-eqb, cases_lt}
 use Rattle.std.proofs.lemmas.Grind.{not_there}
 use Rattle.std.proofs.lemmas.List.{length-map}
 use Rattle.fdr.specs.Tasks.{ranges}
 use Rattle.checker_clauses.specs.Clauses.{is_state}
 use Rattle.owner_theory.specs.Owners.{At, SearchSpace, Message, Packet, Log, fits, list_at}
-use Rattle.owner_theory.specs.Families.{In, IsSearchSpace, copies, copies_from}
+use Rattle.owner_theory.specs.Families.{In, IsSearchSpace, copies}
 use Rattle.owner_theory.specs.Threads.{IsWorker}
 use Rattle.owner_theory.proofs.Links.{copies_in, in_copies, in_copies_from}
 use Rattle.owner_theory.proofs.Lists.{in_front}
@@ -14,7 +14,7 @@ use Rattle.owner_theory.proofs.Runs.{good}
 use Rattle.owner_theory.proofs.States.{is_state-from}
 use Rattle.closed.specs.Tables.{message_of}
 use Rattle.owner.specs.Spaces.{SpaceOf, searched}
-use Rattle.owner.specs.Owned.{OwnerOf, space_of}
+use Rattle.owner.specs.Owned.{space_of}
 use Rattle.links.specs.declared.ends.In.{In as InOf}
 use Rattle.links.specs.declared.ends.Out.{Out}
 use Rattle.links.specs.Ends.{sent, received}

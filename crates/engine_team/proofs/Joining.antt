@@ -1,11 +1,11 @@
 -- The workers of a team whose rings are empty are at the end of a lawful family.
-use Rattle.std.proofs.Common.{◌≡◌, ℕ, zero, suc, ◌+◌, ◌<◌, ◌≤◌, false, List, [], ◌∷◌, ◌++◌, length, map, get_or, refl, sym, ap, ◌∙◌, subst, ⊎_elim, arith}
+use Rattle.std.proofs.Common.{◌≡◌, ℕ, zero, suc, ◌<◌, ◌≤◌, List, [], ◌∷◌, ◌++◌, length, map, get_or, refl, sym, ap, ◌∙◌, subst, ⊎_elim, arith}
 use Rattle.std.proofs.Math.Logic.{∥∥₁_elim}
 use Rattle.std.proofs.lemmas.Bool.{cases_lt}
 use Rattle.std.proofs.lemmas.List.{append-nil, length-map}
 use Rattle.std.proofs.lemmas.List.Elements.{All-nil}
 use Rattle.std.proofs.lemmas.List.Sorted.{IsPermutation-refl}
-use Rattle.cost.specs.Distances.{Distance, ◌≤ᵈ◌, least}
+use Rattle.cost.specs.Distances.{Distance, ◌≤ᵈ◌}
 use Rattle.cost.proofs.DistanceLaws.{at_most_through, at_most_infinite}
 use Rattle.fdr.specs.Tasks.{ranges, IsState}
 use Rattle.owner_theory.specs.Owners as machine
@@ -14,15 +14,15 @@ use Rattle.owner_theory.specs.Families.{IsSearchSpace, IsLawful, Family, least_o
 use Rattle.owner_theory.specs.Threads.{IsWorker, AreJoined}
 use Rattle.owner_theory.proofs.Distances.{least_of_at_most}
 use Rattle.owner_theory.proofs.Joins.{begins, joined_lawful}
-use Rattle.owner.specs.Spaces.{SpaceOf, searched}
+use Rattle.owner.specs.Spaces.{searched}
 use Rattle.owner.specs.Owned.{OwnerOf, max_total, space_of}
 use Rattle.extract.specs.Ends.{EndOf, IsForm, IsEndOf}
 use Rattle.extract.proofs.Leasts.{at_most_least_of}
 use Rattle.extract.proofs.Places.{all_at, at_below, at_read, at_some}
 use Rattle.worker.specs.Workers.{WorkerOf, IsKept, IsWorking, sent_to, received_from}
-use Rattle.engine_team.specs.Teams.{TeamOf, IsTeam, AreEmpty, sent_by}
+use Rattle.engine_team.specs.Teams.{TeamOf, IsTeam, AreEmpty}
 use Rattle.engine_team.proofs.Choice.{IsChoice, choice}
-use Rattle.engine_team.proofs.Fitting.{outs_past, space_is, received_past, sent_at, sent_past, works_as}
+use Rattle.engine_team.proofs.Fitting.{outs_past, space_is, received_past, works_as}
 
 -- what a worker of a list has, and what stands for it past the last one
 abbrev at_or : {W X : Type 0} → List W → (W → X) → X → ℕ → X
@@ -162,8 +162,7 @@ module _ {S : Type 0} (owner : S → List ℕ → ℕ → ℕ) (t : TeamOf S) (t
     some = let long = length-map t.workers (λ (w : WorkerOf S). w.owner) in omega (arith, team.some, long);
     each = λ v o at.
         let (w, at_w, is) = at_map (λ (w : WorkerOf S). w.owner) t.workers v o at in
-        let member = team.members.each v w at_w in
-        (
+        let member = team.members.each v w at_w in (
           ap (λ (x : OwnerOf S). x.space) (sym is) ∙ member.space,
           ap (λ (x : OwnerOf S). x.worker) (sym is) ∙ member.number,
           ap (λ (x : OwnerOf S). length x.outboxes) (sym is) ∙ (sym (kept v w at_w).outs ∙ (member.outs

@@ -1,5 +1,5 @@
 -- Two workers of a list, whose ends of a link were looked at together.
-use Rattle.std.proofs.Common.{◌≡◌, ◌≢◌, ◌⊎◌, ℕ, zero, suc, ◌<◌, List, [], ◌∷◌, ◌++◌, length, Some, refl, sym, ap, ◌∙◌, subst, inl, inr, ⊎_elim, arith}
+use Rattle.std.proofs.Common.{◌≡◌, ◌≢◌, ℕ, zero, suc, List, [], ◌∷◌, ◌++◌, length, Some, refl, sym, ap, ◌∙◌, subst, ⊎_elim, arith}
 use Rattle.std.specs.Prelude.{slice_get, slice_set}
 use Rattle.std.proofs.lemmas.Bool.{cases_eq}
 use Rattle.std.proofs.lemmas.List.{length-set}
@@ -10,11 +10,11 @@ use Rattle.links.specs.declared.ends.Out.{Out}
 use Rattle.links.specs.declared.ends.In.{In}
 use Rattle.links.specs.Ends.{AreEnds}
 use Rattle.extract.proofs.Places.{at_below, at_some}
-use Rattle.worker.specs.Matching.{AreLinked, IsMatchedUp}
+use Rattle.worker.specs.Matching.{IsMatchedUp}
 use Rattle.worker.specs.Workers.{WorkerOf, sent_to, received_from, known_from}
 use Rattle.worker.proofs.Rows.{set_there}
 use Rattle.engine_team.specs.Teams.{AreAllLinked, sent_by}
-use Rattle.engine_team.specs.Draining.{IsLookedAt, AreLookedAt, IsLinkMatched}
+use Rattle.engine_team.specs.Draining.{IsLookedAt, IsLinkMatched}
 use Rattle.engine_team.proofs.Fitting.{sent_at}
 use Rattle.engine_team.proofs.Places.{at_set, at_here}
 use Rattle.engine_team.proofs.Taking.{takes_none}

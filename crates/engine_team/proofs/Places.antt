@@ -1,5 +1,5 @@
 -- Elements of a list of which one or two are changed.
-use Rattle.std.proofs.Common.{◌≡◌, ◌≢◌, ◌⊎◌, ℕ, zero, suc, ◌+◌, ◌<◌, ◌≤◌, List, [], ◌∷◌, ◌++◌, length, take, drop, get_or, refl, sym, ap, ◌∙◌, subst, inl, inr, ⊎_elim, arith}
+use Rattle.std.proofs.Common.{◌≡◌, ◌≢◌, ◌⊎◌, ℕ, zero, suc, ◌+◌, ◌<◌, ◌≤◌, List, [], ◌∷◌, ◌++◌, length, get_or, refl, sym, ap, subst, inl, inr, ⊎_elim, arith}
 use Rattle.std.specs.Prelude.{slice_set}
 use Rattle.std.proofs.lemmas.Bool.{cases_lt}
 use Rattle.owner_theory.specs.Owners.{At}
@@ -23,21 +23,6 @@ at_here [] i y lt = absurd (omega arith)
 at_here (z ∷ xs) zero y lt = refl
 at_here (z ∷ xs) (suc i) y lt = at_here xs i y (omega arith)
 
--- a list that was cut before the changed element
-pub set_back : {X : Type 0} (xs : List X) (k : ℕ) (y : X) → take k xs ++ slice_set (drop k xs) 0 y ≡ slice_set xs k y
-set_back [] zero y = refl
-set_back [] (suc k) y = refl
-set_back (x ∷ xs) zero y = refl
-set_back (x ∷ xs) (suc k) y = ap (λ l. x ∷ l) (set_back xs k y)
-
--- a list that was cut between the two changed elements, before the second
-pub set_halves : {X : Type 0} (xs : List X) (i k : ℕ) (x y : X) → i < k
-    → slice_set (take k xs) i x ++ slice_set (drop k xs) 0 y ≡ slice_set (slice_set xs i x) k y
-set_halves xs i zero x y lt = absurd (omega arith)
-set_halves [] i (suc k) x y lt = refl
-set_halves (z ∷ xs) zero (suc k) x y lt = ap (λ l. x ∷ l) (set_back xs k y)
-set_halves (z ∷ xs) (suc i) (suc k) x y lt = ap (λ l. z ∷ l) (set_halves xs i k x y (omega arith))
-
 -- what holds of the elements before a place, and of the one there
 pub each_more : {X : Type 0} (P : ℕ → X → Type 0) (xs : List X) (k : ℕ) (x : X) → k < length xs → x ≡ get_or xs k x → P k x
     → ((v : ℕ) (w : X) → v < k → At xs v w → P v w) → (v : ℕ) (w : X) → v < k + 1 → At xs v w → P v w
@@ -50,11 +35,6 @@ each_more P xs k x within is here each v w lt at = ⊎_elim
 pub each_all : {X : Type 0} (P : ℕ → X → Type 0) (xs : List X) (k : ℕ) → length xs ≤ k → ((v : ℕ) (w : X) → v < k → At xs v w → P v w)
     → (v : ℕ) (w : X) → At xs v w → P v w
 each_all P xs k le each v w at = let lt = at_below xs v w at in each v w (omega arith) at
-
-pub at_own : {X : Type 0} (xs : List X) (i : ℕ) (d : X) → i < length xs → At xs i (get_or xs i d)
-at_own [] i d lt = absurd (omega arith)
-at_own (x ∷ xs) zero d lt = refl
-at_own (x ∷ xs) (suc i) d lt = at_own xs i d (omega arith)
 
 -- the same of a list that is read in place of another
 pub each_more_read : {X : Type 0} (P : ℕ → X → Type 0) (xs ys : List X) (e : ys ≡ xs) (k : ℕ) (x : X) → k < length ys → x ≡ get_or ys k x → P k x

@@ -1,5 +1,5 @@
 -- The worker that empties the rings to it, beside the others.
-use Rattle.std.proofs.Common.{◌≡◌, ◌≢◌, ℕ, suc, ◌+◌, ◌<◌, ◌≤◌, ◌^◌, false, List, [], ◌∷◌, ◌++◌, length, get_or, refl, sym, ap, ◌∙◌, subst, arith}
+use Rattle.std.proofs.Common.{◌≡◌, ℕ, suc, ◌+◌, ◌<◌, ◌≤◌, ◌^◌, false, List, [], length, get_or, sym, ap, ◌∙◌, subst, arith}
 use Rattle.std.specs.Prelude.{slice_set}
 use Rattle.std.specs.List.{insert, remove}
 use Rattle.owner_theory.specs.Owners.{At}
@@ -10,10 +10,10 @@ use Rattle.owner.specs.Owned.{OwnerOf, space_of}
 use Rattle.worker.specs.Workers.{WorkerOf, IsKept}
 use Rattle.worker.specs.declared.outcome.Received.{Received}
 use Rattle.worker.specs.Turns.{HasReceived}
-use Rattle.engine_team.specs.Teams.{AreMembers, AreAllLinked, sent_by}
-use Rattle.engine_team.specs.Draining.{AreLookedAt, IsLinkMatched, IsLinkEmptied, AreLinksEmptied, AreDrained}
-use Rattle.engine_team.proofs.Beside.{length_inserted, at_inserted, insert_here, put_back, within_all, count_is, space_here, kept_beside}
-use Rattle.engine_team.proofs.Emptying.{AreMatching, IsEmptying, looked_have, emptying_have, links_have, drained_have, begins_emptying, ends_emptying, mid_members, one_message_more, no_links_emptied}
+use Rattle.engine_team.specs.Teams.{AreMembers, sent_by}
+use Rattle.engine_team.specs.Draining.{AreLookedAt, IsLinkMatched, IsLinkEmptied, AreLinksEmptied}
+use Rattle.engine_team.proofs.Beside.{length_inserted, at_inserted, insert_here, put_back, count_is, space_here, kept_beside}
+use Rattle.engine_team.proofs.Emptying.{AreMatching, IsEmptying, looked_have, emptying_have, links_have, begins_emptying, ends_emptying, mid_members, one_message_more, no_links_emptied}
 use Rattle.engine_team.proofs.Fitting.{none_aside}
 use Rattle.engine_team.proofs.Members.{members_kept, sent_kept}
 

@@ -1,10 +1,10 @@
 -- A team at its start.
-use Rattle.std.proofs.Common.{◌≡◌, ℕ, zero, suc, ◌+◌, ◌<◌, ◌≤◌, ◌⊎◌, List, [], ◌∷◌, ◌++◌, length, map, drop, Vec, Some, refl, sym, ap, ◌∙◌, subst, inl, inr, ⊎_elim, arith, length-append}
+use Rattle.std.proofs.Common.{◌≡◌, ℕ, zero, suc, ◌+◌, ◌<◌, ◌≤◌, ◌⊎◌, List, [], ◌∷◌, ◌++◌, length, map, Vec, Some, refl, sym, ap, ◌∙◌, subst, inl, inr, ⊎_elim, arith, length-append}
 use Rattle.std.specs.Prelude.{slice_get}
 use Rattle.std.proofs.lemmas.Bool.{cases_lt}
 use Rattle.std.proofs.lemmas.Option.{slice_get_within}
 use Rattle.cost.specs.Distances.{Distance, Infinite, ◌≤ᵈ◌, lesser, least}
-use Rattle.owner_theory.specs.Owners.{At, Message}
+use Rattle.owner_theory.specs.Owners.{At}
 use Rattle.closed.specs.Tables.{message_of}
 use Rattle.owner.specs.Spaces.{SpaceOf}
 use Rattle.links.specs.declared.ends.Out.{Out}
@@ -12,8 +12,6 @@ use Rattle.links.specs.declared.ends.In.{In}
 use Rattle.links.specs.Ends.{sent, received, room, IsFresh}
 use Rattle.links.specs.Tables.{rows, HasSize, AreMatched}
 use Rattle.extract.proofs.Places.{at_below, at_get, at_some}
-use Rattle.owner_theory.proofs.Lists.{at_get as at_of}
-use Rattle.worker.specs.Matching.{AreLinked}
 use Rattle.worker.specs.Workers.{WorkerOf, IsFirstWorker, sent_to, received_from}
 use Rattle.engine_team.specs.Teams.{TeamOf, IsTeam, IsFirstTeam, IsFirst, AreFreshLinks, AreFirstWorkers}
 use Rattle.engine_team.proofs.Fitting.{outs_past, received_past}
@@ -71,18 +69,24 @@ module _ (capacity n : ℕ) (outs : List (List Out)) (ins : List (List In)) (fre
       (o, link_at u v os is o i at_os (at_get os v o at_o) at_is at_i)
 
   pub none_sent : (u : ℕ) (os : List Out) → At outs u os → (length os ≡ n) × ((v : ℕ) → sent_to os v ≡ [])
-  none_sent u os at = (row_out u os at, λ v. ⊎_elim
-      (λ (lt : v < length os). let (o, at_o) = at_some os v lt in
-      sent_get os v o (at_get os v o at_o) ∙ ap (map message_of) (fresh_out u v os o at (at_get os v o at_o)).1.sent_none)
-      (λ (le : length os ≤ v). outs_past os v le)
-      (cases_lt v (length os)))
+  none_sent u os at = (
+    row_out u os at,
+    λ v. ⊎_elim
+        (λ (lt : v < length os). let (o, at_o) = at_some os v lt in
+        sent_get os v o (at_get os v o at_o) ∙ ap (map message_of) (fresh_out u v os o at (at_get os v o at_o)).1.sent_none)
+        (λ (le : length os ≤ v). outs_past os v le)
+        (cases_lt v (length os)),
+  )
 
   pub none_received : (v : ℕ) (is : List In) → At ins v is → (length is ≡ n) × ((u : ℕ) → received_from is u ≡ [])
-  none_received v is at = (row_in v is at, λ u. ⊎_elim
-      (λ (lt : u < length is). let (i, at_i) = at_some is u lt in
-      received_get is u i (at_get is u i at_i) ∙ ap (map message_of) (fresh_in u v is i at (at_get is u i at_i)).1.received_none)
-      (λ (le : length is ≤ u). received_past is u le)
-      (cases_lt u (length is)))
+  none_received v is at = (
+    row_in v is at,
+    λ u. ⊎_elim
+        (λ (lt : u < length is). let (i, at_i) = at_some is u lt in
+        received_get is u i (at_get is u i at_i) ∙ ap (map message_of) (fresh_in u v is i at (at_get is u i at_i)).1.received_none)
+        (λ (le : length is ≤ u). received_past is u le)
+        (cases_lt u (length is)),
+  )
 
   module _ {S : Type 0} (space : SpaceOf S) (ws : List (WorkerOf S)) (first : AreFirstWorkers space n outs ins ws) where
     abbrev team : TeamOf S

@@ -1,6 +1,5 @@
 -- Messages that are taken one after the other.
-use Rattle.std.proofs.Common.{◌≡◌, ℕ, suc, Bool, List, [], ◌∷◌, ◌++◌, length, refl, sym, ap, ◌∙◌, subst}
-use Rattle.cost.specs.Distances.{Distance}
+use Rattle.std.proofs.Common.{◌≡◌, ℕ, suc, Bool, List, [], ◌∷◌, ◌++◌, length, refl, sym, ap, ◌∙◌}
 use Rattle.owner_theory.specs.Owners.{SearchSpace, Message, Owner, took}
 use Rattle.owner.specs.Owned.{OwnerOf, space_of, under}
 use Rattle.links.specs.declared.ends.Out.{Out}

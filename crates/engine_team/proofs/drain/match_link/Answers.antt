@@ -22,8 +22,8 @@ index_mut-requires g c =
 pub match_link-requires : goal.match_link-requires
 match_link-requires g c =
     let link = other_link g.S.Spread.owner c.requires.members.0 c.args.others.now.items c.args.receiver.now c.args.to c.requires.to c.requires.members.1
-        c.args.from c.place_beside-place.result c.if-from-to.false c.requires.from c.place_beside-place.ensures.before c.place_beside-place.ensures.behind
-        c.index_mut.result.now c.index_mut.ensures.value in
+    c.args.from c.place_beside-place.result c.if-from-to.false c.requires.from c.place_beside-place.ensures.before c.place_beside-place.ensures.behind
+    c.index_mut.result.now c.index_mut.ensures.value in
     record { to = link.sends; from = link.receives; linked = link.linked }
 
 pub returns : goal.returns
