@@ -1,4 +1,4 @@
--- What the turns of a worker keep, and what they change at its seat; and what a round of a team is.
+-- The turns of one worker in a round: what they keep, what they change at its seat, and how they end.
 use Rattle.std.specs.Prelude.{◌≡◌, ◌≢◌, ℕ, ◌⊎◌, true, List, [], Option, Some, None}
 use Rattle.cost.specs.Distances.{Distance, lesser, ◌≤ᵈ◌}
 use Rattle.board.specs.declared.views.View.{View}

@@ -2,7 +2,7 @@
 
 ghost use Rattle.std.specs.Prelude.{◌≡◌, []};
 ghost use Rattle.board.specs.Seats.{IsSeatOf};
-ghost use Rattle.engine.specs.Rounds.{HasWorked};
+ghost use Rattle.engine_round.specs.Turns.{HasWorked};
 
 use crate::pause::Pause;
 use board::{Board, Seat};
@@ -24,7 +24,7 @@ pub(crate) struct Worked<'a, S: Spread + Drop, F: StateForm + Drop> {
 }
 
 impl<'a, S: Spread + Drop, F: StateForm + Drop> Model for Worked<'a, S, F> {
-    ghost use Rattle.engine.specs.Rounds.{WorkedOf};
+    ghost use Rattle.engine_round.specs.Turns.{WorkedOf};
 
     ghost Value = { WorkedOf S };
 

@@ -3,8 +3,8 @@
 ghost use Rattle.std.specs.Prelude.{◌≡◌};
 ghost use Rattle.std.specs.Thread.{IsSync};
 ghost use Rattle.board.specs.Seats.{IsSeatOf, view};
-ghost use Rattle.engine.specs.Rounds.{HasWorked};
-ghost use Rattle.engine.specs.Teams.{IsReady};
+ghost use Rattle.engine_round.specs.Turns.{HasWorked};
+ghost use Rattle.engine_round.specs.Jobs.{IsReady};
 
 use crate::work::{Worked, work};
 use board::{Board, Seat};
@@ -25,7 +25,7 @@ pub(crate) struct Job<'a, S: Spread + Drop, F: StateForm + Drop> {
 }
 
 impl<'a, S: Spread + Drop, F: StateForm + Drop> Model for Job<'a, S, F> {
-    ghost use Rattle.engine.specs.Teams.{JobOf};
+    ghost use Rattle.engine_round.specs.Jobs.{JobOf};
 
     ghost Value = { JobOf S };
 
@@ -40,7 +40,7 @@ pub(crate) struct WorkOf<'a, S: Spread + Drop, F: StateForm + Drop> {
 }
 
 impl<'a, S: Spread + Drop, F: StateForm + Drop> Promise<Worked<'a, S, F>> for WorkOf<'a, S, F> {
-    ghost use Rattle.engine.specs.Rounds.{HasWorked};
+    ghost use Rattle.engine_round.specs.Turns.{HasWorked};
 
     ghost kept_by = { λ p r. HasWorked S.owner p.board.value p.job.value.seat p.job.value.worker r };
 }
@@ -54,8 +54,8 @@ pub(crate) struct Begun<'a, S: Spread + Drop, F: StateForm + Drop> {
 
 impl<'a, S: Spread + Drop, F: StateForm + Drop> Model for Begun<'a, S, F> {
     ghost use Rattle.std.specs.Prelude.{◌≡◌, IfOk, IfErr};
-    ghost use Rattle.engine.specs.Rounds.{HasWorked};
-    ghost use Rattle.engine.specs.Teams.{BegunOf};
+    ghost use Rattle.engine_round.specs.Turns.{HasWorked};
+    ghost use Rattle.engine_round.specs.Jobs.{BegunOf};
 
     ghost Value = { BegunOf S };
 

@@ -1,7 +1,7 @@
 use Rattle.std.proofs.Common.{◌/◌, arith}
 use Rattle.board.specs.Seats.{view}
-use Rattle.engine.proofs.Splits.{both_halves}
-use Rattle.engine.proofs.seats.+split_seats.Goals as goal
+use Rattle.engine_round.proofs.Splits.{both_halves}
+use Rattle.engine_round.proofs.seats.+split_seats.Goals as goal
 
 pub returns : goal.returns
 returns t c =

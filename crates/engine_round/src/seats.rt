@@ -2,7 +2,7 @@
 
 ghost use Rattle.std.specs.Prelude.{◌<◌, ◌≤◌, IfOk};
 ghost use Rattle.board.specs.Seats.{IsSeatOf, view};
-ghost use Rattle.engine.specs.Teams.{AreSplit};
+ghost use Rattle.engine_round.specs.Jobs.{AreSplit};
 
 use board::{Board, Seat};
 use std::alloc::{AllocError, Global};

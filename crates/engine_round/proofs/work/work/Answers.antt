@@ -2,9 +2,9 @@ use Rattle.std.proofs.Common.{◌∙◌, subst}
 use Rattle.board.specs.Seats.{view}
 use Rattle.worker.specs.declared.outcome.Turn.{Turn}
 use Rattle.worker.specs.Turns.{IsTurn}
-use Rattle.engine.proofs.Kept.{at_start, one_turn, last_turn, stopped_turn, refused_turn}
-use Rattle.engine.proofs.work.work.Goals.{in-Ok-Last, in-Ok-Misfit, in-Err}
-use Rattle.engine.proofs.work.work.Goals as goal
+use Rattle.engine_round.proofs.Kept.{at_start, one_turn, last_turn, stopped_turn, refused_turn}
+use Rattle.engine_round.proofs.work.work.Goals.{in-Ok-Last, in-Ok-Misfit, in-Err}
+use Rattle.engine_round.proofs.work.work.Goals as goal
 
 pub loop-init : goal.loop-init
 loop-init g c = at_start c.args.board.now c.args.seat c.args.worker c.begin_round.new.self c.requires.seat c.requires.none_aside c.begin_round.ensures

@@ -13,7 +13,7 @@ use Rattle.links.specs.declared.ends.In.{In}
 use Rattle.worker.specs.Workers.{WorkerOf, AreSameOuts, AreSameIns}
 use Rattle.worker.specs.Turns.{chained, ReceivesFrom, SendsTo, HasTaken, HasNothingTaken, HasSent, HasNotSent, HasLooked, HasExpanded, HasAdded, HasOffered, HasCounted, HasTurned, HasStopped, HasRefused, IsTurnRefusal}
 use Rattle.worker.proofs.Rows.{outs_through, ins_through, outs_same, ins_same}
-use Rattle.engine.specs.Rounds.{IsSameWorker, IsSeated, HasKept, HasWorked}
+use Rattle.engine_round.specs.Turns.{IsSameWorker, IsSeated, HasKept, HasWorked}
 
 lesser_more : (x y z a b : Distance) → y ≡ lesser x a → z ≡ lesser y b → z ≡ lesser x (lesser a b)
 lesser_more x y z a b e f = f ∙ (ap (λ d. lesser d b) e ∙ lesser_assoc x a b)

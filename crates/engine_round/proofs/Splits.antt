@@ -9,7 +9,7 @@ use Rattle.board.specs.declared.views.View.{View}
 use Rattle.board.specs.declared.words.Board.{Board}
 use Rattle.board.specs.Rule.{total_parts, kept_part, new_part}
 use Rattle.board.specs.Seats.{BoardSeat, IsSeatOf, view}
-use Rattle.engine.specs.Teams.{AreSplit}
+use Rattle.engine_round.specs.Jobs.{AreSplit}
 
 parts_append : (vs ws : List View) → total_parts (vs ++ ws) ≡ total_parts vs + total_parts ws
 parts_append [] ws = omega arith

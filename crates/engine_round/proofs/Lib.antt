@@ -1,0 +1,5 @@
+pub mod Kept
+pub mod Splits
+pub mod Seating
+pub mod Joining
+pub mod Faults
