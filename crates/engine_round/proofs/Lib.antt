@@ -3,3 +3,4 @@ pub mod Splits
 pub mod Seating
 pub mod Joining
 pub mod Faults
+pub mod Followed

@@ -1,5 +1,5 @@
 -- What is ready for a round: seats that were split, each with its worker.
-use Rattle.std.proofs.Common.{◌≡◌, ℕ, ◌+◌, ◌-◌, ◌/◌, ◌≤◌, List, [], ◌∷◌, map, refl, sym, ap, ◌∙◌, subst, arith}
+use Rattle.std.proofs.Common.{◌≡◌, ℕ, ◌+◌, ◌-◌, ◌/◌, ◌^◌, ◌<◌, ◌≤◌, List, [], ◌∷◌, map, refl, sym, ap, ◌∙◌, subst, arith}
 use Rattle.std.specs.Prelude.{All}
 use Rattle.std.proofs.lemmas.List.Elements.{All-nil, All-cons, All-head, All-tail}
 use Rattle.cost.specs.Distances.{Distance, Infinite, lesser, least, ◌≤ᵈ◌}
@@ -10,6 +10,12 @@ use Rattle.board.specs.Rule.{all_parts, total_parts, kept_part, new_part}
 use Rattle.board.specs.Seats.{BoardSeat, IsSeatOf, view}
 use Rattle.worker.specs.Workers.{WorkerOf}
 use Rattle.engine_round.specs.Jobs.{JobOf, IsReady, IsOpened, AreSplit, AreSetUp}
+
+-- there is a part for each worker of a vector, whose length and capacity these are
+pub enough_parts : (n m len cap : ℕ) (best : Distance) (u w : View) → n ≡ len → len ≡ m → 0 < m → len ≤ cap → cap < 2 ^ 63 → IsOpened best u
+    → w ≡ new_part u → (0 < n) × (n ≤ w.parts)
+enough_parts n m len cap best u w counted is some within small opened other =
+    let e = opened.parts in let f = ap (λ (x : View). x.parts) other in (omega (arith, counted, is, some), omega (arith, counted, within, small, e, f))
 
 module _ {S : Type 0} where
   -- of each job, from each seat and each worker

@@ -49,9 +49,6 @@ pub record BegunOf (S : Type 0) : Type 0 where
   pub board : Board
   pub job : JobOf S
 
-abbrev pub begun_at : {S : Type 0} → Board → JobOf S → BegunOf S
-begun_at b j = record { board = b; job = j }
-
 -- the worker of that job has taken its turns
 abbrev pub HasDone : {S : Type 0} → (S → List ℕ → ℕ → ℕ) → Board → JobOf S → WorkedOf S → Type 0
 HasDone owner b j r = HasWorked owner b j.seat j.worker r

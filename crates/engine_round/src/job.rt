@@ -46,7 +46,6 @@ impl<'a, S: Spread + Drop, F: StateForm + Drop> Promise<Worked<'a, S, F>> for Wo
 }
 
 /// A job that runs in a thread; or that was done at once, because no thread could be made.
-#[derive(Drop)]
 pub(crate) struct Begun<'a, S: Spread + Drop, F: StateForm + Drop> {
     of: WorkOf<'a, S, F>,
     run: Result<PromisedHandle<Worked<'a, S, F>, WorkOf<'a, S, F>>, Worked<'a, S, F>>,
