@@ -4,3 +4,4 @@ pub mod Seating
 pub mod Joining
 pub mod Faults
 pub mod Followed
+pub mod Gathering

@@ -116,8 +116,7 @@ pub(crate) fn work_each<
         thread::scope_env(),
         rt,
         move |scope| -> Result<(Seat, Vec<Worked<S, F>>), AllocError>
-            requires own { IsSync R.row × IsSeatOf board.now own }
-            requires jobs { All (IsReady board.now) jobs.items }
+            requires { IsSync R.row × IsSeatOf board.now own × All (IsReady board.now) jobs.items }
             ensures own { IfOk result (λ r. IsSeatOf board.entry.now r.0 × (view r.0 ≡ view own)) }
             ensures worked { IfOk result (λ r. AllZip (HasDone S.owner board.entry.now) jobs.entry.items r.1.items) }
         { work_in(rt, alloc, scope, board, own, jobs) },

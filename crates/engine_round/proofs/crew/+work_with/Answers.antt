@@ -1,4 +1,4 @@
-use Rattle.std.proofs.Common.{◌∙◌, arith, length, subst}
+use Rattle.std.proofs.Common.{◌∙◌, arith, length, sym, subst}
 use Rattle.engine_round.specs.Turns.{HasWorked}
 use Rattle.engine_round.specs.Jobs.{IsReady, HasDone, BegunOf}
 use Rattle.engine_round.proofs.Followed.{all_but_last, one_more, none_left, as_long, empty_is}
@@ -40,5 +40,5 @@ pub returns-then-is_empty-clause-worked : goal.returns-then-is_empty-clause-work
 returns-then-is_empty-clause-worked g t c =
     one_more (HasDone g.S.Spread.owner c.args.board.now) c.args.jobs.items c.pop.new.self.items c.in-Some.job c.args.worked.items
     c.with_next.result.items c.run.result c.in-Some.ensures.items c.with_next.ensures.items
-    (none_left (HasDone g.S.Spread.owner c.args.board.now) c.pop.new.self.items c.args.worked.items (empty_is c.pop.new.self.len (length c.pop.new.self.items) c.if-is_empty.true c.pop.new.self.ok.0) c.requires.room.0)
+    (none_left (HasDone g.S.Spread.owner c.args.board.now) c.pop.new.self.items c.args.worked.items (empty_is c.pop.new.self.len (length c.pop.new.self.items) (sym c.is_empty.ensures ∙ c.if-is_empty.true) c.pop.new.self.ok.0) c.requires.room.0)
     c.run.ensures
