@@ -37,8 +37,7 @@ module _ {S : Type 0} where
   joined_seen d v [] below = (below, All-nil (λ (r : WorkedOf S). d ≤ᵈ (view r.seat).seen))
   joined_seen d v (r ∷ rs) below =
       let s : View = view r.seat in
-      let both = joined_seen d (joined v s) rs below in
-      (
+      let both = joined_seen d (joined v s) rs below in (
         at_most_through d (lesser v.seen s.seen) v.seen both.0 (lesser_at_most_left v.seen s.seen),
         All-cons (λ (x : WorkedOf S). d ≤ᵈ (view x.seat).seen) r rs
             (at_most_through d (lesser v.seen s.seen) s.seen both.0 (lesser_at_most_right v.seen s.seen))
@@ -94,9 +93,9 @@ module _ {S : Type 0} where
         let seat : d ≤ᵈ lesser (view j.seat).seen s = subst (λ y. d ≤ᵈ y) kept.seated.view_seen (All-head T r rs seats) in
         let after : d ≤ᵈ s = at_most_through d (lesser (view j.seat).seen s) s seat (lesser_at_most_right (view j.seat).seen s) in
         All-cons Q r.worker (map (λ (x : WorkedOf S). x.worker) rs)
-            (subst (λ y. d ≤ᵈ y) (sym kept.seated.seen) (at_most_lesser d j.worker.seen s before after))
-            (bounded_after d js rs done.1 (All-tail HasMemory r rs memory) (All-tail Q j.worker (map (λ (i : JobOf S). i.worker) js) old)
-            (All-tail T r rs seats))
+        (subst (λ y. d ≤ᵈ y) (sym kept.seated.seen) (at_most_lesser d j.worker.seen s before after))
+        (bounded_after d js rs done.1 (All-tail HasMemory r rs memory) (All-tail Q j.worker (map (λ (i : JobOf S). i.worker) js) old)
+        (All-tail T r rs seats))
 
     have_played : (best : Distance) (js : List (JobOf S)) (rs : List (WorkedOf S)) → AllZip (HasDone owner b) js rs → All HasMemory rs
         → All (λ j. (view j.seat).seen ≤ᵈ best) js → AllZip (HasPlayed best) (map (λ j. j.worker) js) (map (λ r. r.worker) rs)
@@ -105,8 +104,7 @@ module _ {S : Type 0} where
     have_played best (j ∷ js) [] done memory told = absurd done
     have_played best (j ∷ js) (r ∷ rs) done memory told =
         let kept : HasKept j.worker r.worker (view j.seat) (view r.seat) = kept_of j r rs done.0 memory in
-        let T : JobOf S → Type 0 = λ i. (view i.seat).seen ≤ᵈ best in
-        (
+        let T : JobOf S → Type 0 = λ i. (view i.seat).seen ≤ᵈ best in (
           record {
             same = kept.same;
             uncounted = kept.uncounted;
@@ -147,13 +145,13 @@ module _ {S : Type 0} where
         let seats_then : Distance = least (map (λ (j : JobOf S). (view j.seat).offered) js) in
         let news : List (WorkerOf S) = map (λ (r : WorkedOf S). r.worker) rs in
         let lowered : e.best ≡ lesser best have.since =
-                offered ∙ (joined_offered v rs ∙ (ap (lesser v.offered) have.seats
-                ∙ (sym (lesser_assoc v.offered seats_then have.since)
-                ∙ (ap (λ (x : View). lesser (lesser x.offered seats_then) have.since) same ∙ ap (λ d. lesser d have.since) set.offered)))) in
+        offered ∙ (joined_offered v rs ∙ (ap (lesser v.offered) have.seats
+        ∙ (sym (lesser_assoc v.offered seats_then have.since)
+        ∙ (ap (λ (x : View). lesser (lesser x.offered seats_then) have.since) same ∙ ap (λ d. lesser d have.since) set.offered)))) in
         let least_now : e.best ≡ least (map (λ (w : WorkerOf S). w.offered) news) = lowered ∙ (ap (λ d. lesser d have.since) is ∙ sym have.workers) in
         let below : e.best ≤ᵈ best = subst (λ d. d ≤ᵈ best) (sym lowered) (lesser_at_most_left best have.since) in
         let before = All-weaker (λ (w : WorkerOf S). best ≤ᵈ w.seen) (λ (w : WorkerOf S). e.best ≤ᵈ w.seen)
-                (λ w at. at_most_through e.best best w.seen below at) (map (λ (j : JobOf S). j.worker) js) bounded in
+        (λ w at. at_most_through e.best best w.seen below at) (map (λ (j : JobOf S). j.worker) js) bounded in
         record {
           played = subst (λ ws. AllZip (HasPlayed (least (map (λ (w : WorkerOf S). w.offered) (map (λ (j : JobOf S). j.worker) js)))) (map (λ (j : JobOf S). j.worker) js) ws)
               (sym workers)

@@ -54,13 +54,13 @@ module _ {S : Type 0} where
   are_set_up b best workers u v w own seats js n opened kept other own_seat own_view split seats_are workers_are none =
       let own_is : view own ≡ kept_part u = own_view ∙ kept in
       let each : All (λ s. IsSeatOf b s × ((view s).seen ≡ w.seen)) (map (λ (j : JobOf S). j.seat) js) =
-              subst (All (λ (s : BoardSeat). IsSeatOf b s × ((view s).seen ≡ w.seen))) (sym seats_are) split.each in
+      subst (All (λ (s : BoardSeat). IsSeatOf b s × ((view s).seen ≡ w.seen))) (sym seats_are) split.each in
       let seen : w.seen ≡ u.seen = ap (λ (x : View). x.seen) other in
       let parts : total_parts (map (λ (j : JobOf S). view j.seat) js) ≡ u.parts - u.parts / 2 =
-              sym (parts_of_seats js) ∙ (ap (λ ss. total_parts (map view ss)) seats_are ∙ (split.parts ∙ ap (λ (x : View). x.parts) other)) in
+      sym (parts_of_seats js) ∙ (ap (λ ss. total_parts (map view ss)) seats_are ∙ (split.parts ∙ ap (λ (x : View). x.parts) other)) in
       let none_offered : least (map (λ (j : JobOf S). (view j.seat).offered) js) ≡ Infinite =
-              sym (offered_by_seats js) ∙ (ap (λ ss. least (map (λ (s : BoardSeat). (view s).offered) ss)) seats_are
-              ∙ (split.offered ∙ ap (λ (x : View). x.offered) other)) in
+      sym (offered_by_seats js) ∙ (ap (λ ss. least (map (λ (s : BoardSeat). (view s).offered) ss)) seats_are
+      ∙ (split.offered ∙ ap (λ (x : View). x.offered) other)) in
       record {
         own_seat = own_seat;
         workers_are = workers_are;

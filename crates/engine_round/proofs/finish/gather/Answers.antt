@@ -23,12 +23,11 @@ loop-done-init g c =
     }
 
 pub join_seat-requires : goal.join_seat-requires
-join_seat-requires g c =
-    (
-      c.loop-done.invariant.own,
-      seat_next c.args.board.now c.in-Some.done (record { worker = c.done.inside.worker; seat = c.done.inside.seat; fault = c.done.inside.fault })
-          c.loop-done.done-iterator.rest.items c.next.new.self.rest.items c.in-Some.ensures.steps.0 c.done.view_is c.loop-done.invariant.seats,
-    )
+join_seat-requires g c = (
+  c.loop-done.invariant.own,
+  seat_next c.args.board.now c.in-Some.done (record { worker = c.done.inside.worker; seat = c.done.inside.seat; fault = c.done.inside.fault })
+      c.loop-done.done-iterator.rest.items c.next.new.self.rest.items c.in-Some.ensures.steps.0 c.done.view_is c.loop-done.invariant.seats,
+)
 
 pub loop-done-preserved : goal.loop-done-preserved
 loop-done-preserved g c =

@@ -13,5 +13,5 @@ invariant-loop-done g l = record {
   joined : joined_all (view l.own) l.done-iterator.rest.items ≡ joined_all (view l.fn.own) l.fn.worked.items;
   workers : l.workers.items ++ map (λ r. r.worker) l.done-iterator.rest.items ≡ map (λ r. r.worker) l.fn.worked.items;
   fault : first_of l.first (vec_len l.workers) (map (λ r. r.fault) l.done-iterator.rest.items) ≡ first_fault 0 (map (λ r. r.fault) l.fn.worked.items);
-  memory : All HasMemory l.done-iterator.rest.items → All HasMemory l.fn.worked.items
+  memory : All HasMemory l.done-iterator.rest.items → All HasMemory l.fn.worked.items;
 }

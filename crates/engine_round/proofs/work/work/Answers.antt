@@ -22,15 +22,15 @@ returns-in-loop g c =
     let stopped = stopped_turn g.S.Spread.owner c.args.board.now c.args.seat c.args.worker c.loop.seat in
     let refused = refused_turn g.S.Spread.owner c.args.board.now c.args.seat c.args.worker in
     elim c.match-turn.branch [
-      in-Ok-Last w ↦ rw (w.seat-is, w.fault-is) (last c.turn.new.seat c.loop.worker c.turn.new.self c.loop.invariant c.turn.ensures.seat
+      | in-Ok-Last w ↦ rw (w.seat-is, w.fault-is) (last c.turn.new.seat c.loop.worker c.turn.new.self c.loop.invariant c.turn.ensures.seat
           c.turn.ensures.none_uncounted
           (subst (λ (t : Turn). IsTurn g.S.Spread.owner c.loop.worker c.turn.new.self (view c.loop.seat) (view c.turn.new.seat) t)
-          w.in-Ok-Last.field-0-is w.in-Ok-Last.ensures.turned)) |
-      in-Ok-Misfit w ↦
-        let end = subst (λ (t : Turn). IsTurn g.S.Spread.owner c.loop.worker c.turn.new.self (view c.loop.seat) (view c.turn.new.seat) t)
-            w.in-Ok-Misfit.field-0-is w.in-Ok-Misfit.ensures.turned in
-        rw (w.seat-is, w.fault-is) (stopped w.halt.new.seat c.loop.worker c.turn.new.self c.loop.invariant w.halt.ensures.seat
-        c.turn.ensures.none_uncounted (w.halt.ensures.view ∙ end.1) end.0) |
-      in-Err w ↦ rw (w.seat-is, w.fault-is) (refused _ c.loop.seat w.halt-in-Err.new.seat (view c.turn.new.seat) c.loop.worker c.turn.new.self
+          w.in-Ok-Last.field-0-is w.in-Ok-Last.ensures.turned))
+      | in-Ok-Misfit w ↦
+          let end = subst (λ (t : Turn). IsTurn g.S.Spread.owner c.loop.worker c.turn.new.self (view c.loop.seat) (view c.turn.new.seat) t)
+          w.in-Ok-Misfit.field-0-is w.in-Ok-Misfit.ensures.turned in
+          rw (w.seat-is, w.fault-is) (stopped w.halt.new.seat c.loop.worker c.turn.new.self c.loop.invariant w.halt.ensures.seat
+          c.turn.ensures.none_uncounted (w.halt.ensures.view ∙ end.1) end.0)
+      | in-Err w ↦ rw (w.seat-is, w.fault-is) (refused _ c.loop.seat w.halt-in-Err.new.seat (view c.turn.new.seat) c.loop.worker c.turn.new.self
           c.loop.invariant w.halt-in-Err.ensures.seat c.turn.ensures.none_uncounted w.halt-in-Err.ensures.view w.in-Err.ensures.refused)
     ]
