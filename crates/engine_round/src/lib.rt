@@ -1,0 +1,13 @@
+//! A round of a search by threads: workers that take turns at once (hash distributed A*: Kishimoto, Fukunaga and Botea 2013).
+#![tactic(auto)]
+
+mod crew;
+mod finish;
+mod job;
+mod pause;
+mod rounds;
+mod seats;
+mod start;
+mod work;
+
+pub use rounds::{RoundEnd, round};
