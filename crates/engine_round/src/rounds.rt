@@ -38,7 +38,7 @@ impl<'a, S: Spread + Drop, F: StateForm + Drop> Model for RoundEnd<'a, S, F> {
     ghost view = { λ r. record { workers = r.workers.items; best = r.best; fault = r.fault } };
 }
 
-/// A round: each worker takes turns in a thread of its own, the last one in the caller's, until nothing is counted as left to do or
+/// A round: each worker takes turns in a thread of its own, the first one in the caller's, until nothing is counted as left to do or
 /// one of them ends the round, by a fault or by a message that is not for it. `best` is the least cost that any of them has offered so far.
 /// Where a thread cannot be made, its worker takes one turn in the caller's thread and the round ends.
 ///
