@@ -83,7 +83,7 @@ fn first_violation(
 /// Returns the verdict on a certificate for a task, whatever kind of task the certificate is for: `Accepted` with its
 /// bound if it meets the clauses C3 to C8, and else `Rejected` with its first violation. After `Accepted` every plan
 /// costs at least the bound, whoever wrote the certificate, and there is no plan if the bound is infinite. Fails only
-/// if allocation fails.
+/// if allocation fails, or if there are 2^32 closed states or more, as no text has.
 pub fn check_fdr<R: AllocGlobal>(
     rt: &R,
     task: &FdrTask,

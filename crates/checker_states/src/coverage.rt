@@ -58,7 +58,8 @@ impl<'a> Model for Coverage<'a> {
 }
 
 impl<'a> Coverage<'a> {
-    /// Prepares the closed list of the certificate, which must meet the clause C4. Fails only if allocation fails.
+    /// Prepares the closed list of the certificate, which must meet the clause C4. Fails only if allocation fails, or if the list has
+    /// 2^32 states or more, as no text has.
     pub fn new(
         alloc: Global,
         task: &'a FdrTask,
