@@ -3,7 +3,7 @@ use Rattle.std.specs.Prelude.{◌≡◌, ℕ, ◌≤◌, ◌<◌, ◌^◌, List,
 use Rattle.std.specs.Str.Parse.{IsNumeral, digits_value}
 use Rattle.optplan_sas.specs.Choices.{Choices}
 use Rattle.optplan_solve.specs.declared.settings.Settings.{Settings}
-use Rattle.optplan_solve.specs.Texts.{files_of}
+use Rattle.optplan_solve.specs.Outputs.{files_of}
 
 -- the text spells a number with digits only, in this range and below 2^64
 pub record IsNumberIn (least most : ℕ) (text : List ℕ) : Type 0 where

@@ -5,7 +5,7 @@ use Rattle.optplan_replies.specs.declared.status.Status.{Status}
 use Rattle.optplan_solve.specs.declared.settings.Settings.{Settings}
 use Rattle.optplan_solve.specs.Solving.{Solves}
 use Rattle.optplan_solve.specs.SasSolving.{SolvesSas}
-use Rattle.optplan_solve.specs.Texts.{files_of}
+use Rattle.optplan_solve.specs.Outputs.{files_of}
 use Rattle.optplan_command.specs.Options.{AreSettingsOf}
 
 -- the value of an operand, or the empty text if it has none

@@ -23,7 +23,8 @@ Reads a domain and a problem in PDDL 2.1 level 1 with types, negative preconditi
 
   the plan                    one (name arguments) a step, and a line with its cost (status 0)
   unsolvable                  there is no plan (status 4)
-  limit                       the search came to --limit or --steps first (status 5)
+  limit N                     the search came to --limit or --steps first: no plan costs less than N; behind this line
+                              stands the cheapest plan that was found by then, if there is one (status 5)
 
 With the metric minimize (total-cost) an action costs what it increases the total cost by, without it each action costs
 1. The certificate that --cert asks for is what the command check takes, beside the domain and the problem. A text that
@@ -40,7 +41,8 @@ effects), and prints:
 
   the plan                    one (operator) a step, and a line with its cost (status 0)
   unsolvable                  there is no plan (status 4)
-  limit                       the search came to --limit or --steps first (status 5)
+  limit N                     the search came to --limit or --steps first: no plan costs less than N; behind this line
+                              stands the cheapest plan that was found by then, if there is one (status 5)
 
 The certificate that --cert asks for is what the command check-sas takes, beside the task. A text that cannot be read is
 refused with one line on standard error, and so is a task that is too large (status 1).";

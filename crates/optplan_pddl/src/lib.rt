@@ -8,4 +8,4 @@ mod solving;
 
 pub use fault::PlanningFault;
 pub use optplan_sas::Options;
-pub use solving::{PlanningAnswer, PlanningSolution, simulate, solve_steps};
+pub use solving::{PlanningAnswer, simulate, solve_steps};

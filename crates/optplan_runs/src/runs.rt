@@ -33,20 +33,3 @@ pub fn run_over<R: AllocGlobal>(
     let status = run(&words, &mut device, rt);
     recorded(rt.alloc(), device.events(), status.code())
 }
-
-/// The outcome of a plan's validation over these texts.
-pub fn validated<R: AllocGlobal>(
-    rt: &R,
-    domain: &[u8],
-    problem: &[u8],
-    plan: &[u8],
-) -> Result<Outcome, RunFault> {
-    let files = [("d", domain), ("p", problem), ("l", plan)];
-    run_over(rt, &["validate", "d", "p", "l"], &files)
-}
-
-/// The outcome of a certificate's check for a finite-domain task over these texts.
-pub fn checked<R: AllocGlobal>(rt: &R, sas: &[u8], cert: &[u8]) -> Result<Outcome, RunFault> {
-    let files = [("s", sas), ("c", cert)];
-    run_over(rt, &["check-sas", "s", "c"], &files)
-}

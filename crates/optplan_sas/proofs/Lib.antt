@@ -1,6 +1,7 @@
 pub mod Schedules
 pub mod PlanTexts
 pub mod Spelled
+pub mod Texts
 pub mod Ends
 pub mod WorldEnds
 pub mod Answering

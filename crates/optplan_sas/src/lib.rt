@@ -2,6 +2,7 @@
 //! is none, with a certificate.
 #![tactic(auto)]
 
+mod answer;
 mod fault;
 mod found;
 mod options;
@@ -9,9 +10,10 @@ mod sas;
 mod schedule;
 mod searching;
 
+pub use answer::{Answer, CheapestPlan, KnownSoFar, WrittenPlan};
 pub use fault::{SasSolveFault, SearchFault};
-pub use found::{Found, Solution, found_by};
+pub use found::{Found, FoundPlan, SoFar, Solution, found_by};
 pub use options::{MAX_TABLE, MAX_WORKERS, Options};
-pub use sas::{SasAnswer, SasSolution, simulate_sas, solve_sas_steps};
+pub use sas::{SasAnswer, simulate_sas, solve_sas_steps};
 pub use schedule::simulated;
 pub use searching::{found_after, found_by_seed};

@@ -4,7 +4,7 @@ ghost use Rattle.std.specs.Prelude.{◌≡◌, IfOk, IfErr};
 ghost use Rattle.cert_value.specs.Views.{kind_of};
 ghost use Rattle.fdr.specs.Tasks.{ranges};
 ghost use Rattle.optplan_sas.specs.Findings.{IsFinding};
-ghost use Rattle.optplan_sas.specs.Searches.{IsSpaceFor, IsSettledAfter, IsShortAfter, IsRefusedAfter, IsSettledBySeed, IsShortBySeed, IsRefusedBySeed};
+ghost use Rattle.optplan_sas.specs.Searches.{IsSpaceFor, EndsAfter, IsRefusedAfter, EndsBySeed, IsRefusedBySeed};
 
 use crate::fault::SearchFault;
 use crate::found::{Found, found_by};
@@ -43,12 +43,12 @@ fn after_steps<'a, F: StateForm + Drop>(
 ) -> Result<Found, SearchFault>
     requires fits { F.Fits (ranges space.now.task) }
     requires space { IsSpaceFor space.now.task options.now space.now }
-    ensures found { IfOk result (IsFinding space.now.task (kind_of kind) (IsSettledAfter options.now steps.now space.now.task) (IsShortAfter options.now steps.now space.now.task)) }
+    ensures found { IfOk result (IsFinding space.now.task (kind_of kind) (EndsAfter options.now steps.now space.now.task)) }
     ensures refused { IfErr result (IsRefusedAfter options.now steps.now space.now.task) }
 {
     match World::<'a, Zobrist<'a>, F>::run(alloc, space, options.workers(), steps) {
         Ok(world) => Ok(found_by(alloc, &world.joined(), kind)?),
-        Err(OwnerFault::LimitReached) => Ok(Found::Unsettled),
+        Err(OwnerFault::LimitReached) => unreachable!(),
         Err(OwnerFault::TotalTooLarge) => Err(SearchFault::TotalTooLarge),
         Err(OwnerFault::OutOfMemory) => Err(SearchFault::OutOfMemory),
     }
@@ -64,13 +64,12 @@ fn by_seed<'a, F: StateForm + Drop>(
 ) -> Result<Found, SearchFault>
     requires fits { F.Fits (ranges space.now.task) }
     requires space { IsSpaceFor space.now.task options.now space.now }
-    ensures found { IfOk result (IsFinding space.now.task (kind_of kind) (IsSettledBySeed options.now seed space.now.task) (IsShortBySeed options.now seed space.now.task)) }
+    ensures found { IfOk result (IsFinding space.now.task (kind_of kind) (EndsBySeed options.now seed space.now.task)) }
     ensures refused { IfErr result (IsRefusedBySeed options.now seed space.now.task) }
 {
     match simulated::<Zobrist<'a>, F>(alloc, space, options.workers(), seed, options.steps()) {
-        Ok(Some(world)) => Ok(found_by(alloc, &world.joined(), kind)?),
-        Ok(None) => Ok(Found::Unsettled),
-        Err(OwnerFault::LimitReached) => Ok(Found::Unsettled),
+        Ok(world) => Ok(found_by(alloc, &world.joined(), kind)?),
+        Err(OwnerFault::LimitReached) => unreachable!(),
         Err(OwnerFault::TotalTooLarge) => Err(SearchFault::TotalTooLarge),
         Err(OwnerFault::OutOfMemory) => Err(SearchFault::OutOfMemory),
     }
@@ -85,7 +84,7 @@ fn after_steps_in_smallest_form<'a>(
     kind: CertificateKind,
 ) -> Result<Found, SearchFault>
     requires { IsSpaceFor space.now.task options.now space.now }
-    ensures found { IfOk result (IsFinding space.now.task (kind_of kind) (IsSettledAfter options.now steps.now space.now.task) (IsShortAfter options.now steps.now space.now.task)) }
+    ensures found { IfOk result (IsFinding space.now.task (kind_of kind) (EndsAfter options.now steps.now space.now.task)) }
     ensures refused { IfErr result (IsRefusedAfter options.now steps.now space.now.task) }
 {
     in_smallest_form!(
@@ -103,15 +102,15 @@ fn by_seed_in_smallest_form<'a>(
     kind: CertificateKind,
 ) -> Result<Found, SearchFault>
     requires { IsSpaceFor space.now.task options.now space.now }
-    ensures found { IfOk result (IsFinding space.now.task (kind_of kind) (IsSettledBySeed options.now seed space.now.task) (IsShortBySeed options.now seed space.now.task)) }
+    ensures found { IfOk result (IsFinding space.now.task (kind_of kind) (EndsBySeed options.now seed space.now.task)) }
     ensures refused { IfErr result (IsRefusedBySeed options.now seed space.now.task) }
 {
     in_smallest_form!(space.layout(), by_seed(alloc, space, options, seed, kind))
 }
 
-/// The finding for the task after these steps of a world of owners: a cheapest plan, or that there is none, with a
-/// certificate of that kind; `Unsettled` if the owners are not settled after the steps, or a step requests an owner to
-/// expand more nodes than its limit allows.
+/// The finding for the task after these steps of a world of owners, with a certificate of that kind: a cheapest plan, or that there is
+/// none; where the owners are not settled, what is known so far. No step is done from the first on that asks an owner for more nodes
+/// than its limit allows.
 ///
 /// Fails with `TotalTooLarge` if a path would have a cost or a number of operators above 2^62, or if allocation fails.
 pub fn found_after<'a>(
@@ -121,16 +120,16 @@ pub fn found_after<'a>(
     steps: &[WorldStep],
     kind: CertificateKind,
 ) -> Result<Found, SearchFault>
-    ensures found { IfOk result (IsFinding task.now (kind_of kind) (IsSettledAfter options.now steps.now task.now) (IsShortAfter options.now steps.now task.now)) }
+    ensures found { IfOk result (IsFinding task.now (kind_of kind) (EndsAfter options.now steps.now task.now)) }
     ensures refused { IfErr result (IsRefusedAfter options.now steps.now task.now) }
 {
     let space: Space<'a, Zobrist<'a>> = space_for(alloc, task, options)?;
     after_steps_in_smallest_form(alloc, &space, options, steps, kind)
 }
 
-/// The finding for the task after steps drawn from the seed, at most as many as the options allow: a cheapest plan, or
-/// that there is none, with a certificate of that kind; `Unsettled` if there is work left after the last step, or an
-/// owner is to expand more nodes than its limit allows.
+/// The finding for the task after steps drawn from the seed, at most as many as the options allow, with a certificate of that kind: a
+/// cheapest plan, or that there is none; where the owners are not settled, what is known so far. No step is done from the first on
+/// that asks an owner for more nodes than its limit allows.
 ///
 /// Fails with `TotalTooLarge` if a path would have a cost or a number of operators above 2^62, or if allocation fails.
 pub fn found_by_seed<'a>(
@@ -140,7 +139,7 @@ pub fn found_by_seed<'a>(
     seed: u64,
     kind: CertificateKind,
 ) -> Result<Found, SearchFault>
-    ensures found { IfOk result (IsFinding task.now (kind_of kind) (IsSettledBySeed options.now seed task.now) (IsShortBySeed options.now seed task.now)) }
+    ensures found { IfOk result (IsFinding task.now (kind_of kind) (EndsBySeed options.now seed task.now)) }
     ensures refused { IfErr result (IsRefusedBySeed options.now seed task.now) }
 {
     let space: Space<'a, Zobrist<'a>> = space_for(alloc, task, options)?;

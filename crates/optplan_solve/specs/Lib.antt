@@ -1,4 +1,3 @@
 pub mod Outputs
 pub mod Solving
 pub mod SasSolving
-pub mod Texts

@@ -3,29 +3,16 @@
 ghost use Rattle.std.specs.Prelude.{◌≡◌, ◌≢◌, ◌≤◌, ◌+◌, ◌++◌, ℕ, List, Some, IfOk, IfErr};
 ghost use Rattle.optplan_device.specs.Events.{Event};
 ghost use Rattle.optplan_sas.specs.Choices.{Choices};
-ghost use Rattle.optplan_sas.specs.Searches.{IsRefusedBySeed};
-ghost use Rattle.optplan_sas.specs.SasAnswers.{IsSasRefusal};
-ghost use Rattle.optplan_solve.specs.Outputs.{OutputFiles};
-ghost use Rattle.optplan_solve.specs.SasSolving.{sas_outputs, sas_answer_status, IsSasSolveRefusal, SolvesSas};
-ghost use Rattle.optplan_solve.specs.Texts.{files_of, text_outputs, text_status, IsSasAnsweredBy};
+ghost use Rattle.optplan_sas.specs.Searches.{EndsBySeed, IsRefusedBySeed};
+ghost use Rattle.optplan_sas.specs.SasAnswers.{IsSasAnswer, IsSasRefusal};
+ghost use Rattle.optplan_solve.specs.Outputs.{files_of};
+ghost use Rattle.optplan_solve.specs.SasSolving.{IsSasSolveRefusal, SolvesSas};
 
-use crate::outputs::{AnswerTexts, reply_answer};
+use crate::outputs::reply_answer;
 use crate::settings::Settings;
 use optplan_device::Device;
 use optplan_replies::{Fault, FileWord, Status, read_file, report};
 use optplan_sas::{SasAnswer, SasSolveFault, simulate_sas};
-
-/// The texts of an answer.
-fn texts_of(answer: SasAnswer) -> AnswerTexts
-    ensures outputs { (files : OutputFiles) → text_outputs files result ≡ sas_outputs files answer }
-    ensures status { text_status result ≡ sas_answer_status answer }
-{
-    match answer {
-        SasAnswer::Solved(solution) => AnswerTexts::Solved(solution.plan_text, solution.cert),
-        SasAnswer::Unsolvable(cert) => AnswerTexts::Unsolvable(cert),
-        SasAnswer::Limit => AnswerTexts::Limit,
-    }
-}
 
 /// The solver's fault as the program's.
 fn solve_fault(fault: SasSolveFault) -> Fault
@@ -38,28 +25,28 @@ fn solve_fault(fault: SasSolveFault) -> Fault
     }
 }
 
-/// The texts of the answer for the task that the text spells.
+/// The answer for the task that the text spells.
 ///
 /// Fails with the first fault of the text, with `TotalTooLarge` if a path's total is too large, or with `OutOfMemory`.
 fn answer_of<R: AllocGlobal>(
     rt: &R,
     sas: &[u8],
     settings: &Settings<'_>,
-) -> Result<AnswerTexts, Fault>
-    ensures answer { IfOk result (IsSasAnsweredBy sas.now settings.now.options settings.now.seed) }
+) -> Result<SasAnswer, Fault>
+    ensures answer { IfOk result (IsSasAnswer sas.now (EndsBySeed settings.now.options settings.now.seed)) }
     ensures refused { IfErr result (IsSasSolveRefusal sas.now settings.now.options settings.now.seed) }
 {
     match simulate_sas(rt, sas, &settings.options, settings.seed) {
-        Ok(answer) => Ok(texts_of(answer)),
+        Ok(answer) => Ok(answer),
         Err(fault) => Err(solve_fault(fault)),
     }
 }
 
 /// Solves a finite-domain task by steps drawn from the seed: reads the file; then writes the certificate and the plan, if
-/// requested, and prints the plan, `unsolvable` or `limit`; or reports a fault.
+/// requested, and prints the plan, `unsolvable`, or `limit` with a bound and the best plan so far; or reports a fault.
 ///
-/// Returns the exit status: `Done` with a plan, `Unsolvable` if there is none, `Limited` at a limit, or the fault's. For
-/// `unsolvable` no plan is written, and for `limit` no file.
+/// Returns the exit status: `Done` with a cheapest plan, `Unsolvable` if there is none, `Limited` at a limit, or the fault's.
+/// No plan is written where there is none.
 pub fn run_solve_sas<D: Device, R: AllocGlobal>(
     rt: &R,
     device: &mut D,

@@ -3,32 +3,17 @@
 ghost use Rattle.std.specs.Prelude.{◌≡◌, ◌≢◌, ◌≤◌, ◌+◌, ◌++◌, ℕ, List, Some, IfOk, IfErr};
 ghost use Rattle.optplan_device.specs.Events.{Event};
 ghost use Rattle.optplan_sas.specs.Choices.{Choices};
-ghost use Rattle.optplan_sas.specs.Searches.{IsRefusedBySeed};
-ghost use Rattle.optplan_pddl.specs.Answers.{IsPlanningRefusal};
-ghost use Rattle.optplan_solve.specs.Outputs.{OutputFiles};
-ghost use Rattle.optplan_solve.specs.Solving.{outputs, answer_status, IsSolveRefusal, Solves};
-ghost use Rattle.optplan_solve.specs.Texts.{files_of, text_outputs, text_status, IsAnsweredBy};
+ghost use Rattle.optplan_sas.specs.Searches.{EndsBySeed, IsRefusedBySeed};
+ghost use Rattle.optplan_pddl.specs.Answers.{IsPlanningAnswer, IsPlanningRefusal};
+ghost use Rattle.optplan_solve.specs.Outputs.{files_of};
+ghost use Rattle.optplan_solve.specs.Solving.{IsSolveRefusal, Solves};
 
-use crate::outputs::{AnswerTexts, reply_answer};
+use crate::outputs::reply_answer;
 use crate::settings::Settings;
 use optplan_device::Device;
 use optplan_pddl::{PlanningAnswer, PlanningFault, simulate};
 use optplan_replies::{Fault, Status, read_task_files, report, task_fault};
 use std::alloc::Global;
-
-/// The texts of an answer.
-fn texts_of(answer: PlanningAnswer) -> AnswerTexts
-    ensures outputs { (files : OutputFiles) → text_outputs files result ≡ outputs files answer }
-    ensures status { text_status result ≡ answer_status answer }
-{
-    match answer {
-        PlanningAnswer::Solved(solution) => {
-            AnswerTexts::Solved(solution.plan_text, solution.cert)
-        }
-        PlanningAnswer::Unsolvable(cert) => AnswerTexts::Unsolvable(cert),
-        PlanningAnswer::Limit => AnswerTexts::Limit,
-    }
-}
 
 /// The planner's fault as the program's.
 fn solve_fault(alloc: Global, fault: PlanningFault, domain: &[u8], problem: &[u8]) -> Fault
@@ -44,7 +29,7 @@ fn solve_fault(alloc: Global, fault: PlanningFault, domain: &[u8], problem: &[u8
     }
 }
 
-/// The texts of the answer for the task that the texts spell.
+/// The answer for the task that the texts spell.
 ///
 /// Fails with the fault of the texts that comes first, if the task, its translation or a path's total exceeds a limit, or
 /// with `OutOfMemory`.
@@ -53,21 +38,21 @@ fn answer_of<R: AllocGlobal>(
     domain: &[u8],
     problem: &[u8],
     settings: &Settings<'_>,
-) -> Result<AnswerTexts, Fault>
-    ensures answer { IfOk result (IsAnsweredBy domain.now problem.now settings.now.options settings.now.seed) }
+) -> Result<PlanningAnswer, Fault>
+    ensures answer { IfOk result (IsPlanningAnswer domain.now problem.now (EndsBySeed settings.now.options settings.now.seed)) }
     ensures refused { IfErr result (IsSolveRefusal domain.now problem.now settings.now.options settings.now.seed) }
 {
     match simulate(rt, domain, problem, &settings.options, settings.seed) {
-        Ok(answer) => Ok(texts_of(answer)),
+        Ok(answer) => Ok(answer),
         Err(fault) => Err(solve_fault(rt.alloc(), fault, domain, problem)),
     }
 }
 
 /// Solves a planning task by steps drawn from the seed: reads the two files; then writes the certificate and the plan, if
-/// requested, and prints the plan, `unsolvable` or `limit`; or reports a fault.
+/// requested, and prints the plan, `unsolvable`, or `limit` with a bound and the best plan so far; or reports a fault.
 ///
-/// Returns the exit status: `Done` with a plan, `Unsolvable` if there is none, `Limited` at a limit, or the fault's. For
-/// `unsolvable` no plan is written, and for `limit` no file.
+/// Returns the exit status: `Done` with a cheapest plan, `Unsolvable` if there is none, `Limited` at a limit, or the fault's.
+/// No plan is written where there is none.
 pub fn run_solve<D: Device, R: AllocGlobal>(
     rt: &R,
     device: &mut D,

@@ -1,7 +1,7 @@
 use Rattle.std.proofs.Common.{refl}
 use Rattle.std.specs.Prelude.{codes}
 use Rattle.clap.specs.Matches.{found_of, first_value}
-use Rattle.optplan_solve.specs.Texts.{files_of}
+use Rattle.optplan_solve.specs.Outputs.{files_of}
 use Rattle.optplan_command.proofs.Operands.{operand_is, renamed_solves}
 use Rattle.optplan_command.proofs.solve_words.solve_by_words.Goals as goal
 
