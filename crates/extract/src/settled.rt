@@ -61,8 +61,9 @@ fn least_of_packets<S: Spread + Drop>(
     least
 }
 
-/// The least f-value of an owner's nodes that are not expanded and of the messages in its outboxes.
-fn least_of_owner<S: Spread + Drop, F: StateForm + Drop>(
+/// The least f-value of an owner's nodes that are not expanded and of the messages in its outboxes, infinite if there are
+/// neither. `owners` is the number of owners, and `state` a buffer.
+pub fn least_of_owner<S: Spread + Drop, F: StateForm + Drop>(
     owner: &Owner<'_, S, F>,
     owners: usize,
     state: &mut [u32],
