@@ -30,8 +30,9 @@ fn table_violation(
 }
 
 /// The first violation of the clauses C6 to C8, where all earlier ones are met. Fails only if allocation fails.
-fn covering_violation<R: AllocGlobal + Threads + Sync>(
+fn covering_violation<R: Threads + Sync>(
     rt: &R,
+    alloc: Global,
     task: &FdrTask,
     certificate: &Certificate,
     coverage: &Coverage<'_>,
@@ -44,41 +45,43 @@ fn covering_violation<R: AllocGlobal + Threads + Sync>(
     if let Some(start) = coverage.start_violation() {
         return Ok(Some(start));
     }
-    if let Some(goal) = first_goal_violation(rt.alloc(), task, certificate)? {
+    if let Some(goal) = first_goal_violation(rt, alloc, task, certificate)? {
         return Ok(Some(goal));
     }
-    coverage.first_successor_violation(rt, rt.alloc())
+    coverage.first_successor_violation(rt, alloc)
 }
 
 /// The first violation of the clauses on the closed list, C5 to C8, where those on tables are met. Fails only if
 /// allocation fails.
-fn closed_violation<R: AllocGlobal + Threads + Sync>(
+fn closed_violation<R: Threads + Sync>(
     rt: &R,
+    alloc: Global,
     task: &FdrTask,
     certificate: &Certificate,
 ) -> Result<Option<Violation>, AllocError>
     requires { AreMetBelow task.now certificate.now 5 }
     ensures { IfOk result (IsFoundBelow task.now certificate.now 9) }
 {
-    if let Some(state) = first_closed_violation(rt.alloc(), task, certificate)? {
+    if let Some(state) = first_closed_violation(rt, alloc, task, certificate)? {
         return Ok(Some(state));
     }
-    let coverage = Coverage::new(rt.alloc(), task, certificate)?;
-    covering_violation(rt, task, certificate, &coverage)
+    let coverage = Coverage::new(alloc, task, certificate)?;
+    covering_violation(rt, alloc, task, certificate, &coverage)
 }
 
 /// The first violation, if there is one. Fails only if allocation fails.
-fn first_violation<R: AllocGlobal + Threads + Sync>(
+fn first_violation<R: Threads + Sync>(
     rt: &R,
+    alloc: Global,
     task: &FdrTask,
     certificate: &Certificate,
 ) -> Result<Option<Violation>, AllocError>
     ensures { IfOk result (IsFoundBelow task.now certificate.now 9) }
 {
-    if let Some(table) = table_violation(rt.alloc(), task, certificate)? {
+    if let Some(table) = table_violation(alloc, task, certificate)? {
         return Ok(Some(table));
     }
-    closed_violation(rt, task, certificate)
+    closed_violation(rt, alloc, task, certificate)
 }
 
 /// Returns the verdict on a certificate for a task, whatever kind of task the certificate is for: `Accepted` with its
@@ -96,7 +99,7 @@ pub fn check_fdr<R: AllocGlobal + Threads + Sync>(
     ensures none { IfOk result (λ verdict. verdict ≡ Accepted Infinite → HasNoPlan task.now) }
 {
     task.recall();
-    match first_violation(rt, task, certificate)? {
+    match first_violation(rt, rt.alloc(), task, certificate)? {
         Some(violation) => Ok(Verdict::Rejected(violation)),
         None => Ok(Verdict::Accepted(certificate.bound())),
     }
