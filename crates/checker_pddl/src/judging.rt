@@ -21,10 +21,10 @@ use checker::{Verdict, check_fdr};
 use fdr::FdrTask;
 use pddl_task::{GroundAtom, Task};
 use std::alloc::{AllocError, Global};
+use std::thread::Threads;
 use translate::with_variables;
 use translate_theory::ListedVariable;
 use translate_vars::TranslateFault;
-use std::thread::Threads;
 
 /// The words of the listed atom at the place. Fails only if allocation fails.
 fn listed_text(
