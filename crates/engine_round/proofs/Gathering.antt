@@ -1,16 +1,16 @@
 -- One worker more whose seat is joined, of those that are left.
-use Rattle.std.proofs.Common.{◌≡◌, ℕ, suc, ◌+◌, List, [], ◌∷◌, ◌++◌, map, Option, Some, sym, ap, ◌∙◌, subst, append_assoc, arith}
+use Rattle.std.proofs.Common.{◌≡◌, ℕ, suc, ◌+◌, List, [], ◌∷◌, ◌++◌, map, Option, sym, ap, ◌∙◌, subst, append_assoc, arith}
 use Rattle.std.specs.Prelude.{All}
 use Rattle.std.proofs.lemmas.List.Elements.{All-cons, All-head, All-tail}
 use Rattle.board.specs.declared.views.View.{View}
 use Rattle.board.specs.declared.words.Board.{Board}
 use Rattle.board.specs.Rule.{joined}
 use Rattle.board.specs.Seats.{IsSeatOf, view}
-use Rattle.owner.specs.declared.fault.OwnerFault.{OwnerFault}
 use Rattle.worker.specs.Workers.{WorkerOf}
 use Rattle.engine_round.specs.Turns.{WorkedOf}
+use Rattle.engine_round.specs.declared.fault.TurnFault.{TurnFault}
 use Rattle.engine_round.specs.Jobs.{HasMemory, joined_all}
-use Rattle.engine_round.specs.Rounds.{first_fault, earlier}
+use Rattle.engine_round.specs.Rounds.{earlier}
 use Rattle.engine_round.proofs.Faults.{first_of, first_more}
 
 module _ {S : Type 0} where
@@ -36,11 +36,11 @@ module _ {S : Type 0} where
       ∙ (append_assoc ws (w ∷ []) (f rest)
       ∙ (ap (λ u. ws ++ (u ∷ f rest)) (is ∙ ap (λ (y : WorkedOf S). y.worker) same) ∙ (ap (λ ys. ws ++ f ys) (sym e) ∙ before)))
 
-  pub fault_next : (first now all : Option (ℕ × OwnerFault)) (n m : ℕ) (f : Option OwnerFault) (r x : WorkedOf S) (left rest : List (WorkedOf S)) → left ≡ r ∷ rest
+  pub fault_next : (first now all : Option (ℕ × TurnFault)) (n m : ℕ) (f : Option TurnFault) (r x : WorkedOf S) (left rest : List (WorkedOf S)) → left ≡ r ∷ rest
       → x ≡ r → f ≡ x.fault → now ≡ earlier first n f → m ≡ n + 1 → first_of first n (map (λ y. y.fault) left) ≡ all
       → first_of now m (map (λ y. y.fault) rest) ≡ all
   fault_next first now all n m f r x left rest e same is earlier_is grown before =
-      let fs : List (Option OwnerFault) = map (λ (y : WorkedOf S). y.fault) rest in
+      let fs : List (Option TurnFault) = map (λ (y : WorkedOf S). y.fault) rest in
       let next : m ≡ suc n = omega (arith, grown) in
       ap (λ y. first_of y m fs) earlier_is
       ∙ (ap (λ k. first_of (earlier first n f) k fs) next

@@ -1,5 +1,5 @@
 -- What is known of workers and of the board once all seats are joined.
-use Rattle.std.proofs.Common.{◌≡◌, ◌≢◌, ℕ, suc, ◌+◌, ◌-◌, ◌/◌, ◌≤◌, List, [], ◌∷◌, map, length, Option, Some, None, refl, sym, ap, ◌∙◌, subst, arith}
+use Rattle.std.proofs.Common.{◌≡◌, ℕ, ◌+◌, List, [], ◌∷◌, map, refl, sym, ap, ◌∙◌, subst, arith}
 use Rattle.std.specs.Prelude.{All}
 use Rattle.std.specs.List.{AllZip}
 use Rattle.std.proofs.lemmas.List.Elements.{All-nil, All-cons, All-head, All-tail, All-weaker}
@@ -9,10 +9,9 @@ use Rattle.board.specs.declared.views.View.{View}
 use Rattle.board.specs.declared.words.Board.{Board}
 use Rattle.board.specs.Rule.{all_parts, total_parts, joined}
 use Rattle.board.specs.Seats.{BoardSeat, IsSeatOf, view}
-use Rattle.owner.specs.declared.fault.OwnerFault.{OwnerFault}
 use Rattle.worker.specs.Workers.{WorkerOf}
-use Rattle.engine_round.specs.Turns.{WorkedOf, HasKept}
-use Rattle.engine_round.specs.Jobs.{JobOf, IsReady, AreSetUp, HasDone, HasMemory, joined_all}
+use Rattle.engine_round.specs.Turns.{MayStop, WorkedOf, HasKept}
+use Rattle.engine_round.specs.Jobs.{JobOf, AreSetUp, HasDone, HasMemory, joined_all}
 use Rattle.engine_round.specs.Rounds.{RoundEndOf, HasPlayed, IsEndedBy, first_fault, IsRound}
 
 lesser_pairs : (a b x y : Distance) → lesser (lesser a x) (lesser b y) ≡ lesser (lesser a b) (lesser x y)
@@ -52,12 +51,12 @@ module _ {S : Type 0} where
     pub seats : least (map (λ (r : WorkedOf S). (view r.seat).offered) rs) ≡ lesser (least (map (λ (j : JobOf S). (view j.seat).offered) js)) since
     pub parts : total_parts (map (λ (r : WorkedOf S). view r.seat) rs) ≡ total_parts (map (λ (j : JobOf S). view j.seat) js)
 
-  module _ (owner : S → List ℕ → ℕ → ℕ) (b : Board) where
-    kept_of : (j : JobOf S) (r : WorkedOf S) (rs : List (WorkedOf S)) → HasDone owner b j r → All HasMemory (r ∷ rs)
+  module _ (owner : S → List ℕ → ℕ → ℕ) (may_stop : MayStop) (b : Board) where
+    kept_of : (j : JobOf S) (r : WorkedOf S) (rs : List (WorkedOf S)) → HasDone owner may_stop b j r → All HasMemory (r ∷ rs)
         → HasKept j.worker r.worker (view j.seat) (view r.seat)
     kept_of j r rs done memory = done.kept (All-head HasMemory r rs memory)
 
-    have_offered : (js : List (JobOf S)) (rs : List (WorkedOf S)) → AllZip (HasDone owner b) js rs → All HasMemory rs → HaveOffered js rs
+    have_offered : (js : List (JobOf S)) (rs : List (WorkedOf S)) → AllZip (HasDone owner may_stop b) js rs → All HasMemory rs → HaveOffered js rs
     have_offered [] [] done memory = record { since = Infinite; workers = refl; seats = refl; parts = refl }
     have_offered [] (r ∷ rs) done memory = absurd done
     have_offered (j ∷ js) [] done memory = absurd done
@@ -79,7 +78,7 @@ module _ {S : Type 0} where
           parts = let e = kept.seated.parts in let f = rest.parts in omega (arith, e, f);
         }
 
-    bounded_after : (d : Distance) (js : List (JobOf S)) (rs : List (WorkedOf S)) → AllZip (HasDone owner b) js rs → All HasMemory rs
+    bounded_after : (d : Distance) (js : List (JobOf S)) (rs : List (WorkedOf S)) → AllZip (HasDone owner may_stop b) js rs → All HasMemory rs
         → All (λ w. d ≤ᵈ w.seen) (map (λ j. j.worker) js) → All (λ r. d ≤ᵈ (view r.seat).seen) rs → All (λ w. d ≤ᵈ w.seen) (map (λ r. r.worker) rs)
     bounded_after d [] [] done memory old seats = All-nil (λ (w : WorkerOf S). d ≤ᵈ w.seen)
     bounded_after d [] (r ∷ rs) done memory old seats = absurd done
@@ -97,7 +96,7 @@ module _ {S : Type 0} where
         (bounded_after d js rs done.1 (All-tail HasMemory r rs memory) (All-tail Q j.worker (map (λ (i : JobOf S). i.worker) js) old)
         (All-tail T r rs seats))
 
-    have_played : (best : Distance) (js : List (JobOf S)) (rs : List (WorkedOf S)) → AllZip (HasDone owner b) js rs → All HasMemory rs
+    have_played : (best : Distance) (js : List (JobOf S)) (rs : List (WorkedOf S)) → AllZip (HasDone owner may_stop b) js rs → All HasMemory rs
         → All (λ j. (view j.seat).seen ≤ᵈ best) js → AllZip (HasPlayed best) (map (λ j. j.worker) js) (map (λ r. r.worker) rs)
     have_played best [] [] done memory told = tt
     have_played best [] (r ∷ rs) done memory told = absurd done
@@ -113,15 +112,15 @@ module _ {S : Type 0} where
           have_played best js rs done.1 (All-tail HasMemory r rs memory) (All-tail T j js told),
         )
 
-    have_ended : (js : List (JobOf S)) (rs : List (WorkedOf S)) → AllZip (HasDone owner b) js rs → All HasMemory rs
-        → AllZip (IsEndedBy owner) (map (λ r. r.worker) rs) (map (λ r. r.fault) rs)
+    have_ended : (js : List (JobOf S)) (rs : List (WorkedOf S)) → AllZip (HasDone owner may_stop b) js rs → All HasMemory rs
+        → AllZip (IsEndedBy owner may_stop) (map (λ r. r.worker) rs) (map (λ r. r.fault) rs)
     have_ended [] [] done memory = tt
     have_ended [] (r ∷ rs) done memory = absurd done
     have_ended (j ∷ js) [] done memory = absurd done
     have_ended (j ∷ js) (r ∷ rs) done memory =
         ((done.0.ended, All-head HasMemory r rs memory), have_ended js rs done.1 (All-tail HasMemory r rs memory))
 
-    pub seats_of : (js : List (JobOf S)) (rs : List (WorkedOf S)) → AllZip (HasDone owner b) js rs → All (λ r. IsSeatOf b r.seat) rs
+    pub seats_of : (js : List (JobOf S)) (rs : List (WorkedOf S)) → AllZip (HasDone owner may_stop b) js rs → All (λ r. IsSeatOf b r.seat) rs
     seats_of [] [] done = All-nil (λ (r : WorkedOf S). IsSeatOf b r.seat)
     seats_of [] (r ∷ rs) done = absurd done
     seats_of (j ∷ js) [] done = absurd done
@@ -129,17 +128,17 @@ module _ {S : Type 0} where
 
     -- ---- the end of a round
     pub all_joined : (best : Distance) (old : List (WorkerOf S)) (own : BoardSeat) (v : View) (js : List (JobOf S)) (rs : List (WorkedOf S))
-        → AreSetUp b best old own js → AllZip (HasDone owner b) js rs → v ≡ view own → All HasMemory rs → (joined_all v rs).parts ≡ all_parts
+        → AreSetUp b best old own js → AllZip (HasDone owner may_stop b) js rs → v ≡ view own → All HasMemory rs → (joined_all v rs).parts ≡ all_parts
     all_joined best old own v js rs set done same memory =
         let have : HaveOffered js rs = have_offered js rs done memory in
         joined_parts v rs ∙ (ap (λ (n : ℕ). v.parts + n) have.parts ∙ (ap (λ (x : View). x.parts + total_parts (map (λ (j : JobOf S). view j.seat) js)) same ∙ set.parts))
 
     round_of : (best : Distance) (own : BoardSeat) (v : View) (js : List (JobOf S)) (rs : List (WorkedOf S)) (e : RoundEndOf S)
-        → AreSetUp b best (map (λ j. j.worker) js) own js → AllZip (HasDone owner b) js rs → v ≡ view own → All HasMemory rs
+        → AreSetUp b best (map (λ j. j.worker) js) own js → AllZip (HasDone owner may_stop b) js rs → v ≡ view own → All HasMemory rs
         → best ≡ least (map (λ w. w.offered) (map (λ (j : JobOf S). j.worker) js)) → All (λ w. best ≤ᵈ w.seen) (map (λ j. j.worker) js)
         → e.workers ≡ map (λ r. r.worker) rs → e.fault ≡ first_fault 0 (map (λ r. r.fault) rs)
         → e.best ≡ (joined_all v rs).offered → e.best ≤ᵈ (joined_all v rs).seen
-        → IsRound owner (map (λ j. j.worker) js) e
+        → IsRound owner may_stop (map (λ j. j.worker) js) e
     round_of best own v js rs e set done same memory is bounded workers fault offered seen =
         let have : HaveOffered js rs = have_offered js rs done memory in
         let seats_then : Distance = least (map (λ (j : JobOf S). (view j.seat).offered) js) in
@@ -157,7 +156,7 @@ module _ {S : Type 0} where
               (sym workers)
               (subst (λ d. AllZip (HasPlayed d) (map (λ (j : JobOf S). j.worker) js) news) is (have_played best js rs done memory set.told));
           faults = map (λ (r : WorkedOf S). r.fault) rs;
-          stopped = subst (λ ws. AllZip (IsEndedBy owner) ws (map (λ (r : WorkedOf S). r.fault) rs)) (sym workers) (have_ended js rs done memory);
+          stopped = subst (λ ws. AllZip (IsEndedBy owner may_stop) ws (map (λ (r : WorkedOf S). r.fault) rs)) (sym workers) (have_ended js rs done memory);
           fault = fault;
           best = least_now ∙ ap (λ ws. least (map (λ (w : WorkerOf S). w.offered) ws)) (sym workers);
           bounded = subst (All (λ (w : WorkerOf S). e.best ≤ᵈ w.seen)) (sym workers)
@@ -165,14 +164,14 @@ module _ {S : Type 0} where
         }
 
     pub is_round : (best : Distance) (old : List (WorkerOf S)) (own : BoardSeat) (v : View) (js : List (JobOf S)) (rs : List (WorkedOf S)) (e : RoundEndOf S)
-        → AreSetUp b best old own js → AllZip (HasDone owner b) js rs → v ≡ view own → All HasMemory rs
+        → AreSetUp b best old own js → AllZip (HasDone owner may_stop b) js rs → v ≡ view own → All HasMemory rs
         → best ≡ least (map (λ w. w.offered) old) → All (λ w. best ≤ᵈ w.seen) old
         → e.workers ≡ map (λ r. r.worker) rs → e.fault ≡ first_fault 0 (map (λ r. r.fault) rs)
         → e.best ≡ (joined_all v rs).offered → e.best ≤ᵈ (joined_all v rs).seen
-        → IsRound owner old e
+        → IsRound owner may_stop old e
     is_round best old own v js rs e set done same memory is bounded workers fault offered seen =
         let back : old ≡ map (λ (j : JobOf S). j.worker) js = sym set.workers_are in
-        subst (λ x. IsRound owner x e) set.workers_are
+        subst (λ x. IsRound owner may_stop x e) set.workers_are
         (round_of best own v js rs e (subst (λ x. AreSetUp b best x own js) back set) done same memory
         (subst (λ x. best ≡ least (map (λ (w : WorkerOf S). w.offered) x)) back is) (subst (All (λ (w : WorkerOf S). best ≤ᵈ w.seen)) back bounded)
         workers fault offered seen)

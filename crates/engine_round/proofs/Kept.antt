@@ -1,5 +1,5 @@
 -- What the turns of a worker keep, and what they change at its seat.
-use Rattle.std.proofs.Common.{◌≡◌, ℕ, zero, suc, ◌⊎◌, inl, inr, ⊎_elim, false, List, [], ◌∷◌, length, Option, Some, None, refl, sym, ap, ◌∙◌, subst}
+use Rattle.std.proofs.Common.{◌≡◌, ℕ, zero, suc, inl, inr, ⊎_elim, false, List, [], ◌∷◌, length, Option, Some, None, refl, sym, ap, ◌∙◌, subst}
 use Rattle.cost.specs.Distances.{Distance, Infinite, lesser, ◌≤ᵈ◌}
 use Rattle.cost.proofs.DistanceLaws.{lesser_assoc, lesser_left, lesser_right, lesser_at_most_left, at_most_infinite, at_most_through}
 use Rattle.board.specs.declared.views.View.{View}
@@ -8,12 +8,12 @@ use Rattle.board.specs.Seats.{BoardSeat, IsSeatOf, view}
 use Rattle.owner.specs.declared.fault.OwnerFault.{OwnerFault}
 use Rattle.owner.specs.declared.fault.OwnerFault.TheVariants.{OutOfMemory, TotalTooLarge, LimitReached}
 use Rattle.owner.specs.Owned.{OwnerOf, IsExpansion}
-use Rattle.links.specs.declared.ends.Out.{Out}
-use Rattle.links.specs.declared.ends.In.{In}
 use Rattle.worker.specs.Workers.{WorkerOf, AreSameOuts, AreSameIns}
-use Rattle.worker.specs.Turns.{chained, ReceivesFrom, SendsTo, HasTaken, HasNothingTaken, HasSent, HasNotSent, HasLooked, HasExpanded, HasAdded, HasOffered, HasCounted, HasTurned, HasStopped, HasRefused, IsTurnRefusal}
+use Rattle.worker.specs.Turns.{chained, ReceivesFrom, SendsTo, HasTaken, HasNothingTaken, HasSent, HasNotSent, HasLooked, HasTurned, HasStopped, HasRefused}
 use Rattle.worker.proofs.Rows.{outs_through, ins_through, outs_same, ins_same}
-use Rattle.engine_round.specs.Turns.{IsSameWorker, IsSeated, HasKept, HasWorked}
+use Rattle.engine_round.specs.declared.fault.TurnFault.{TurnFault}
+use Rattle.engine_round.specs.declared.fault.TurnFault.TheVariants.{Owner, Gate}
+use Rattle.engine_round.specs.Turns.{MayStop, IsSameWorker, IsSeated, IsTurnFault, HasKept, HasWorked}
 
 lesser_more : (x y z a b : Distance) → y ≡ lesser x a → z ≡ lesser y b → z ≡ lesser x (lesser a b)
 lesser_more x y z a b e f = f ∙ (ap (λ d. lesser d b) e ∙ lesser_assoc x a b)
@@ -219,6 +219,21 @@ module _ {S : Type 0} where
         parts = ap (λ (x : View). x.parts) t.looks.view;
       }
 
+  -- the bound is read, and nothing else is done
+  looked_same : (old new : WorkerOf S) (u v : View) → HasLooked old new u v → IsSameWorker old new
+  looked_same old new u v looks = changed _ _ _ looks.worker (still _ _ refl refl refl refl refl)
+
+  looked_seated : (old new : WorkerOf S) (u v : View) → HasLooked old new u v → IsSeated old new u v
+  looked_seated old new u v looks = record {
+    seen_since = new.bound;
+    offered_since = Infinite;
+    seen = ap (λ (w : WorkerOf S). w.seen) looks.worker;
+    offered = ap (λ (w : WorkerOf S). w.offered) looks.worker ∙ sym (lesser_left old.offered Infinite (at_most_infinite old.offered));
+    view_seen = ap (λ (x : View). x.seen) looks.view ∙ sym (lesser_right u.seen new.bound looks.falls.0);
+    view_offered = ap (λ (x : View). x.offered) looks.view ∙ sym (lesser_left u.offered Infinite (at_most_infinite u.offered));
+    parts = ap (λ (x : View). x.parts) looks.view;
+  }
+
   -- ---- one turn after another
   pub seated_through : (a b c : WorkerOf S) (u v w : View) → IsSeated a b u v → IsSeated b c v w → IsSeated a c u w
   seated_through a b c u v w ab bc = record {
@@ -252,7 +267,7 @@ module _ {S : Type 0} where
     misfits = ap (λ (x : WorkerOf S). x.misfits) e ∙ none;
   }
 
-  module _ (owner : S → List ℕ → ℕ → ℕ) (b : Board) (s : BoardSeat) (old : WorkerOf S) where
+  module _ (owner : S → List ℕ → ℕ → ℕ) (may_stop : MayStop) (b : Board) (s : BoardSeat) (old : WorkerOf S) where
     turned_misfits : (w x : WorkerOf S) (u v : View) → HasTurned owner w x u v → x.misfits ≡ w.misfits
     turned_misfits w x u v t =
         let r : KeepsBounds w t.received = receives_bounds owner (length w.ins) w t.received t.receives in
@@ -285,7 +300,7 @@ module _ {S : Type 0} where
 
     -- the last turn is a whole one
     pub last_turn : (seat t : BoardSeat) (w x : WorkerOf S) → IsAtWork b s old seat w → IsSeatOf b t → x.uncounted ≡ 0
-        → HasTurned owner w x (view seat) (view t) → HasWorked owner b s old (record { worker = x; seat = t; fault = None })
+        → HasTurned owner w x (view seat) (view t) → HasWorked owner may_stop b s old (record { worker = x; seat = t; fault = None })
     last_turn seat t w x is there uncounted turned =
         let now = one_turn seat t w x is there uncounted turned in
         record {
@@ -301,7 +316,7 @@ module _ {S : Type 0} where
 
     -- the last turn ends with a message that does not fit
     pub stopped_turn : (seat t : BoardSeat) (w x : WorkerOf S) → IsAtWork b s old seat w → IsSeatOf b t → x.uncounted ≡ 0
-        → view t ≡ view seat → HasStopped owner w x → HasWorked owner b s old (record { worker = x; seat = t; fault = None })
+        → view t ≡ view seat → HasStopped owner w x → HasWorked owner may_stop b s old (record { worker = x; seat = t; fault = None })
     stopped_turn seat t w x is there uncounted view_is stopped = record {
       seat = there;
       kept = λ _. record {
@@ -326,19 +341,34 @@ module _ {S : Type 0} where
       uncounted = uncounted;
     }
 
+    -- the gate ends the search: the bound is read, and no turn is taken
+    gated_keeps : (seat t : BoardSeat) (w x : WorkerOf S) → IsAtWork b s old seat w → x.uncounted ≡ 0
+        → HasLooked w x (view seat) (view t) → HasKept old x (view s) (view t)
+    gated_keeps seat t w x is uncounted looks = record {
+      same = same_through old w x is.same (looked_same w x (view seat) (view t) looks);
+      seated = seated_through old w x (view s) (view seat) (view t) is.seated (looked_seated w x (view seat) (view t) looks);
+      told = λ _. told_from w (view s) (view seat) x.bound is.seated looks.falls.0;
+      uncounted = uncounted;
+    }
+
     -- the round is ended for all after that
-    pub refused_turn : (fault : OwnerFault) (seat t : BoardSeat) (v : View) (w x : WorkerOf S) → IsAtWork b s old seat w → IsSeatOf b t
-        → x.uncounted ≡ 0 → view t ≡ v → IsTurnRefusal owner w x (view seat) v fault
-        → HasWorked owner b s old (record { worker = x; seat = t; fault = Some fault })
-    refused_turn OutOfMemory seat t v w x is there uncounted view_is refusal =
+    pub refused_turn : (fault : TurnFault) (seat t : BoardSeat) (v : View) (w x : WorkerOf S) → IsAtWork b s old seat w → IsSeatOf b t
+        → x.uncounted ≡ 0 → view t ≡ v → IsTurnFault owner may_stop w x (view seat) v fault
+        → HasWorked owner may_stop b s old (record { worker = x; seat = t; fault = Some fault })
+    refused_turn (Owner OutOfMemory) seat t v w x is there uncounted view_is refusal =
         record { seat = there; kept = λ other. absurd (other refl); ended = refusal }
-    refused_turn LimitReached seat t v w x is there uncounted view_is refusal = record {
+    refused_turn (Owner LimitReached) seat t v w x is there uncounted view_is refusal = record {
       seat = there;
       kept = λ _. refused_keeps LimitReached seat t w x is uncounted (subst (HasRefused owner LimitReached w x (view seat)) (sym view_is) refusal);
       ended = refusal.refusal;
     }
-    refused_turn TotalTooLarge seat t v w x is there uncounted view_is refusal = record {
+    refused_turn (Owner TotalTooLarge) seat t v w x is there uncounted view_is refusal = record {
       seat = there;
       kept = λ _. refused_keeps TotalTooLarge seat t w x is uncounted (subst (HasRefused owner TotalTooLarge w x (view seat)) (sym view_is) refusal);
       ended = refusal.refusal;
+    }
+    refused_turn (Gate turn stop) seat t v w x is there uncounted view_is refusal = record {
+      seat = there;
+      kept = λ _. gated_keeps seat t w x is uncounted (subst (HasLooked w x (view seat)) (sym view_is) refusal.1);
+      ended = subst (λ n. may_stop n turn stop) (sym (ap (λ (y : WorkerOf S). y.owner.worker) refusal.1.worker)) refusal.0;
     }

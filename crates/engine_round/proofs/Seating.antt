@@ -1,5 +1,5 @@
 -- What is ready for a round: seats that were split, each with its worker.
-use Rattle.std.proofs.Common.{◌≡◌, ℕ, ◌+◌, ◌-◌, ◌/◌, ◌^◌, ◌<◌, ◌≤◌, List, [], ◌∷◌, map, refl, sym, ap, ◌∙◌, subst, arith}
+use Rattle.std.proofs.Common.{◌≡◌, ℕ, suc, ◌+◌, ◌-◌, ◌/◌, ◌^◌, ◌<◌, ◌≤◌, List, [], ◌∷◌, ◌++◌, map, length, refl, sym, ap, ◌∙◌, subst, arith}
 use Rattle.std.specs.Prelude.{All}
 use Rattle.std.proofs.lemmas.List.Elements.{All-nil, All-cons, All-head, All-tail}
 use Rattle.cost.specs.Distances.{Distance, Infinite, lesser, least, ◌≤ᵈ◌}
@@ -9,7 +9,7 @@ use Rattle.board.specs.declared.words.Board.{Board}
 use Rattle.board.specs.Rule.{all_parts, total_parts, kept_part, new_part}
 use Rattle.board.specs.Seats.{BoardSeat, IsSeatOf, view}
 use Rattle.worker.specs.Workers.{WorkerOf}
-use Rattle.engine_round.specs.Jobs.{JobOf, IsReady, IsOpened, AreSplit, AreSetUp}
+use Rattle.engine_round.specs.Jobs.{JobOf, AreNumbered, IsReady, IsOpened, AreSplit, AreSetUp}
 
 -- there is a part for each worker of a vector, whose length and capacity these are
 pub enough_parts : (n m len cap : ℕ) (best : Distance) (u w : View) → n ≡ len → len ≡ m → 0 < m → len ≤ cap → cap < 2 ^ 63 → IsOpened best u
@@ -18,6 +18,19 @@ enough_parts n m len cap best u w counted is some within small opened other =
     let e = opened.parts in let f = ap (λ (x : View). x.parts) other in (omega (arith, counted, is, some), omega (arith, counted, within, small, e, f))
 
 module _ {S : Type 0} where
+  -- the number of the next worker, after those that have a job
+  numbered_at : (v : ℕ) (js : List (JobOf S)) (w : WorkerOf S) (rest : List (WorkerOf S)) → AreNumbered v (map (λ j. j.worker) js ++ w ∷ rest)
+      → w.owner.worker ≡ v + length js
+  numbered_at v [] w rest numbered = omega (arith, numbered.0)
+  numbered_at v (j ∷ js) w rest numbered = let e = numbered_at (suc v) js w rest numbered.1 in omega (arith, e)
+
+  pub next_number : (n len : ℕ) (js : List (JobOf S)) (w : WorkerOf S) (left rest all : List (WorkerOf S)) → n ≡ len → len ≡ length js
+      → left ≡ w ∷ rest → map (λ j. j.worker) js ++ left ≡ all → AreNumbered 0 all → n ≡ w.owner.worker
+  next_number n len js w left rest all counted is e both numbered =
+      let at = numbered_at 0 js w rest
+      (subst (AreNumbered 0) (sym both ∙ ap (λ ws. map (λ (j : JobOf S). j.worker) js ++ ws) e) numbered) in
+      omega (arith, counted, is, at)
+
   -- of each job, from each seat and each worker
   jobs_ready : (b : Board) (d : Distance) (js : List (JobOf S)) → All (λ s. IsSeatOf b s × ((view s).seen ≡ d)) (map (λ (j : JobOf S). j.seat) js)
       → All (λ w. w.misfits ≡ []) (map (λ (j : JobOf S). j.worker) js) → All (IsReady b) js

@@ -6,6 +6,7 @@ ghost use Rattle.std.specs.Thread.{IsSync};
 ghost use Rattle.board.specs.Seats.{IsSeatOf, view};
 ghost use Rattle.engine_round.specs.Jobs.{IsReady, HasDone};
 
+use crate::gate::Gate;
 use crate::job::{Job, begin, run};
 use crate::work::Worked;
 use board::{Board, Seat};
@@ -41,6 +42,7 @@ fn work_with<
     R: Threads + Wait + Clock + Sync,
     S: Spread + Drop + Send + Sync + 's,
     F: StateForm + Drop + Send + 's,
+    G: Gate + Sync + 's,
 >(
     rt: &'s R,
     scope: &'s Scope<'s, E>,
@@ -48,22 +50,23 @@ fn work_with<
     own: &mut Seat,
     mut jobs: Vec<Job<'a, S, F>>,
     worked: Vec<Worked<'a, S, F>>,
+    gate: &'s G,
 ) -> Vec<Worked<'a, S, F>>
     requires own { IsSeatOf board.now own.old }
     requires jobs { All (IsReady board.now) jobs.items }
     requires room { (worked.items ≡ []) × (vec_len jobs ≤ vec_capacity worked) }
     ensures own { IsSeatOf board.now own.new × (view own.new ≡ view own.old) }
-    ensures worked { AllZip (HasDone S.owner board.now) jobs.entry.items result.items }
+    ensures worked { AllZip (HasDone S.owner (G.may_stop gate.now) board.now) jobs.entry.items result.items }
     ensures room { vec_capacity worked.entry ≤ vec_capacity result }
 {
     let Some(job) = jobs.pop() else {
         return worked;
     };
     if jobs.is_empty() {
-        return with_next(worked, run(rt, board, job));
+        return with_next(worked, run(rt, board, job, gate));
     }
-    let begun = begin(rt, scope, board, own, job);
-    let worked = work_with(rt, scope, board, own, jobs, worked);
+    let begun = begin(rt, scope, board, own, job, gate);
+    let worked = work_with(rt, scope, board, own, jobs, worked, gate);
     with_next(worked, begun.finish(rt))
 }
 
@@ -75,6 +78,7 @@ fn work_in<
     R: Threads + Wait + Clock + Sync,
     S: Spread + Drop + Send + Sync + 's,
     F: StateForm + Drop + Send + 's,
+    G: Gate + Sync + 's,
 >(
     rt: &'s R,
     alloc: Global,
@@ -82,14 +86,15 @@ fn work_in<
     board: &'s Board,
     mut own: Seat,
     jobs: Vec<Job<'a, S, F>>,
+    gate: &'s G,
 ) -> Result<(Seat, Vec<Worked<'a, S, F>>), AllocError>
     requires own { IsSeatOf board.now own }
     requires jobs { All (IsReady board.now) jobs.items }
     ensures own { IfOk result (λ r. IsSeatOf board.now r.0 × (view r.0 ≡ view own)) }
-    ensures worked { IfOk result (λ r. AllZip (HasDone S.owner board.now) jobs.entry.items r.1.items) }
+    ensures worked { IfOk result (λ r. AllZip (HasDone S.owner (G.may_stop gate.now) board.now) jobs.entry.items r.1.items) }
 {
     let worked = Vec::with_capacity(alloc, jobs.len())?;
-    let worked = work_with(rt, scope, board, &mut own, jobs, worked);
+    let worked = work_with(rt, scope, board, &mut own, jobs, worked, gate);
     Ok((own, worked))
 }
 
@@ -100,17 +105,19 @@ pub(crate) fn work_each<
     R: Threads + Wait + Clock + Sync,
     S: Spread + Drop + Send + Sync,
     F: StateForm + Drop + Send,
+    G: Gate + Sync,
 >(
     rt: &R,
     alloc: Global,
     board: &Board,
     own: Seat,
     jobs: Vec<Job<'a, S, F>>,
+    gate: &G,
 ) -> Result<(Seat, Vec<Worked<'a, S, F>>), AllocError>
     requires own { IsSeatOf board.now own }
     requires jobs { All (IsReady board.now) jobs.items }
     ensures own { IfOk result (λ r. IsSeatOf board.now r.0 × (view r.0 ≡ view own)) }
-    ensures worked { IfOk result (λ r. AllZip (HasDone S.owner board.now) jobs.entry.items r.1.items) }
+    ensures worked { IfOk result (λ r. AllZip (HasDone S.owner (G.may_stop gate.now) board.now) jobs.entry.items r.1.items) }
 {
     thread::scope(
         thread::scope_env(),
@@ -118,7 +125,7 @@ pub(crate) fn work_each<
         move |scope| -> Result<(Seat, Vec<Worked<S, F>>), AllocError>
             requires { IsSync R.row × IsSeatOf board.now own × All (IsReady board.now) jobs.items }
             ensures own { IfOk result (λ r. IsSeatOf board.entry.now r.0 × (view r.0 ≡ view own)) }
-            ensures worked { IfOk result (λ r. AllZip (HasDone S.owner board.entry.now) jobs.entry.items r.1.items) }
-        { work_in(rt, alloc, scope, board, own, jobs) },
+            ensures worked { IfOk result (λ r. AllZip (HasDone S.owner (G.may_stop gate.entry.now) board.entry.now) jobs.entry.items r.1.items) }
+        { work_in(rt, alloc, scope, board, own, jobs, gate) },
     )
 }

@@ -7,6 +7,7 @@ ghost use Rattle.board.specs.Seats.{IsSeatOf, view};
 ghost use Rattle.engine_round.specs.Jobs.{HasMemory, joined_all};
 ghost use Rattle.engine_round.specs.Rounds.{first_fault, earlier};
 
+use crate::fault::TurnFault;
 use crate::rounds::RoundEnd;
 use crate::work::Worked;
 use board::{Board, Seat};
@@ -17,21 +18,21 @@ use std::alloc::{AllocError, Global};
 use worker::Worker;
 
 /// The fault, unless it is want of memory.
-fn unless_memory(fault: Option<OwnerFault>) -> Result<Option<OwnerFault>, AllocError>
-    ensures { IfOk result (λ f. (f ≡ fault) × (fault ≢ Some OwnerFault.OutOfMemory)) }
+fn unless_memory(fault: Option<TurnFault>) -> Result<Option<TurnFault>, AllocError>
+    ensures { IfOk result (λ f. (f ≡ fault) × (fault ≢ Some (TurnFault.Owner OwnerFault.OutOfMemory))) }
 {
     match fault {
-        Some(OwnerFault::OutOfMemory) => Err(AllocError),
+        Some(TurnFault::Owner(OwnerFault::OutOfMemory)) => Err(AllocError),
         other => Ok(other),
     }
 }
 
 /// The first fault so far, after that of the next worker.
 fn earlier(
-    first: Option<(usize, OwnerFault)>,
+    first: Option<(usize, TurnFault)>,
     number: usize,
-    fault: Option<OwnerFault>,
-) -> Option<(usize, OwnerFault)>
+    fault: Option<TurnFault>,
+) -> Option<(usize, TurnFault)>
     ensures { result ≡ earlier first number fault }
 {
     match (first, fault) {
@@ -47,7 +48,7 @@ fn gather<'a, S: Spread + Drop, F: StateForm + Drop>(
     board: &Board,
     mut own: Seat,
     worked: Vec<Worked<'a, S, F>>,
-) -> Result<(Seat, Vec<Worker<'a, S, F>>, Option<(usize, OwnerFault)>), AllocError>
+) -> Result<(Seat, Vec<Worker<'a, S, F>>, Option<(usize, TurnFault)>), AllocError>
     requires own { IsSeatOf board.now own }
     requires seats { All (λ r. IsSeatOf board.now r.seat) worked.items }
     ensures own { IfOk result (λ r. IsSeatOf board.now r.0 × (view r.0 ≡ joined_all (view own) worked.entry.items)) }

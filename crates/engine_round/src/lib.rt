@@ -2,7 +2,9 @@
 #![tactic(auto)]
 
 mod crew;
+mod fault;
 mod finish;
+mod gate;
 mod job;
 mod pause;
 mod rounds;
@@ -10,4 +12,6 @@ mod seats;
 mod start;
 mod work;
 
+pub use fault::TurnFault;
+pub use gate::{Gate, Open, Stop};
 pub use rounds::{RoundEnd, round};

@@ -3,7 +3,7 @@
 ghost use Rattle.std.specs.Prelude.{◌≡◌, ◌<◌, [], map, All, IfOk, length, vec_len};
 ghost use Rattle.board.specs.Rule.{first_view};
 ghost use Rattle.board.specs.Seats.{IsSeatOf, view};
-ghost use Rattle.engine_round.specs.Jobs.{IsOpened, AreSetUp};
+ghost use Rattle.engine_round.specs.Jobs.{IsOpened, AreNumbered, AreSetUp};
 
 use crate::job::Job;
 use crate::seats::split_seats;
@@ -36,19 +36,25 @@ fn open(board: &Board, seat: &mut Seat, best: Dist, units: u64)
     board.add(seat, units);
 }
 
-/// A job for each worker, with the seat of the same place. Fails only if allocation fails.
+/// A job for each worker, with the seat of the same place, which is the worker's number. Fails only if allocation fails.
 fn jobs_of<'a, S: Spread + Drop, F: StateForm + Drop>(
     alloc: Global,
     seats: Vec<Seat>,
     workers: Vec<Worker<'a, S, F>>,
 ) -> Result<Vec<Job<'a, S, F>>, AllocError>
-    requires { vec_len seats ≡ vec_len workers }
+    requires seats { vec_len seats ≡ vec_len workers }
+    requires numbered { AreNumbered 0 workers.items }
     ensures seats { IfOk result (λ jobs. map (λ j. j.seat) jobs.items ≡ seats.items) }
     ensures workers { IfOk result (λ jobs. map (λ j. j.worker) jobs.items ≡ workers.entry.items) }
 {
     let mut jobs = Vec::with_capacity(alloc, workers.len())?;
     for (seat, worker) in seats.into_iter().zip(workers) {
-        jobs.push(Job { seat, worker })?;
+        let number = jobs.len();
+        jobs.push(Job {
+            seat,
+            number,
+            worker,
+        })?;
     }
     Ok(jobs)
 }
@@ -63,6 +69,7 @@ pub(crate) fn set_up<'a, S: Spread + Drop, F: StateForm + Drop>(
 ) -> Result<(Seat, Vec<Job<'a, S, F>>), AllocError>
     requires some { 0 < length workers.items }
     requires none_aside { All (λ w. w.misfits ≡ []) workers.items }
+    requires numbered { AreNumbered 0 workers.items }
     requires seat { IsSeatOf board.now seat × (view seat ≡ first_view) }
     ensures { IfOk result (λ r. AreSetUp board.now best workers.entry.items r.0 r.1.items) }
 {

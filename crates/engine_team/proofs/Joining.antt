@@ -45,6 +45,25 @@ at_map f [] v x at = absurd at
 at_map f (w ∷ ws) zero x at = (w, refl, at)
 at_map f (w ∷ ws) (suc v) x at = at_map f ws v x at
 
+-- the owners of a team as the end of a search, where no message is left
+abbrev pub end_of : {S : Type 0} → TeamOf S → EndOf S
+end_of t = record { space = t.space; owners = map (λ w. w.owner) t.workers; left = [] }
+
+pub form_of : {S : Type 0} (owner : S → List ℕ → ℕ → ℕ) (t : TeamOf S) → IsTeam t → ((v : ℕ) (w : WorkerOf S) → At t.workers v w → IsKept owner w)
+    → IsForm (end_of t)
+form_of {S = S} owner t team kept = record {
+  some = let long = length-map t.workers (λ (w : WorkerOf S). w.owner) in omega (arith, team.some, long);
+  each = λ v o at.
+      let (w, at_w, is) = at_map (λ (w : WorkerOf S). w.owner) t.workers v o at in
+      let member = team.members.each v w at_w in (
+        ap (λ (x : OwnerOf S). x.space) (sym is) ∙ member.space,
+        ap (λ (x : OwnerOf S). x.worker) (sym is) ∙ member.number,
+        ap (λ (x : OwnerOf S). length x.outboxes) (sym is) ∙ (sym (kept v w at_w).outs ∙ (member.outs
+            ∙ sym (length-map t.workers (λ (w : WorkerOf S). w.owner)))),
+      );
+  left = All-nil (λ p. IsState (ranges t.space.task) p.message.state × (p.message.cost ≤ max_total));
+}
+
 module _ {S : Type 0} (owner : S → List ℕ → ℕ → ℕ) (t : TeamOf S) (team : IsTeam t)
     (kept : (v : ℕ) (w : WorkerOf S) → At t.workers v w → IsKept owner w) (empty : AreEmpty t.workers)
     (ok : IsSearchSpace (searched owner t.space (length t.workers))) where
@@ -149,27 +168,10 @@ module _ {S : Type 0} (owner : S → List ℕ → ℕ → ℕ) (t : TeamOf S) (t
     }
 
   -- ---- what the end of a search needs
-  abbrev pub end_of : EndOf S
-  end_of = record { space = t.space; owners = map (λ w. w.owner) t.workers; left = [] }
-
-  pub some_family : ∥ ((family : Family) × IsEndOf owner end_of family) ∥₁
+  pub some_family : ∥ ((family : Family) × IsEndOf owner (end_of t) family) ∥₁
   some_family = ∥∥₁_elim
       (choice (IsWorking owner) t.workers (start space) (λ v w at. (kept v w at).working (team.members.each v w at).whole))
       squash₁ (λ (c : (logs : ℕ → Log) × IsChoice (IsWorking owner) t.workers (start space) logs). ∣ (record { logs = c.0; left = [] }, end_is c.0 c.1) ∣₁)
-
-  pub form_of : IsForm end_of
-  form_of = record {
-    some = let long = length-map t.workers (λ (w : WorkerOf S). w.owner) in omega (arith, team.some, long);
-    each = λ v o at.
-        let (w, at_w, is) = at_map (λ (w : WorkerOf S). w.owner) t.workers v o at in
-        let member = team.members.each v w at_w in (
-          ap (λ (x : OwnerOf S). x.space) (sym is) ∙ member.space,
-          ap (λ (x : OwnerOf S). x.worker) (sym is) ∙ member.number,
-          ap (λ (x : OwnerOf S). length x.outboxes) (sym is) ∙ (sym (kept v w at_w).outs ∙ (member.outs
-              ∙ sym (length-map t.workers (λ (w : WorkerOf S). w.owner)))),
-        );
-    left = All-nil (λ p. IsState (ranges t.space.task) p.message.state × (p.message.cost ≤ max_total));
-  }
 
   -- the same, as the code puts it together
   pub lawful_as : (os : List (OwnerOf S)) (left : List Packet) → os ≡ map (λ w. w.owner) t.workers → left ≡ []
@@ -180,7 +182,7 @@ module _ {S : Type 0} (owner : S → List ℕ → ℕ → ℕ) (t : TeamOf S) (t
   pub form_as : (os : List (OwnerOf S)) (left : List Packet) → os ≡ map (λ w. w.owner) t.workers → left ≡ []
       → IsForm (record { space = t.space; owners = os; left = left })
   form_as os left owners_are none =
-      subst (λ (e : EndOf S). IsForm e) (λ j. record { space = t.space; owners = sym owners_are j; left = sym none j }) form_of
+      subst (λ (e : EndOf S). IsForm e) (λ j. record { space = t.space; owners = sym owners_are j; left = sym none j }) (form_of owner t team kept)
 
 -- what is searched, from the first worker
 pub team_space : {S : Type 0} (owner : S → List ℕ → ℕ → ℕ) (t : TeamOf S) (team : IsTeam t) → ((v : ℕ) (w : WorkerOf S) → At t.workers v w → IsKept owner w)

@@ -8,4 +8,6 @@ pub mod Emptying
 pub mod Receiving
 pub mod Choice
 pub mod Joining
+pub mod Settling
+pub mod Asking
 pub mod Starting

@@ -2,8 +2,10 @@
 //! and Botea 2013).
 #![tactic(auto)]
 
+mod ask;
 mod drain;
 mod join;
+mod settled;
 mod team;
 
 pub use team::{Parts, Team};

@@ -13,6 +13,7 @@ scoped-requires g c = record {
       record { owned = c.type_bounds.send-F.owned; leaving = λ k. Quiet-if (k (of_param 2)) unseen unseen (λ x w. tt {0}) (λ x w. tt {0}) },
       record { shared = c.type_bounds.sync-R.shared },
       record { shared = c.type_bounds.sync-S.shared },
+      record { shared = c.type_bounds.sync-G.shared },
     ),
   );
 }

@@ -1,6 +1,13 @@
 use Rattle.std.proofs.Common.{◌≡◌, ◌∙◌, map, length, inl, inr, sym}
 use Rattle.engine_round.proofs.Followed.{all_taken}
+use Rattle.engine_round.proofs.Seating.{next_number}
 use Rattle.engine_round.proofs.start.jobs_of.Goals as goal
+
+pub invariant_of-push : goal.invariant_of-push
+invariant_of-push g c =
+    next_number c.len-number.result c.loop-seat.jobs.len c.loop-seat.jobs.items c.in-Some.worker c.loop-seat.seat-iterator.b.rest.items
+    c.next.new.self.b.rest.items c.args.workers.items c.len-number.ensures c.loop-seat.jobs.ok.0 c.in-Some.ensures.steps.1.0
+    c.loop-seat.invariant.workers c.requires.numbered
 
 pub returns-clause-seats : goal.returns-clause-seats
 returns-clause-seats g c =
