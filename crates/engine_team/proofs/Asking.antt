@@ -67,117 +67,117 @@ module _ {S : Type 0} (owner : S → List ℕ → ℕ → ℕ) where
   module _ (number : ℕ) (bound : Distance) (ws : List (WorkerOf S)) (a t m b : WorkerOf S) (lt : number < length ws) (is : a ≡ get_or ws number a)
       (told : t ≡ record a { bound = bound; seen = lesser a.seen bound }) (begun : b ≡ record m { resting = false; uncounted = 0; taken = 0 })
     where
-    owner_is : b.owner ≡ m.owner
-    owner_is = ap (λ (w : WorkerOf S). w.owner) begun
+      owner_is : b.owner ≡ m.owner
+      owner_is = ap (λ (w : WorkerOf S). w.owner) begun
 
-    pub expanded_asked : (posted : Option ℕ) → HasExpanded owner t m posted → AreAsked owner number bound ws (slice_set ws number b) None
-    expanded_asked posted has =
-        let h : HasExpanded owner (record a { bound = bound; seen = lesser a.seen bound }) m posted =
-        subst (λ (x : WorkerOf S). HasExpanded owner x m posted) told has in
-        record {
-          before = a;
-          after = b;
-          there = at_read ws number a lt is;
-          put = refl;
-          answered = (posted, subst (λ (o : OwnerOf S). IsExpansion owner bound a.owner o posted) (sym owner_is) h.expansion);
-          worker = subst (λ (x : WorkerOf S). WasAsked bound a x) (sym begun)
-              (ap (λ (x : WorkerOf S). record x { resting = false; uncounted = 0; taken = 0 }) h.worker);
-        }
+      pub expanded_asked : (posted : Option ℕ) → HasExpanded owner t m posted → AreAsked owner number bound ws (slice_set ws number b) None
+      expanded_asked posted has =
+          let h : HasExpanded owner (record a { bound = bound; seen = lesser a.seen bound }) m posted =
+          subst (λ (x : WorkerOf S). HasExpanded owner x m posted) told has in
+          record {
+            before = a;
+            after = b;
+            there = at_read ws number a lt is;
+            put = refl;
+            answered = (posted, subst (λ (o : OwnerOf S). IsExpansion owner bound a.owner o posted) (sym owner_is) h.expansion);
+            worker = subst (λ (x : WorkerOf S). WasAsked bound a x) (sym begun)
+                (ap (λ (x : WorkerOf S). record x { resting = false; uncounted = 0; taken = 0 }) h.worker);
+          }
 
-    pub refused_asked : (fault : OwnerFault) → fault ≢ OutOfMemory → IsExpandRefusal owner t m fault
-        → AreAsked owner number bound ws (slice_set ws number b) (Some fault)
-    refused_asked fault memory has =
-        let before : WorkerOf S = record a { bound = bound; seen = lesser a.seen bound } in
-        let h : IsExpandRefusal owner before m fault = subst (λ (x : WorkerOf S). IsExpandRefusal owner x m fault) told has in
-        let both : IsRefusal owner bound a.owner m.owner fault × (m ≡ before) = not_memory fault memory before m h in
-        record {
-          before = a;
-          after = b;
-          there = at_read ws number a lt is;
-          put = refl;
-          answered = (
-            subst (λ (o : OwnerOf S). IsRefusal owner bound a.owner o fault) (sym owner_is) both.0,
-            memory,
-            owner_is ∙ ap (λ (w : WorkerOf S). w.owner) both.1,
-          );
-          worker = subst (λ (x : WorkerOf S). WasAsked bound a x) (sym begun)
-              (ap (λ (x : WorkerOf S). record x { resting = false; uncounted = 0; taken = 0 })
-              (subst (λ (x : WorkerOf S). x ≡ record before { owner = x.owner }) (sym both.1) refl));
-        }
+      pub refused_asked : (fault : OwnerFault) → fault ≢ OutOfMemory → IsExpandRefusal owner t m fault
+          → AreAsked owner number bound ws (slice_set ws number b) (Some fault)
+      refused_asked fault memory has =
+          let before : WorkerOf S = record a { bound = bound; seen = lesser a.seen bound } in
+          let h : IsExpandRefusal owner before m fault = subst (λ (x : WorkerOf S). IsExpandRefusal owner x m fault) told has in
+          let both : IsRefusal owner bound a.owner m.owner fault × (m ≡ before) = not_memory fault memory before m h in
+          record {
+            before = a;
+            after = b;
+            there = at_read ws number a lt is;
+            put = refl;
+            answered = (
+              subst (λ (o : OwnerOf S). IsRefusal owner bound a.owner o fault) (sym owner_is) both.0,
+              memory,
+              owner_is ∙ ap (λ (w : WorkerOf S). w.owner) both.1,
+            );
+            worker = subst (λ (x : WorkerOf S). WasAsked bound a x) (sym begun)
+                (ap (λ (x : WorkerOf S). record x { resting = false; uncounted = 0; taken = 0 })
+                (subst (λ (x : WorkerOf S). x ≡ record before { owner = x.owner }) (sym both.1) refl));
+          }
 
   module _ (number : ℕ) (old : TeamOf S) (new : List (WorkerOf S)) (refused : Option OwnerFault)
       (asked : AreAsked owner number old.best old.workers new refused)
     where
-    keeps : Keeps asked.before asked.after
-    keeps =
-        let kept = answer_keeps old.best asked.before asked.after refused asked.answered in
-        record {
-          member = λ space n v is. record {
-            space = kept.0 ∙ is.space;
-            number = kept.1 ∙ is.number;
-            outs = ap (λ (w : WorkerOf S). length w.outs) asked.worker ∙ is.outs;
-            ins = ap (λ (w : WorkerOf S). length w.ins) asked.worker ∙ is.ins;
-            whole = ap (λ (w : WorkerOf S). w.spent) asked.worker ∙ is.whole;
-            counted = ap (λ (w : WorkerOf S). w.uncounted) asked.worker;
-          };
-          sent = λ to. ap (λ (w : WorkerOf S). sent_to w.outs to) asked.worker;
-        }
+      keeps : Keeps asked.before asked.after
+      keeps =
+          let kept = answer_keeps old.best asked.before asked.after refused asked.answered in
+          record {
+            member = λ space n v is. record {
+              space = kept.0 ∙ is.space;
+              number = kept.1 ∙ is.number;
+              outs = ap (λ (w : WorkerOf S). length w.outs) asked.worker ∙ is.outs;
+              ins = ap (λ (w : WorkerOf S). length w.ins) asked.worker ∙ is.ins;
+              whole = ap (λ (w : WorkerOf S). w.spent) asked.worker ∙ is.whole;
+              counted = ap (λ (w : WorkerOf S). w.uncounted) asked.worker;
+            };
+            sent = λ to. ap (λ (w : WorkerOf S). sent_to w.outs to) asked.worker;
+          }
 
-    linked : AreAllLinked old.workers → AreAllLinked (slice_set old.workers number asked.after)
-    linked = set_linked old.workers number asked.before asked.after asked.there (ap (λ (w : WorkerOf S). w.outs) asked.worker)
-        (subst (AreSameIns asked.before.ins) (sym (ap (λ (w : WorkerOf S). w.ins) asked.worker)) (ins_same asked.before.ins))
+      linked : AreAllLinked old.workers → AreAllLinked (slice_set old.workers number asked.after)
+      linked = set_linked old.workers number asked.before asked.after asked.there (ap (λ (w : WorkerOf S). w.outs) asked.worker)
+          (subst (AreSameIns asked.before.ins) (sym (ap (λ (w : WorkerOf S). w.ins) asked.worker)) (ins_same asked.before.ins))
 
-    -- the same costs were offered
-    offered_kept : (ws : List (WorkerOf S)) (v : ℕ) (a b : WorkerOf S) → At ws v a → b.offered ≡ a.offered
-        → map (λ w. w.offered) (slice_set ws v b) ≡ map (λ w. w.offered) ws
-    offered_kept [] v a b at same = absurd at
-    offered_kept (w ∷ ws) zero a b at same =
-        ap (λ (d : Distance). d ∷ map (λ (x : WorkerOf S). x.offered) ws) (same ∙ ap (λ (x : WorkerOf S). x.offered) (sym at))
-    offered_kept (w ∷ ws) (suc v) a b at same = ap (λ (ds : List Distance). w.offered ∷ ds) (offered_kept ws v a b at same)
+      -- the same costs were offered
+      offered_kept : (ws : List (WorkerOf S)) (v : ℕ) (a b : WorkerOf S) → At ws v a → b.offered ≡ a.offered
+          → map (λ w. w.offered) (slice_set ws v b) ≡ map (λ w. w.offered) ws
+      offered_kept [] v a b at same = absurd at
+      offered_kept (w ∷ ws) zero a b at same =
+          ap (λ (d : Distance). d ∷ map (λ (x : WorkerOf S). x.offered) ws) (same ∙ ap (λ (x : WorkerOf S). x.offered) (sym at))
+      offered_kept (w ∷ ws) (suc v) a b at same = ap (λ (ds : List Distance). w.offered ∷ ds) (offered_kept ws v a b at same)
 
-    bounded : IsTeam old → (v : ℕ) (w : WorkerOf S) → At (slice_set old.workers number asked.after) v w → old.best ≤ᵈ w.seen
-    bounded team v w at = ⊎_elim
-        (λ (h : (v ≡ number) × (asked.after ≡ w)).
-        subst (λ (x : WorkerOf S). old.best ≤ᵈ x.seen) h.1
-        (subst (λ (d : Distance). old.best ≤ᵈ d) (sym (ap (λ (x : WorkerOf S). x.seen) asked.worker))
-        (at_most_lesser old.best asked.before.seen old.best (team.bounded number asked.before asked.there) (at_most_itself old.best))))
-        (λ (h : (v ≢ number) × At old.workers v w). team.bounded v w h.1)
-        (at_set old.workers number asked.after v w at)
+      bounded : IsTeam old → (v : ℕ) (w : WorkerOf S) → At (slice_set old.workers number asked.after) v w → old.best ≤ᵈ w.seen
+      bounded team v w at = ⊎_elim
+          (λ (h : (v ≡ number) × (asked.after ≡ w)).
+          subst (λ (x : WorkerOf S). old.best ≤ᵈ x.seen) h.1
+          (subst (λ (d : Distance). old.best ≤ᵈ d) (sym (ap (λ (x : WorkerOf S). x.seen) asked.worker))
+          (at_most_lesser old.best asked.before.seen old.best (team.bounded number asked.before asked.there) (at_most_itself old.best))))
+          (λ (h : (v ≢ number) × At old.workers v w). team.bounded v w h.1)
+          (at_set old.workers number asked.after v w at)
 
-    -- it is a team after that
-    pub asked_team : IsTeam old → IsTeam (record { space = old.space; workers = new; best = old.best })
-    asked_team team =
-        let long = length-set old.workers number asked.after in
-        let have = set_kept old.workers number asked.before asked.after asked.there keeps in
-        subst (λ (ws : List (WorkerOf S)). IsTeam (record { space = old.space; workers = ws; best = old.best })) (sym asked.put) (record {
-          some = omega (arith, team.some, long);
-          members = members_kept old.workers (slice_set old.workers number asked.after) have old.space team.members (linked team.members.links);
-          best = team.best ∙ ap least (sym (offered_kept old.workers number asked.before asked.after asked.there (ap (λ (w : WorkerOf S). w.offered) asked.worker)));
-          bounded = bounded team;
-        })
+      -- it is a team after that
+      pub asked_team : IsTeam old → IsTeam (record { space = old.space; workers = new; best = old.best })
+      asked_team team =
+          let long = length-set old.workers number asked.after in
+          let have = set_kept old.workers number asked.before asked.after asked.there keeps in
+          subst (λ (ws : List (WorkerOf S)). IsTeam (record { space = old.space; workers = ws; best = old.best })) (sym asked.put) (record {
+            some = omega (arith, team.some, long);
+            members = members_kept old.workers (slice_set old.workers number asked.after) have old.space team.members (linked team.members.links);
+            best = team.best ∙ ap least (sym (offered_kept old.workers number asked.before asked.after asked.there (ap (λ (w : WorkerOf S). w.offered) asked.worker)));
+            bounded = bounded team;
+          })
 
-    -- the worker that was asked, before and after
-    before_is : (a : WorkerOf S) → At old.workers number a → asked.before ≡ a
-    before_is a at = at_once old.workers number asked.before a asked.there at
+      -- the worker that was asked, before and after
+      before_is : (a : WorkerOf S) → At old.workers number a → asked.before ≡ a
+      before_is a at = at_once old.workers number asked.before a asked.there at
 
-    after_is : (b : WorkerOf S) → At new number b → asked.after ≡ b
-    after_is b at = at_once (slice_set old.workers number asked.after) number asked.after b
-        (at_here old.workers number asked.after (at_below old.workers number asked.before asked.there))
-        (subst (λ (ws : List (WorkerOf S)). At ws number b) asked.put at)
+      after_is : (b : WorkerOf S) → At new number b → asked.after ≡ b
+      after_is b at = at_once (slice_set old.workers number asked.after) number asked.after b
+          (at_here old.workers number asked.after (at_below old.workers number asked.before asked.there))
+          (subst (λ (ws : List (WorkerOf S)). At ws number b) asked.put at)
 
-    pub asked_is : IsAsked owner number old (record { space = old.space; workers = new; best = old.best }, refused)
-    asked_is = record {
-      space = refl;
-      best = refl;
-      count = ap length asked.put ∙ length-set old.workers number asked.after;
-      answered = λ a b at_a at_b.
-          subst (λ (x : WorkerOf S). HasAnswered owner old.best a x refused) (after_is b at_b)
-          (subst (λ (x : WorkerOf S). HasAnswered owner old.best x asked.after refused) (before_is a at_a) asked.answered);
-      worker = λ a b at_a at_b.
-          subst (λ (x : WorkerOf S). WasAsked old.best a x) (after_is b at_b)
-          (subst (λ (x : WorkerOf S). WasAsked old.best x asked.after) (before_is a at_a) asked.worker);
-      others = λ v a b other at_a at_b. ⊎_elim
-          (λ (h : (v ≡ number) × (asked.after ≡ b)). absurd (other h.0))
-          (λ (h : (v ≢ number) × At old.workers v b). at_once old.workers v b a h.1 at_a)
-          (at_set old.workers number asked.after v b (subst (λ (ws : List (WorkerOf S)). At ws v b) asked.put at_b));
-    }
+      pub asked_is : IsAsked owner number old (record { space = old.space; workers = new; best = old.best }, refused)
+      asked_is = record {
+        space = refl;
+        best = refl;
+        count = ap length asked.put ∙ length-set old.workers number asked.after;
+        answered = λ a b at_a at_b.
+            subst (λ (x : WorkerOf S). HasAnswered owner old.best a x refused) (after_is b at_b)
+            (subst (λ (x : WorkerOf S). HasAnswered owner old.best x asked.after refused) (before_is a at_a) asked.answered);
+        worker = λ a b at_a at_b.
+            subst (λ (x : WorkerOf S). WasAsked old.best a x) (after_is b at_b)
+            (subst (λ (x : WorkerOf S). WasAsked old.best x asked.after) (before_is a at_a) asked.worker);
+        others = λ v a b other at_a at_b. ⊎_elim
+            (λ (h : (v ≡ number) × (asked.after ≡ b)). absurd (other h.0))
+            (λ (h : (v ≢ number) × At old.workers v b). at_once old.workers v b a h.1 at_a)
+            (at_set old.workers number asked.after v b (subst (λ (ws : List (WorkerOf S)). At ws v b) asked.put at_b));
+      }
