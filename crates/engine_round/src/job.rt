@@ -68,7 +68,10 @@ impl<'a, S: Spread + Drop, F: StateForm + Drop, G: Gate> Model for Begun<'a, S, 
 
     ghost view = { λ x. record { board = x.of.board.value; job = x.of.job.value; gate = x.of.gate.value } };
 
-    ghost invariant = { λ x. IfOk x.run (λ h. (h.promise.board.value ≡ x.of.board.value) × (h.promise.job.value ≡ x.of.job.value) × (h.promise.gate.value ≡ x.of.gate.value)) × IfErr x.run (λ r. HasWorked S.owner (G.may_stop x.of.gate.value) x.of.board.value x.of.job.value.seat x.of.job.value.worker r) };
+    ghost invariant = { λ x.
+        IfOk x.run (λ h. (h.promise.board.value ≡ x.of.board.value) × (h.promise.job.value ≡ x.of.job.value)
+        × (h.promise.gate.value ≡ x.of.gate.value)) ×
+        IfErr x.run (λ r. HasWorked S.owner (G.may_stop x.of.gate.value) x.of.board.value x.of.job.value.seat x.of.job.value.worker r) };
 }
 
 /// What is to be promised of the job.

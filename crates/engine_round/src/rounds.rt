@@ -42,8 +42,8 @@ impl<'a, S: Spread + Drop, F: StateForm + Drop> Model for RoundEnd<'a, S, F> {
 }
 
 /// A round: each worker takes turns in a thread of its own, the first one in the caller's, until nothing is counted as left to do or
-/// one of them ends the round, by a fault or by a message that is not for it. Before each turn the gate is asked, which may end the round too.
-/// `best` is the least cost that any of them has offered so far.
+/// one of them ends the round, by a fault or by a message that is not for it. Before each turn the gate is asked, which may end the
+/// round too. The workers stand in the order of their numbers, and `best` is the least cost that any of them has offered so far.
 /// Where a thread cannot be made, its worker takes one turn in the caller's thread and the round ends.
 ///
 /// Fails only if allocation fails, in a worker too; the workers are lost then. Any other fault of a worker is told in the answer.

@@ -33,7 +33,8 @@ impl<'a, S: Spread + Drop, F: StateForm + Drop> Model for Worked<'a, S, F> {
     ghost view = { λ w. record { worker = w.worker; seat = w.seat; fault = w.fault } };
 }
 
-/// Asks the gate, and takes a turn unless it ends the search: then the worker reads the bound and does no more.
+/// Asks the gate, and takes a turn unless it ends the search: then the worker reads the bound and does no more. `number` is the worker's,
+/// and `turn` that of the turn in the round.
 fn take_turn<'a, S: Spread + Drop, F: StateForm + Drop, G: Gate>(
     board: &Board,
     seat: &mut Seat,
@@ -60,7 +61,7 @@ fn take_turn<'a, S: Spread + Drop, F: StateForm + Drop, G: Gate>(
 }
 
 /// Takes turns until nothing is counted as left to do, or the round is ended. A message that is not for the worker, a fault and the
-/// gate, which is asked before each turn of this worker, end the round for all workers.
+/// gate, which is asked before each turn of this worker, end the round for all workers. `number` is the worker's.
 pub(crate) fn work<'a, R: Wait + Clock, S: Spread + Drop, F: StateForm + Drop, G: Gate>(
     rt: &R,
     board: &Board,
