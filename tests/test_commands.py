@@ -89,7 +89,6 @@ class CommandLine(ProgramTest):
 
     # Options after `solve d p`, and a text that the report of them has.
     REFUSED_ROWS = [
-        ([], "--simulate <SEED>"),
         (["--simulate"], "--simulate <SEED>"),
         (["--simulate", "x"], "invalid value 'x' for '--simulate'"),
         (["--simulate", ""], "--simulate"),

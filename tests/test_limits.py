@@ -47,8 +47,10 @@ end
 
 
 def solved(domain, problem, *words, seed=1):
-    """The outcome of a solution with these words, where the plan goes to the file `plan` and the certificate to the file `cert`."""
-    return run("solve", "d", "p", "--simulate", str(seed), "--plan", "plan", "--cert", "cert", *words, files={"d": domain, "p": problem})
+    """The outcome of a solution with these words, by the schedule of the seed, or by threads if there is none: the plan goes to the file
+    `plan`, the certificate to the file `cert`."""
+    schedule = () if seed is None else ("--simulate", str(seed))
+    return run("solve", "d", "p", *schedule, "--plan", "plan", "--cert", "cert", *words, files={"d": domain, "p": problem})
 
 
 def bound_of(outcome):
@@ -88,7 +90,7 @@ class LimitTest(ProgramTest):
 
     def test_best_plan_so_far(self):
         plan = b"(go a c)\n; cost = 8 (general cost)\n"
-        for seed in range(20):
+        for seed in [*range(20), None]:
             outcome = solved(DRIVE, D1, *DRIVE_WITHOUT_TABLES, "--limit", "1", seed=seed)
             self.is_solved(outcome, b"limit 3\n" + plan, STOPPED, plan, seed=seed)
             self.assertEqual(outcome.files["cert"].decode(), DRIVE_CERTIFICATE)
@@ -121,9 +123,10 @@ class LimitTest(ProgramTest):
             domain, problem = example(name, "domain.pddl"), example(name, "problem.pddl")
             for limit in range(0, 41, 4):
                 for workers in range(1, 5):
-                    row = {"name": name, "limit": limit, "workers": workers, "seed": (limit + workers) % 20}
-                    outcome = solved(domain, problem, "--limit", str(limit), "--workers", str(workers), seed=row["seed"])
-                    self.is_certified(domain, problem, outcome, **row)
+                    for seed in ((limit + workers) % 20, None):
+                        row = {"name": name, "limit": limit, "workers": workers, "seed": seed}
+                        outcome = solved(domain, problem, "--limit", str(limit), "--workers", str(workers), seed=seed)
+                        self.is_certified(domain, problem, outcome, **row)
 
     def test_bound_never_falls_as_the_limit_rises(self):
         # in one thread, with one seed, the steps of a lesser limit are the first of those of a greater one

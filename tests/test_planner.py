@@ -1,5 +1,5 @@
-"""Small planning tasks whose optimal costs are known: blocks, lamps and locks, and tiles. Each is solved by the schedules of many seeds,
-and each answer is judged by the commands that validate plans and check certificates, which read only the texts."""
+"""Small planning tasks whose optimal costs are known: blocks, lamps and locks, and tiles. Each is solved by the schedules of many
+seeds and by threads, and each answer is judged by the commands that validate plans and check certificates, which read only the texts."""
 
 from program import Outcome, ProgramTest, checked, run, validated, wanted
 
@@ -9,14 +9,30 @@ SEEDS = range(20)
 # The numbers of workers with which a task is solved.
 WORKERS = (1, 2, 5)
 
+# The numbers of threads by which a task is solved, how often by each, and the room of a link in turn: one of one message is often full.
+THREADS = range(1, 9)
+SEARCHES = 20
+ROOMS = (1, 64)
+
 # The greatest number of abstract states of a table: small, so that searches expand nodes.
 TABLE = 100
 
 
-def solved(domain, problem, seed, **options):
-    """The outcome of the solver for a task, by the schedule of this seed: it writes the plan to the file `l`, the certificate to `c`."""
+def solved(domain, problem, **options):
+    """The outcome of the solver for a task, by threads, or by the schedule of a seed with `simulate`: it writes the plan to the file `l`,
+    the certificate to `c`."""
     words = [word for name, number in options.items() for word in (f"--{name}", str(number))]
-    return run("solve", "d", "p", "--simulate", str(seed), *words, "--plan", "l", "--cert", "c", files={"d": domain, "p": problem})
+    return run("solve", "d", "p", *words, "--plan", "l", "--cert", "c", files={"d": domain, "p": problem})
+
+
+def by_seeds(*numbers):
+    """The options of a search for each of these numbers of workers and each seed."""
+    return [{"workers": workers, "simulate": seed} for workers in numbers for seed in SEEDS]
+
+
+def by_threads(*numbers):
+    """The options of some searches for each of these numbers of threads."""
+    return [{"workers": workers, "ring": ROOMS[search % len(ROOMS)]} for workers in numbers for search in range(SEARCHES)]
 
 
 class PlannerTest(ProgramTest):
@@ -35,26 +51,25 @@ class PlannerTest(ProgramTest):
         self.assertEqual(validated(domain, problem, outcome.out), wanted(f"valid {cost}"))
         self.certifies(domain, problem, outcome.files["c"], cost)
 
-    def costs_by(self, domain, problem, cost, **options):
-        """Fails for each seed by which the task is not solved at this cost."""
-        for seed in SEEDS:
-            with self.subTest(problem=problem, seed=seed, **options):
-                self.is_cheapest(domain, problem, solved(domain, problem, seed, **options), cost)
+    def costs_by(self, searches, domain, problem, cost, table=TABLE):
+        """Fails for each of these searches, given by its options, that does not solve the task at this cost."""
+        for options in searches:
+            with self.subTest(problem=problem, **options):
+                self.is_cheapest(domain, problem, solved(domain, problem, table=table, **options), cost)
 
     def costs(self, domain, problem, cost, table=TABLE):
-        """Fails unless one, two and five workers with tables of that size solve the task at this cost, for each seed."""
-        for workers in WORKERS:
-            self.costs_by(domain, problem, cost, workers=workers, table=table)
+        """Fails unless owners in one thread and threads solve the task at this cost, with tables of that size."""
+        self.costs_by(by_seeds(*WORKERS), domain, problem, cost, table)
+        self.costs_by(by_threads(*THREADS), domain, problem, cost, table)
 
     def unsolvable(self, domain, problem):
-        """Fails unless one, two and five workers find for each seed that the task has no plan, with a certificate of that."""
-        for workers in WORKERS:
-            for seed in SEEDS:
-                with self.subTest(problem=problem, seed=seed, workers=workers):
-                    outcome = solved(domain, problem, seed, workers=workers, table=TABLE)
-                    cert = outcome.files.get("c", b"")
-                    self.assertEqual(outcome, Outcome(out=b"unsolvable\n", status=4, files={"c": cert}))
-                    self.certifies(domain, problem, cert, "unsolvable")
+        """Fails unless owners in one thread and threads find that the task has no plan, with a certificate of that."""
+        for options in by_seeds(*WORKERS) + by_threads(*THREADS):
+            with self.subTest(problem=problem, **options):
+                outcome = solved(domain, problem, table=TABLE, **options)
+                cert = outcome.files.get("c", b"")
+                self.assertEqual(outcome, Outcome(out=b"unsolvable\n", status=4, files={"c": cert}))
+                self.certifies(domain, problem, cert, "unsolvable")
 
 
 # Blocks on a table, moved by one hand with four operators.

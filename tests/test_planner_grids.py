@@ -1,6 +1,6 @@
 """Cells to be visited, and a maze."""
 
-from test_planner import PlannerTest
+from test_planner import PlannerTest, by_seeds, by_threads
 
 VISIT_ALL = """(define (domain visit-all)
  (:requirements :typing)
@@ -52,6 +52,10 @@ FIVE_WAYS = """(define (problem five) (:domain maze)
 """
 
 
+# The greatest number of abstract states of a table where the command line says none.
+DEFAULT_TABLE = 100_000
+
+
 class VisitAll(PlannerTest):
     """Each cell of a grid is to be visited."""
 
@@ -60,13 +64,16 @@ class VisitAll(PlannerTest):
         self.costs(VISIT_ALL, FOUR_CELLS, 3)
 
     def test_nine_cells_with_one_worker(self):
-        self.costs_by(VISIT_ALL, NINE_CELLS, 8, workers=1)
+        self.costs_by(by_seeds(1), VISIT_ALL, NINE_CELLS, 8, DEFAULT_TABLE)
 
     def test_nine_cells_with_two_workers(self):
-        self.costs_by(VISIT_ALL, NINE_CELLS, 8, workers=2)
+        self.costs_by(by_seeds(2), VISIT_ALL, NINE_CELLS, 8, DEFAULT_TABLE)
 
     def test_nine_cells_with_five_workers(self):
-        self.costs_by(VISIT_ALL, NINE_CELLS, 8, workers=5)
+        self.costs_by(by_seeds(5), VISIT_ALL, NINE_CELLS, 8, DEFAULT_TABLE)
+
+    def test_nine_cells_with_threads(self):
+        self.costs_by(by_threads(1, 3, 8), VISIT_ALL, NINE_CELLS, 8, DEFAULT_TABLE)
 
 
 class Mazes(PlannerTest):

@@ -88,7 +88,7 @@ class Gripper(PlannerTest):
     def test_a_seed_gives_the_same_answer_as_ever(self):
         for seed, wanted_checksum in enumerate(CHECKSUMS):
             with self.subTest(seed=seed):
-                outcome = solved(DOMAIN, THREE_BALLS, seed, workers=3, table=TABLE)
+                outcome = solved(DOMAIN, THREE_BALLS, simulate=seed, workers=3, table=TABLE)
                 self.assertEqual((outcome.err, outcome.status, outcome.files["l"]), (b"", 0, outcome.out))
                 # The certificate's checksum goes on from that of the plan.
                 self.assertEqual(checksum(outcome.out + outcome.files["c"]), wanted_checksum)

@@ -38,7 +38,7 @@ class ManySeedsTest(ProgramTest):
         previous = None
         for seed in self.SEEDS:
             with self.subTest(seed=seed):
-                outcome = solved(DRIVE_DOMAIN, DRIVE_PROBLEM, seed, workers=workers)
+                outcome = solved(DRIVE_DOMAIN, DRIVE_PROBLEM, simulate=seed, workers=workers)
                 cert = outcome.files.get("c", b"")
                 self.assertEqual(outcome, Outcome(out=DRIVE_PLAN, files={"l": DRIVE_PLAN, "c": cert}))
                 if cert != previous:
@@ -60,7 +60,7 @@ class Machine(PlannerTest):
     """Searches at their ends."""
 
     def test_nothing_to_do(self):
-        outcome = solved(ROAD_DOMAIN, ROAD_NOWHERE, 1)
+        outcome = solved(ROAD_DOMAIN, ROAD_NOWHERE, simulate=1)
         self.assertEqual(outcome.out, b"; cost = 0 (unit cost)\n")
         self.is_cheapest(ROAD_DOMAIN, ROAD_NOWHERE, outcome, 0)
         self.certifies(ROAD_DOMAIN, ROAD_NOWHERE, NOWHERE_CERTIFICATE, 0)
@@ -68,7 +68,7 @@ class Machine(PlannerTest):
     def test_limits(self):
         # No plan from a to c is found within one step, or where the owner may expand one state. Tables of the whole road tell its length.
         for option in ({"steps": 1}, {"limit": 1}):
-            outcome = solved(ROAD_DOMAIN, ROAD_PROBLEM, 1, workers=1, **option)
+            outcome = solved(ROAD_DOMAIN, ROAD_PROBLEM, simulate=1, workers=1, **option)
             cert = outcome.files.get("c", b"")
             self.assertEqual(outcome, Outcome(out=b"limit 2\n", status=5, files={"c": cert}))
             self.certifies(ROAD_DOMAIN, ROAD_PROBLEM, cert, 2)
@@ -76,7 +76,7 @@ class Machine(PlannerTest):
     def test_small_tables(self):
         # Each ball is picked up and dropped, and with one hand there are two ways there and one back: 7. A table of 3 abstract states holds
         # the places of one ball, so there are two tables, and a column begins with each.
-        outcome = solved(GRIP_DOMAIN, GRIP_PROBLEM, 1, table=3)
+        outcome = solved(GRIP_DOMAIN, GRIP_PROBLEM, simulate=1, table=3)
         self.is_cheapest(GRIP_DOMAIN, GRIP_PROBLEM, outcome, 7)
         lines = outcome.files["c"].decode().splitlines()
         self.assertEqual((lines.count("columns 2"), lines.count("column 2")), (1, 2))

@@ -6,3 +6,4 @@ pub mod Translations
 pub mod FileCommands
 pub mod PlainWords
 pub mod Operands
+pub mod SchedulesByWords

@@ -2,6 +2,8 @@
 use Rattle.std.specs.Prelude.{◌≡◌, ℕ, ◌≤◌, ◌<◌, ◌^◌, List, Option, Some, None, codes}
 use Rattle.std.specs.Str.Parse.{IsNumeral, digits_value}
 use Rattle.optplan_sas.specs.Choices.{Choices}
+use Rattle.optplan_solve.specs.declared.settings.Schedule.{Schedule}
+use Rattle.optplan_solve.specs.declared.settings.Schedule.TheVariants.{Threads, Drawn}
 use Rattle.optplan_solve.specs.declared.settings.Settings.{Settings}
 use Rattle.optplan_solve.specs.Outputs.{files_of}
 
@@ -27,10 +29,16 @@ pub record AreChoicesOf (value : List ℕ → Option (List ℕ)) (choices : Choi
   pub workers : IsNumberOr 4 1 64 (value (codes "workers")) choices.workers
   pub table : IsNumberOr 100000 1 16777216 (value (codes "table")) choices.table
   pub limit : IsNumberOf 0 9223372036854775807 (value (codes "limit")) choices.limit
+  pub ring : IsNumberOr 64 1 65536 (value (codes "ring")) choices.ring
   pub steps : IsNumberOr 1000000 0 9223372036854775807 (value (codes "steps")) choices.steps
+
+-- the schedule by the value of the option that names a seed: steps drawn from it, or threads if it has none
+abbrev pub IsScheduleOf : Option (List ℕ) → Schedule → Type 0
+IsScheduleOf None schedule = schedule ≡ Threads
+IsScheduleOf (Some text) schedule = IsNumberIn 0 9223372036854775807 text × (schedule ≡ Drawn (digits_value 10 text))
 
 -- what is requested beside the task, by the values of the command's options
 pub record AreSettingsOf (value : List ℕ → Option (List ℕ)) (settings : Settings) : Type 0 where
   pub choices : AreChoicesOf value settings.options
-  pub seed : IsNumberOr 0 0 9223372036854775807 (value (codes "simulate")) settings.seed
+  pub schedule : IsScheduleOf (value (codes "simulate")) settings.schedule
   pub files : files_of settings ≡ record { plan = value (codes "plan"); cert = value (codes "cert") }

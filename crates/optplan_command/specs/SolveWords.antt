@@ -16,10 +16,10 @@ operand value name = unwrap_or (value name) []
 pub record SolvesByWords (value : List ℕ → Option (List ℕ)) (old new : List Event) (status : Status) : Type 0 where
   pub settings : Settings
   pub asked : AreSettingsOf value settings
-  pub solves : Solves old new (operand value (codes "DOMAIN")) (operand value (codes "PROBLEM")) settings.options settings.seed (files_of settings) status
+  pub solves : Solves old new (operand value (codes "DOMAIN")) (operand value (codes "PROBLEM")) settings.options settings.schedule (files_of settings) status
 
 -- the finite-domain task of this file is solved as the options request
 pub record SolvesSasByWords (value : List ℕ → Option (List ℕ)) (old new : List Event) (status : Status) : Type 0 where
   pub settings : Settings
   pub asked : AreSettingsOf value settings
-  pub solves : SolvesSas old new (operand value (codes "SAS")) settings.options settings.seed (files_of settings) status
+  pub solves : SolvesSas old new (operand value (codes "SAS")) settings.options settings.schedule (files_of settings) status

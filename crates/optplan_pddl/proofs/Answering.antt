@@ -76,6 +76,7 @@ pub refused : (domain problem : List ℕ) (task : PlanningTask) (t : TranslatedT
     → why t.task e → IsPlanningRefusal domain problem why (fault_of_search e)
 refused domain problem task t why search.OutOfMemory spells made is = tt
 refused domain problem task t why search.TotalTooLarge spells made is = (task, spells, (t, made, is))
+refused domain problem task t why (search.Gate worker turn) spells made is = (task, spells, (t, made, is))
 
 -- refused texts are, whatever the search
 pub text_refused : (domain problem : List ℕ) (why : FiniteDomainTask → SearchFault → Type 0) (e : PlanningFault) → IsPlanningRefusal domain problem (λ task f. ⊥) e → IsPlanningRefusal domain problem why e
@@ -84,6 +85,7 @@ text_refused domain problem why (planning.Task e) is = is
 text_refused domain problem why planning.GroundLimit is = is
 text_refused domain problem why (planning.TaskTooLarge table) is = is
 text_refused domain problem why planning.TotalTooLarge (task, spells, (t, made, never)) = absurd never
+text_refused domain problem why (planning.Gate worker turn) (task, spells, (t, made, never)) = absurd never
 
 -- ---- of a task that is ready
 

@@ -29,7 +29,7 @@ use Rattle.optplan_sas.specs.declared.answer.Answer.TheVariants.{Solved, Unsolva
 use Rattle.optplan_sas.specs.declared.fault.SearchFault.{SearchFault}
 use Rattle.optplan_sas.specs.declared.fault.SearchFault.TheVariants as search
 use Rattle.optplan_pddl.specs.declared.fault.PlanningFault.{PlanningFault}
-use Rattle.optplan_pddl.specs.declared.fault.PlanningFault.TheVariants.{OutOfMemory, Task, GroundLimit, TaskTooLarge, TotalTooLarge}
+use Rattle.optplan_pddl.specs.declared.fault.PlanningFault.TheVariants.{OutOfMemory, Task, GroundLimit, TaskTooLarge, TotalTooLarge, Gate}
 
 -- a plan is given by its steps
 abbrev pub PlanningAnswer : Type 0
@@ -78,7 +78,8 @@ pub record IsPlanningAnswer (domain problem : List ℕ) (ends : FiniteDomainTask
   pub is : IsAnswerFor domain problem task end answer
 
 -- the texts are refused for the fault that comes first; or they spell a task that has too many atoms or actions, whose
--- translation is too large, or for which a path's total is too large in the specified way
+-- translation is too large, or the search of whose translation is refused in the specified way, since a path's total is too large or a gate
+-- made it fail
 abbrev pub IsPlanningRefusal : List ℕ → List ℕ → (FiniteDomainTask → SearchFault → Type 0) → PlanningFault → Type 0
 IsPlanningRefusal domain problem refused OutOfMemory = Unit {0}
 IsPlanningRefusal domain problem refused (Task e) = (e ≢ pddl_fault.OutOfMemory) × IsTaskRefusal domain problem e
@@ -88,3 +89,6 @@ IsPlanningRefusal domain problem refused (TaskTooLarge table) =
 IsPlanningRefusal domain problem refused TotalTooLarge =
     (task : PlanningTask) × SpellTask domain problem task
     × ((t : TranslatedTask) × IsTranslation task t × refused t.task search.TotalTooLarge)
+IsPlanningRefusal domain problem refused (Gate worker turn) =
+    (task : PlanningTask) × SpellTask domain problem task
+    × ((t : TranslatedTask) × IsTranslation task t × refused t.task (search.Gate worker turn))

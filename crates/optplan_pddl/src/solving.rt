@@ -11,7 +11,7 @@ ghost use Rattle.extract.specs.Ends.{EndOf};
 ghost use Rattle.optplan_kind.specs.Kinds.{translation_kind};
 ghost use Rattle.optplan_sas.specs.Findings.{IsPlanAt, IsBestSoFar, IsSolution, IsSoFar, IsFound, IsTrueOf};
 ghost use Rattle.optplan_sas.specs.SasAnswers.{IsBestWritten};
-ghost use Rattle.optplan_sas.specs.Searches.{EndsAfter, IsRefusedAfter, EndsBySeed, IsRefusedBySeed};
+ghost use Rattle.optplan_sas.specs.Searches.{EndsAfter, IsRefusedAfter, EndsBySeed, IsRefusedBySeed, EndsByThreads, IsRefusedByThreads};
 ghost use Rattle.optplan_pddl.specs.Answers.{IsPlanningPlan, IsPlanningSolution, IsPlanningKnown, IsAnswerFor, IsPlanningAnswer, IsPlanningRefusal};
 
 use crate::fault::PlanningFault;
@@ -20,11 +20,14 @@ use cert_text::write_cert;
 use netcore::WorldStep;
 use optplan_plans::named_steps;
 use optplan_sas::{
-    Answer, CheapestPlan, Found, FoundPlan, KnownSoFar, Options, SoFar, Solution, WrittenPlan,
-    found_after, found_by_seed,
+    Answer, CheapestPlan, Found, FoundPlan, Gate, KnownSoFar, Options, SoFar, Solution,
+    WrittenPlan, found_after, found_by_seed, found_by_threads,
 };
 use sasfile_writer::sas_plan_text;
 use std::alloc::{AllocError, Global};
+use std::sync::Wait;
+use std::thread::Threads;
+use std::time::Clock;
 use translate::Translated;
 use validate::Step;
 
@@ -164,5 +167,29 @@ pub fn simulate<R: AllocGlobal>(
     let alloc = rt.alloc();
     let Prepared { translated, kind } = prepare(alloc, domain, problem)?;
     let found = found_by_seed(alloc, translated.task(), options, seed, kind)?;
+    Ok(answer_texts(alloc, &translated, found)?)
+}
+
+/// The answer for the task that the texts spell, by the chosen number of workers, each in a thread of its own, with a certificate that the
+/// checker accepts if its text has at most 2^30 bytes: a cheapest plan, or that there is none; `Limit` with a bound and the best plan so
+/// far if one of the owners has reached its limit, or the gate ended the search, before they were settled.
+///
+/// Fails with the fault of the texts that comes first, with `GroundLimit` or `TaskTooLarge` if the task or its
+/// translation exceeds a limit, with `TotalTooLarge` if a path would have a cost or a number of actions above 2^62, with `Gate` if the
+/// gate makes the search fail, or if allocation fails. Whether it ends at all is not promised: the workers go on as long as the scheduler
+/// lets none of them get on.
+pub fn solve<R: Threads + Wait + Clock + Sync + AllocGlobal, G: Gate + Sync>(
+    rt: &R,
+    domain: &[u8],
+    problem: &[u8],
+    options: &Options,
+    gate: &G,
+) -> Result<PlanningAnswer, PlanningFault>
+    ensures answer { IfOk result (IsPlanningAnswer domain.now problem.now (EndsByThreads options.now (G.may_stop gate.now))) }
+    ensures refused { IfErr result (IsPlanningRefusal domain.now problem.now (IsRefusedByThreads options.now (G.may_stop gate.now))) }
+{
+    let alloc = rt.alloc();
+    let Prepared { translated, kind } = prepare(alloc, domain, problem)?;
+    let found = found_by_threads(rt, alloc, translated.task(), options, kind, gate)?;
     Ok(answer_texts(alloc, &translated, found)?)
 }

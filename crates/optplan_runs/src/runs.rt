@@ -7,6 +7,9 @@ use crate::outcome::{Outcome, RunFault, recorded};
 use optplan_command::run;
 use optplan_device::MemoryDevice;
 use std::alloc::{AllocError, Global};
+use std::sync::Wait;
+use std::thread::Threads;
+use std::time::Clock;
 
 /// A number of calls that no run of the program exceeds.
 pub const CALLS_OF_A_RUN: u64 = 100;
@@ -23,7 +26,7 @@ pub fn program_words(alloc: Global, words: &[&str]) -> Result<Vec<String>, Alloc
 }
 
 /// The outcome of the program over these files, each a name and bytes.
-pub fn run_over<R: AllocGlobal>(
+pub fn run_over<R: Threads + Wait + Clock + Sync + AllocGlobal>(
     rt: &R,
     words: &[&str],
     files: &[(&str, &[u8])],

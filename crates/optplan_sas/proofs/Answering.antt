@@ -30,9 +30,11 @@ answered sas task ends f answer spells found texts =
 pub refused : (sas : List ℕ) (task : FiniteDomainTask) (why : FiniteDomainTask → SearchFault → Type 0) (e : SearchFault) → SpellsTask sas task → why task e → IsSasRefusal sas why (fault_of_search e)
 refused sas task why search.OutOfMemory spells is = tt
 refused sas task why search.TotalTooLarge spells is = (task, spells, is)
+refused sas task why (search.Gate worker turn) spells is = (task, spells, is)
 
 -- a refused text is one, whatever the search
 pub text_refused : (sas : List ℕ) (why : FiniteDomainTask → SearchFault → Type 0) (e : SasSolveFault) → IsSasRefusal sas (λ task f. ⊥) e → IsSasRefusal sas why e
 text_refused sas why solve.OutOfMemory is = tt
 text_refused sas why (solve.Sas e) is = is
 text_refused sas why solve.TotalTooLarge (task, spells, never) = absurd never
+text_refused sas why (solve.Gate worker turn) (task, spells, never) = absurd never

@@ -4,4 +4,5 @@ pub mod Spelled
 pub mod Texts
 pub mod Ends
 pub mod WorldEnds
+pub mod ThreadEnds
 pub mod Answering

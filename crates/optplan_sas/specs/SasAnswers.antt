@@ -18,7 +18,7 @@ use Rattle.optplan_sas.specs.Findings.{IsPlanAt, IsSettledEnd, IsShortEnd}
 use Rattle.optplan_sas.specs.declared.fault.SearchFault.{SearchFault}
 use Rattle.optplan_sas.specs.declared.fault.SearchFault.TheVariants as search
 use Rattle.optplan_sas.specs.declared.fault.SasSolveFault.{SasSolveFault}
-use Rattle.optplan_sas.specs.declared.fault.SasSolveFault.TheVariants.{OutOfMemory, Sas, TotalTooLarge}
+use Rattle.optplan_sas.specs.declared.fault.SasSolveFault.TheVariants.{OutOfMemory, Sas, TotalTooLarge, Gate}
 use Rattle.optplan_sas.specs.declared.answer.WrittenPlan.{WrittenPlan}
 use Rattle.optplan_sas.specs.declared.answer.CheapestPlan.{CheapestPlan}
 use Rattle.optplan_sas.specs.declared.answer.KnownSoFar.{KnownSoFar}
@@ -73,9 +73,10 @@ pub record IsSasAnswer (sas : List ℕ) (ends : FiniteDomainTask → EndOf sprea
   pub ended : ends task end
   pub is : IsSasAnswerFor sas task end answer
 
--- the text is refused for its first fault; or it spells a task, for which a path's total is too large in the specified
--- way
+-- the text is refused for its first fault; or it spells a task, the search for which is refused in the specified way, since a path's total
+-- is too large or a gate made it fail
 abbrev pub IsSasRefusal : List ℕ → (FiniteDomainTask → SearchFault → Type 0) → SasSolveFault → Type 0
 IsSasRefusal sas refused OutOfMemory = Unit {0}
 IsSasRefusal sas refused (Sas e) = (e ≢ sas_fault.OutOfMemory) × (task_in sas ≡ Err e)
 IsSasRefusal sas refused TotalTooLarge = (task : FiniteDomainTask) × SpellsTask sas task × refused task search.TotalTooLarge
+IsSasRefusal sas refused (Gate worker turn) = (task : FiniteDomainTask) × SpellsTask sas task × refused task (search.Gate worker turn)

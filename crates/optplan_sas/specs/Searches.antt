@@ -1,5 +1,5 @@
--- Where a search for a task may end, and why it may be refused: by a list of steps, and by steps that are drawn.
-use Rattle.std.specs.Prelude.{◌≡◌, ℕ, List}
+-- Where a search for a task may end, and why it may be refused: by a list of steps, by steps that are drawn, and by threads.
+use Rattle.std.specs.Prelude.{◌≡◌, ℕ, ◌⊎◌, List}
 use Rattle.fdr.specs.Tasks.{FiniteDomainTask}
 use Rattle.packed_spread.specs.Spreads as spread
 use Rattle.packed_spread.specs.Spreads.{zobrist_owner}
@@ -8,10 +8,14 @@ use Rattle.owner.specs.declared.fault.OwnerFault.TheVariants as owner_fault
 use Rattle.extract.specs.Ends.{EndOf}
 use Rattle.netcore.specs.declared.step.WorldStep.{WorldStep}
 use Rattle.netcore.specs.Worlds.{WorldOf, IsRun, IsRunRefusal, left_in}
+use Rattle.engine_round.specs.Turns.{MayStop}
+use Rattle.engine.specs.Searches.{IsSearched, IsSearchFault}
+use Rattle.engine.specs.declared.searched.Searched.TheVariants.{Settled, Stopped}
+use Rattle.engine.specs.declared.fault.EngineFault.TheVariants as engine
 use Rattle.optplan_sas.specs.Choices.{Choices}
 use Rattle.optplan_sas.specs.Schedules.{IsSimulated, IsSimulationRefusal}
 use Rattle.optplan_sas.specs.declared.fault.SearchFault.{SearchFault}
-use Rattle.optplan_sas.specs.declared.fault.SearchFault.TheVariants.{OutOfMemory, TotalTooLarge}
+use Rattle.optplan_sas.specs.declared.fault.SearchFault.TheVariants.{OutOfMemory, TotalTooLarge, Gate}
 
 -- a space of the task, with this limit and the states spread by a hash
 pub record IsSpaceFor (task : FiniteDomainTask) (choices : Choices) (space : SpaceOf spread.Zobrist) : Type 0 where
@@ -36,6 +40,7 @@ IsRefusedAfter choices steps task OutOfMemory = Unit {0}
 IsRefusedAfter choices steps task TotalTooLarge =
     (space : SpaceOf spread.Zobrist) × IsSpaceFor task choices space
     × IsRunRefusal zobrist_owner space choices.workers steps owner_fault.TotalTooLarge
+IsRefusedAfter choices steps task (Gate worker turn) = ⊥
 
 -- ---- by steps that are drawn
 
@@ -51,3 +56,28 @@ IsRefusedBySeed choices seed task OutOfMemory = Unit {0}
 IsRefusedBySeed choices seed task TotalTooLarge =
     (space : SpaceOf spread.Zobrist) × IsSpaceFor task choices space
     × IsSimulationRefusal zobrist_owner space choices.workers seed owner_fault.TotalTooLarge
+IsRefusedBySeed choices seed task (Gate worker turn) = ⊥
+
+-- ---- by threads
+
+-- no turn may end a search
+abbrev pub no_stop : MayStop
+no_stop worker turn stop = ⊥
+
+-- the end of a search by the chosen number of workers, whose owners are settled or were stopped before; the form of their states makes no
+-- difference
+abbrev pub EndsByThreads : Choices → MayStop → FiniteDomainTask → EndOf spread.Zobrist → Type 0
+EndsByThreads choices may_stop task e =
+    (space : SpaceOf spread.Zobrist) × IsSpaceFor task choices space
+    × (IsSearched {F = Unit {0}} zobrist_owner may_stop space choices.workers (Settled e)
+    ⊎ IsSearched {F = Unit {0}} zobrist_owner may_stop space choices.workers (Stopped e))
+
+-- a search by the chosen number of workers fails for this fault, or memory ran out
+abbrev pub IsRefusedByThreads : Choices → MayStop → FiniteDomainTask → SearchFault → Type 0
+IsRefusedByThreads choices may_stop task OutOfMemory = Unit {0}
+IsRefusedByThreads choices may_stop task TotalTooLarge =
+    (space : SpaceOf spread.Zobrist) × IsSpaceFor task choices space
+    × IsSearchFault zobrist_owner may_stop space choices.workers engine.TotalTooLarge
+IsRefusedByThreads choices may_stop task (Gate worker turn) =
+    (space : SpaceOf spread.Zobrist) × IsSpaceFor task choices space
+    × IsSearchFault zobrist_owner may_stop space choices.workers (engine.Gate worker turn)

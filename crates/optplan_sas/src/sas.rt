@@ -8,21 +8,25 @@ ghost use Rattle.packed_spread.specs.Spreads as spread;
 ghost use Rattle.packed_spread.specs.Spreads.{zobrist_owner};
 ghost use Rattle.extract.specs.Ends.{EndOf};
 ghost use Rattle.optplan_sas.specs.Findings.{IsPlanAt, IsBestSoFar, IsSolution, IsSoFar, IsFound, IsTrueOf};
-ghost use Rattle.optplan_sas.specs.Searches.{EndsAfter, IsRefusedAfter, EndsBySeed, IsRefusedBySeed};
+ghost use Rattle.optplan_sas.specs.Searches.{EndsAfter, IsRefusedAfter, EndsBySeed, IsRefusedBySeed, EndsByThreads, IsRefusedByThreads};
 ghost use Rattle.optplan_sas.specs.SasAnswers.{IsSasAnswer, IsSasAnswerFor, IsSasRefusal, IsSasPlan, IsSasSolution, IsSasKnown, IsBestWritten};
 
 use crate::answer::{Answer, CheapestPlan, KnownSoFar, WrittenPlan};
 use crate::fault::SasSolveFault;
 use crate::found::{Found, FoundPlan, SoFar, Solution};
 use crate::options::Options;
-use crate::searching::{found_after, found_by_seed};
+use crate::searching::{found_after, found_by_seed, found_by_threads};
 use cert_text::write_cert;
 use cert_value::CertificateKind;
+use engine::Gate;
 use fdr::FdrTask;
 use netcore::WorldStep;
 use sasfile::{SasFault, read_sas};
 use sasfile_writer::sas_plan_text;
 use std::alloc::{AllocError, Global};
+use std::sync::Wait;
+use std::thread::Threads;
+use std::time::Clock;
 
 /// The answer for a finite-domain task: a plan is given by the numbers of its operators, counted from 0.
 pub type SasAnswer = Answer<Vec<usize>>;
@@ -156,5 +160,27 @@ pub fn simulate_sas<R: AllocGlobal>(
     let alloc = rt.alloc();
     let task = read_task(alloc, sas)?;
     let found = found_by_seed(alloc, &task, options, seed, CertificateKind::Sas)?;
+    Ok(answer_texts(alloc, &task, found)?)
+}
+
+/// The answer for the task that the text spells, by the chosen number of workers, each in a thread of its own, with a certificate that the
+/// checker accepts if its text has at most 2^30 bytes: a cheapest plan, or that there is none; `Limit` with a bound and the best plan so
+/// far if one of the owners has reached its limit, or the gate ended the search, before they were settled.
+///
+/// Fails with the first fault of the text, with `TotalTooLarge` if a path would have a cost or a number of operators
+/// above 2^62, with `Gate` if the gate makes the search fail, or if allocation fails. Whether it ends at all is not promised: the workers
+/// go on as long as the scheduler lets none of them get on.
+pub fn solve_sas<R: Threads + Wait + Clock + Sync + AllocGlobal, G: Gate + Sync>(
+    rt: &R,
+    sas: &[u8],
+    options: &Options,
+    gate: &G,
+) -> Result<SasAnswer, SasSolveFault>
+    ensures answer { IfOk result (IsSasAnswer sas.now (EndsByThreads options.now (G.may_stop gate.now))) }
+    ensures refused { IfErr result (IsSasRefusal sas.now (IsRefusedByThreads options.now (G.may_stop gate.now))) }
+{
+    let alloc = rt.alloc();
+    let task = read_task(alloc, sas)?;
+    let found = found_by_threads(rt, alloc, &task, options, CertificateKind::Sas, gate)?;
     Ok(answer_texts(alloc, &task, found)?)
 }

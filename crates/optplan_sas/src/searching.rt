@@ -1,23 +1,27 @@
-//! Searches for a plan of a task, by a schedule that is given or drawn.
+//! Searches for a plan of a task, by threads or by a schedule that is given or drawn.
 
 ghost use Rattle.std.specs.Prelude.{◌≡◌, IfOk, IfErr};
 ghost use Rattle.cert_value.specs.Views.{kind_of};
 ghost use Rattle.fdr.specs.Tasks.{ranges};
 ghost use Rattle.optplan_sas.specs.Findings.{IsFinding};
-ghost use Rattle.optplan_sas.specs.Searches.{IsSpaceFor, EndsAfter, IsRefusedAfter, EndsBySeed, IsRefusedBySeed};
+ghost use Rattle.optplan_sas.specs.Searches.{IsSpaceFor, EndsAfter, IsRefusedAfter, EndsBySeed, IsRefusedBySeed, EndsByThreads, IsRefusedByThreads};
 
 use crate::fault::SearchFault;
 use crate::found::{Found, found_by};
 use crate::options::Options;
 use crate::schedule::simulated;
 use cert_value::CertificateKind;
+use engine::{EngineFault, Gate, Searched, search};
 use fdr::FdrTask;
 use netcore::{World, WorldStep};
 use owner::{OwnerFault, Space};
-use packed::{StateForm, in_smallest_form};
+use packed::{Bits, Plain, StateForm, in_smallest_form};
 use packed_spread::Zobrist;
 use scp::choose_columns;
 use std::alloc::{AllocError, Global};
+use std::sync::Wait;
+use std::thread::Threads;
+use std::time::Clock;
 
 /// The search space for a task: columns of tables of the size that the options allow, and a spread of the states by a
 /// hash. Fails only if allocation fails.
@@ -75,6 +79,35 @@ fn by_seed<'a, F: StateForm + Drop>(
     }
 }
 
+/// The finding of a search by threads, as `found_by_threads` returns it, of owners whose states have the form `F`.
+fn by_threads<
+    'a,
+    R: Threads + Wait + Clock + Sync,
+    G: Gate + Sync,
+    F: StateForm + Drop + Send,
+>(
+    rt: &R,
+    alloc: Global,
+    space: &'a Space<'a, Zobrist<'a>>,
+    options: &Options,
+    kind: CertificateKind,
+    gate: &G,
+) -> Result<Found, SearchFault>
+    requires fits { F.Fits (ranges space.now.task) }
+    requires space { IsSpaceFor space.now.task options.now space.now }
+    ensures found { IfOk result (IsFinding space.now.task (kind_of kind) (EndsByThreads options.now (G.may_stop gate.now) space.now.task)) }
+    ensures refused { IfErr result (IsRefusedByThreads options.now (G.may_stop gate.now) space.now.task) }
+{
+    let (workers, capacity) = (options.workers(), options.ring());
+    match search::<R, Zobrist<'a>, F, G>(rt, alloc, space, workers, capacity, gate) {
+        Ok(Searched::Settled(joined)) => Ok(found_by(alloc, &joined, kind)?),
+        Ok(Searched::Stopped(joined)) => Ok(found_by(alloc, &joined, kind)?),
+        Err(EngineFault::OutOfMemory) => Err(SearchFault::OutOfMemory),
+        Err(EngineFault::TotalTooLarge) => Err(SearchFault::TotalTooLarge),
+        Err(EngineFault::Gate(worker, turn)) => Err(SearchFault::Gate(worker, turn)),
+    }
+}
+
 /// The finding after these steps, of owners whose states have the smallest form.
 fn after_steps_in_smallest_form<'a>(
     alloc: Global,
@@ -106,6 +139,34 @@ fn by_seed_in_smallest_form<'a>(
     ensures refused { IfErr result (IsRefusedBySeed options.now seed space.now.task) }
 {
     in_smallest_form!(space.layout(), by_seed(alloc, space, options, seed, kind))
+}
+
+/// The finding of a search by threads, of owners whose states have the smallest form.
+fn by_threads_in_smallest_form<'a, R: Threads + Wait + Clock + Sync, G: Gate + Sync>(
+    rt: &R,
+    alloc: Global,
+    space: &'a Space<'a, Zobrist<'a>>,
+    options: &Options,
+    kind: CertificateKind,
+    gate: &G,
+) -> Result<Found, SearchFault>
+    requires { IsSpaceFor space.now.task options.now space.now }
+    ensures found { IfOk result (IsFinding space.now.task (kind_of kind) (EndsByThreads options.now (G.may_stop gate.now) space.now.task)) }
+    ensures refused { IfErr result (IsRefusedByThreads options.now (G.may_stop gate.now) space.now.task) }
+{
+    let layout = space.layout();
+    // `in_smallest_form!` calls a function that has no type parameter but the form
+    if Bits::<1>::fits(layout) {
+        by_threads::<R, G, Bits<1>>(rt, alloc, space, options, kind, gate)
+    } else if Bits::<2>::fits(layout) {
+        by_threads::<R, G, Bits<2>>(rt, alloc, space, options, kind, gate)
+    } else if Bits::<4>::fits(layout) {
+        by_threads::<R, G, Bits<4>>(rt, alloc, space, options, kind, gate)
+    } else if Bits::<8>::fits(layout) {
+        by_threads::<R, G, Bits<8>>(rt, alloc, space, options, kind, gate)
+    } else {
+        by_threads::<R, G, Plain>(rt, alloc, space, options, kind, gate)
+    }
 }
 
 /// The finding for the task after these steps of a world of owners, with a certificate of that kind: a cheapest plan, or that there is
@@ -144,4 +205,24 @@ pub fn found_by_seed<'a>(
 {
     let space: Space<'a, Zobrist<'a>> = space_for(alloc, task, options)?;
     by_seed_in_smallest_form(alloc, &space, options, seed, kind)
+}
+
+/// The finding for the task by the chosen number of workers, each in a thread of its own, with a certificate of that kind: a cheapest plan,
+/// or that there is none; where one of the owners has reached its limit before, or the gate ended the search, what is known so far.
+///
+/// Fails with `TotalTooLarge` if a path would have a cost or a number of operators above 2^62, with `Gate` if the gate makes it fail, or
+/// if allocation fails. Whether it ends at all is not promised.
+pub fn found_by_threads<'a, R: Threads + Wait + Clock + Sync, G: Gate + Sync>(
+    rt: &R,
+    alloc: Global,
+    task: &'a FdrTask,
+    options: &Options,
+    kind: CertificateKind,
+    gate: &G,
+) -> Result<Found, SearchFault>
+    ensures found { IfOk result (IsFinding task.now (kind_of kind) (EndsByThreads options.now (G.may_stop gate.now) task.now)) }
+    ensures refused { IfErr result (IsRefusedByThreads options.now (G.may_stop gate.now) task.now) }
+{
+    let space: Space<'a, Zobrist<'a>> = space_for(alloc, task, options)?;
+    by_threads_in_smallest_form(rt, alloc, &space, options, kind, gate)
 }

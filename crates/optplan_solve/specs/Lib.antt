@@ -1,3 +1,4 @@
 pub mod Outputs
+pub mod Schedules
 pub mod Solving
 pub mod SasSolving

@@ -7,5 +7,5 @@ mod settings;
 mod solving;
 
 pub use sas_solving::run_solve_sas;
-pub use settings::Settings;
+pub use settings::{Schedule, Settings};
 pub use solving::run_solve;

@@ -6,7 +6,10 @@ use optplan_runs::texts::{ROAD_DOMAIN, ROAD_PROBLEM, ROAD_PROBLEM_WITHOUT_WAY, R
 use optplan_runs::{FaultyDevice, program_words, recorded};
 use std::alloc::{AllocError, Global};
 use std::process::Abort;
+use std::sync::Wait;
 use std::test::Fail;
+use std::thread::Threads;
+use std::time::Clock;
 
 /// The names of the files that were written, in order, each followed by a space.
 fn written_names(alloc: Global, events: &[Recorded]) -> Result<String, AllocError> {
@@ -165,7 +168,11 @@ const MEMORY_ROWS: &[Row] = &[
 ];
 
 /// Checks the outcome of the program if one call of its device fails with this fault.
-fn does<R: Abort + AllocGlobal>(rt: &R, row: &Row, fault: DeviceFault) -> Result<(), Fail> {
+fn does<R: Threads + Wait + Clock + Sync + Abort + AllocGlobal>(
+    rt: &R,
+    row: &Row,
+    fault: DeviceFault,
+) -> Result<(), Fail> {
     let (words, calls_before, out, err, status, written) = row;
     let files = [
         ("d", ROAD_DOMAIN.as_bytes()),

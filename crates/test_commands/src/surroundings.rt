@@ -6,7 +6,10 @@ use optplan_runs::texts::{ROAD_CERTIFICATE, ROAD_DOMAIN, ROAD_PROBLEM, ROAD_SAS}
 use optplan_runs::{FaultyDevice, Outcome, program_words, recorded, run_over};
 use std::alloc::{AllocError, Global};
 use std::process::Abort;
+use std::sync::Wait;
 use std::test::Fail;
+use std::thread::Threads;
+use std::time::Clock;
 
 const PLAN: &str = "(go a b)(go b c)";
 
@@ -23,7 +26,7 @@ fn wanted(alloc: Global, texts: Texts) -> Result<Outcome, AllocError> {
 }
 
 /// Checks that the program over these files puts this out, and reports nothing.
-fn puts<R: Abort + AllocGlobal>(
+fn puts<R: Threads + Wait + Clock + Sync + Abort + AllocGlobal>(
     rt: &R,
     words: &[&str],
     files: &[(&str, &[u8])],
@@ -50,7 +53,7 @@ fn a_file_whose_name_is_empty(rt: HostRuntime) -> Result<(), Fail> {
 }
 
 /// The outcome of the program if one call of its device fails with a fault.
-fn run_with_fault<R: AllocGlobal>(
+fn run_with_fault<R: Threads + Wait + Clock + Sync + AllocGlobal>(
     rt: &R,
     words: &[&str],
     plan: &str,

@@ -18,6 +18,6 @@ returns-clause-done g c = λ h is same known.
       record {
         settings = settings;
         asked = c.in-Ok.ensures;
-        solves = renamed_solves h done.0 _ c.unwrap_or-domain.result.now _ c.unwrap_or-problem.result.now settings.options settings.seed (files_of settings) c.run_solve.result d p done.2;
+        solves = renamed_solves h done.0 _ c.unwrap_or-domain.result.now _ c.unwrap_or-problem.result.now settings.options settings.schedule (files_of settings) c.run_solve.result d p done.2;
       },
     )

@@ -16,6 +16,6 @@ returns-clause-done g c = λ h is same known.
       record {
         settings = settings;
         asked = c.in-Ok.ensures;
-        solves = renamed_solves_sas h done.0 _ c.unwrap_or-sas.result.now settings.options settings.seed (files_of settings) c.run_solve_sas.result s done.2;
+        solves = renamed_solves_sas h done.0 _ c.unwrap_or-sas.result.now settings.options settings.schedule (files_of settings) c.run_solve_sas.result s done.2;
       },
     )
