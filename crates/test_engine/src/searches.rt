@@ -78,9 +78,7 @@ fn settles<'a, R: Threads + Wait + Clock + Sync + Abort, S: Spread + Drop + Send
 ) -> Result<(), Fail>
     requires { 0 < workers }
 {
-    let end: Searched<'a, S, Plain> = search(rt, alloc, space, workers, capacity, &Open).map_err(
-        |_| "an end",
-    )?;
+    let end: Searched<'a, S, Plain> = search(rt, alloc, space, workers, capacity, &Open)?;
     match end {
         Searched::Settled(joined) => {
             assert_eq!(rt; answer_of(alloc, &joined)?, Some(answer));
@@ -102,17 +100,13 @@ fn has_plan_of<S: Spread + Drop, F: StateForm + Drop>(
     Ok(())
 }
 
-/// Whether one of the owners has expanded so many nodes.
-fn is_at_limit<S: Spread + Drop, F: StateForm + Drop>(
-    joined: &Joined<'_, S, F>,
-    limit: u64,
-) -> bool {
+/// The greatest number of nodes that one of the owners has expanded.
+fn most_expansions<S: Spread + Drop, F: StateForm + Drop>(joined: &Joined<'_, S, F>) -> u64 {
+    let mut most = 0;
     for owner in joined.owners() {
-        if owner.expansions() == limit {
-            return true;
-        }
+        most = most.max(owner.expansions());
     }
-    false
+    most
 }
 
 /// A search by so many workers ends at the limit of the space, as some owner has expanded so many nodes.
@@ -125,13 +119,11 @@ fn stops<'a, R: Threads + Wait + Clock + Sync + Abort, S: Spread + Drop + Send +
 ) -> Result<(), Fail>
     requires { 0 < workers }
 {
-    let end: Searched<'a, S, Plain> = search(rt, alloc, space, workers, 64, &Open).map_err(
-        |_| "an end",
-    )?;
+    let end: Searched<'a, S, Plain> = search(rt, alloc, space, workers, 64, &Open)?;
     match end {
         Searched::Settled(_) => panic!(rt; "the search was settled"),
         Searched::Stopped(joined) => {
-            assert!(rt; is_at_limit(&joined, limit));
+            assert!(rt; most_expansions(&joined) == limit);
             assert_eq!(rt; joined.settled(alloc)?, None);
             Ok(())
         }
@@ -246,9 +238,7 @@ fn finds_plan<'a, R: Threads + Wait + Clock + Sync + Abort, S: Spread + Drop + S
 ) -> Result<(), Fail>
     requires { 0 < workers }
 {
-    let end: Searched<'a, S, Plain> = search(rt, alloc, space, workers, capacity, &Open).map_err(
-        |_| "an end",
-    )?;
+    let end: Searched<'a, S, Plain> = search(rt, alloc, space, workers, capacity, &Open)?;
     match end {
         Searched::Settled(joined) => {
             assert_eq!(rt;
