@@ -60,7 +60,9 @@ fn line_of<'a, R: Threads + Wait + Clock + Sync, S: Spread + Drop + Send + Sync>
     requires { 0 < workers }
 {
     let start = Instant::now(rt).ok();
-    let end: Result<Searched<'a, S, Plain>, EngineFault> = search(rt, alloc, space, workers, capacity, &Open);
+    let end: Result<Searched<'a, S, Plain>, EngineFault> = search(
+        rt, alloc, space, workers, capacity, &Open,
+    );
     let (word, joined) = match end {
         Ok(Searched::Settled(joined)) => ("settled", joined),
         Ok(Searched::Stopped(joined)) => ("stopped", joined),

@@ -77,7 +77,11 @@ fn read_certificate(alloc: Global, cert: &[u8]) -> Result<Certificate, CheckFaul
 ///
 /// Fails with the first fault of the task's text, or else with the first fault of the certificate's text, or if
 /// allocation fails.
-pub fn check_sas<R: AllocGlobal + Threads + Sync>(rt: &R, sas: &[u8], cert: &[u8]) -> Result<Verdict, CheckFault>
+pub fn check_sas<R: AllocGlobal + Threads + Sync>(
+    rt: &R,
+    sas: &[u8],
+    cert: &[u8],
+) -> Result<Verdict, CheckFault>
     ensures answer { IfOk result (IsAnswer sas.now cert.now) }
     ensures refused { IfErr result (IsRefusal sas.now cert.now) }
     ensures bound { (task : FiniteDomainTask) (bound : Distance) → SpellsTask sas.now task →

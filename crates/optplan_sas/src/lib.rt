@@ -10,8 +10,8 @@ mod sas;
 mod schedule;
 mod searching;
 
-pub use engine::{Gate, Open, Stop};
 pub use answer::{Answer, CheapestPlan, KnownSoFar, WrittenPlan};
+pub use engine::{Gate, Open, Stop};
 pub use fault::{SasSolveFault, SearchFault};
 pub use found::{Found, FoundPlan, SoFar, Solution, found_by};
 pub use options::{MAX_RING, MAX_TABLE, MAX_WORKERS, Options};

@@ -80,12 +80,7 @@ fn by_seed<'a, F: StateForm + Drop>(
 }
 
 /// The finding of a search by threads, as `found_by_threads` returns it, of owners whose states have the form `F`.
-fn by_threads<
-    'a,
-    R: Threads + Wait + Clock + Sync,
-    G: Gate + Sync,
-    F: StateForm + Drop + Send,
->(
+fn by_threads<'a, R: Threads + Wait + Clock + Sync, G: Gate + Sync, F: StateForm + Drop + Send>(
     rt: &R,
     alloc: Global,
     space: &'a Space<'a, Zobrist<'a>>,
