@@ -6,4 +6,3 @@ pub mod Translations
 pub mod FileCommands
 pub mod PlainWords
 pub mod Operands
-pub mod SchedulesByWords

@@ -1,10 +1,10 @@
 -- From what a search has found to the texts of an answer.
-use Rattle.std.proofs.Common.{◌≡◌, ℕ, ◌≤◌, List, Option, Some, None, sym, subst}
+use Rattle.std.proofs.Common.{◌≡◌, ℕ, ◌≤◌, List, Some, None, sym, subst}
 use Rattle.std.specs.Prelude.{Vec}
 use Rattle.std.specs.Global.{Global}
 use Rattle.cost.specs.Distances.{Distance, Finite, Infinite}
 use Rattle.fdr.specs.Tasks.{FiniteDomainTask, HasNoPlan}
-use Rattle.cert_value.specs.Certificates.{Kind, FiniteDomain, CertificateValue}
+use Rattle.cert_value.specs.Certificates.{FiniteDomain, CertificateValue}
 use Rattle.cert_text.specs.Spelling.{spelling}
 use Rattle.sasfile.specs.SasTexts.{SpellsTask}
 use Rattle.packed_spread.specs.Spreads as spread
@@ -12,7 +12,7 @@ use Rattle.packed_spread.specs.Spreads.{zobrist_owner}
 use Rattle.extract.specs.Ends.{EndOf}
 use Rattle.extract.specs.Bounds.{least_best}
 use Rattle.optplan_sas.specs.Findings.{IsPlanAt, IsCertificateOf, IsBestSoFar, IsSolution, IsSoFar, IsFound, IsTrueOf, IsSettledEnd, IsShortEnd}
-use Rattle.optplan_sas.specs.SasAnswers.{IsAccepted, IsSasPlan, IsBestWritten, IsSasSolution, IsSasKnown, IsSasAnswerFor}
+use Rattle.optplan_sas.specs.SasAnswers.{IsBestWritten, IsSasSolution, IsSasKnown, IsSasAnswerFor}
 use Rattle.optplan_sas.specs.declared.answer.WrittenPlan.{WrittenPlan}
 use Rattle.optplan_sas.specs.declared.answer.CheapestPlan.{CheapestPlan}
 use Rattle.optplan_sas.specs.declared.answer.KnownSoFar.{KnownSoFar}

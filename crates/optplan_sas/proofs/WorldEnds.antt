@@ -1,5 +1,5 @@
 -- What is found at the end of a world is found of its task.
-use Rattle.std.proofs.Common.{◌≡◌, ℕ, List, length, sym, ap, subst, ◌∙◌}
+use Rattle.std.proofs.Common.{◌≡◌, ℕ, List, ap, subst, ◌∙◌}
 use Rattle.fdr.specs.Tasks.{FiniteDomainTask}
 use Rattle.cert_value.specs.Certificates.{Kind}
 use Rattle.packed_spread.specs.Spreads as spread

@@ -1,4 +1,4 @@
-use Rattle.std.proofs.Common.{◌≡◌, ◌∙◌, Some, None, sym, subst}
+use Rattle.std.proofs.Common.{◌∙◌, None, sym, subst}
 use Rattle.cost.specs.Distances.{Distance}
 use Rattle.extract.specs.Ends.{IsBestGoal}
 use Rattle.extract.specs.Bounds.{least_best}

@@ -1,4 +1,4 @@
-use Rattle.std.proofs.Common.{sym, subst, ap, ◌∙◌}
+use Rattle.std.proofs.Common.{sym, ◌∙◌}
 use Rattle.cost.specs.Distances.{Finite, Infinite}
 use Rattle.cert_value.specs.Views.{kind_of}
 use Rattle.cert.specs.Expanded.{closed_in}

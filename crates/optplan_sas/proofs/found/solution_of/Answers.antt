@@ -1,5 +1,5 @@
-use Rattle.std.proofs.Common.{◌≡◌, ℕ, Option, Some, IsSomeAnd, sym, subst, ap}
-use Rattle.cost.specs.Distances.{Distance, Finite}
+use Rattle.std.proofs.Common.{◌≡◌, ℕ, Option, IsSomeAnd, sym, subst}
+use Rattle.cost.specs.Distances.{Finite}
 use Rattle.cert_value.specs.Views.{kind_of}
 use Rattle.extract.specs.Bounds.{least_best}
 use Rattle.cert.specs.Expanded.{closed_in}

@@ -1,4 +1,4 @@
-use Rattle.std.proofs.Common.{ℕ, ap, subst, sym}
+use Rattle.std.proofs.Common.{ℕ, subst, sym}
 use Rattle.cost.specs.Distances.{Finite}
 use Rattle.fdr.specs.Tasks.{EveryPlanCostsAtLeast}
 use Rattle.optplan_sas.specs.SasAnswers.{IsAccepted}

@@ -2,7 +2,7 @@ use Rattle.std.proofs.Common.{◌^◌, ◌-◌, ℕ, List, ap, subst, arith}
 use Rattle.rand_core.specs.Steps.{stream_of, steps_u64_high}
 use Rattle.rand_xoshiro.specs.Xoshiro256.{plus_plus}
 use Rattle.netcore.specs.Worlds.{IsStepRefusal}
-use Rattle.optplan_sas.proofs.Schedules.{IsTurn, begun, not_begun, one_more, limited, too_large, ended, left_of, used_up}
+use Rattle.optplan_sas.proofs.Schedules.{IsTurn, begun, one_more, limited, too_large, ended, left_of, used_up}
 use Rattle.optplan_sas.proofs.schedule.simulated.Goals as goal
 
 pub loop-init : goal.loop-init
