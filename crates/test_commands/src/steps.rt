@@ -10,6 +10,7 @@ use optplan_runs::texts::{ROAD_DOMAIN, ROAD_PROBLEM, ROAD_SAS};
 use optplan_sas::{Answer, solve_sas_steps};
 use std::process::Abort;
 use std::test::Fail;
+use std::thread::Threads;
 
 /// The one worker expands a, and b is reached.
 const TOO_FEW: &[WorldStep] = &[Expand(0)];
@@ -50,7 +51,11 @@ fn steps_on_a_planning_task(rt: HostRuntime) -> Result<(), Fail> {
 }
 
 /// Checks that the checker accepts the certificate for this bound.
-fn certifies<R: Abort + AllocGlobal>(rt: &R, cert: &[u8], bound: Dist) -> Result<(), Fail> {
+fn certifies<R: Threads + Sync + Abort + AllocGlobal>(
+    rt: &R,
+    cert: &[u8],
+    bound: Dist,
+) -> Result<(), Fail> {
     match check_pddl(rt, ROAD_DOMAIN.as_bytes(), ROAD_PROBLEM.as_bytes(), cert)? {
         PlanningVerdict::Accepted(accepted) => assert_eq!(rt; accepted, bound),
         PlanningVerdict::Rejected(violation) => panic!(rt; "rejected {violation}"),
