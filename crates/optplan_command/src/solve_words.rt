@@ -30,8 +30,8 @@ Reads a domain and a problem in PDDL 2.1 level 1 with types, negative preconditi
                               line stands the cheapest plan that was found by then, if there is one (status 5)
 
 Workers in threads of their own share the states. With --simulate one thread does their steps, in an order that is drawn
-from the seed, so it finds the same plan each time. The seconds of --time count from when the files are read; what comes
-before the search, which alone they end, may take longer.
+from the seed, so it finds the same plan each time. The seconds of --time count from when the files are read, but only
+the search can be ended: what comes before it may take longer.
 
 With the metric minimize (total-cost) an action costs what it increases the total cost by, without it each action costs
 1. The certificate that --cert asks for is what the command check takes, beside the domain and the problem. A text that
@@ -52,8 +52,8 @@ effects), and prints:
                               line stands the cheapest plan that was found by then, if there is one (status 5)
 
 Workers in threads of their own share the states. With --simulate one thread does their steps, in an order that is drawn
-from the seed, so it finds the same plan each time. The seconds of --time count from when the files are read; what comes
-before the search, which alone they end, may take longer.
+from the seed, so it finds the same plan each time. The seconds of --time count from when the files are read, but only
+the search can be ended: what comes before it may take longer.
 
 The certificate that --cert asks for is what the command check-sas takes, beside the task. A text that cannot be read is
 refused with one line on standard error, and so is a task that is too large (status 1).";

@@ -32,7 +32,8 @@ fn solve_fault(fault: SasSolveFault) -> Fault
     }
 }
 
-/// The answer for the task that the text spells, by the schedule that the settings request. Fails as the solver does.
+/// The answer for the task that the text spells, by the schedule that the settings request, whose seconds count from now on. Fails as the
+/// solver does.
 fn solved<R: Threads + Wait + Clock + Sync + AllocGlobal>(
     rt: &R,
     sas: &[u8],

@@ -36,7 +36,8 @@ fn solve_fault(alloc: Global, fault: PlanningFault, domain: &[u8], problem: &[u8
     }
 }
 
-/// The answer for the task that the texts spell, by the schedule that the settings request. Fails as the planner does.
+/// The answer for the task that the texts spell, by the schedule that the settings request, whose seconds count from now on. Fails as the
+/// planner does.
 fn planned<R: Threads + Wait + Clock + Sync + AllocGlobal>(
     rt: &R,
     domain: &[u8],
