@@ -102,6 +102,8 @@ class CommandLine(ProgramTest):
         (["--simulate", "1", "--table", "16777217"], "invalid value '16777217' for '--table'"),
         (["--simulate", "1", "--limit", "99999999999999999999"], "'--limit'"),
         (["--simulate", "1", "--steps", "1e6"], "invalid value '1e6' for '--steps'"),
+        (["--simulate", "1", "--time", "0.5"], "invalid value '0.5' for '--time'"),
+        (["--time", "9223372036854775808"], "'--time'"),
         (["--simulate", "1", "--plan"], "--plan <FILE>"),
         (["--simulate", "1", "x"], "'x'"),
         (["--simulate", "1", "--quick"], "'--quick'"),
@@ -313,6 +315,7 @@ class Answers(SolverTest):
         (["--cert", "c", "--simulate", "1"], Answer(ROAD_PLAN, written=("c",))),
         (["--simulate", "1", "--workers", "1", "--limit", "1", "--cert", "c"], Answer("limit 2\n", 5, ("c",))),
         (["--simulate", "1", "--steps", "1", "--plan", "l"], LIMIT),
+        (["--simulate", "1", "--time", "0"], Answer(ROAD_PLAN)),
         (["--simulate", "9223372036854775807", "--table", "1"], Answer(ROAD_PLAN)),
     ]
 

@@ -1,4 +1,5 @@
-"""Searches by threads: the worked tasks by few and many workers, links that are full all the time, and a search of many states."""
+"""Searches by threads: the worked tasks by few and many workers, links that are full all the time, a search of many states, and searches that
+a limit or their time ends."""
 
 from program import run
 from test_planner import PlannerTest, solved
@@ -58,13 +59,25 @@ class Threads(PlannerTest):
         searches = [{"workers": 4, "ring": 1} for _ in range(SEARCHES)]
         self.costs_by(searches, HANOI, problem, 511, table=1)
 
-    def test_more_states_than_the_limit(self):
-        # Each of four owners has some 5,000 of the states.
-        outcome = solved(HANOI, tower(9), workers=4, table=1, limit=100)
+    def is_bounded(self, problem, outcome, cost):
+        """Fails unless the outcome is a bound of at most this cost with no plan, and a certificate that the checker accepts for it."""
         self.assertEqual((outcome.err, outcome.status, sorted(outcome.files)), (b"", 5, ["c"]))
         bound = outcome.out.decode().removeprefix("limit ").strip()
-        self.assertTrue(0 <= int(bound) <= 511)
-        self.certifies(HANOI, tower(9), outcome.files["c"], bound)
+        self.assertTrue(0 <= int(bound) <= cost)
+        self.certifies(HANOI, problem, outcome.files["c"], bound)
+
+    def test_more_states_than_the_limit(self):
+        # Each of four owners has some 5,000 of the states.
+        problem = tower(9)
+        self.is_bounded(problem, solved(HANOI, problem, workers=4, table=1, limit=100), 511)
+
+    def test_no_time(self):
+        problem = tower(9)
+        self.is_bounded(problem, solved(HANOI, problem, workers=2, table=1, time=0), 511)
+
+    def test_time_enough(self):
+        outcome = solved(GRIP_DOMAIN, GRIP_PROBLEM, time=600)
+        self.is_cheapest(GRIP_DOMAIN, GRIP_PROBLEM, outcome, 7)
 
     def test_finite_domain_task(self):
         sas = run("translate", "d", "p", files={"d": GRIP_DOMAIN, "p": GRIP_PROBLEM}).out

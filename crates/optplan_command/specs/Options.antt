@@ -32,13 +32,22 @@ pub record AreChoicesOf (value : List ℕ → Option (List ℕ)) (choices : Choi
   pub ring : IsNumberOr 64 1 65536 (value (codes "ring")) choices.ring
   pub steps : IsNumberOr 1000000 0 9223372036854775807 (value (codes "steps")) choices.steps
 
--- the schedule by the value of the option that names a seed: steps drawn from it, or threads if it has none
-abbrev pub IsScheduleOf : Option (List ℕ) → Schedule → Type 0
-IsScheduleOf None schedule = schedule ≡ Threads
-IsScheduleOf (Some text) schedule = IsNumberIn 0 9223372036854775807 text × (schedule ≡ Drawn (digits_value 10 text))
+-- the schedule by a seed and by seconds: steps drawn from the seed, whatever the seconds; or where there is none, threads, which have
+-- these seconds, if there are any
+abbrev pub schedule_by : Option ℕ → Option ℕ → Schedule
+schedule_by (Some seed) seconds = Drawn seed
+schedule_by None seconds = Threads seconds
+
+-- the schedule by the values of the options that name a seed and seconds
+pub record IsScheduleOf (simulate time : Option (List ℕ)) (schedule : Schedule) : Type 0 where
+  pub seed : Option ℕ
+  pub seed_is : IsNumberOf 0 9223372036854775807 simulate seed
+  pub seconds : Option ℕ
+  pub seconds_are : IsNumberOf 0 9223372036854775807 time seconds
+  pub is : schedule ≡ schedule_by seed seconds
 
 -- what is requested beside the task, by the values of the command's options
 pub record AreSettingsOf (value : List ℕ → Option (List ℕ)) (settings : Settings) : Type 0 where
   pub choices : AreChoicesOf value settings.options
-  pub schedule : IsScheduleOf (value (codes "simulate")) settings.schedule
+  pub schedule : IsScheduleOf (value (codes "simulate")) (value (codes "time")) settings.schedule
   pub files : files_of settings ≡ record { plan = value (codes "plan"); cert = value (codes "cert") }

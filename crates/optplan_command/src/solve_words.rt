@@ -26,11 +26,12 @@ Reads a domain and a problem in PDDL 2.1 level 1 with types, negative preconditi
 
   the plan                    one (name arguments) a step, and a line with its cost (status 0)
   unsolvable                  there is no plan (status 4)
-  limit N                     the search came to --limit or --steps first: no plan costs less than N; behind this line
-                              stands the cheapest plan that was found by then, if there is one (status 5)
+  limit N                     the search came to --limit, --time or --steps first: no plan costs less than N; behind this
+                              line stands the cheapest plan that was found by then, if there is one (status 5)
 
 Workers in threads of their own share the states. With --simulate one thread does their steps, in an order that is drawn
-from the seed, so it finds the same plan each time.
+from the seed, so it finds the same plan each time. The seconds of --time count from when the files are read, but only
+the search can be ended: what comes before it may take longer.
 
 With the metric minimize (total-cost) an action costs what it increases the total cost by, without it each action costs
 1. The certificate that --cert asks for is what the command check takes, beside the domain and the problem. A text that
@@ -47,11 +48,12 @@ effects), and prints:
 
   the plan                    one (operator) a step, and a line with its cost (status 0)
   unsolvable                  there is no plan (status 4)
-  limit N                     the search came to --limit or --steps first: no plan costs less than N; behind this line
-                              stands the cheapest plan that was found by then, if there is one (status 5)
+  limit N                     the search came to --limit, --time or --steps first: no plan costs less than N; behind this
+                              line stands the cheapest plan that was found by then, if there is one (status 5)
 
 Workers in threads of their own share the states. With --simulate one thread does their steps, in an order that is drawn
-from the seed, so it finds the same plan each time.
+from the seed, so it finds the same plan each time. The seconds of --time count from when the files are read, but only
+the search can be ended: what comes before it may take longer.
 
 The certificate that --cert asks for is what the command check-sas takes, beside the task. A text that cannot be read is
 refused with one line on standard error, and so is a task that is too large (status 1).";
@@ -66,9 +68,33 @@ fn option<'a>(alloc: Global, name: &'a str, value: &'a str, help: &'a str) -> Ar
         .help(help)
 }
 
+/// Adds the options that end the search.
+fn with_ending_options<'a>(alloc: Global, command: Command<'a>) -> Result<Command<'a>, AllocError> {
+    command
+        .arg(option(
+            alloc,
+            "limit",
+            "N",
+            "How many states each worker may expand",
+        ))?
+        .arg(option(
+            alloc,
+            "time",
+            "SECONDS",
+            "Ends the search by threads after so many seconds, as at a limit",
+        ))?
+        .arg(option(
+            alloc,
+            "steps",
+            "N",
+            "How many steps may be drawn with --simulate",
+        )
+        .default_value("1000000"))
+}
+
 /// Adds the options of the search.
 fn with_search_options<'a>(alloc: Global, command: Command<'a>) -> Result<Command<'a>, AllocError> {
-    command
+    let command = command
         .arg(option(
             alloc,
             "simulate",
@@ -91,24 +117,12 @@ fn with_search_options<'a>(alloc: Global, command: Command<'a>) -> Result<Comman
         .default_value("64"))?
         .arg(option(
             alloc,
-            "limit",
-            "N",
-            "How many states each worker may expand",
-        ))?
-        .arg(option(
-            alloc,
             "table",
             "N",
             "How many entries a table of lower bounds may have, 1 to 16777216",
         )
-        .default_value("100000"))?
-        .arg(option(
-            alloc,
-            "steps",
-            "N",
-            "How many steps may be drawn with --simulate",
-        )
-        .default_value("1000000"))
+        .default_value("100000"))?;
+    with_ending_options(alloc, command)
 }
 
 /// Adds the options that name files.
@@ -169,13 +183,16 @@ fn search_options<'a>(words: &ArgMatches<'a>) -> Result<Options, RefusedValue<'a
     }
 }
 
-/// The schedule that the words request: steps drawn from a seed, or threads where they name no seed. Fails if the seed is refused.
+/// The schedule that the words request: steps drawn from a seed, or threads where they name no seed, which have the seconds that the
+/// words name, if they name any. Fails with the first value that is refused.
 fn schedule_of<'a>(words: &ArgMatches<'a>) -> Result<Schedule, RefusedValue<'a>>
-    ensures { IfOk result (IsScheduleOf (first_value (found_of words.now) (codes "simulate"))) }
+    ensures { IfOk result (IsScheduleOf (first_value (found_of words.now) (codes "simulate")) (first_value (found_of words.now) (codes "time"))) }
 {
-    match number_for(words, "simulate", 0, MAX_NUMBER)? {
+    let seed = number_for(words, "simulate", 0, MAX_NUMBER)?;
+    let seconds = number_for(words, "time", 0, MAX_NUMBER)?;
+    match seed {
         Some(seed) => Ok(Schedule::Drawn(seed)),
-        None => Ok(Schedule::Threads),
+        None => Ok(Schedule::Threads(seconds)),
     }
 }
 

@@ -5,6 +5,7 @@ mod outputs;
 mod sas_solving;
 mod settings;
 mod solving;
+mod time_limit;
 
 pub use sas_solving::run_solve_sas;
 pub use settings::{Schedule, Settings};

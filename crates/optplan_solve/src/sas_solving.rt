@@ -11,14 +11,15 @@ ghost use Rattle.optplan_solve.specs.SasSolving.{IsSasSolveRefusal, SolvesSas};
 
 use crate::outputs::reply_answer;
 use crate::settings::{Schedule, Settings};
+use crate::time_limit::TimeLimit;
 use optplan_device::Device;
 use optplan_replies::{Fault, FileWord, Status, read_file, report};
-use optplan_sas::{Open, SasAnswer, SasSolveFault, simulate_sas, solve_sas};
+use optplan_sas::{SasAnswer, SasSolveFault, simulate_sas, solve_sas};
 use std::sync::Wait;
 use std::thread::Threads;
 use std::time::Clock;
 
-/// The solver's fault as the program's, which ends no search by a gate.
+/// The solver's fault as the program's, whose gates make no search fail.
 fn solve_fault(fault: SasSolveFault) -> Fault
     requires { (sas : List ℕ) × ((choices : Choices) × ((schedule : Schedule) × IsSasRefusal sas (IsRefusedBy choices schedule) fault)) }
     ensures { (sas : List ℕ) (choices : Choices) (schedule : Schedule) → IsSasRefusal sas (IsRefusedBy choices schedule) fault → IsSasSolveRefusal sas choices schedule result }
@@ -31,7 +32,8 @@ fn solve_fault(fault: SasSolveFault) -> Fault
     }
 }
 
-/// The answer for the task that the text spells, by the schedule that the settings request. Fails as the solver does.
+/// The answer for the task that the text spells, by the schedule that the settings request, whose seconds count from now on. Fails as the
+/// solver does.
 fn solved<R: Threads + Wait + Clock + Sync + AllocGlobal>(
     rt: &R,
     sas: &[u8],
@@ -41,7 +43,10 @@ fn solved<R: Threads + Wait + Clock + Sync + AllocGlobal>(
     ensures refused { IfErr result (IsSasRefusal sas.now (IsRefusedBy settings.now.options settings.now.schedule)) }
 {
     match settings.schedule {
-        Schedule::Threads => solve_sas(rt, sas, &settings.options, &Open),
+        Schedule::Threads(seconds) => {
+            let limit = TimeLimit::new(rt, seconds);
+            solve_sas(rt, sas, &settings.options, &limit)
+        }
         Schedule::Drawn(seed) => simulate_sas(rt, sas, &settings.options, seed),
     }
 }

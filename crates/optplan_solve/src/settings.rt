@@ -5,8 +5,9 @@ use optplan_sas::Options;
 /// How the owners' steps follow each other.
 #[derive(Clone, Copy, Debug, PartialEq, Eq)]
 pub enum Schedule {
-    /// The owners search in threads, one each.
-    Threads,
+    /// The owners search in threads, one each, and end as at a limit after so many seconds, if these are given. The seconds count
+    /// from when the files are read, but only the search can be ended, at the next turn of each owner.
+    Threads(Option<u64>),
     /// The owners' steps are drawn from this seed, one after another.
     Drawn(u64),
 }

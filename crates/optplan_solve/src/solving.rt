@@ -11,15 +11,16 @@ ghost use Rattle.optplan_solve.specs.Solving.{IsSolveRefusal, Solves};
 
 use crate::outputs::reply_answer;
 use crate::settings::{Schedule, Settings};
+use crate::time_limit::TimeLimit;
 use optplan_device::Device;
-use optplan_pddl::{Open, PlanningAnswer, PlanningFault, simulate, solve};
+use optplan_pddl::{PlanningAnswer, PlanningFault, simulate, solve};
 use optplan_replies::{Fault, Status, read_task_files, report, task_fault};
 use std::alloc::Global;
 use std::sync::Wait;
 use std::thread::Threads;
 use std::time::Clock;
 
-/// The planner's fault as the program's, which ends no search by a gate.
+/// The planner's fault as the program's, whose gates make no search fail.
 fn solve_fault(alloc: Global, fault: PlanningFault, domain: &[u8], problem: &[u8]) -> Fault
     requires { (choices : Choices) × ((schedule : Schedule) × IsPlanningRefusal domain.now problem.now (IsRefusedBy choices schedule) fault) }
     ensures { (choices : Choices) (schedule : Schedule) → IsPlanningRefusal domain.now problem.now (IsRefusedBy choices schedule) fault →
@@ -35,7 +36,8 @@ fn solve_fault(alloc: Global, fault: PlanningFault, domain: &[u8], problem: &[u8
     }
 }
 
-/// The answer for the task that the texts spell, by the schedule that the settings request. Fails as the planner does.
+/// The answer for the task that the texts spell, by the schedule that the settings request, whose seconds count from now on. Fails as the
+/// planner does.
 fn planned<R: Threads + Wait + Clock + Sync + AllocGlobal>(
     rt: &R,
     domain: &[u8],
@@ -46,7 +48,10 @@ fn planned<R: Threads + Wait + Clock + Sync + AllocGlobal>(
     ensures refused { IfErr result (IsPlanningRefusal domain.now problem.now (IsRefusedBy settings.now.options settings.now.schedule)) }
 {
     match settings.schedule {
-        Schedule::Threads => solve(rt, domain, problem, &settings.options, &Open),
+        Schedule::Threads(seconds) => {
+            let limit = TimeLimit::new(rt, seconds);
+            solve(rt, domain, problem, &settings.options, &limit)
+        }
         Schedule::Drawn(seed) => simulate(rt, domain, problem, &settings.options, seed),
     }
 }
