@@ -133,7 +133,7 @@ const FAILING_ROWS: &[FaultRow] = &[
         ("", "optplan: F25 PlanShape plan 0\n", 1),
     ),
     (&["validate", "d", "p", "gone"], PLAN, 3, ("", "", 7)),
-    (&["solve", "d", "p"], PLAN, 0, ("", "", 2)),
+    (&["solve", "d"], PLAN, 0, ("", "", 2)),
     (
         &["--help"],
         PLAN,

@@ -66,8 +66,6 @@ impl Meeting {
 }
 
 impl Gate for Meeting {
-    ghost use Rattle.std.specs.Prelude.{Unit};
-
     ghost may_stop = { λ _ _ _ _. Unit {0} };
 
     /// Each of workers 0 and 1 waits for the other in its first turn.
@@ -107,8 +105,6 @@ struct FirstTurns {
 }
 
 impl Gate for FirstTurns {
-    ghost use Rattle.std.specs.Prelude.{⊥};
-
     ghost may_stop = { λ _ _ _ _. ⊥ };
 
     fn turn(&self, _worker: usize, turn: u64) -> Result<(), Stop> {
@@ -142,7 +138,11 @@ fn ends<'t, R: Threads + Wait + Clock + Sync, G: Gate + Sync>(
     let end: Result<Searched<'_, ByValue<'t>, Plain>, EngineFault> = search(
         rt, alloc, &space, workers, 64, gate,
     );
-    Ok(end.map(|end| matches!(end, Searched::Settled(_))))
+    match end {
+        Ok(Searched::Settled(_)) => Ok(Ok(true)),
+        Ok(Searched::Stopped(_)) => Ok(Ok(false)),
+        Err(fault) => Ok(Err(fault)),
+    }
 }
 
 #[test]
