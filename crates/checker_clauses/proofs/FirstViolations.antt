@@ -10,7 +10,7 @@ use Rattle.checker_clauses.specs.Clauses.{comes_before}
 use Rattle.checker_clauses.specs.Violations.{clause_of, place_of, IsFirstViolation, IsHeld}
 
 -- lists of which neither comes before the other are the same
-neither_before : (xs ys : List ℕ) → comes_before xs ys ≡ false → comes_before ys xs ≡ false → xs ≡ ys
+pub neither_before : (xs ys : List ℕ) → comes_before xs ys ≡ false → comes_before ys xs ≡ false → xs ≡ ys
 neither_before [] [] p q = refl
 neither_before [] (y ∷ ys) p q = cc p
 neither_before (x ∷ xs) [] p q = cc q

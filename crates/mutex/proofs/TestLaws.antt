@@ -18,7 +18,9 @@ use Rattle.mutex.specs.Tables.{row, IsTranspose, AreTables, takes_over_at, is_ta
 use Rattle.mutex.proofs.PlaceLaws.{has_mem, mem_has}
 use Rattle.mutex.proofs.IndexLaws.{all_both, all_if_any, all_same, any_same, counted_one, one_counted, row_of, action_at, get_of_within, one_place, has_places, has_wanted_places, has_excluded_places, has_removed_places}
 
-mem_group : (atoms : List Atom) (places : List ℕ) (p : ℕ) (x : Atom) → Mem p places → slice_get atoms p ≡ Some x → Mem x (atoms_at atoms places)
+-- the atoms at places
+
+pub mem_group : (atoms : List Atom) (places : List ℕ) (p : ℕ) (x : Atom) → Mem p places → slice_get atoms p ≡ Some x → Mem x (atoms_at atoms places)
 mem_group atoms [] p x m e = absurd m
 mem_group atoms (q ∷ places) p x m e = go (slice_get atoms q) refl m (λ n. mem_group atoms places p x n e)
   where
@@ -28,7 +30,7 @@ mem_group atoms (q ∷ places) p x m e = go (slice_get atoms q) refl m (λ n. me
     go (Some y) f (inl s) ih = let w : slice_get atoms q ≡ Some x = rw s e in inl (cc)
     go (Some y) f (inr n) ih = inr (ih n)
 
-group_mem : (atoms : List Atom) (places : List ℕ) (x : Atom) → Mem x (atoms_at atoms places) → (p : ℕ) × Mem p places × (slice_get atoms p ≡ Some x)
+pub group_mem : (atoms : List Atom) (places : List ℕ) (x : Atom) → Mem x (atoms_at atoms places) → (p : ℕ) × Mem p places × (slice_get atoms p ≡ Some x)
 group_mem atoms [] x m = absurd m
 group_mem atoms (q ∷ places) x m = go (slice_get atoms q) refl m (group_mem atoms places x)
   where

@@ -15,6 +15,7 @@ use Rattle.ground_atoms.specs.Order.{AreDistinct}
 use Rattle.mutex.specs.Groups.{is_constant, is_excluded, is_usable, is_full}
 use Rattle.mutex.specs.Places.{Indexed, atoms_at, has, literal_places}
 use Rattle.mutex.proofs.PlaceLaws.{has_mem, mem_has}
+use Rattle.mutex.proofs.TestLaws.{mem_group, group_mem}
 use Rattle.mutex.proofs.IndexLaws.{counted_one, get_of_within, one_place, has_wanted_places}
 use Rattle.translate_theory.specs.Translations.{Variable, IsGroupVariable, IsVariableOver}
 use Rattle.mutex_proposals.specs.Proposals.{is_movable}
@@ -25,26 +26,6 @@ pub all_of : {X : Type 0} (P : X → Type 0) (xs : List X) → ((x : X) → Mem 
 all_of P xs h k d l = h (get_or xs k d) (mem_from_contains xs (get_or xs k d) (Contains-get_or xs k d l))
 
 -- the atoms at places
-
-mem_group : (atoms : List Atom) (places : List ℕ) (p : ℕ) (x : Atom) → Mem p places → slice_get atoms p ≡ Some x → Mem x (atoms_at atoms places)
-mem_group atoms [] p x m e = absurd m
-mem_group atoms (q ∷ places) p x m e = go (slice_get atoms q) refl m (λ n. mem_group atoms places p x n e)
-  where
-    go : (o : Option Atom) → slice_get atoms q ≡ o → Mem p (q ∷ places) → (Mem p places → Mem x (atoms_at atoms places)) → Mem x (cons_option o (atoms_at atoms places))
-    go None f (inl s) ih = let w : slice_get atoms q ≡ Some x = rw s e in cc
-    go None f (inr n) ih = ih n
-    go (Some y) f (inl s) ih = let w : slice_get atoms q ≡ Some x = rw s e in inl (cc)
-    go (Some y) f (inr n) ih = inr (ih n)
-
-pub group_mem : (atoms : List Atom) (places : List ℕ) (x : Atom) → Mem x (atoms_at atoms places) → (p : ℕ) × Mem p places × (slice_get atoms p ≡ Some x)
-group_mem atoms [] x m = absurd m
-group_mem atoms (q ∷ places) x m = go (slice_get atoms q) refl m (group_mem atoms places x)
-  where
-    go : (o : Option Atom) → slice_get atoms q ≡ o → Mem x (cons_option o (atoms_at atoms places)) → (Mem x (atoms_at atoms places) → (p : ℕ) × Mem p places × (slice_get atoms p ≡ Some x))
-        → (p : ℕ) × Mem p (q ∷ places) × (slice_get atoms p ≡ Some x)
-    go None f n ih = let w = ih n in (w.0, inr w.1, w.2)
-    go (Some y) f (inl s) ih = (q, inl refl, f ∙ ap Some s)
-    go (Some y) f (inr n) ih = let w = ih n in (w.0, inr w.1, w.2)
 
 -- each place within the list gives an atom
 length_at : (atoms : List Atom) (places : List ℕ) → All (λ p. p < length atoms) places → length (atoms_at atoms places) ≡ length places
