@@ -22,7 +22,7 @@ use closed::{Entry, Message, Outcome, Parent};
 use cost::Dist;
 use fdr::FdrTask;
 use openlist::{OpenEntry, Rank};
-use packed::{Plain, StateForm};
+use packed::StateForm;
 use packed_spread::Spread;
 use std::alloc::{AllocError, Global};
 use std::collections::VecDeque;
@@ -34,14 +34,16 @@ use std::marker::Model;
 pub(crate) struct Holdings<'a, S: Spread + Drop, F: StateForm + Drop> {
     worker: usize,
     reached: Reached<'a, S, F>,
-    outboxes: Outboxes,
+    outboxes: Outboxes<F>,
     best: Dist,
     expansions: u64,
 }
 
 impl<'a, S: Spread + Drop, F: StateForm + Drop> Model for Holdings<'a, S, F> {
+    ghost use Rattle.fdr.specs.Tasks.{ranges};
     ghost use Rattle.owner.specs.Owned.{OwnerOf};
     ghost use Rattle.owner.specs.Held.{IsOwner};
+    ghost use Rattle.owner.specs.Outboxes.{shown};
 
     ghost Value = { OwnerOf S };
 
@@ -49,7 +51,7 @@ impl<'a, S: Spread + Drop, F: StateForm + Drop> Model for Holdings<'a, S, F> {
       space = o.reached.space;
       worker = o.worker;
       nodes = o.reached.nodes;
-      outboxes = o.outboxes;
+      outboxes = shown (F.values (ranges o.reached.space.task)) o.outboxes;
       best = o.best;
       expansions = o.expansions;
     } };
@@ -58,7 +60,7 @@ impl<'a, S: Spread + Drop, F: StateForm + Drop> Model for Holdings<'a, S, F> {
       space = o.reached.space;
       worker = o.worker;
       nodes = o.reached.nodes;
-      outboxes = o.outboxes;
+      outboxes = shown (F.values (ranges o.reached.space.task)) o.outboxes;
       best = o.best;
       expansions = o.expansions;
     }) };
@@ -241,7 +243,8 @@ impl<'a, S: Spread + Drop, F: StateForm + Drop> Holdings<'a, S, F> {
         if is_within(bound, space.f(state, rank.cost)) {
             return Ok(false); // no memory is taken for it
         }
-        let state = Plain::pack(alloc, space.layout(), state)?;
+        self.reached.recall(); // states of the task have the form
+        let state = F::pack(alloc, space.layout(), state)?;
         let message = Message {
             state,
             rank,
@@ -290,11 +293,11 @@ impl<'a, S: Spread + Drop, F: StateForm + Drop> Holdings<'a, S, F> {
     }
 
     /// Removes and returns the oldest message for that owner, or returns `None` if there is none.
-    pub(crate) fn next_out(&mut self, to: usize) -> Option<Message>
+    pub(crate) fn next_out(&mut self, to: usize) -> Option<Message<F>>
         requires { to < length self.old.outboxes }
-        ensures first { list_at self.old.outboxes to ≡ map message_of (option_to_list result) ++ list_at self.new.outboxes to }
+        ensures first { list_at self.old.outboxes to ≡ map (message_of (F.values (ranges self.old.space.task))) (option_to_list result) ++ list_at self.new.outboxes to }
         ensures others { self.new ≡ record self.old { outboxes = slice_set self.old.outboxes to (list_at self.new.outboxes to) } }
-        ensures fits { IfSome result (λ m. IsMessageTo (space_of S.owner self.old) to (message_of m)) }
+        ensures fits { IfSome result (λ m. IsMessageTo (space_of S.owner self.old) to (message_of (F.values (ranges self.old.space.task)) m)) }
         ensures none { IfNone result (list_at self.old.outboxes to ≡ []) }
     {
         self.outboxes.take_out(to)
@@ -341,9 +344,9 @@ impl<'a, S: Spread + Drop, F: StateForm + Drop> Holdings<'a, S, F> {
         self.expansions
     }
 
-    pub(crate) fn outbox(&self, to: usize) -> &VecDeque<Message>
+    pub(crate) fn outbox(&self, to: usize) -> &VecDeque<Message<F>>
         requires { to < length self.now.outboxes }
-        ensures { map message_of result.now.items ≡ list_at self.now.outboxes to }
+        ensures { map (message_of (F.values (ranges self.now.space.task))) result.now.items ≡ list_at self.now.outboxes to }
     {
         self.outboxes.outbox(to)
     }
@@ -383,8 +386,9 @@ impl<'a, S: Spread + Drop, F: StateForm + Drop> Holdings<'a, S, F> {
 
     /// What holds of every owner: the type's invariant, stated as a contract.
     pub(crate) fn recall(&self)
-        ensures { IsOwner S.owner self.now }
+        ensures owner { IsOwner S.owner self.now }
+        ensures fits { F.Fits (ranges self.now.space.task) }
     {
-        let _worker = self.worker;
+        self.reached.recall();
     }
 }

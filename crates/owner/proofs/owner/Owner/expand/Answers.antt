@@ -34,11 +34,11 @@ read_state-requires-clause-index g c =
 
 pub has_large_successor-requires-clause-cost : goal.has_large_successor-requires-clause-cost
 has_large_successor-requires-clause-cost g c =
-    least_cost g.S.Spread.owner c.self.inside.holdings c.in-Some.next c.in-Some.ensures.some.0 c.recall.ensures
+    least_cost g.S.Spread.owner c.self.inside.holdings c.in-Some.next c.in-Some.ensures.some.0 c.recall.ensures.owner
 
 pub has_large_successor-requires-clause-steps : goal.has_large_successor-requires-clause-steps
 has_large_successor-requires-clause-steps g c =
-    least_steps g.S.Spread.owner c.self.inside.holdings c.in-Some.next c.in-Some.ensures.some.0 c.recall.ensures
+    least_steps g.S.Spread.owner c.self.inside.holdings c.in-Some.next c.in-Some.ensures.some.0 c.recall.ensures.owner
 
 pub returns-then-has_large_successor-clause-refused : goal.returns-then-has_large_successor-clause-refused
 returns-then-has_large_successor-clause-refused g c =
@@ -67,7 +67,7 @@ treat_successors-requires-clause-state g c =
     let l = c.in-Some.ensures.some.0 in
     let s = c.deref-3.ensures.value ∙ c.read_state.ensures.state l.node (get_at h.nodes e.index l.node l.there) in
     subst (λ (x : OwnerOf g.row.S.Denot). IsState (ranges x.space.task) c.deref-3.result.now) (sym (c.expand_next.ensures.nodes e l.node l l.there))
-    (least_state g.S.Spread.owner h e l c.deref-3.result.now c.recall.ensures s)
+    (least_state g.S.Spread.owner h e l c.deref-3.result.now c.recall.ensures.owner s)
 
 pub treat_successors-requires-clause-apply : goal.treat_successors-requires-clause-apply
 treat_successors-requires-clause-apply g c =
