@@ -1,10 +1,11 @@
-"""The merge gate: proves every crate and its tests of the last commit from nothing, runs every program, and tries must-fail edits.
+"""The merge gate: proves every crate and its tests of the last commit from nothing, runs every program, the tests of `tests/` on both
+builds of optplan, and must-fail edits.
 
-An edit changes its answer only where its crate, or something below it, changed. So `.ci/refused.txt` records for which state of
-a crate all its edits were refused, and the gate tries those of the crates whose state is not recorded.
+What the toolchain's gate proved of the very same files on this machine it does not prove again. An edit changes its answer only where its
+crate, or something below it, changed. So `.ci/refused.txt` records for which state of a crate all its edits were refused, and the gate
+tries those of the crates whose state is not recorded.
 """
 
-import concurrent.futures
 import contextlib
 import os
 import re
@@ -23,17 +24,22 @@ RECORD = f"{TOP}/.ci/refused.txt"
 USAGE = """usage: .ci/run                 the gate: proofs, tests, programs, and the edits of crates whose state is not recorded
        .ci/run --all           the gate with every edit, whatever is recorded
        .ci/run --edits [NAME..]  outside the gate: the edits that are not recorded, of these crates or of all
-Each takes the last commit, and records in .ci/refused.txt where all edits were refused. --edits works in the work tree, over what
-earlier runs kept there, and may be ended at any time."""
+Each takes the last commit, and records in .ci/refused.txt where all edits were refused. --edits proves what these crates stand on first,
+records some crates at a time, and may be ended at any time: the toolchain keeps what it has proved and tried."""
 # The seconds in which the gate is to end, and what was measured on four busy processors, in seconds of one processor: all proofs
 # and tests together, and one edit on average.
 SECONDS_OF_A_RUN = 9900
-SECONDS_WITHOUT_EDITS = 16600
+SECONDS_WITHOUT_EDITS = 15000
 SECONDS_OF_AN_EDIT = 46
 GIB = 2**30
 # The room that a run takes on the disk, at most.
 BYTES_OF_A_RUN = 16 * GIB
+# How many edits --edits tries before it records what was refused.
+EDITS_AT_ONCE = 60
+# The builds of the program, as two compilers make it, on which the tests of `tests/` are run.
+BUILDS = ("optplan", "optplan.by-rattle")
 REFUSED = re.compile(r"rt: must-fail (\w+)/(\S+): refused, as it must be(.*)")
+COUNTS = re.compile(r"(\d+) passed, (\d+) failed.*")
 BY_NAME_ONLY = "only because a proof file names"
 
 
@@ -70,9 +76,10 @@ def keep_crates(repository, names):
             shutil.rmtree(repository.folder(name), ignore_errors=True)
 
 
-def run_toolchain(copy, tell, on_crate=None):
-    """Runs the toolchain's gate in a copy, and hands on each line that it prints. Gives its status and the seconds of its provers."""
-    gate = subprocess.Popen(["rt", "ci"], cwd=copy, stdin=subprocess.DEVNULL, stdout=subprocess.PIPE, stderr=subprocess.STDOUT,
+def run_toolchain(copy, tell, on_crate=None, names=()):
+    """Runs the toolchain's gate in a copy, or over crates of it and what they stand on alone, and hands on each line that it prints.
+    Gives its status and the seconds of its provers."""
+    gate = subprocess.Popen(["rt", "ci", *names], cwd=copy, stdin=subprocess.DEVNULL, stdout=subprocess.PIPE, stderr=subprocess.STDOUT,
                             text=True, errors="replace", start_new_session=True)
     seconds = ProverSeconds(gate.pid, on_crate)
     try:
@@ -100,29 +107,54 @@ def count_of_edits(repository, names):
     return sum(len(repository.edits(it)) for it in names)
 
 
-def try_crates(repository, record, tried):
-    """Runs the toolchain's gate with the edits of `tried` alone, and records the crates all of whose edits were refused. Gives the
-    status."""
+def keep_edits(repository, tried):
+    """Takes the edits of all crates but these out of a copy."""
     for name in repository.with_edits():
         if name not in tried:
             shutil.rmtree(f"{repository.folder(name)}/must-fail")
-    lines, started, free = [""], time.time(), free_bytes()
+
+
+def try_crates(repository, record, tried, names=()):
+    """Runs the toolchain's gate with the edits of `tried` alone, over all crates or over some alone, and records the crates all of whose
+    edits were refused. Gives the status, and how much passed and failed."""
+    keep_edits(repository, tried)
+    lines, started, free = [], time.time(), free_bytes()
 
     def tell(line):
-        # The last line stays behind what is said here.
-        sys.stdout.write(lines[-1])
         lines.append(line)
+        if not COUNTS.fullmatch(line.strip()):
+            sys.stdout.write(line)
 
-    status, seconds = run_toolchain(repository.top, tell)
+    status, seconds = run_toolchain(repository.top, tell, names=names)
     refused, weak = sorted_edits(repository.top, lines)
     print("\n".join(seconds.table()))
     say(f"{(time.time() - started) / 60:.1f} minutes on {len(os.sched_getaffinity(0))} processors; of {free / GIB:.1f} GiB of free disk "
         f"never less than {seconds.least_free / GIB:.1f} were left")
     tell_weak(weak)
     record.add(repository, [it for it in tried if refused.issuperset(repository.edits(it))])
-    # (the toolchain's count is the last line)
-    print(lines[-1], end="", flush=True)
-    return status or int(bool(weak))
+    return status or int(bool(weak)), counts_of(lines)
+
+
+def counts_of(lines):
+    """How much passed and failed, by the last of these lines: one failed where it does not say."""
+    found = COUNTS.fullmatch(lines[-1].strip()) if lines else None
+    return (int(found[1]), int(found[2])) if found else (0, 1)
+
+
+def run_tests(copy):
+    """Runs the tests of `tests/` on each build of the program, under the program's name. Gives how many passed and failed."""
+    passed = failed = 0
+    for it in BUILDS:
+        started = time.time()
+        with tempfile.TemporaryDirectory(prefix="optplan-build-") as folder:
+            program = shutil.copy(f"{copy}/crates/optplan/out/{it}", f"{folder}/optplan")
+            run = subprocess.run([f"{copy}/tests/run.py", program], stdin=subprocess.DEVNULL, stdout=subprocess.PIPE,
+                                 stderr=subprocess.STDOUT, text=True, errors="replace", check=False)
+        well, bad = counts_of(run.stdout.splitlines())
+        print(run.stdout, end="")
+        say(f"tests on {it}: {well} passed, {bad} failed, in {time.time() - started:.0f} s")
+        passed, failed = passed + well, failed + max(bad, int(run.returncode != 0))
+    return passed, failed
 
 
 def gate(tries_all):
@@ -143,48 +175,47 @@ def gate(tries_all):
                 say(f"that is more than the {most} for which there is time: call .ci/run --edits, which records what is refused, first")
             print("0 passed, 1 failed")
             return 1
-        status = try_crates(repository, record, tried)
+        status, (passed, failed) = try_crates(repository, record, tried)
+        if not status:
+            well, bad = run_tests(copy)
+            status, passed, failed = int(bad > 0), passed + well, failed + bad
         if not status and is_tree_committed():
             try:
                 keep_program(copy, started)
             except OSError as error:
                 say(f"the program is not kept for the first command: {error}")
+        print(f"{passed} passed, {max(failed, int(status != 0))} failed", flush=True)
         return status
 
 
 def edits_alone(names):
-    """Tries the edits that are not recorded, of these crates or of all, over what earlier runs kept in the work tree, and records each
-    crate as soon as all its edits were refused."""
-    record, repository = Record(RECORD), Repository(TOP)
-    unknown = [it for it in names if it not in repository.uses]
-    if unknown:
-        raise SystemExit(f"gate: there is no crate {unknown[0]}")
-    if not is_tree_committed():
-        raise SystemExit("gate: the crates are not those of the last commit")
-    tried = missing_edits(repository, record, names or repository.with_edits(), False)
-    say(f"{count_of_edits(repository, tried)} edits, of {len(tried)} crates, are not recorded")
-    below = {used for it in tried for used in repository.below(it)}
-    if below and subprocess.run([f"{TOP}/.ci/prove.py", *sorted(below)], check=False).returncode:
-        return 1
-    processors = len(os.sched_getaffinity(0))
-    with concurrent.futures.ThreadPoolExecutor(processors) as pool:
-        runs = {pool.submit(edits_of_one, it): it for it in tried}
-        for run in concurrent.futures.as_completed(runs):
-            refused, weak, said = run.result()
-            print(said, end="")
-            tell_weak(weak)
-            if refused.issuperset(repository.edits(runs[run])):
-                record.add(repository, [runs[run]])
-    missing = missing_edits(repository, record, tried, False)
+    """Tries the edits that are not recorded, of these crates of the last commit or of all, and records some crates at a time."""
+    record, status = Record(RECORD), 0
+    take_room()
+    with last_commit() as copy:
+        whole = Repository(copy)
+        unknown = [it for it in names if it not in whole.uses]
+        if unknown:
+            raise SystemExit(f"gate: there is no crate {unknown[0]}")
+        tried = missing_edits(whole, record, names or whole.with_edits(), False)
+        say(f"{count_of_edits(whole, tried)} edits, of {len(tried)} crates, are not recorded")
+        for group in in_groups(whole, tried):
+            with last_commit() as room:
+                status = try_crates(Repository(room), record, group, group)[0] or status
+        missing = missing_edits(whole, record, tried, False)
     say(f"not all refused: {' '.join(missing) or 'none'}")
-    return int(bool(missing))
+    return status or int(bool(missing))
 
 
-def edits_of_one(name):
-    """Tries a crate's edits: those that were refused, those that were refused only over a name in a proof, and what was printed."""
-    run = subprocess.run(["rt", "must-fail", name], cwd=TOP, stdin=subprocess.DEVNULL, stdout=subprocess.PIPE, stderr=subprocess.STDOUT,
-                         text=True, errors="replace", check=False)
-    return *sorted_edits(TOP, run.stdout.split("\n")), run.stdout
+def in_groups(repository, names):
+    """These crates, those that others stand on first, in groups that have some EDITS_AT_ONCE edits each."""
+    groups, count = [[]], 0
+    for name in sorted(names, key=lambda it: len(repository.below(it))):
+        if count >= EDITS_AT_ONCE:
+            groups, count = [*groups, []], 0
+        groups[-1].append(name)
+        count += len(repository.edits(name))
+    return [it for it in groups if it]
 
 
 def sorted_edits(top, lines):

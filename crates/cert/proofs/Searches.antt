@@ -8,7 +8,8 @@ use Rattle.std.proofs.lemmas.Bool.{cond_both}
 use Rattle.std.proofs.lemmas.List.Elements.{All-nil, All-cons, All-head, All-tail, All-append, All-more, All-weaker}
 use Rattle.std.proofs.lemmas.List.Sorted.{All-permutation, IsPermutation-refl, IsPermutation-trans, IsPermutation-append, IsPermutation-append_left, IsPermutation-append_right, IsPermutation-append_comm, length_permutation}
 use native.Mathlib.Bridge.{le_prop}
-use Rattle.cost.specs.Distances.{Distance, Finite, Infinite, ◌≤ᵈ◌, IsWithin, least}
+use Rattle.cost.specs.Distances.{Distance, Finite, Infinite, ◌≤ᵈ◌, IsWithin, lesser}
+use Rattle.cost.proofs.DistanceLaws.{at_most_through, at_most_both, at_most-prop, lesser_left, lesser_at_most_left, lesser_at_most_right}
 use Rattle.fdr.specs.Tasks.{FiniteDomainTask, ranges, IsState, IsWithinLimits}
 use Rattle.cert_value.specs.Certificates.{Kind, Entry, CertificateValue}
 use Rattle.cert_text.specs.Lawful.{IsLawfulKind, IsLawful}
@@ -17,14 +18,18 @@ use Rattle.checker_clauses.specs.Violations.{IsHeld}
 use Rattle.owner_theory.specs.Owners.{At, SearchSpace, Node, Log}
 use Rattle.owner_theory.specs.Families as families
 use Rattle.owner_theory.specs.Families.{IsSearchSpace, Family, PendingAbove, best_of, expanded_of, closed_of, NoTwice}
-use Rattle.owner_theory.proofs.Closed.{listed_once}
-use Rattle.owner_theory.proofs.Plans.{best_node, settled_finished}
+use Rattle.owner_theory.proofs.Closed.{finished, listed_once}
+use Rattle.owner_theory.proofs.Plans.{best_node}
 use Rattle.scp.specs.Partitions.{AreCostPartitioned}
 use Rattle.owner.specs.Spaces.{SpaceOf}
 use Rattle.owner.specs.Owned.{OwnerOf, IsKept, max_total}
-use Rattle.extract.specs.Ends.{EndOf, IsForm, IsEndOf, IsSettledAt, space_at}
+use Rattle.extract.specs.Ends.{EndOf, IsForm, IsEndOf, ArePendingAbove, IsSettledAt, space_at}
+use Rattle.extract.specs.Bounds.{least_pending, least_best, stated, lower_bound}
 use Rattle.extract.proofs.Places.{at_some, each_at, all_at}
-use Rattle.extract.proofs.Families.{as_family}
+use Rattle.extract.proofs.Families.{best_same, pending_to_family, to_family}
+use Rattle.extract.proofs.Pending.{pending_below}
+use Rattle.extract.proofs.Pending as pending
+use Rattle.extract.proofs.Bounds.{stated_at_most, stated_within, small_stated}
 use Rattle.cert.specs.Orders.{IsInOrder, IsRising}
 use Rattle.cert.specs.Expanded.{closed_in}
 use Rattle.cert.proofs.Shuffles.{finished_again, once_again}
@@ -147,28 +152,30 @@ module _ {S : Type 0} (owner : S → List ℕ → ℕ → ℕ) (e : EndOf S) whe
           once_again (closed_of (length e.owners) family.logs) (closed_in e.owners) shuffled
           (listed_once Searched family (Finite 0) ok ends.lawful (zero_at_most (best_of Searched family)) nothing_below)
 
-      finished_of : (bound : Distance) → IsSettledEnd bound → IsFinished e.space.task Searched.heuristic bound (closed_in e.owners)
-      finished_of bound settled =
+      finished_of : (bound : Distance) → bound ≤ᵈ least_best e → ArePendingAbove Searched e.owners e.left bound
+          → IsFinished e.space.task Searched.heuristic bound (closed_in e.owners)
+      finished_of bound best pending =
           finished_again e.space.task Searched.heuristic bound (closed_of (length e.owners) family.logs) (closed_in e.owners) shuffled
-          (settled_finished Searched family bound ok ends.lawful ((as_family owner e family ends bound).0 settled))
+          (finished Searched family bound ok ends.lawful (subst (λ (d : Distance). bound ≤ᵈ d) (best_same owner e family ends) best)
+          (pending_to_family owner e family ends bound pending))
 
       -- a finite bound is the cost of a node
-      small_of : All HasCheapNodes e.owners → (bound : Distance) → IsSettledEnd bound → IsWithin (2 ^ 62) bound
-      small_of cheap Infinite settled = tt
-      small_of cheap (Finite b) settled =
-          let (w, i, found) = best_node Searched family ok ends.lawful b (sym ((as_family owner e family ends (Finite b)).0 settled).best) in
+      settled_small : All HasCheapNodes e.owners → (bound : Distance) → IsSettledEnd bound → bound ≤ᵈ stated bound
+      settled_small cheap Infinite settled = tt
+      settled_small cheap (Finite b) settled =
+          let (w, i, found) = best_node Searched family ok ends.lawful b (sym (to_family owner e family ends (Finite b) settled).best) in
           let (n, low, at, goal, cost) = found in
           let (o, at_o) = at_some e.owners w low in
           let most : n.cost ≤ max_total = each_at IsCheapNode o.nodes i n (each_at HasCheapNodes e.owners w o cheap at_o) (subst (λ (ns : List Node). At ns i n) (ends.nodes w o at_o) at) in
-          omega (arith, most, cost)
+          small_stated b (omega (arith, most, cost))
 
     module _ (ends : ∥ ((family : Family) × IsEndOf owner e family) ∥₁) where
       merely_once : NoTwice (closed_in e.owners)
       merely_once = ∥∥₁_elim ends (once_prop (closed_in e.owners)) (λ known. once_of known.0 known.1)
 
-      -- the certificate is made of the columns, the best cost and the closed states in order
+      -- the certificate is made of the columns, the lower bound and the closed states in order
       pub record IsMade (kind : Kind) (closed : List Entry) (made : CertificateValue) : Type 0 where
-        pub is : made ≡ record { kind = kind; bound = least (map (λ o. o.best) e.owners); columns = e.space.columns; closed = closed }
+        pub is : made ≡ record { kind = kind; bound = lower_bound owner e; columns = e.space.columns; closed = closed }
         pub moved : IsPermutation (closed_in e.owners) closed
         pub order : IsInOrder closed
 
@@ -179,29 +186,49 @@ module _ {S : Type 0} (owner : S → List ℕ → ℕ → ℕ) (e : EndOf S) whe
         pub made_rising : IsRising made.closed
         made_rising = subst (λ (c : CertificateValue). IsRising c.closed) (sym is.is) (rising closed is.order once)
 
-        module _ (divided : ∥ AreCostPartitioned e.space.task e.space.columns ∥₁) (bound : Distance) (settled : IsSettledEnd bound) where
+        module _ (form : IsForm e) (divided : ∥ AreCostPartitioned e.space.task e.space.columns ∥₁) where
+          abbrev bound : Distance
+          bound = lower_bound owner e
+
           abbrev whole : CertificateValue
           whole = record { kind = kind; bound = bound; columns = e.space.columns; closed = closed }
 
-          same : whole ≡ made
-          same = ap (λ (b : Distance). record { kind = kind; bound = b; columns = e.space.columns; closed = closed }) settled.best ∙ sym is.is
+          below_best : bound ≤ᵈ least_best e
+          below_best =
+              at_most_through bound (lesser (least_best e) (least_pending owner e)) (least_best e) (stated_at_most (lesser (least_best e) (least_pending owner e)))
+              (lesser_at_most_left (least_best e) (least_pending owner e))
+
+          below_pending : ArePendingAbove Searched e.owners e.left bound
+          below_pending =
+              pending_below owner e form bound
+              (at_most_through bound (lesser (least_best e) (least_pending owner e)) (least_pending owner e)
+              (stated_at_most (lesser (least_best e) (least_pending owner e))) (lesser_at_most_right (least_best e) (least_pending owner e)))
 
           finished_in_order : (family : Family) → IsEndOf owner e family → IsFinished e.space.task Searched.heuristic bound closed
-          finished_in_order family known = finished_again e.space.task Searched.heuristic bound (closed_in e.owners) closed is.moved (finished_of family known bound settled)
+          finished_in_order family known = finished_again e.space.task Searched.heuristic bound (closed_in e.owners) closed is.moved (finished_of family known bound below_best below_pending)
 
           whole_held : IsHeld e.space.task whole
           whole_held =
               ∥∥₁_elim ends (held_prop e.space.task whole)
               (λ known. merely_held e.space.task kind bound e.space.columns closed divided (finished_in_order known.0 known.1) (rising closed is.order once))
 
-          pub made_held : (made.bound ≡ bound) × IsHeld e.space.task made
-          made_held = (ap (λ (c : CertificateValue). c.bound) (sym same), subst (λ (c : CertificateValue). IsHeld e.space.task c) same whole_held)
+          pub made_held : IsHeld e.space.task made
+          made_held = subst (λ (c : CertificateValue). IsHeld e.space.task c) (sym is.is) whole_held
 
           pub made_lawful : IsWithinLimits e.space.task → All HasCheapNodes e.owners → IsLawfulKind kind → length (closed_in e.owners) < 2 ^ 32 → IsLawful made
           made_lawful limits cheap lawful few =
-              let small : IsWithin (2 ^ 62) bound = ∥∥₁_elim ends (within_prop (2 ^ 62) bound) (λ known. small_of known.0 known.1 cheap bound settled) in
               let states : All (IsStateOf e.space.task) closed = ∥∥₁_elim ends (states_prop e.space.task closed) (λ known. (finished_in_order known.0 known.1).states) in
-              subst IsLawful same
-              (has_text e.space.task limits kind bound e.space.columns closed divided lawful small states
+              subst IsLawful (sym is.is)
+              (has_text e.space.task limits kind bound e.space.columns closed divided lawful (stated_within (lesser (least_best e) (least_pending owner e))) states
               (All-permutation IsCheap (closed_in e.owners) closed is.moved (closed_cheap e.owners cheap))
               (omega (arith, few, length_permutation (closed_in e.owners) closed is.moved)))
+
+          -- where the end is settled, the certificate has that bound
+          pub made_settled : All HasCheapNodes e.owners → (b : Distance) → IsSettledEnd b → made.bound ≡ b
+          made_settled cheap b settled =
+              let least_is : lesser (least_best e) (least_pending owner e) ≡ b =
+              ap (λ (d : Distance). lesser d (least_pending owner e)) (sym settled.best)
+              ∙ lesser_left b (least_pending owner e) (pending.below_pending owner e form b settled.pending) in
+              ap (λ (c : CertificateValue). c.bound) is.is ∙ ap stated least_is
+              ∙ at_most_both (stated b) b (stated_at_most b)
+              (∥∥₁_elim ends (at_most-prop b (stated b)) (λ known. settled_small known.0 known.1 cheap b settled))

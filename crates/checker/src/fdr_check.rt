@@ -13,6 +13,7 @@ use checker_states::{Coverage, first_closed_violation, first_goal_violation};
 use checker_tables::{first_share_violation, first_table_violation};
 use fdr::FdrTask;
 use std::alloc::{AllocError, Global};
+use std::thread::Threads;
 
 /// The first violation of the clauses on tables, C3 and C4. Fails only if allocation fails.
 fn table_violation(
@@ -29,7 +30,8 @@ fn table_violation(
 }
 
 /// The first violation of the clauses C6 to C8, where all earlier ones are met. Fails only if allocation fails.
-fn covering_violation(
+fn covering_violation<R: Threads + Sync>(
+    rt: &R,
     alloc: Global,
     task: &FdrTask,
     certificate: &Certificate,
@@ -43,15 +45,16 @@ fn covering_violation(
     if let Some(start) = coverage.start_violation() {
         return Ok(Some(start));
     }
-    if let Some(goal) = first_goal_violation(alloc, task, certificate)? {
+    if let Some(goal) = first_goal_violation(rt, alloc, task, certificate)? {
         return Ok(Some(goal));
     }
-    coverage.first_successor_violation(alloc)
+    coverage.first_successor_violation(rt, alloc)
 }
 
 /// The first violation of the clauses on the closed list, C5 to C8, where those on tables are met. Fails only if
 /// allocation fails.
-fn closed_violation(
+fn closed_violation<R: Threads + Sync>(
+    rt: &R,
     alloc: Global,
     task: &FdrTask,
     certificate: &Certificate,
@@ -59,15 +62,16 @@ fn closed_violation(
     requires { AreMetBelow task.now certificate.now 5 }
     ensures { IfOk result (IsFoundBelow task.now certificate.now 9) }
 {
-    if let Some(state) = first_closed_violation(alloc, task, certificate)? {
+    if let Some(state) = first_closed_violation(rt, alloc, task, certificate)? {
         return Ok(Some(state));
     }
     let coverage = Coverage::new(alloc, task, certificate)?;
-    covering_violation(alloc, task, certificate, &coverage)
+    covering_violation(rt, alloc, task, certificate, &coverage)
 }
 
 /// The first violation, if there is one. Fails only if allocation fails.
-fn first_violation(
+fn first_violation<R: Threads + Sync>(
+    rt: &R,
     alloc: Global,
     task: &FdrTask,
     certificate: &Certificate,
@@ -77,14 +81,15 @@ fn first_violation(
     if let Some(table) = table_violation(alloc, task, certificate)? {
         return Ok(Some(table));
     }
-    closed_violation(alloc, task, certificate)
+    closed_violation(rt, alloc, task, certificate)
 }
 
 /// Returns the verdict on a certificate for a task, whatever kind of task the certificate is for: `Accepted` with its
 /// bound if it meets the clauses C3 to C8, and else `Rejected` with its first violation. After `Accepted` every plan
-/// costs at least the bound, whoever wrote the certificate, and there is no plan if the bound is infinite. Fails only
-/// if allocation fails.
-pub fn check_fdr<R: AllocGlobal>(
+/// costs at least the bound, whoever wrote the certificate, and there is no plan if the bound is infinite. The verdict does not depend
+/// on how many threads search a long closed list. Fails only if allocation fails, or if there are 2^32 closed states or more, as no text
+/// has.
+pub fn check_fdr<R: AllocGlobal + Threads + Sync>(
     rt: &R,
     task: &FdrTask,
     certificate: &Certificate,
@@ -94,7 +99,7 @@ pub fn check_fdr<R: AllocGlobal>(
     ensures none { IfOk result (λ verdict. verdict ≡ Accepted Infinite → HasNoPlan task.now) }
 {
     task.recall();
-    match first_violation(rt.alloc(), task, certificate)? {
+    match first_violation(rt, rt.alloc(), task, certificate)? {
         Some(violation) => Ok(Verdict::Rejected(violation)),
         None => Ok(Verdict::Accepted(certificate.bound())),
     }

@@ -17,6 +17,7 @@ use cert_value::{Certificate, CertificateKind};
 use fdr::FdrTask;
 use sasfile::{SasFault, read_sas};
 use std::alloc::{AllocError, Global};
+use std::thread::Threads;
 
 /// Whether a certificate is for a finite-domain task.
 fn is_for_finite_domain(kind: &CertificateKind) -> bool
@@ -76,7 +77,11 @@ fn read_certificate(alloc: Global, cert: &[u8]) -> Result<Certificate, CheckFaul
 ///
 /// Fails with the first fault of the task's text, or else with the first fault of the certificate's text, or if
 /// allocation fails.
-pub fn check_sas<R: AllocGlobal>(rt: &R, sas: &[u8], cert: &[u8]) -> Result<Verdict, CheckFault>
+pub fn check_sas<R: AllocGlobal + Threads + Sync>(
+    rt: &R,
+    sas: &[u8],
+    cert: &[u8],
+) -> Result<Verdict, CheckFault>
     ensures answer { IfOk result (IsAnswer sas.now cert.now) }
     ensures refused { IfErr result (IsRefusal sas.now cert.now) }
     ensures bound { (task : FiniteDomainTask) (bound : Distance) → SpellsTask sas.now task →
@@ -92,7 +97,7 @@ pub fn check_sas<R: AllocGlobal>(rt: &R, sas: &[u8], cert: &[u8]) -> Result<Verd
 
 /// The same as `check_sas`, but each text is dropped as soon as it has been read, so that a certificate with millions
 /// of states is checked without its text in memory.
-pub fn check_sas_owned<R: AllocGlobal>(
+pub fn check_sas_owned<R: AllocGlobal + Threads + Sync>(
     rt: &R,
     sas: Vec<u8>,
     cert: Vec<u8>,

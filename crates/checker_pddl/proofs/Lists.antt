@@ -1,10 +1,9 @@
 -- Lists of words.
 use Rattle.std.proofs.Common.{◌≡◌, ℕ, zero, suc, ◌≤◌, ◌-◌, List, [], ◌∷◌, ◌++◌, map, length, take, drop, Option, Some, None, Bor, refl, sym, ap, ◌∙◌, append_assoc, arith}
-use Rattle.std.specs.Prelude.{slice_get, slice_index_or, unwrap_or, String, Result, Ok, Err, OnOk, string_bytes}
+use Rattle.std.specs.Prelude.{slice_index_or, String, Result, Ok, Err, OnOk, string_bytes}
 use Rattle.std.specs.Global.{Global}
 use Rattle.pddl_names.specs.Names.{texts_of}
 use Rattle.cert_text.specs.Pieces.{joined}
-use Rattle.std.specs.Option.{option_map}
 use Rattle.std.specs.List.{flat_map}
 use Rattle.std.proofs.lemmas.List.{append-nil, take_all}
 

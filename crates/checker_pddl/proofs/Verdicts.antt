@@ -1,12 +1,12 @@
 -- Verdicts on planning tasks by those on finite-domain tasks, and by what is wrong first.
-use Rattle.std.proofs.Common.{inl, inr, ◌⊎◌, ◌≡◌, ℕ, zero, suc, ◌<◌, ◌≤◌, List, [], ◌∷◌, refl, sym, ap, subst, ◌∙◌, length, map, arith}
+use Rattle.std.proofs.Common.{inl, inr, ◌≡◌, ℕ, zero, suc, ◌<◌, List, [], ◌∷◌, refl, sym, ap, subst, ◌∙◌, length, map, arith}
 use Rattle.std.specs.Prelude.{◌≢◌, ◌+◌, slice_index, All, Result, Ok, Err, IfOk, IfErr}
 use Rattle.std.specs.List.{AllByRecursion}
 use Rattle.std.specs.List.Sorted.{IsStrictlyIncreasing}
 use Rattle.std.proofs.lemmas.List.Elements.{All-nil, All-cons}
 use Rattle.std.proofs.lemmas.List.{length-map}
 use Rattle.cert_text.specs.Lawful.{IsLawful, IsIncreasing, IsVariable, ArePlanningParts}
-use Rattle.cert_value.specs.Certificates.{Kind, FiniteDomain, Planning, Variable, CertificateValue}
+use Rattle.cert_value.specs.Certificates.{Planning, Variable, CertificateValue}
 use Rattle.translate_theory.specs.Variables.{PlacedVariable, IsPlaced, variables_at}
 use Rattle.cost.specs.Distances.{Distance, Infinite}
 use Rattle.fdr.specs.Tasks.{FiniteDomainTask, EveryPlanCostsAtLeast}
@@ -27,12 +27,10 @@ use Rattle.checker_clauses.specs.declared.violation.Violation.{Violation}
 use Rattle.checker_pddl.specs.declared.verdict.PlanningVerdict.{PlanningVerdict}
 use Rattle.checker_pddl.specs.declared.verdict.PlanningVerdict.TheVariants.{Accepted, Rejected}
 use Rattle.cert_text.specs.Spelling.{spelling}
-use Rattle.cert_text.specs.declared.fault.CertFault.TheVariants as cert_fault
 use Rattle.pddl.specs.Texts.{SpellTask}
 use Rattle.pddl.proofs.TaskTexts.{one_task_is}
 use Rattle.pddl_task.specs.Plans.{HasNoValidPlan}
 use Rattle.checker_pddl.specs.declared.fault.PlanningCheckFault.{PlanningCheckFault}
-use Rattle.checker_pddl.specs.declared.fault.PlanningCheckFault.TheVariants as check
 use Rattle.checker_pddl.specs.Answers.{IsAnswer, IsRefusal, IsUnanswered, IsRefusedCertificate}
 use Rattle.checker_pddl.specs.Naming.{named, named_atoms, listed}
 use Rattle.checker_pddl.specs.Judgements.{Judged, atoms_of, placed_of, finite_domain_task, IsPlaceOf, IsPlanningVerdict, IsFiniteDomainVerdict}

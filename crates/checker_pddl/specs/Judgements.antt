@@ -1,5 +1,5 @@
 -- The verdict on a certificate for a planning task.
-use Rattle.std.specs.Prelude.{◌≡◌, ℕ, List, ◌++◌, slice_get, map, IsSomeAnd, String, codes, decimal}
+use Rattle.std.specs.Prelude.{◌≡◌, ℕ, List, ◌++◌, slice_get, map, IsSomeAnd, codes, decimal}
 use Rattle.std.specs.String.{string_bytes}
 use Rattle.pddl_task.specs.Atoms.{contains}
 use Rattle.pddl_task.specs.Planning.{PlanningTask}

@@ -22,6 +22,7 @@ use cert_value::{Certificate, CertificateKind};
 use pddl::{PddlFault, read_task};
 use pddl_task::Task;
 use std::alloc::{AllocError, Global};
+use std::thread::Threads;
 
 /// The line that states the kind of a certificate, counted from 1.
 const KIND_LINE: usize = 2;
@@ -58,7 +59,7 @@ fn read_certificate(alloc: Global, cert: &[u8]) -> Result<Certificate, PlanningC
 
 /// The verdict on a certificate for a task. Fails if the certificate is not for a planning task, if a limit is passed,
 /// or if allocation fails.
-fn answer<R: AllocGlobal>(
+fn answer<R: AllocGlobal + Threads + Sync>(
     rt: &R,
     task: &Task,
     certificate: &Certificate,
@@ -81,7 +82,7 @@ fn answer<R: AllocGlobal>(
 
 /// The verdict on the text of a certificate for the task that texts spell. Fails with the first fault of the
 /// certificate's text, if a limit is passed, or if allocation fails.
-fn answer_to<R: AllocGlobal>(
+fn answer_to<R: AllocGlobal + Threads + Sync>(
     rt: &R,
     task: &Task,
     cert: &[u8],
@@ -98,7 +99,7 @@ fn answer_to<R: AllocGlobal>(
 }
 
 /// The same, but the text is dropped as soon as it has been read.
-fn answer_to_owned<R: AllocGlobal>(
+fn answer_to_owned<R: AllocGlobal + Threads + Sync>(
     rt: &R,
     task: &Task,
     cert: Vec<u8>,
@@ -120,7 +121,7 @@ fn answer_to_owned<R: AllocGlobal>(
 ///
 /// Fails with the first fault of the task's texts; or else with the first fault of the certificate's text; or if a
 /// limit on atoms, actions, variables or values is passed; or if allocation fails.
-pub fn check_pddl<R: AllocGlobal>(
+pub fn check_pddl<R: AllocGlobal + Threads + Sync>(
     rt: &R,
     domain: &[u8],
     problem: &[u8],
@@ -139,7 +140,7 @@ pub fn check_pddl<R: AllocGlobal>(
 
 /// The same as `check_pddl`, but each text is dropped as soon as it has been read, so that a certificate with millions
 /// of states is checked without its text in memory.
-pub fn check_pddl_owned<R: AllocGlobal>(
+pub fn check_pddl_owned<R: AllocGlobal + Threads + Sync>(
     rt: &R,
     domain: Vec<u8>,
     problem: Vec<u8>,

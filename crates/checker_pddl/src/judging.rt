@@ -21,6 +21,7 @@ use checker::{Verdict, check_fdr};
 use fdr::FdrTask;
 use pddl_task::{GroundAtom, Task};
 use std::alloc::{AllocError, Global};
+use std::thread::Threads;
 use translate::with_variables;
 use translate_theory::ListedVariable;
 use translate_vars::TranslateFault;
@@ -74,7 +75,7 @@ fn place_of(
 }
 
 /// The verdict on the certificate for a finite-domain task. Fails only if allocation fails.
-fn verdict_over<R: AllocGlobal>(
+fn verdict_over<R: AllocGlobal + Threads + Sync>(
     rt: &R,
     task: &FdrTask,
     certificate: &Certificate,
@@ -113,7 +114,7 @@ fn listed_parts(alloc: Global, task: &Task, parts: &AtomParts) -> Result<Listed,
 /// the certificate, and there is no valid plan if the bound is infinite.
 ///
 /// Fails only if a limit on atoms, actions, variables or values is passed, or if allocation fails.
-pub fn judge<R: AllocGlobal>(
+pub fn judge<R: AllocGlobal + Threads + Sync>(
     rt: &R,
     task: &Task,
     parts: &AtomParts,

@@ -4,3 +4,4 @@ pub mod Lists
 pub mod Indexes
 pub mod Places
 pub mod Coverings
+pub mod Pieces

@@ -1,15 +1,17 @@
 //! The clauses C6 and C8: the initial state and the successors of closed states are covered.
 
-ghost use Rattle.std.specs.Prelude.{◌≡◌, ℕ, ◌-◌, ◌<◌, ◌^◌, min, not, All, length, slice_get, option_map, Some, IfOk, IfSome};
+ghost use Rattle.std.specs.Prelude.{◌≡◌, ℕ, ◌-◌, ◌<◌, ◌≤◌, ◌^◌, min, not, All, length, slice_get, option_map, Some, IfOk, IfSome};
 ghost use Rattle.std.specs.List.{find};
 ghost use Rattle.cost.specs.Distances.{IsWithin};
 ghost use Rattle.fdr.specs.Tasks.{ranges, IsTask, IsState};
 ghost use Rattle.checker_clauses.specs.Clauses.{is_covered};
 ghost use Rattle.checker_clauses.specs.Violations.{IsMet, IsFoundIn};
 ghost use Rattle.checker_states.specs.Places.{passes_successor, IsFirstFailing};
+ghost use Rattle.checker_states.specs.Pieces.{IsFirstIn, says_successor};
 
 use crate::goals::reaches;
 use crate::index::ClosedIndex;
+use crate::pieces::first_in_pieces;
 use cert_value::{Certificate, ClosedList};
 use checker_clauses::Violation;
 use checker_tables::Heuristic;
@@ -18,6 +20,7 @@ use fdr::FdrTask;
 use fdr_successors::SuccessorGenerator;
 use std::alloc::{AllocError, Global};
 use std::marker::Model;
+use std::thread::Threads;
 
 /// Proves that each cost is below 2^64, in time linear in the list.
 fn recall_costs(closed: &ClosedList)
@@ -58,7 +61,8 @@ impl<'a> Model for Coverage<'a> {
 }
 
 impl<'a> Coverage<'a> {
-    /// Prepares the closed list of the certificate, which must meet the clause C4. Fails only if allocation fails.
+    /// Prepares the closed list of the certificate, which must meet the clause C4. Fails only if allocation fails, or if the list has
+    /// 2^32 states or more, as no text has.
     pub fn new(
         alloc: Global,
         task: &'a FdrTask,
@@ -166,20 +170,23 @@ impl<'a> Coverage<'a> {
         Ok(self.first_uncovered(place, state, operators, successor))
     }
 
-    /// The first successor of a closed state that is not covered. `operators`, `state` and `successor` are buffers.
-    /// Fails only if allocation fails.
-    fn first_failing_successor(
+    /// The first successor that is not covered, of the closed states from the place `start` on and before `end`. `operators`, `state`
+    /// and `successor` are buffers. Fails only if allocation fails.
+    fn first_failing_between(
         &self,
+        start: usize,
+        end: usize,
         operators: &mut Vec<usize>,
         state: &mut [u32],
         successor: &mut [u32],
     ) -> Result<Option<Violation>, AllocError>
         requires clause { IsMet self.now.task self.now.certificate 5 }
+        requires end { end ≤ length self.now.certificate.closed }
         requires unpacked { All (λ e. length e.state ≡ length state.old) self.now.certificate.closed }
         requires buffer { length successor.old ≡ length self.now.task.value_names }
-        ensures { IfOk result (λ found. IsFoundIn self.now.task self.now.certificate 8 found) }
+        ensures { IfOk result (IsFirstIn (says_successor self.now.task self.now.certificate) start end) }
     {
-        for place in 0..self.certificate.closed().len() {
+        for place in start..end {
             if let Some(operator) = self.first_failing(place, operators, state, successor)? {
                 return Ok(Some(Violation::Successor(place, operator)));
             }
@@ -187,18 +194,47 @@ impl<'a> Coverage<'a> {
         Ok(None)
     }
 
-    /// Returns the first violation of the clause C8, by the place of the closed state and then by the number of the
-    /// operator: a successor that is not covered. Returns `None` if there is none. The certificate must meet the clause
-    /// C5.
-    ///
-    /// Fails only if allocation fails.
-    pub fn first_successor_violation(&self, alloc: Global) -> Result<Option<Violation>, AllocError>
-        requires { IsMet self.now.task self.now.certificate 5 }
-        ensures { IfOk result (λ found. IsFoundIn self.now.task self.now.certificate 8 found) }
+    /// As `first_failing_between`, with buffers of its own.
+    fn first_in_piece(
+        &self,
+        alloc: Global,
+        start: usize,
+        end: usize,
+    ) -> Result<Option<Violation>, AllocError>
+        requires clause { IsMet self.now.task self.now.certificate 5 }
+        requires end { end ≤ length self.now.certificate.closed }
+        ensures { IfOk result (IsFirstIn (says_successor self.now.task self.now.certificate) start end) }
     {
         let mut operators = Vec::new(alloc);
         let mut state = self.certificate.closed().buffer(alloc)?;
         let mut successor = Vec::from_slice(alloc, self.task.initial())?;
-        self.first_failing_successor(&mut operators, &mut state, &mut successor)
+        self.first_failing_between(start, end, &mut operators, &mut state, &mut successor)
+    }
+
+    /// Returns the first violation of the clause C8, by the place of the closed state and then by the number of the
+    /// operator: a successor that is not covered. Returns `None` if there is none. The certificate must meet the clause
+    /// C5. Many closed states are cut in pieces, which as many threads as there are processors search side by side; the violation
+    /// does not depend on how many there are.
+    ///
+    /// Fails only if allocation fails.
+    pub fn first_successor_violation<R: Threads + Sync>(
+        &self,
+        rt: &R,
+        alloc: Global,
+    ) -> Result<Option<Violation>, AllocError>
+        requires { IsMet self.now.task self.now.certificate 5 }
+        ensures { IfOk result (λ found. IsFoundIn self.now.task self.now.certificate 8 found) }
+    {
+        let len = self.certificate.closed().len();
+        first_in_pieces(
+            rt,
+            alloc,
+            len,
+            &|start: usize, end: usize| -> Result<Option<Violation>, AllocError>
+                requires clause { IsMet self.now.task self.now.certificate 5 }
+                requires end { end ≤ length self.now.certificate.closed }
+                ensures { IfOk result (IsFirstIn (says_successor self.entry.now.task self.entry.now.certificate) start end) }
+            { self.first_in_piece(alloc, start, end) },
+        )
     }
 }

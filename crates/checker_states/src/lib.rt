@@ -6,6 +6,7 @@ mod coverage;
 mod goals;
 mod hash;
 mod index;
+mod pieces;
 mod slots;
 mod states;
 

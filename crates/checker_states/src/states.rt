@@ -1,15 +1,18 @@
 //! The clause C5: closed states are states of the task, in strictly increasing lexicographic order.
 
-ghost use Rattle.std.specs.Prelude.{◌≡◌, ◌<◌, All, length, IfOk};
+ghost use Rattle.std.specs.Prelude.{◌≡◌, ◌<◌, ◌≤◌, All, length, IfOk};
 ghost use Rattle.fdr.specs.Tasks.{ranges};
 ghost use Rattle.checker_clauses.specs.Clauses as spec;
 ghost use Rattle.checker_clauses.specs.Violations.{IsFoundIn};
 ghost use Rattle.checker_states.specs.Places.{passes_state};
+ghost use Rattle.checker_states.specs.Pieces.{IsFirstIn, says_state};
 
+use crate::pieces::first_in_pieces;
 use cert_value::{Certificate, ClosedList};
 use checker_clauses::Violation;
 use fdr::FdrTask;
 use std::alloc::{AllocError, Global};
+use std::thread::Threads;
 
 /// Whether the state has for each variable a value below its range.
 fn is_state(task: &FdrTask, state: &[u32]) -> bool
@@ -57,19 +60,23 @@ fn passes_at(
     is_state(task, state) && comes_before(before, state)
 }
 
-/// The first violation of the clause. `state` and `before` are buffers of the width of the closed states.
+/// The first violation of the clause at the places from `start` on and before `end`. `state` and `before` are buffers of the width of the
+/// closed states.
 fn first_failing(
     task: &FdrTask,
     certificate: &Certificate,
+    start: usize,
+    end: usize,
     state: &mut [u32],
     before: &mut [u32],
 ) -> Option<Violation>
+    requires end { end ≤ length certificate.now.closed }
     requires state { All (λ e. length e.state ≡ length state.old) certificate.now.closed }
     requires before { All (λ e. length e.state ≡ length before.old) certificate.now.closed }
-    ensures { IsFoundIn task.now certificate.now 5 result }
+    ensures { IsFirstIn (says_state task.now certificate.now) start end result }
 {
     let closed = certificate.closed();
-    for place in 0..closed.len() {
+    for place in start..end {
         if !passes_at(task, closed, place, state, before) {
             return Some(Violation::ClosedState(place));
         }
@@ -77,18 +84,41 @@ fn first_failing(
     None
 }
 
+/// As `first_failing`, with buffers of its own. Fails only if allocation fails.
+fn first_in_piece(
+    alloc: Global,
+    task: &FdrTask,
+    certificate: &Certificate,
+    start: usize,
+    end: usize,
+) -> Result<Option<Violation>, AllocError>
+    requires { end ≤ length certificate.now.closed }
+    ensures { IfOk result (IsFirstIn (says_state task.now certificate.now) start end) }
+{
+    let mut state = certificate.closed().buffer(alloc)?;
+    let mut before = certificate.closed().buffer(alloc)?;
+    Ok(first_failing(task, certificate, start, end, &mut state, &mut before))
+}
+
 /// Returns the first violation of the clause C5: the place of the first closed state that is not a state of the task,
-/// or not lexicographically greater than the one before it. Returns `None` if there is none.
+/// or not lexicographically greater than the one before it. Returns `None` if there is none. Threads search a long list side by side.
 ///
 /// Fails only if allocation fails.
-pub fn first_closed_violation(
+pub fn first_closed_violation<R: Threads + Sync>(
+    rt: &R,
     alloc: Global,
     task: &FdrTask,
     certificate: &Certificate,
 ) -> Result<Option<Violation>, AllocError>
     ensures { IfOk result (λ found. IsFoundIn task.now certificate.now 5 found) }
 {
-    let mut state = certificate.closed().buffer(alloc)?;
-    let mut before = certificate.closed().buffer(alloc)?;
-    Ok(first_failing(task, certificate, &mut state, &mut before))
+    first_in_pieces(
+        rt,
+        alloc,
+        certificate.closed().len(),
+        &|start: usize, end: usize| -> Result<Option<Violation>, AllocError>
+            requires { end ≤ length certificate.now.closed }
+            ensures { IfOk result (IsFirstIn (says_state task.entry.now certificate.entry.now) start end) }
+        { first_in_piece(alloc, task, certificate, start, end) },
+    )
 }

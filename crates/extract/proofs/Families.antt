@@ -5,13 +5,13 @@ use Rattle.std.proofs.lemmas.List.Elements.{All-head, All-tail}
 use Rattle.cost.specs.Distances.{Distance, Finite, ◌≤ᵈ◌, least}
 use Rattle.cost.proofs.DistanceLaws.{at_most_itself, at_most_both, at_most_through}
 use Rattle.owner_theory.specs.Owners.{At, list_at, SearchSpace, Node, Message, Packet, f_value}
-use Rattle.owner_theory.specs.Families.{Family, IsSearchSpace, IsSettled, IsGoalNode, least_of, best_of}
+use Rattle.owner_theory.specs.Families.{Family, IsSearchSpace, PendingAbove, IsSettled, IsGoalNode, least_of, best_of}
 use Rattle.owner_theory.proofs.Distances.{least_of_at_most}
 use Rattle.owner_theory.proofs.Distances as distances
 use Rattle.owner_theory.proofs.Plans.{best_node}
 use Rattle.owner_theory.proofs.Runs.{good}
 use Rattle.owner.specs.Owned.{OwnerOf}
-use Rattle.extract.specs.Ends.{EndOf, IsEndOf, IsSettledAt, IsMessageAbove, IsGoalNodeAt, IsBestGoal, space_at}
+use Rattle.extract.specs.Ends.{EndOf, IsEndOf, ArePendingAbove, IsSettledAt, IsMessageAbove, IsGoalNodeAt, IsBestGoal, space_at}
 use Rattle.extract.proofs.Places.{at_below, at_some, each_at, all_at}
 use Rattle.extract.proofs.Leasts.{at_most_each, at_most_least_of}
 
@@ -44,7 +44,7 @@ module _ {S : Type 0} (owner : S → List ℕ → ℕ → ℕ) (e : EndOf S) (fa
   abbrev Sp : SearchSpace
   Sp = space_at owner e
 
-  best_same : least (map (λ o. o.best) e.owners) ≡ best_of Sp family
+  pub best_same : least (map (λ o. o.best) e.owners) ≡ best_of Sp family
   best_same = least_by_place (λ (o : OwnerOf S). o.best) (λ w. (family.logs w).owner.best) e.owners ends.best
 
   module _ (b : Distance) where
@@ -54,37 +54,39 @@ module _ {S : Type 0} (owner : S → List ℕ → ℕ → ℕ) (e : EndOf S) (fa
     abbrev PacketAbove : Packet → Type 0
     PacketAbove p = IsMessageAbove Sp b p.message
 
-    pub to_family : IsSettledAt Sp e.owners e.left b → IsSettled Sp family b
-    to_family settled = record {
-      best = settled.best ∙ best_same;
-      pending = record {
-        nodes = λ w i n lt at.
-            let (o, at_o) = at_some e.owners w lt in
-            each_at NodeAbove o.nodes i n (each_at (λ o. All NodeAbove o.nodes) e.owners w o settled.nodes at_o)
-            (subst (λ (ns : List Node). At ns i n) (ends.nodes w o at_o) at);
-        outboxes = λ w v i m lt at.
-            let (o, at_o) = at_some e.owners w lt in
-            posted_at (IsMessageAbove Sp b) o.outboxes v i m
-            (each_at (λ o. All (All (IsMessageAbove Sp b)) o.outboxes) e.owners w o settled.outboxes at_o)
-            (subst (λ (qs : List (List Message)). At (list_at qs v) i m) (ends.outboxes w o at_o) at);
-        left = λ i p at. each_at PacketAbove family.left i p
-            (All-permutation PacketAbove e.left family.left (IsPermutation-sym family.left e.left ends.left) settled.left) at;
-      };
+    pub pending_to_family : ArePendingAbove Sp e.owners e.left b → PendingAbove Sp family b
+    pending_to_family pending = record {
+      nodes = λ w i n lt at.
+          let (o, at_o) = at_some e.owners w lt in
+          each_at NodeAbove o.nodes i n (each_at (λ o. All NodeAbove o.nodes) e.owners w o pending.nodes at_o)
+          (subst (λ (ns : List Node). At ns i n) (ends.nodes w o at_o) at);
+      outboxes = λ w v i m lt at.
+          let (o, at_o) = at_some e.owners w lt in
+          posted_at (IsMessageAbove Sp b) o.outboxes v i m
+          (each_at (λ o. All (All (IsMessageAbove Sp b)) o.outboxes) e.owners w o pending.outboxes at_o)
+          (subst (λ (qs : List (List Message)). At (list_at qs v) i m) (ends.outboxes w o at_o) at);
+      left = λ i p at. each_at PacketAbove family.left i p
+          (All-permutation PacketAbove e.left family.left (IsPermutation-sym family.left e.left ends.left) pending.left) at;
     }
 
-    pub from_family : IsSettled Sp family b → IsSettledAt Sp e.owners e.left b
-    from_family settled = record {
-      best = settled.best ∙ sym best_same;
+    pending_from_family : PendingAbove Sp family b → ArePendingAbove Sp e.owners e.left b
+    pending_from_family pending = record {
       nodes = all_at (λ o. All NodeAbove o.nodes) e.owners (λ w o at_o. all_at NodeAbove o.nodes (λ i n at.
-          settled.pending.nodes w i n (at_below e.owners w o at_o)
+          pending.nodes w i n (at_below e.owners w o at_o)
           (subst (λ (ns : List Node). At ns i n) (sym (ends.nodes w o at_o)) at)));
       outboxes = all_at (λ o. All (All (IsMessageAbove Sp b)) o.outboxes) e.owners (λ w o at_o.
           all_at (All (IsMessageAbove Sp b)) o.outboxes (λ v q at_q. all_at (IsMessageAbove Sp b) q (λ i m at.
-          settled.pending.outboxes w v i m (at_below e.owners w o at_o)
+          pending.outboxes w v i m (at_below e.owners w o at_o)
           (subst (λ (qs : List (List Message)). At (list_at qs v) i m) (sym (ends.outboxes w o at_o))
           (subst (λ (ms : List Message). At ms i m) (list_at_there o.outboxes v q at_q) at)))));
-      left = All-permutation PacketAbove family.left e.left ends.left (all_at PacketAbove family.left settled.pending.left);
+      left = All-permutation PacketAbove family.left e.left ends.left (all_at PacketAbove family.left pending.left);
     }
+
+    pub to_family : IsSettledAt Sp e.owners e.left b → IsSettled Sp family b
+    to_family settled = record { best = settled.best ∙ best_same; pending = pending_to_family settled.pending }
+
+    pub from_family : IsSettled Sp family b → IsSettledAt Sp e.owners e.left b
+    from_family settled = record { best = settled.best ∙ sym best_same; pending = pending_from_family settled.pending }
 
   pub as_family : (b : Distance) → IsSettledAt Sp e.owners e.left b ↔ IsSettled Sp family b
   as_family b = (to_family b, from_family b)

@@ -5,3 +5,4 @@ pub mod Leasts
 pub mod Pending
 pub mod BestGoals
 pub mod Families
+pub mod Bounds

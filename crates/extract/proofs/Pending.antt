@@ -16,7 +16,8 @@ use Rattle.owner.specs.Spaces.{SpaceOf, searched}
 use Rattle.owner.specs.Owned.{OwnerOf, space_of, IsMessageTo, least_open}
 use Rattle.extract.specs.declared.packet.Packet as memory_packet
 use Rattle.extract.specs.Views.{packet_of, packets_in, all_packets}
-use Rattle.extract.specs.Ends.{EndOf, IsForm, IsSettledAt, IsMessageAbove, space_at}
+use Rattle.extract.specs.Bounds.{least_pending, least_best}
+use Rattle.extract.specs.Ends.{EndOf, IsForm, ArePendingAbove, IsSettledAt, IsMessageAbove, space_at}
 use Rattle.extract.specs.Pending.{IsSmallMessage, f_at, least_message, least_packet, least_held}
 use Rattle.extract.proofs.Places.{each_at, all_at, all_under, all_flat, at_read}
 use Rattle.extract.proofs.Leasts.{at_most_each, at_most_least_of}
@@ -84,9 +85,6 @@ module _ {S : Type 0} (owner : S → List ℕ → ℕ → ℕ) (e : EndOf S) (fo
       let (same, worker, count) = form.each v o at in
       ap (λ (s : SpaceOf S). searched owner s (length o.outboxes)) same ∙ ap (λ n. searched owner e.space n) count
 
-  abbrev pub least_of_all : Distance
-  least_of_all = lesser (least (map (least_held owner) e.owners)) (least_packet e.space e.left)
-
   module _ (b : Distance) where
     AllAbove : SearchSpace → OwnerOf S → Type 0
     AllAbove space o = All (IsOpenAbove space b) o.nodes × All (All (IsMessageAbove space b)) o.outboxes
@@ -113,9 +111,9 @@ module _ {S : Type 0} (owner : S → List ℕ → ℕ → ℕ) (e : EndOf S) (fo
         o.outboxes outboxes))
 
     -- where the bound is at most the least, all that is pending is above it
-    pub settled_below : b ≡ least (map (λ o. o.best) e.owners) → b ≤ᵈ least_of_all → IsSettledAt (space_at owner e) e.owners e.left b
+    pub pending_below : b ≤ᵈ least_pending owner e → ArePendingAbove (space_at owner e) e.owners e.left b
     unfolding AllAbove
-    settled_below best h =
+    pending_below h =
         let held : Distance = least (map (least_held owner) e.owners) in
         let underway : Distance = least_packet e.space e.left in
         let owners : All (λ o. b ≤ᵈ least_held owner o) e.owners =
@@ -124,7 +122,6 @@ module _ {S : Type 0} (owner : S → List ℕ → ℕ → ℕ) (e : EndOf S) (fo
         subst (λ (s : SearchSpace). AllAbove s o) (one_space v o at)
         (held_above o (each_at (λ o. b ≤ᵈ least_held owner o) e.owners v o owners at)) in
         record {
-          best = best;
           nodes = all_at (λ o. All (IsOpenAbove (space_at owner e) b) o.nodes) e.owners (λ v o at. (each v o at).0);
           outboxes = all_at (λ o. All (All (IsMessageAbove (space_at owner e) b)) o.outboxes) e.owners (λ v o at. (each v o at).1);
           left = at_most_each (λ (p : Packet). f_at e.space p.message) b e.left
@@ -132,17 +129,17 @@ module _ {S : Type 0} (owner : S → List ℕ → ℕ → ℕ) (e : EndOf S) (fo
         }
 
     -- and the other way round
-    pub below_settled : IsSettledAt (space_at owner e) e.owners e.left b → b ≤ᵈ least_of_all
+    pub below_pending : ArePendingAbove (space_at owner e) e.owners e.left b → b ≤ᵈ least_pending owner e
     unfolding AllAbove
-    below_settled settled =
+    below_pending pending =
         at_most_lesser b (least (map (least_held owner) e.owners)) (least_packet e.space e.left)
         (at_most_least_of (least_held owner) b e.owners
         (all_at (λ o. b ≤ᵈ least_held owner o) e.owners (λ v o at. held_least o
         (subst (λ (s : SearchSpace). AllAbove s o) (sym (one_space v o at)) (
-          each_at (λ o. All (IsOpenAbove (space_at owner e) b) o.nodes) e.owners v o settled.nodes at,
-          each_at (λ o. All (All (IsMessageAbove (space_at owner e) b)) o.outboxes) e.owners v o settled.outboxes at,
+          each_at (λ o. All (IsOpenAbove (space_at owner e) b) o.nodes) e.owners v o pending.nodes at,
+          each_at (λ o. All (All (IsMessageAbove (space_at owner e) b)) o.outboxes) e.owners v o pending.outboxes at,
         )))))
-        (at_most_least_of (λ (p : Packet). f_at e.space p.message) b e.left settled.left)
+        (at_most_least_of (λ (p : Packet). f_at e.space p.message) b e.left pending.left)
 
 -- ---- the messages underway as they lie in memory
 
@@ -174,19 +171,21 @@ le_test Infinite (Finite n) = refl
 le_test Infinite Infinite = refl
 
 module _ {S : Type 0} (owner : S → List ℕ → ℕ → ℕ) (e : EndOf S) (form : IsForm e) (best pending : Distance)
-    (is_best : best ≡ least (map (λ o. o.best) e.owners)) (is_pending : pending ≡ least_of_all owner e form)
+    (is_best : best ≡ least_best e) (is_pending : pending ≡ least_pending owner e)
   where
     pub settled_where : is_le (distance_cmp best pending) ≡ true → IsSettledAt (space_at owner e) e.owners e.left best
-    settled_where t =
-        settled_below owner e form best is_best
-        (subst (λ (d : Distance). best ≤ᵈ d) is_pending (is_at_most-true best pending (sym (le_test best pending) ∙ t)))
+    settled_where t = record {
+      best = is_best;
+      pending = pending_below owner e form best
+          (subst (λ (d : Distance). best ≤ᵈ d) is_pending (is_at_most-true best pending (sym (le_test best pending) ∙ t)));
+    }
 
     pub unsettled_where : is_le (distance_cmp best pending) ≡ false → (bound : Distance)
         → IsSettledAt (space_at owner e) e.owners e.left bound → ⊥
     unsettled_where t bound settled =
         let same : bound ≡ best = settled.best ∙ sym is_best in
         let below : (bound ≤ᵈ pending) =
-        subst (λ (d : Distance). bound ≤ᵈ d) (sym is_pending) (below_settled owner e form bound settled) in
+        subst (λ (d : Distance). bound ≤ᵈ d) (sym is_pending) (below_pending owner e form bound settled.pending) in
         at_most_not_below best pending (subst (λ (d : Distance). d ≤ᵈ pending) same below)
         (is_at_most-false best pending (sym (le_test best pending) ∙ t))
 

@@ -38,13 +38,16 @@ pub record IsEndOf {S : Type 0} (owner : S → List ℕ → ℕ → ℕ) (e : En
 abbrev pub IsMessageAbove : SearchSpace → Distance → Message → Type 0
 IsMessageAbove space bound m = bound ≤ᵈ f_value space m.state m.cost
 
--- the bound is the least cost at which a goal state was taken, and no pending f-value is below it: of nodes not expanded,
--- of messages in outboxes, and of messages not taken
-pub record IsSettledAt {S : Type 0} (space : SearchSpace) (owners : List (OwnerOf S)) (remaining : List Packet) (bound : Distance) : Type 0 where
-  pub best : bound ≡ least (map (λ o. o.best) owners)
+-- the bound is at most every pending f-value: of nodes not expanded, of messages in outboxes, and of messages not taken
+pub record ArePendingAbove {S : Type 0} (space : SearchSpace) (owners : List (OwnerOf S)) (remaining : List Packet) (bound : Distance) : Type 0 where
   pub nodes : All (λ o. All (λ n. n.expanded ≡ false → bound ≤ᵈ f_value space n.state n.cost) o.nodes) owners
   pub outboxes : All (λ o. All (All (IsMessageAbove space bound)) o.outboxes) owners
   pub left : All (λ p. IsMessageAbove space bound p.message) remaining
+
+-- the bound is the least cost at which a goal state was taken, and no pending f-value is below it
+pub record IsSettledAt {S : Type 0} (space : SearchSpace) (owners : List (OwnerOf S)) (remaining : List Packet) (bound : Distance) : Type 0 where
+  pub best : bound ≡ least (map (λ o. o.best) owners)
+  pub pending : ArePendingAbove space owners remaining bound
 
 -- the answer to whether the owners are settled: the bound at which they are, or that they are not
 abbrev pub IsSettledAnswer : {S : Type 0} → SearchSpace → List (OwnerOf S) → List Packet → Option Distance → Type 0

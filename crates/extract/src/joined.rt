@@ -4,11 +4,12 @@ ghost use Rattle.std.specs.Prelude.{◌≡◌, IfOk};
 ghost use Rattle.fdr.specs.Tasks.{ranges};
 ghost use Rattle.owner_theory.specs.Families.{Family, IsSearchSpace, IsLowerBound};
 ghost use Rattle.extract.specs.Ends.{EndOf, IsEndOf, IsSettledAnswer, IsBestGoal, IsForm, space_at};
+ghost use Rattle.extract.specs.Bounds.{lower_bound};
 ghost use Rattle.extract.specs.Views.{all_packets};
 
 use crate::best::best_of_owners;
 use crate::packet::Packet;
-use crate::settled::settled_bound;
+use crate::settled::{lower_bound, settled_bound};
 use cost::Dist;
 use owner::{Owner, Space};
 use packed::StateForm;
@@ -63,6 +64,15 @@ impl<'a, S: Spread + Drop, F: StateForm + Drop> Joined<'a, S, F> {
         ensures { IfOk result (IsSettledAnswer (space_at S.owner self.now) self.now.owners self.now.left) }
     {
         settled_bound(alloc, self.space, &self.owners, &self.left)
+    }
+
+    /// The lower bound: no plan costs less, whether the family is settled or not. It is the least cost at which a goal state was
+    /// taken or the least pending f-value, whichever is less, infinite if there is neither; at most 2^62 where it is finite. Fails
+    /// only if allocation fails.
+    pub fn lower_bound(&self, alloc: Global) -> Result<Dist, AllocError>
+        ensures { IfOk result (λ bound. bound ≡ lower_bound S.owner self.now) }
+    {
+        lower_bound(alloc, self.space, &self.owners, &self.left)
     }
 
     /// The worker and the place of a goal node of least cost: of these the one of the least worker, and there of the

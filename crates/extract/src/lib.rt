@@ -15,4 +15,4 @@ pub use joined::Joined;
 pub use laws::{best_goal_costs_bound, settled_as_family};
 pub use packet::Packet;
 pub use plan::plan_of;
-pub use settled::{best_goal, settled_bound};
+pub use settled::{best_goal, least_of_owner, settled_bound};

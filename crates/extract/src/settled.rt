@@ -1,17 +1,18 @@
-//! Whether the owners of a search are settled.
+//! Whether the owners of a search are settled, and its lower bound.
 
 ghost use Rattle.std.specs.Prelude.{◌≡◌, length, map, IfOk, All};
-ghost use Rattle.cost.specs.Distances.{lesser, least};
+ghost use Rattle.cost.specs.Distances.{least};
 ghost use Rattle.fdr.specs.Tasks.{ranges};
 ghost use Rattle.closed.specs.Tables.{message_of};
 ghost use Rattle.owner.specs.Spaces.{searched};
 ghost use Rattle.extract.specs.Ends.{IsForm, IsSettledAnswer};
 ghost use Rattle.extract.specs.Views.{all_packets};
 ghost use Rattle.extract.specs.Pending.{IsSmallMessage, f_at, least_packet, least_held};
+ghost use Rattle.extract.specs.Bounds.{least_pending, stated, lower_bound};
 
 use crate::packet::Packet;
 use cost::Dist;
-use owner::{Message, Owner, Space};
+use owner::{MAX_TOTAL, Message, Owner, Space};
 use packed::StateForm;
 use packed_spread::Spread;
 use std::alloc::{AllocError, Global};
@@ -68,8 +69,9 @@ fn least_of_packets<S: Spread + Drop, F: StateForm + Drop>(
     least
 }
 
-/// The least f-value of an owner's nodes that are not expanded and of the messages in its outboxes.
-fn least_of_owner<S: Spread + Drop, F: StateForm + Drop>(
+/// The least f-value of an owner's nodes that are not expanded and of the messages in its outboxes, infinite if there are
+/// neither. `owners` is the number of owners, and `state` a buffer.
+pub fn least_of_owner<S: Spread + Drop, F: StateForm + Drop>(
     owner: &Owner<'_, S, F>,
     owners: usize,
     state: &mut [u32],
@@ -96,7 +98,7 @@ fn least_pending<S: Spread + Drop, F: StateForm + Drop>(
     requires fits { F.Fits (ranges space.now.task) }
     requires form { IsForm (record { space = space.now; owners = owners.now; left = all_packets (F.values (ranges space.now.task)) left.now }) }
     requires buffer { length state.old ≡ length space.now.task.value_names }
-    ensures { result ≡ lesser (least (map (least_held S.owner) owners.now)) (least_packet space.now (all_packets (F.values (ranges space.now.task)) left.now)) }
+    ensures { result ≡ least_pending S.owner (record { space = space.now; owners = owners.now; left = all_packets (F.values (ranges space.now.task)) left.now }) }
 {
     let mut least = Dist::inf();
     for owner in owners {
@@ -139,4 +141,31 @@ pub fn settled_bound<'a, S: Spread + Drop, F: StateForm + Drop>(
     } else {
         Ok(None)
     }
+}
+
+/// The bound as a certificate states it: 2^62 in place of one that is finite and past that.
+fn stated(bound: Dist) -> Dist
+    ensures { result ≡ stated bound }
+{
+    match bound.get() {
+        Some(value) => Dist::fin(value.min(MAX_TOTAL)).unwrap(),
+        None => Dist::inf(),
+    }
+}
+
+/// The lower bound of the owners of a space, given the messages that were handed out and not taken: the least cost at which a goal
+/// state was taken or the least pending f-value, whichever is less, infinite if there is neither; at most 2^62 where it is finite.
+/// Fails only if allocation fails.
+pub(crate) fn lower_bound<'a, S: Spread + Drop, F: StateForm + Drop>(
+    alloc: Global,
+    space: &Space<'a, S>,
+    owners: &[Owner<'a, S, F>],
+    left: &[VecDeque<Packet>],
+) -> Result<Dist, AllocError>
+    requires { IsForm (record { space = space.now; owners = owners.now; left = all_packets left.now }) }
+    ensures { IfOk result (λ bound. bound ≡ lower_bound S.owner (record { space = space.now; owners = owners.now; left = all_packets left.now })) }
+{
+    let mut state = vec![in alloc; 0u32; space.task().variable_count()]?;
+    let pending = least_pending(space, owners, left, &mut state);
+    Ok(stated(best_goal(owners).min(pending)))
 }

@@ -2,10 +2,11 @@
 use Rattle.std.proofs.Common.{◌≡◌, ℕ, zero, suc, ◌<◌, List, [], ◌∷◌, ◌++◌, length, get_or, take, drop, refl, sym, ap, subst, arith}
 use Rattle.owner_theory.specs.Owners.{SearchSpace}
 use Rattle.owner_theory.specs.Worlds.{World}
+use Rattle.owner.specs.Spaces.{SpaceOf}
 use Rattle.owner.specs.declared.fault.OwnerFault.{OwnerFault}
-use Rattle.owner.specs.declared.fault.OwnerFault.TheVariants.{OutOfMemory, TotalTooLarge, LimitReached}
+use Rattle.owner.specs.declared.fault.OwnerFault.TheVariants.{TotalTooLarge, LimitReached}
 use Rattle.netcore.specs.declared.step.WorldStep.{WorldStep}
-use Rattle.netcore.specs.Worlds.{WorldOf, space_in, Shows, Steps, IsAfter, IsStepRefusal, IsRunRefusal}
+use Rattle.netcore.specs.Worlds.{WorldOf, space_in, Shows, Steps, IsAfter, IsStepRefusal, IsWorldAfter, IsRefusedStep, IsRunRefusal}
 use Rattle.netcore.proofs.Shown.{after_step}
 
 split_at : {X : Type 0} (xs : List X) (i : ℕ) (x d : X) → i < length xs → x ≡ get_or xs i d → xs ≡ take i xs ++ x ∷ drop (suc i) xs
@@ -28,19 +29,29 @@ module _ {S : Type 0} (owner : S → List ℕ → ℕ → ℕ) where
       (subst (λ s. IsAfter owner s (take i asked ++ step ∷ []) new) e
       (after_step owner old new (take i asked) step stepped (subst (λ s. IsAfter owner s (take i asked) old) (sym e) after)))
 
-  again : (old new : WorldOf S) (step : WorldStep) (e : OwnerFault) → IsStepRefusal owner old new step e → IsStepRefusal owner old old step e
-  again old new step OutOfMemory h = tt
-  again old new step LimitReached (v, o, b, is, at, seen, refusal, same) = (v, o, b, is, at, seen, refusal, refl)
-  again old new step TotalTooLarge (v, o, b, is, at, seen, refusal, same) = (v, o, b, is, at, seen, refusal, refl)
+  -- of the steps asked for, step i is refused in the world after those before it
+  refused_at : (over : SpaceOf S) (n : ℕ) (asked : List WorldStep) (i : ℕ) (step d : WorldStep) (w : WorldOf S) (e : OwnerFault) → i < length asked
+      → step ≡ get_or asked i d → IsWorldAfter owner over n (take i asked) w → IsStepRefusal owner w w step e → IsRefusedStep owner over n asked w e
+  refused_at over n asked i step d w e lt is world refusal = record {
+    before = take i asked;
+    step = step;
+    rest = drop (suc i) asked;
+    are = split_at asked i step d lt is;
+    world = world;
+    refused = refusal;
+  }
 
-  from_refusal : (space : SearchSpace) (asked before after : List WorldStep) (step : WorldStep) (w : WorldOf S) (e : OwnerFault)
-      → asked ≡ before ++ step ∷ after → IsAfter owner space before w → IsStepRefusal owner w w step e → IsRunRefusal owner space asked e
-  from_refusal space asked before after step w OutOfMemory is run h = tt
-  from_refusal space asked before after step w LimitReached is run h = (before, step, after, w, is, run, h)
-  from_refusal space asked before after step w TotalTooLarge is run h = (before, step, after, w, is, run, h)
+  -- a step is refused for the limit, and the world is as it was
+  pub limited_at : (over : SpaceOf S) (n : ℕ) (asked : List WorldStep) (i : ℕ) (step d : WorldStep) (old new : WorldOf S) → i < length asked
+      → step ≡ get_or asked i d → IsWorldAfter owner over n (take i asked) old → IsStepRefusal owner old new step LimitReached
+      → IsRefusedStep owner over n asked new LimitReached
+  limited_at over n asked i step d old new lt is world (v, o, b, asks, at, seen, refusal, same) =
+      subst (λ (w : WorldOf S). IsRefusedStep owner over n asked w LimitReached) (sym same)
+      (refused_at over n asked i step d old LimitReached lt is world (v, o, b, asks, at, seen, refusal, refl))
 
-  pub run_refused : (space : SearchSpace) (asked : List WorldStep) (i : ℕ) (step d : WorldStep) (old new : WorldOf S) (e : OwnerFault)
-      → i < length asked → step ≡ get_or asked i d → IsAfter owner space (take i asked) old → IsStepRefusal owner old new step e
-      → IsRunRefusal owner space asked e
-  run_refused space asked i step d old new e lt is after refusal =
-      from_refusal space asked (take i asked) (drop (suc i) asked) step old e (split_at asked i step d lt is) after (again old new step e refusal)
+  -- a step leads past the greatest total
+  pub too_large_at : (over : SpaceOf S) (n : ℕ) (asked : List WorldStep) (i : ℕ) (step d : WorldStep) (old new : WorldOf S) → i < length asked
+      → step ≡ get_or asked i d → IsWorldAfter owner over n (take i asked) old → IsStepRefusal owner old new step TotalTooLarge
+      → IsRunRefusal owner over n asked TotalTooLarge
+  too_large_at over n asked i step d old new lt is world (v, o, b, asks, at, seen, refusal, same) =
+      (old, refused_at over n asked i step d old TotalTooLarge lt is world (v, o, b, asks, at, seen, refusal, refl))

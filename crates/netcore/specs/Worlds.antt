@@ -1,6 +1,6 @@
 -- Owners of states in one thread as they are stored, with the messages underway delivered in any order (hash distributed
 -- A*: Kishimoto, Fukunaga and Botea 2013).
-use Rattle.std.specs.Prelude.{◌≡◌, ℕ, ◌≤◌, ◌==◌, Bool, List, [], length, map, filter, flat_map, ◌∷◌, ◌++◌}
+use Rattle.std.specs.Prelude.{◌≡◌, ℕ, ◌≤◌, ◌⊎◌, ◌==◌, Bool, List, [], length, map, filter, flat_map, ◌∷◌, ◌++◌}
 use Rattle.cost.specs.Distances.{Distance, Infinite}
 use Rattle.owner_theory.specs.Owners as owners
 use Rattle.owner_theory.specs.Owners.{At, list_at, SearchSpace, Packet}
@@ -9,7 +9,7 @@ use Rattle.owner_theory.specs.Worlds.{Request, ToExpand, ToSend, ToDeliver, ToOf
 use Rattle.owner.specs.Spaces.{SpaceOf, searched}
 use Rattle.owner.specs.Owned.{OwnerOf, under, IsRefusal}
 use Rattle.owner.specs.declared.fault.OwnerFault.{OwnerFault}
-use Rattle.owner.specs.declared.fault.OwnerFault.TheVariants.{OutOfMemory}
+use Rattle.owner.specs.declared.fault.OwnerFault.TheVariants.{OutOfMemory, TotalTooLarge, LimitReached}
 use Rattle.netcore.specs.declared.step.WorldStep.{WorldStep}
 use Rattle.netcore.specs.declared.step.WorldStep.TheVariants.{Expand, Send, Deliver, Offer, Look, Rest}
 
@@ -85,9 +85,29 @@ IsStepRefusal {S = S} owner old new asked e =
     (v : ℕ) × (o : OwnerOf S) × (b : Distance) × (asked ≡ Expand v) × At old.owners v o × At old.seen v b
     × IsRefusal owner b o o e × (new ≡ old)
 
--- a step is refused in the world after those before it
-abbrev pub IsRunRefusal : {S : Type 0} → (S → List ℕ → ℕ → ℕ) → SearchSpace → List WorldStep → OwnerFault → Type 0
-IsRunRefusal {S = S} owner space asked OutOfMemory = Unit {0}
-IsRunRefusal {S = S} owner space asked e =
-    (before : List WorldStep) × (step : WorldStep) × (after : List WorldStep) × (w : WorldOf S)
-    × (asked ≡ before ++ step ∷ after) × IsAfter owner space before w × IsStepRefusal owner w w step e
+-- a world of n owners of this space, after these steps
+pub record IsWorldAfter {S : Type 0} (owner : S → List ℕ → ℕ → ℕ) (over : SpaceOf S) (n : ℕ) (asked : List WorldStep) (w : WorldOf S) : Type 0 where
+  pub after : IsAfter owner (searched owner over n) asked w
+  pub space : w.space ≡ over
+  pub owners : length w.owners ≡ n
+
+-- of these steps, this one is refused in the world after those before it
+pub record IsRefusedStep {S : Type 0} (owner : S → List ℕ → ℕ → ℕ) (over : SpaceOf S) (n : ℕ) (asked : List WorldStep) (w : WorldOf S) (e : OwnerFault)
+    : Type 0 where
+  pub before : List WorldStep
+  pub step : WorldStep
+  pub rest : List WorldStep
+  pub are : asked ≡ before ++ step ∷ rest
+  pub world : IsWorldAfter owner over n before w
+  pub refused : IsStepRefusal owner w w step e
+
+-- the world after these steps; or the one in which one of them asks an owner for more nodes than its limit allows: that step changes
+-- nothing, and those behind it are not done
+abbrev pub IsRun : {S : Type 0} → (S → List ℕ → ℕ → ℕ) → SpaceOf S → ℕ → List WorldStep → WorldOf S → Type 0
+IsRun owner over n asked w = IsWorldAfter owner over n asked w ⊎ IsRefusedStep owner over n asked w LimitReached
+
+-- a step is refused otherwise than for the limit
+abbrev pub IsRunRefusal : {S : Type 0} → (S → List ℕ → ℕ → ℕ) → SpaceOf S → ℕ → List WorldStep → OwnerFault → Type 0
+IsRunRefusal owner over n asked OutOfMemory = Unit {0}
+IsRunRefusal owner over n asked LimitReached = ⊥
+IsRunRefusal {S = S} owner over n asked TotalTooLarge = (w : WorldOf S) × IsRefusedStep owner over n asked w TotalTooLarge

@@ -7,7 +7,7 @@ ghost use Rattle.cost.specs.Distances.{Distance};
 ghost use Rattle.owner_theory.specs.Worlds.{world_start, family_of, waiting, IsQuiet};
 ghost use Rattle.owner.specs.Spaces.{searched};
 ghost use Rattle.netcore.specs.declared.step.WorldStep.{WorldStep};
-ghost use Rattle.netcore.specs.Worlds.{space_in, left_in, world_after_run, Shows, Steps, IsAfter, IsStepRefusal, IsRunRefusal};
+ghost use Rattle.netcore.specs.Worlds.{space_in, left_in, world_after_run, Shows, Steps, IsAfter, IsStepRefusal, IsRun, IsRunRefusal};
 ghost use Rattle.netcore.specs.Possible.{would_change, possible_steps};
 ghost use Rattle.netcore.specs.Kept.{IsStepDone, IsStepRefused};
 ghost use Rattle.netcore.specs.Starts.{IsFirstOwner};
@@ -269,7 +269,9 @@ impl<'a, S: Spread + Drop, F: StateForm + Drop> World<'a, S, F> {
         }
     }
 
-    /// The world after these steps, from the start. A fault is that of a step, or `OutOfMemory`.
+    /// The world after these steps, from the start; where one of them asks an owner for more nodes than its limit allows, the world
+    /// before that step, which changes nothing, and no later step is done. Fails with `TotalTooLarge` where a step does, or if
+    /// allocation fails.
     pub fn run(
         alloc: Global,
         space: &'a Space<'a, S>,
@@ -278,15 +280,20 @@ impl<'a, S: Spread + Drop, F: StateForm + Drop> World<'a, S, F> {
     ) -> Result<World<'a, S, F>, OwnerFault>
         requires owners { 0 < owners }
         requires fits { F.Fits (ranges space.now.task) }
-        ensures run { IfOk result (IsAfter S.owner (searched S.owner space.now owners) steps.now) }
-        ensures refused { IfErr result (IsRunRefusal S.owner (searched S.owner space.now owners) steps.now) }
+        ensures run { IfOk result (IsRun S.owner space.now owners steps.now) }
+        ensures refused { IfErr result (IsRunRefusal S.owner space.now owners steps.now) }
         ensures space { IfOk result (λ w. w.space ≡ space.now) }
         ensures owners { IfOk result (λ w. length w.owners ≡ owners) }
         ensures whole { IfOk result (λ w. w.spent ≡ false) }
     {
         let mut world = World::start(alloc, space, owners)?;
         for step in steps {
-            world.step(*step)?;
+            match world.step(*step) {
+                Ok(_) => {}
+                Err(OwnerFault::LimitReached) => return Ok(world),
+                Err(OwnerFault::TotalTooLarge) => return Err(OwnerFault::TotalTooLarge),
+                Err(OwnerFault::OutOfMemory) => return Err(OwnerFault::OutOfMemory),
+            }
         }
         Ok(world)
     }

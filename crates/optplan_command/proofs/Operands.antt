@@ -6,6 +6,7 @@ use Rattle.optplan_device.specs.Events.{Event}
 use Rattle.optplan_sas.specs.Choices.{Choices}
 use Rattle.optplan_replies.specs.declared.status.Status.{Status}
 use Rattle.optplan_solve.specs.Outputs.{OutputFiles}
+use Rattle.optplan_solve.specs.declared.settings.Schedule.{Schedule}
 use Rattle.optplan_solve.specs.Solving.{Solves}
 use Rattle.optplan_solve.specs.SasSolving.{SolvesSas}
 
@@ -16,13 +17,13 @@ operand_is (Some y) absent x text value value_is x_is empty = ap text x_is ∙ a
 operand_is None absent x text value value_is x_is empty = ap text x_is ∙ empty ∙ ap (λ (v : Option (List ℕ)). unwrap_or v []) value_is
 
 -- files by other names for their names
-pub renamed_solves : (h new : List Event) (d d' p p' : List ℕ) (choices : Choices) (seed : ℕ) (files : OutputFiles) (status : Status) → d' ≡ d → p' ≡ p
-    → Solves h new d' p' choices seed files status → Solves h new d p choices seed files status
-renamed_solves h new d d' p p' choices seed files status d_is p_is s =
-    subst (λ (x : List ℕ). Solves h new d x choices seed files status) p_is
-    (subst (λ (x : List ℕ). Solves h new x p' choices seed files status) d_is s)
+pub renamed_solves : (h new : List Event) (d d' p p' : List ℕ) (choices : Choices) (schedule : Schedule) (files : OutputFiles) (status : Status) → d' ≡ d → p' ≡ p
+    → Solves h new d' p' choices schedule files status → Solves h new d p choices schedule files status
+renamed_solves h new d d' p p' choices schedule files status d_is p_is s =
+    subst (λ (x : List ℕ). Solves h new d x choices schedule files status) p_is
+    (subst (λ (x : List ℕ). Solves h new x p' choices schedule files status) d_is s)
 
 -- a file by another name for its name
-pub renamed_solves_sas : (h new : List Event) (s s' : List ℕ) (choices : Choices) (seed : ℕ) (files : OutputFiles) (status : Status) → s' ≡ s
-    → SolvesSas h new s' choices seed files status → SolvesSas h new s choices seed files status
-renamed_solves_sas h new s s' choices seed files status s_is solves = subst (λ (x : List ℕ). SolvesSas h new x choices seed files status) s_is solves
+pub renamed_solves_sas : (h new : List Event) (s s' : List ℕ) (choices : Choices) (schedule : Schedule) (files : OutputFiles) (status : Status) → s' ≡ s
+    → SolvesSas h new s' choices schedule files status → SolvesSas h new s choices schedule files status
+renamed_solves_sas h new s s' choices schedule files status s_is solves = subst (λ (x : List ℕ). SolvesSas h new x choices schedule files status) s_is solves

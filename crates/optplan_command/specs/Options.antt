@@ -2,8 +2,10 @@
 use Rattle.std.specs.Prelude.{◌≡◌, ℕ, ◌≤◌, ◌<◌, ◌^◌, List, Option, Some, None, codes}
 use Rattle.std.specs.Str.Parse.{IsNumeral, digits_value}
 use Rattle.optplan_sas.specs.Choices.{Choices}
+use Rattle.optplan_solve.specs.declared.settings.Schedule.{Schedule}
+use Rattle.optplan_solve.specs.declared.settings.Schedule.TheVariants.{Threads, Drawn}
 use Rattle.optplan_solve.specs.declared.settings.Settings.{Settings}
-use Rattle.optplan_solve.specs.Texts.{files_of}
+use Rattle.optplan_solve.specs.Outputs.{files_of}
 
 -- the text spells a number with digits only, in this range and below 2^64
 pub record IsNumberIn (least most : ℕ) (text : List ℕ) : Type 0 where
@@ -27,10 +29,25 @@ pub record AreChoicesOf (value : List ℕ → Option (List ℕ)) (choices : Choi
   pub workers : IsNumberOr 4 1 64 (value (codes "workers")) choices.workers
   pub table : IsNumberOr 100000 1 16777216 (value (codes "table")) choices.table
   pub limit : IsNumberOf 0 9223372036854775807 (value (codes "limit")) choices.limit
+  pub ring : IsNumberOr 64 1 65536 (value (codes "ring")) choices.ring
   pub steps : IsNumberOr 1000000 0 9223372036854775807 (value (codes "steps")) choices.steps
+
+-- the schedule by a seed and by seconds: steps drawn from the seed, whatever the seconds; or where there is none, threads, which have
+-- these seconds, if there are any
+abbrev pub schedule_by : Option ℕ → Option ℕ → Schedule
+schedule_by (Some seed) seconds = Drawn seed
+schedule_by None seconds = Threads seconds
+
+-- the schedule by the values of the options that name a seed and seconds
+pub record IsScheduleOf (simulate time : Option (List ℕ)) (schedule : Schedule) : Type 0 where
+  pub seed : Option ℕ
+  pub seed_is : IsNumberOf 0 9223372036854775807 simulate seed
+  pub seconds : Option ℕ
+  pub seconds_are : IsNumberOf 0 9223372036854775807 time seconds
+  pub is : schedule ≡ schedule_by seed seconds
 
 -- what is requested beside the task, by the values of the command's options
 pub record AreSettingsOf (value : List ℕ → Option (List ℕ)) (settings : Settings) : Type 0 where
   pub choices : AreChoicesOf value settings.options
-  pub seed : IsNumberOr 0 0 9223372036854775807 (value (codes "simulate")) settings.seed
+  pub schedule : IsScheduleOf (value (codes "simulate")) (value (codes "time")) settings.schedule
   pub files : files_of settings ≡ record { plan = value (codes "plan"); cert = value (codes "cert") }

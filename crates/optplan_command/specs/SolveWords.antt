@@ -5,7 +5,7 @@ use Rattle.optplan_replies.specs.declared.status.Status.{Status}
 use Rattle.optplan_solve.specs.declared.settings.Settings.{Settings}
 use Rattle.optplan_solve.specs.Solving.{Solves}
 use Rattle.optplan_solve.specs.SasSolving.{SolvesSas}
-use Rattle.optplan_solve.specs.Texts.{files_of}
+use Rattle.optplan_solve.specs.Outputs.{files_of}
 use Rattle.optplan_command.specs.Options.{AreSettingsOf}
 
 -- the value of an operand, or the empty text if it has none
@@ -16,10 +16,10 @@ operand value name = unwrap_or (value name) []
 pub record SolvesByWords (value : List ℕ → Option (List ℕ)) (old new : List Event) (status : Status) : Type 0 where
   pub settings : Settings
   pub asked : AreSettingsOf value settings
-  pub solves : Solves old new (operand value (codes "DOMAIN")) (operand value (codes "PROBLEM")) settings.options settings.seed (files_of settings) status
+  pub solves : Solves old new (operand value (codes "DOMAIN")) (operand value (codes "PROBLEM")) settings.options settings.schedule (files_of settings) status
 
 -- the finite-domain task of this file is solved as the options request
 pub record SolvesSasByWords (value : List ℕ → Option (List ℕ)) (old new : List Event) (status : Status) : Type 0 where
   pub settings : Settings
   pub asked : AreSettingsOf value settings
-  pub solves : SolvesSas old new (operand value (codes "SAS")) settings.options settings.seed (files_of settings) status
+  pub solves : SolvesSas old new (operand value (codes "SAS")) settings.options settings.schedule (files_of settings) status

@@ -11,6 +11,7 @@ use checker::{Verdict, check_sas_owned};
 use optplan_device::Device;
 use optplan_replies::{Fault, FileWord, Status, read_file, reply, report};
 use std::alloc::{AllocError, Global};
+use std::thread::Threads;
 
 /// The exit status of a verdict: `Done` if the certificate is accepted, else `Rejected`.
 fn check_status(verdict: &Verdict) -> Status
@@ -37,7 +38,11 @@ fn check_line(alloc: Global, verdict: &Verdict) -> Result<String, AllocError>
 ///
 /// Fails with the first fault of the task's text; if that spells a task, with the first fault of the certificate's; or
 /// with `OutOfMemory`.
-fn check_of<R: AllocGlobal>(rt: &R, sas: Vec<u8>, cert: Vec<u8>) -> Result<(String, Status), Fault>
+fn check_of<R: AllocGlobal + Threads + Sync>(
+    rt: &R,
+    sas: Vec<u8>,
+    cert: Vec<u8>,
+) -> Result<(String, Status), Fault>
     ensures answer { IfOk result (λ r. IsCheckAnswer sas.items cert.items (string_bytes r.0) r.1) }
     ensures judged { IfOk result (λ r. IsOfVerdict r.1) }
     ensures refused { IfErr result (IsCheckRefusal sas.items cert.items) }
@@ -71,7 +76,12 @@ fn read_texts<D: Device>(
 
 /// Checks a certificate for a finite-domain task: reads the two files, and prints the verdict's line or reports the
 /// fault. Returns the exit status.
-pub fn run_check<D: Device, R: AllocGlobal>(rt: &R, device: &mut D, sas: &str, cert: &str) -> Status
+pub fn run_check<D: Device, R: AllocGlobal + Threads + Sync>(
+    rt: &R,
+    device: &mut D,
+    sas: &str,
+    cert: &str,
+) -> Status
     ensures done { (h : List Event) → D.history device.old ≡ Some h → D.failure_count device.new ≡ D.failure_count device.old → result ≢ Status.OutOfMemory →
         (new : List Event) × (D.history device.new ≡ Some new) × Checks h new sas.now cert.now result }
     ensures device_failed { result ≡ Status.DeviceFailed → D.failure_count device.old + 1 ≤ D.failure_count device.new }

@@ -18,6 +18,9 @@ use clap::{Command, Error};
 use optplan_device::Device;
 use optplan_replies::{Status, put_text};
 use std::alloc::{AllocError, Global};
+use std::sync::Wait;
+use std::thread::Threads;
+use std::time::Clock;
 
 /// The program's version, which `--version` prints.
 const VERSION: &str = "0.1.0";
@@ -54,7 +57,7 @@ fn program_command<'a>(alloc: Global) -> Result<Command<'a>, AllocError> {
 
 /// Runs the command that `clap` finds in the words, and returns the exit status. Fails with the error in the words, with
 /// help or the version if they are requested, or if allocation fails.
-fn run_words<D: Device, R: AllocGlobal>(
+fn run_words<D: Device, R: Threads + Wait + Clock + Sync + AllocGlobal>(
     rt: &R,
     words: &[String],
     device: &mut D,
@@ -97,7 +100,11 @@ fn show<D: Device>(alloc: Global, device: &mut D, error: &Error) -> Status
 ///
 /// Files are read and texts are written through the device. A report on standard error that fails leaves the status as it
 /// is.
-pub fn run<D: Device, R: AllocGlobal>(words: &[String], device: &mut D, rt: &R) -> Status
+pub fn run<D: Device, R: Threads + Wait + Clock + Sync + AllocGlobal>(
+    words: &[String],
+    device: &mut D,
+    rt: &R,
+) -> Status
     ensures validates { (h : List Event) (domain problem plan : List ℕ) → D.history device.old ≡ Some h → AskForValidation (texts_of words.now) domain problem plan →
         D.failure_count device.new ≡ D.failure_count device.old → result ≢ Status.OutOfMemory →
         (new : List Event) × (D.history device.new ≡ Some new) × Validates h new domain problem plan result }

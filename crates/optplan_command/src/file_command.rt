@@ -12,6 +12,7 @@ use crate::translation::run_translation;
 use crate::validation::run_validation;
 use optplan_device::Device;
 use optplan_replies::Status;
+use std::thread::Threads;
 
 /// A command that works on files alone, with their names.
 #[derive(Clone, Copy, Debug)]
@@ -119,7 +120,7 @@ pub(crate) fn plain_command(words: &[String]) -> Option<FileCommand<'_>>
 }
 
 /// Runs the command, and returns the exit status.
-pub(crate) fn run_files<D: Device, R: AllocGlobal>(
+pub(crate) fn run_files<D: Device, R: AllocGlobal + Threads + Sync>(
     rt: &R,
     device: &mut D,
     command: FileCommand<'_>,

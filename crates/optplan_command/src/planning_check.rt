@@ -13,6 +13,7 @@ use checker_pddl::{PlanningCheckFault, PlanningVerdict, check_pddl};
 use optplan_device::Device;
 use optplan_replies::{Fault, FileWord, Status, read_file, reply, report, task_fault};
 use std::alloc::{AllocError, Global};
+use std::thread::Threads;
 
 /// The exit status of a verdict: `Done` if the certificate is accepted, else `Rejected`.
 fn planning_check_status(verdict: &PlanningVerdict) -> Status
@@ -60,7 +61,7 @@ fn planning_check_fault(
 ///
 /// Fails with the fault of the domain and the problem that comes first, with the first fault of the certificate, with the
 /// limit that is exceeded, or with `OutOfMemory`.
-fn planning_check_of<R: AllocGlobal>(
+fn planning_check_of<R: AllocGlobal + Threads + Sync>(
     rt: &R,
     domain: &[u8],
     problem: &[u8],
@@ -113,7 +114,7 @@ fn read_texts<D: Device>(
 
 /// Checks a certificate for a planning task: reads the three files, and prints the verdict's line or reports the fault.
 /// Returns the exit status.
-pub fn run_planning_check<D: Device, R: AllocGlobal>(
+pub fn run_planning_check<D: Device, R: AllocGlobal + Threads + Sync>(
     rt: &R,
     device: &mut D,
     domain: &str,

@@ -1,9 +1,9 @@
 //! The words of the commands that solve a task.
 
-ghost use Rattle.std.specs.Prelude.{◌≡◌, ◌≢◌, ◌≤◌, ◌+◌, List, Some, IfOk, OnErr};
+ghost use Rattle.std.specs.Prelude.{◌≡◌, ◌≢◌, ◌≤◌, ◌+◌, List, Some, IfOk, OnErr, codes};
 ghost use Rattle.clap.specs.Matches.{found_of, first_value};
 ghost use Rattle.optplan_device.specs.Events.{Event};
-ghost use Rattle.optplan_command.specs.Options.{AreChoicesOf, AreSettingsOf};
+ghost use Rattle.optplan_command.specs.Options.{AreChoicesOf, IsScheduleOf, AreSettingsOf};
 ghost use Rattle.optplan_command.specs.SolveWords.{SolvesByWords, SolvesSasByWords};
 
 use crate::file_words::file;
@@ -11,9 +11,12 @@ use crate::options::{RefusedValue, number_for};
 use clap::{Arg, ArgMatches, Command, Error};
 use optplan_device::Device;
 use optplan_replies::Status;
-use optplan_sas::{MAX_TABLE, MAX_WORKERS, Options};
-use optplan_solve::{Settings, run_solve, run_solve_sas};
+use optplan_sas::{MAX_RING, MAX_TABLE, MAX_WORKERS, Options};
+use optplan_solve::{Schedule, Settings, run_solve, run_solve_sas};
 use std::alloc::{AllocError, Global};
+use std::sync::Wait;
+use std::thread::Threads;
+use std::time::Clock;
 
 const SOLVE_ABOUT: &str = "Finds a plan that no plan is cheaper than, or that there is no plan";
 
@@ -23,7 +26,12 @@ Reads a domain and a problem in PDDL 2.1 level 1 with types, negative preconditi
 
   the plan                    one (name arguments) a step, and a line with its cost (status 0)
   unsolvable                  there is no plan (status 4)
-  limit                       the search came to --limit or --steps first (status 5)
+  limit N                     the search came to --limit, --time or --steps first: no plan costs less than N; behind this
+                              line stands the cheapest plan that was found by then, if there is one (status 5)
+
+Workers in threads of their own share the states. With --simulate one thread does their steps, in an order that is drawn
+from the seed, so it finds the same plan each time. The seconds of --time count from when the files are read, but only
+the search can be ended: what comes before it may take longer.
 
 With the metric minimize (total-cost) an action costs what it increases the total cost by, without it each action costs
 1. The certificate that --cert asks for is what the command check takes, beside the domain and the problem. A text that
@@ -40,16 +48,18 @@ effects), and prints:
 
   the plan                    one (operator) a step, and a line with its cost (status 0)
   unsolvable                  there is no plan (status 4)
-  limit                       the search came to --limit or --steps first (status 5)
+  limit N                     the search came to --limit, --time or --steps first: no plan costs less than N; behind this
+                              line stands the cheapest plan that was found by then, if there is one (status 5)
+
+Workers in threads of their own share the states. With --simulate one thread does their steps, in an order that is drawn
+from the seed, so it finds the same plan each time. The seconds of --time count from when the files are read, but only
+the search can be ended: what comes before it may take longer.
 
 The certificate that --cert asks for is what the command check-sas takes, beside the task. A text that cannot be read is
 refused with one line on standard error, and so is a task that is too large (status 1).";
 
 /// The greatest number of most options, 2^63 - 1.
 const MAX_NUMBER: u64 = 9_223_372_036_854_775_807;
-
-/// The greatest number of messages that may be underway to a worker.
-const MAX_RING: u64 = 65_536;
 
 fn option<'a>(alloc: Global, name: &'a str, value: &'a str, help: &'a str) -> Arg<'a> {
     Arg::new(alloc, name)
@@ -58,30 +68,9 @@ fn option<'a>(alloc: Global, name: &'a str, value: &'a str, help: &'a str) -> Ar
         .help(help)
 }
 
-/// Adds the options of the search.
-fn with_search_options<'a>(alloc: Global, command: Command<'a>) -> Result<Command<'a>, AllocError> {
+/// Adds the options that end the search.
+fn with_ending_options<'a>(alloc: Global, command: Command<'a>) -> Result<Command<'a>, AllocError> {
     command
-        .arg(option(
-            alloc,
-            "simulate",
-            "SEED",
-            "Searches by steps that are drawn from this seed",
-        )
-        .required(true))?
-        .arg(option(
-            alloc,
-            "workers",
-            "N",
-            "How many workers share the states, 1 to 64",
-        )
-        .default_value("4"))?
-        .arg(option(
-            alloc,
-            "ring",
-            "N",
-            "How many messages may be underway to a worker, 1 to 65536; a search by drawn steps has no such bound",
-        )
-        .default_value("64"))?
         .arg(option(
             alloc,
             "limit",
@@ -90,12 +79,50 @@ fn with_search_options<'a>(alloc: Global, command: Command<'a>) -> Result<Comman
         ))?
         .arg(option(
             alloc,
+            "time",
+            "SECONDS",
+            "Ends the search by threads after so many seconds, as at a limit",
+        ))?
+        .arg(option(
+            alloc,
+            "steps",
+            "N",
+            "How many steps may be drawn with --simulate",
+        )
+        .default_value("1000000"))
+}
+
+/// Adds the options of the search.
+fn with_search_options<'a>(alloc: Global, command: Command<'a>) -> Result<Command<'a>, AllocError> {
+    let command = command
+        .arg(option(
+            alloc,
+            "simulate",
+            "SEED",
+            "Searches in one thread, by steps that are drawn from this seed",
+        ))?
+        .arg(option(
+            alloc,
+            "workers",
+            "N",
+            "How many workers share the states, each in a thread of its own, 1 to 64",
+        )
+        .default_value("4"))?
+        .arg(option(
+            alloc,
+            "ring",
+            "N",
+            "How many messages may be underway from one worker to another, 1 to 65536; a search by drawn steps has no such bound",
+        )
+        .default_value("64"))?
+        .arg(option(
+            alloc,
             "table",
             "N",
             "How many entries a table of lower bounds may have, 1 to 16777216",
         )
-        .default_value("100000"))?
-        .arg(option(alloc, "steps", "N", "How many steps may be drawn").default_value("1000000"))
+        .default_value("100000"))?;
+    with_ending_options(alloc, command)
 }
 
 /// Adds the options that name files.
@@ -144,10 +171,11 @@ fn search_options<'a>(words: &ArgMatches<'a>) -> Result<Options, RefusedValue<'a
     let table = number_for(words, "table", 1, MAX_TABLE as u64)?.unwrap_or(plain.table() as u64);
     let limit = number_for(words, "limit", 0, MAX_NUMBER)?;
     let steps = number_for(words, "steps", 0, MAX_NUMBER)?.unwrap_or(plain.steps());
-    number_for(words, "ring", 1, MAX_RING)?;
+    let ring = number_for(words, "ring", 1, MAX_RING as u64)?.unwrap_or(plain.ring() as u64);
     let options = plain
         .with_workers(workers as usize)
         .with_table(table as usize)
+        .with_ring(ring as usize)
         .with_steps(steps);
     match limit {
         Some(limit) => Ok(options.with_limit(limit)),
@@ -155,15 +183,28 @@ fn search_options<'a>(words: &ArgMatches<'a>) -> Result<Options, RefusedValue<'a
     }
 }
 
+/// The schedule that the words request: steps drawn from a seed, or threads where they name no seed, which have the seconds that the
+/// words name, if they name any. Fails with the first value that is refused.
+fn schedule_of<'a>(words: &ArgMatches<'a>) -> Result<Schedule, RefusedValue<'a>>
+    ensures { IfOk result (IsScheduleOf (first_value (found_of words.now) (codes "simulate")) (first_value (found_of words.now) (codes "time"))) }
+{
+    let seed = number_for(words, "simulate", 0, MAX_NUMBER)?;
+    let seconds = number_for(words, "time", 0, MAX_NUMBER)?;
+    match seed {
+        Some(seed) => Ok(Schedule::Drawn(seed)),
+        None => Ok(Schedule::Threads(seconds)),
+    }
+}
+
 /// What the words request beside the task. Fails with the first value that is refused.
 fn settings_of<'a>(words: &ArgMatches<'a>) -> Result<Settings<'a>, RefusedValue<'a>>
     ensures { IfOk result (AreSettingsOf (λ name. first_value (found_of words.now) name)) }
 {
-    let seed = number_for(words, "simulate", 0, MAX_NUMBER)?.unwrap_or(0);
+    let schedule = schedule_of(words)?;
     let options = search_options(words)?;
     Ok(Settings {
         options,
-        seed,
+        schedule,
         plan: words.get_str("plan"),
         cert: words.get_str("cert"),
     })
@@ -171,7 +212,7 @@ fn settings_of<'a>(words: &ArgMatches<'a>) -> Result<Settings<'a>, RefusedValue<
 
 /// Solves a planning task as the words request, and returns the exit status. Fails with the command's error for the first
 /// value that is refused, or if allocation fails.
-pub(crate) fn solve_by_words<D: Device, R: AllocGlobal>(
+pub(crate) fn solve_by_words<D: Device, R: Threads + Wait + Clock + Sync + AllocGlobal>(
     rt: &R,
     device: &mut D,
     words: &ArgMatches<'_>,
@@ -195,7 +236,7 @@ pub(crate) fn solve_by_words<D: Device, R: AllocGlobal>(
 
 /// Solves a finite-domain task as the words request, and returns the exit status. Fails with the command's error for the
 /// first value that is refused, or if allocation fails.
-pub(crate) fn solve_sas_by_words<D: Device, R: AllocGlobal>(
+pub(crate) fn solve_sas_by_words<D: Device, R: Threads + Wait + Clock + Sync + AllocGlobal>(
     rt: &R,
     device: &mut D,
     words: &ArgMatches<'_>,

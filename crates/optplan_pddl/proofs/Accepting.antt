@@ -1,6 +1,7 @@
 -- A certificate and a plan of the translation are such of the planning task.
 use Rattle.std.proofs.Common.{◌≡◌, ℕ, ◌≤◌, ◌^◌, List, length, sym, subst, ◌∙◌, map}
-use Rattle.std.specs.Prelude.{string_bytes}
+use Rattle.std.specs.Prelude.{Vec, string_bytes}
+use Rattle.std.specs.Global.{Global}
 use Rattle.cost.specs.Distances.{Distance, Finite}
 use Rattle.pddl_task.specs.Planning.{PlanningTask, Action}
 use Rattle.translate_theory.specs.Bounds.{ValidPlansCostAtLeast}
@@ -16,11 +17,17 @@ use Rattle.optplan_kind.proofs.KindLaws.{kind_lawful, held_accepted}
 use Rattle.optplan_plans.specs.Plans.{step_of}
 use Rattle.optplan_plans.proofs.Actions.{plan_is_valid}
 use Rattle.optplan_plans.proofs.SameTexts.{same_text}
-use Rattle.optplan_sas.specs.Findings.{IsCertificateOf, IsSolution}
+use Rattle.validate.specs.Steps.{Step}
+use Rattle.optplan_sas.specs.Findings.{IsPlanAt, IsCertificateOf, IsSolution, IsSoFar}
+use Rattle.optplan_sas.specs.SasAnswers.{IsBestWritten}
+use Rattle.optplan_sas.specs.declared.found.FoundPlan.{FoundPlan}
 use Rattle.optplan_sas.specs.declared.found.Solution.{Solution}
+use Rattle.optplan_sas.specs.declared.found.SoFar.{SoFar}
+use Rattle.optplan_sas.specs.declared.answer.WrittenPlan.{WrittenPlan}
+use Rattle.optplan_sas.specs.declared.answer.CheapestPlan.{CheapestPlan}
+use Rattle.optplan_sas.specs.declared.answer.KnownSoFar.{KnownSoFar}
 use Rattle.optplan_sas.proofs.Spelled.{few_entries}
-use Rattle.optplan_pddl.specs.Answers.{IsAccepted, IsPlanningSolution}
-use Rattle.optplan_pddl.specs.declared.solving.PlanningSolution.{PlanningSolution}
+use Rattle.optplan_pddl.specs.Answers.{IsAccepted, IsPlanningPlan, IsPlanningSolution, IsPlanningKnown}
 
 -- the checker accepts the text of a certificate that holds for the translation
 pub accepted : (domain problem text : List ℕ) (task : PlanningTask) (t : TranslatedTask) (bound : Distance) (c : CertificateValue) → SpellTask domain problem task → IsTranslation task t
@@ -31,24 +38,41 @@ accepted domain problem text task t bound c spells made of is =
     (held_accepted domain problem text task t c spells made of.kind_is of.held
     (of.lawful (kind_lawful domain problem task t spells made) (few_entries c (subst (λ (x : List ℕ). length x ≤ 2 ^ 30) is short))) is)
 
--- a cheapest plan of the translation is one of the task
-pub solution_for : (domain problem : List ℕ) (task : PlanningTask) (t : TranslatedTask) (s : Solution) (p : PlanningSolution) → SpellTask domain problem task → IsTranslation task t → HasSamePlans task t
-    → IsSolution t.task (translation_kind task t) s → p.cost ≡ s.cost
-    → ((actions : List Action) → AreOperatorsOf task t actions s.plan.items → p.plan.items ≡ map (step_of task.vocabulary) actions)
-    → string_bytes p.plan_text ≡ sas_plan_text t.task s.plan.items p.cost → p.cert.items ≡ spelling s.certificate → IsPlanningSolution domain problem task p
-solution_for domain problem task t s p spells made same is cost steps text cert =
-    let (actions, operators, valid, total) = plan_is_valid task t made s.plan.items same is.cheapest.leads in
+-- a plan of the translation is one of the task
+pub plan_for : (domain problem : List ℕ) (task : PlanningTask) (t : TranslatedTask) (found : FoundPlan) (p : WrittenPlan (Vec Step Global)) → SpellTask domain problem task → IsTranslation task t
+    → HasSamePlans task t → IsPlanAt t.task found.plan.items found.cost → p.cost ≡ found.cost
+    → ((actions : List Action) → AreOperatorsOf task t actions found.plan.items → p.plan.items ≡ map (step_of task.vocabulary) actions)
+    → string_bytes p.plan_text ≡ sas_plan_text t.task found.plan.items p.cost → IsPlanningPlan task p
+plan_for domain problem task t found p spells made same is cost steps text =
+    let (actions, operators, valid, total) = plan_is_valid task t made found.plan.items same is.leads in
     record {
       actions = actions;
-      cheapest =
-          record {
-            valid = valid;
-            costs = total ∙ is.cheapest.costs ∙ sym cost;
-            least = subst (λ (n : ℕ). ValidPlansCostAtLeast task (Finite n)) (sym cost) ((same.bounds (Finite s.cost)).0 is.cheapest.least);
-          };
+      valid = valid;
+      costs = total ∙ is.costs ∙ sym cost;
       steps = steps actions operators;
-      written = text ∙ same_text task t made actions s.plan.items p.cost operators;
-      accepted =
-          subst (λ (n : ℕ). IsAccepted domain problem p.cert.items (Finite n)) (sym cost)
-          (accepted domain problem p.cert.items task t (Finite s.cost) s.certificate spells made is.certified cert);
+      written = text ∙ same_text task t made actions found.plan.items p.cost operators;
     }
+
+module _ (domain problem : List ℕ) (task : PlanningTask) (t : TranslatedTask) (spells : SpellTask domain problem task) (made : IsTranslation task t) (same : HasSamePlans task t) where
+  -- a cheapest plan of the translation is one of the task
+  pub solution_for : (s : Solution) (p : CheapestPlan (Vec Step Global)) → IsSolution t.task (translation_kind task t) s → IsPlanningPlan task p.found
+      → p.found.cost ≡ s.found.cost → p.cert.items ≡ spelling s.certificate → IsPlanningSolution domain problem task p
+  solution_for s p is plan cost cert = record {
+    found = plan;
+    least = subst (λ (n : ℕ). ValidPlansCostAtLeast task (Finite n)) (sym cost) ((same.bounds (Finite s.found.cost)).0 is.cheapest.least);
+    accepted =
+        subst (λ (n : ℕ). IsAccepted domain problem p.cert.items (Finite n)) (sym cost)
+        (accepted domain problem p.cert.items task t (Finite s.found.cost) s.certificate spells made is.certified cert);
+  }
+
+  -- what is known of the translation is known of the task
+  pub known_for : (most : Distance) (s : SoFar) (known : KnownSoFar (Vec Step Global)) → IsSoFar t.task (translation_kind task t) most s
+      → IsBestWritten (IsPlanningPlan task) most known.best → known.bound ≡ s.bound → known.cert.items ≡ spelling s.certificate
+      → IsPlanningKnown domain problem task most known
+  known_for most s known is best bound cert = record {
+    least = subst (λ (n : ℕ). ValidPlansCostAtLeast task (Finite n)) (sym bound) ((same.bounds (Finite s.bound)).0 is.least);
+    best = best;
+    accepted =
+        subst (λ (n : ℕ). IsAccepted domain problem known.cert.items (Finite n)) (sym bound)
+        (accepted domain problem known.cert.items task t (Finite s.bound) s.certificate spells made is.certified cert);
+  }

@@ -1,42 +1,82 @@
 -- From what a search has found to what is answered.
-use Rattle.std.proofs.Common.{◌≡◌, ℕ, List, sym, subst}
-use Rattle.cost.specs.Distances.{Distance, Finite}
-use Rattle.fdr.specs.Tasks.{FiniteDomainTask}
+use Rattle.std.proofs.Common.{◌≡◌, ℕ, List, sym, subst, ◌∙◌}
+use Rattle.std.specs.Prelude.{Vec}
+use Rattle.std.specs.Global.{Global}
+use Rattle.cost.specs.Distances.{Distance, Finite, Infinite}
+use Rattle.fdr.specs.Tasks.{FiniteDomainTask, HasNoPlan}
 use Rattle.pddl_task.specs.Planning.{PlanningTask}
 use Rattle.pddl.specs.Texts.{SpellTask}
-use Rattle.cert_value.specs.Certificates.{Kind}
-use Rattle.cert_value.specs.declared.certificate.CertificateKind.{CertificateKind}
-use Rattle.translate.specs.Translated.{TranslatedTask, IsTranslation, HasSamePlans}
+use Rattle.cert_value.specs.Certificates.{Kind, CertificateValue}
 use Rattle.cert_value.specs.Views.{kind_of}
+use Rattle.cert_text.specs.Spelling.{spelling}
+use Rattle.translate.specs.Translated.{TranslatedTask, IsTranslation, HasSamePlans}
+use Rattle.validate.specs.Steps.{Step}
+use Rattle.packed_spread.specs.Spreads as spread
+use Rattle.packed_spread.specs.Spreads.{zobrist_owner}
+use Rattle.extract.specs.Ends.{EndOf}
+use Rattle.extract.specs.Bounds.{least_best}
 use Rattle.optplan_kind.specs.Kinds.{translation_kind}
-use Rattle.optplan_sas.specs.Findings.{IsFinding, IsTrueOf}
-use Rattle.optplan_sas.proofs.Answering.{true_of}
+use Rattle.optplan_sas.specs.Findings.{IsCertificateOf, IsSolution, IsSoFar, IsFound, IsFinding, IsTrueOf, IsSettledEnd, IsShortEnd}
+use Rattle.optplan_sas.specs.declared.answer.CheapestPlan.{CheapestPlan}
+use Rattle.optplan_sas.specs.declared.answer.KnownSoFar.{KnownSoFar}
+use Rattle.optplan_sas.specs.declared.answer.Answer.TheVariants as answer
+use Rattle.optplan_sas.specs.declared.found.Solution.{Solution}
+use Rattle.optplan_sas.specs.declared.found.SoFar.{SoFar}
 use Rattle.optplan_sas.specs.declared.found.Found.{Found}
-use Rattle.optplan_sas.specs.declared.found.Found.TheVariants.{Solved, Unsolvable, Unsettled}
+use Rattle.optplan_sas.specs.declared.found.Found.TheVariants.{Solved, Unsolvable, Stopped}
 use Rattle.optplan_sas.specs.declared.fault.SearchFault.{SearchFault}
 use Rattle.optplan_sas.specs.declared.fault.SearchFault.TheVariants as search
 use Rattle.optplan_pddl.specs.Faults.{fault_of_search}
-use Rattle.optplan_pddl.specs.Answers.{IsAnswerFor, IsPlanningAnswer, IsPlanningRefusal, HasTextsOf}
+use Rattle.optplan_pddl.specs.Answers.{PlanningAnswer, IsPlanningSolution, IsPlanningKnown, IsAnswerFor, IsPlanningAnswer, IsPlanningRefusal}
 use Rattle.optplan_pddl.specs.Prepared.{IsPrepared}
 use Rattle.optplan_pddl.specs.declared.preparing.Prepared.{Prepared}
 use Rattle.optplan_pddl.specs.declared.fault.PlanningFault.{PlanningFault}
 use Rattle.optplan_pddl.specs.declared.fault.PlanningFault.TheVariants as planning
-use Rattle.optplan_pddl.specs.declared.solving.PlanningAnswer.{PlanningAnswer}
+use Rattle.optplan_pddl.proofs.Accepting.{accepted}
 
--- the texts of what was found are the answer
-pub answered : (domain problem : List ℕ) (task : PlanningTask) (over : FiniteDomainTask) (kind : Kind) (settled : Distance → Type 0) (short : Type 0) (f : Found) (answer : PlanningAnswer)
-    → IsFinding over kind settled short f → HasTextsOf domain problem task f answer → IsAnswerFor domain problem task settled short answer
-answered domain problem task over kind settled short (Solved s) answer found (p, is, solution, cost) =
-    subst (IsAnswerFor domain problem task settled short) (sym is) (solution, subst (λ (n : ℕ). settled (Finite n)) (sym cost) found.1)
-answered domain problem task over kind settled short (Unsolvable c) answer (none, certified, ends) (cert, is, no_plan, accepted) =
-    subst (IsAnswerFor domain problem task settled short) (sym is) (no_plan, accepted, ends)
-answered domain problem task over kind settled short Unsettled answer found is = subst (IsAnswerFor domain problem task settled short) (sym is) found
+-- ---- texts of what was found
+
+-- what is found of a task is found of the same task at its end
+pub solution_there : (over : FiniteDomainTask) (kind : Kind) (s : Solution) → IsTrueOf over kind (Solved s) → IsSolution over kind s
+solution_there over kind s (e, same, found) = subst (λ (t : FiniteDomainTask). IsSolution t kind s) same found.0
+
+pub known_there : (over : FiniteDomainTask) (kind : Kind) (s : SoFar) → IsTrueOf over kind (Stopped s) → (most : Distance) × IsSoFar over kind most s
+known_there over kind s (e, same, found) = (least_best e, subst (λ (t : FiniteDomainTask). IsSoFar t kind (least_best e) s) same found.0)
+
+module _ (domain problem : List ℕ) (task : PlanningTask) (t : TranslatedTask) (e : EndOf spread.Zobrist) (spells : SpellTask domain problem task)
+    (made : IsTranslation task t) (plans : HasSamePlans task t) (same : e.space.task ≡ t.task) where
+  pub solved_answer : (s : Solution) (p : CheapestPlan (Vec Step Global)) → IsFound zobrist_owner e (translation_kind task t) (Solved s)
+      → (IsSolution t.task (translation_kind task t) s → IsPlanningSolution domain problem task p) → p.found.cost ≡ s.found.cost
+      → IsAnswerFor domain problem task e (answer.Solved p)
+  solved_answer s p found texts cost = (
+    texts (subst (λ (x : FiniteDomainTask). IsSolution x (translation_kind task t) s) same found.0),
+    subst (λ (n : ℕ). IsSettledEnd zobrist_owner e (Finite n)) (sym cost) found.1,
+  )
+
+  pub unsolvable_answer : (c : CertificateValue) (cert : Vec ℕ Global) → IsFound zobrist_owner e (translation_kind task t) (Unsolvable c) → cert.items ≡ spelling c
+      → IsAnswerFor domain problem task e (answer.Unsolvable cert)
+  unsolvable_answer c cert (none, certified, ended) is = (
+    plans.none.0 (subst HasNoPlan same none),
+    accepted domain problem cert.items task t Infinite c spells made (subst (λ (x : FiniteDomainTask). IsCertificateOf x (translation_kind task t) Infinite c) same certified) is,
+    ended,
+  )
+
+  pub limit_answer : (s : SoFar) (known : KnownSoFar (Vec Step Global)) → IsFound zobrist_owner e (translation_kind task t) (Stopped s)
+      → (IsSoFar t.task (translation_kind task t) (least_best e) s → IsPlanningKnown domain problem task (least_best e) known) → known.bound ≡ s.bound
+      → IsAnswerFor domain problem task e (answer.Limit known)
+  limit_answer s known found texts bound = (
+    texts (subst (λ (x : FiniteDomainTask). IsSoFar x (translation_kind task t) (least_best e) s) same found.0),
+    subst (λ (n : ℕ). IsShortEnd zobrist_owner e n) (sym bound) found.1,
+  )
+
+-- ---- refusals
 
 -- a refused search is a refusal of what asked for it
 pub refused : (domain problem : List ℕ) (task : PlanningTask) (t : TranslatedTask) (why : FiniteDomainTask → SearchFault → Type 0) (e : SearchFault) → SpellTask domain problem task → IsTranslation task t
     → why t.task e → IsPlanningRefusal domain problem why (fault_of_search e)
 refused domain problem task t why search.OutOfMemory spells made is = tt
 refused domain problem task t why search.TotalTooLarge spells made is = (task, spells, (t, made, is))
+refused domain problem task t why (search.Gate worker turn) spells made is = (task, spells, (t, made, is))
 
 -- refused texts are, whatever the search
 pub text_refused : (domain problem : List ℕ) (why : FiniteDomainTask → SearchFault → Type 0) (e : PlanningFault) → IsPlanningRefusal domain problem (λ task f. ⊥) e → IsPlanningRefusal domain problem why e
@@ -45,40 +85,40 @@ text_refused domain problem why (planning.Task e) is = is
 text_refused domain problem why planning.GroundLimit is = is
 text_refused domain problem why (planning.TaskTooLarge table) is = is
 text_refused domain problem why planning.TotalTooLarge (task, spells, (t, made, never)) = absurd never
-
--- what is found of a task is found of the same task by another name
-pub found_of : (settled : FiniteDomainTask → Distance → Type 0) (short : FiniteDomainTask → Type 0) (f : Found) (over other : FiniteDomainTask) (k l : CertificateKind) → over ≡ other → k ≡ l
-    → IsFinding over (kind_of k) (settled over) (short over) f → IsFinding other (kind_of l) (settled other) (short other) f
-found_of settled short f over other k l tasks kinds found =
-    subst (λ (x : CertificateKind). IsFinding other (kind_of x) (settled other) (short other) f) kinds
-    (subst (λ (t : FiniteDomainTask). IsFinding t (kind_of k) (settled t) (short t) f) tasks found)
+text_refused domain problem why (planning.Gate worker turn) (task, spells, (t, made, never)) = absurd never
 
 -- ---- of a task that is ready
 
-module _ (domain problem : List ℕ) (p : Prepared) (is : IsPrepared domain problem p) where
+module _ (domain problem : List ℕ) (p : Prepared) (is : IsPrepared domain problem p) (over : FiniteDomainTask) (over_is : over ≡ p.translated.task) where
+  -- what is found of the translation, by its own kind of certificates
+  pub found_of : (ends : FiniteDomainTask → EndOf spread.Zobrist → Type 0) (f : Found) → IsFinding over (kind_of p.kind) (ends over) f
+      → IsFinding p.translated.task (translation_kind is.task p.translated) (ends p.translated.task) f
+  found_of ends f found =
+      subst (λ (k : Kind). IsFinding p.translated.task k (ends p.translated.task) f) is.kind_is
+      (subst (λ (t : FiniteDomainTask). IsFinding t (kind_of p.kind) (ends t) f) over_is found)
+
   -- what is found is true of the translation
-  pub found_true : (settled : Distance → Type 0) (short : Type 0) (f : Found) → IsFinding p.translated.task (kind_of p.kind) settled short f
+  pub found_true : (ends : FiniteDomainTask → EndOf spread.Zobrist → Type 0) (f : Found) → IsFinding over (kind_of p.kind) (ends over) f
       → (task : PlanningTask) × IsTrueOf p.translated.task (translation_kind task p.translated) f
-  found_true settled short f found =
-      (is.task, subst (λ (k : Kind). IsTrueOf p.translated.task k f) is.kind_is (true_of p.translated.task (kind_of p.kind) settled short f found))
+  found_true ends f found = let is_found = found_of ends f found in (is.task, (is_found.end, is_found.task_is, is_found.found))
 
   -- its texts are the answer
-  pub answer_for : (settled : FiniteDomainTask → Distance → Type 0) (short : FiniteDomainTask → Type 0) (f : Found) (answer : PlanningAnswer)
-      → IsFinding p.translated.task (kind_of p.kind) (settled p.translated.task) (short p.translated.task) f
-      → ((d q : List ℕ) (task : PlanningTask) → SpellTask d q task → IsTranslation task p.translated → HasSamePlans task p.translated → IsTrueOf p.translated.task (translation_kind task p.translated) f
-      → HasTextsOf d q task f answer)
-      → IsPlanningAnswer domain problem settled short answer
-  answer_for settled short f answer found texts =
-      let true_there = subst (λ (k : Kind). IsTrueOf p.translated.task k f) is.kind_is (true_of p.translated.task (kind_of p.kind) (settled p.translated.task) (short p.translated.task) f found) in (
-        is.task,
-        is.spelled,
-        (
-          p.translated,
-          is.translation,
-          answered domain problem is.task p.translated.task (kind_of p.kind) (settled p.translated.task) (short p.translated.task) f answer found
-              (texts domain problem is.task is.spelled is.translation is.same true_there),
-        ),
-      )
+  pub answer_for : (ends : FiniteDomainTask → EndOf spread.Zobrist → Type 0) (f : Found) (given : PlanningAnswer) → IsFinding over (kind_of p.kind) (ends over) f
+      → ((d q : List ℕ) (task : PlanningTask) (e : EndOf spread.Zobrist) → SpellTask d q task → IsTranslation task p.translated → HasSamePlans task p.translated
+      → e.space.task ≡ p.translated.task → IsFound zobrist_owner e (translation_kind task p.translated) f → IsAnswerFor d q task e given)
+      → IsPlanningAnswer domain problem ends given
+  answer_for ends f given found texts =
+      let is_found = found_of ends f found in
+      record {
+        task = is.task;
+        spelled = is.spelled;
+        translated = p.translated;
+        translation = is.translation;
+        end = is_found.end;
+        ended = is_found.ended;
+        is = texts domain problem is.task is_found.end is.spelled is.translation is.same is_found.task_is is_found.found;
+      }
 
-  pub search_refused : (why : FiniteDomainTask → SearchFault → Type 0) (e : SearchFault) → why p.translated.task e → IsPlanningRefusal domain problem why (fault_of_search e)
-  search_refused why e refusal = refused domain problem is.task p.translated why e is.spelled is.translation refusal
+  pub search_refused : (why : FiniteDomainTask → SearchFault → Type 0) (e : SearchFault) → why over e → IsPlanningRefusal domain problem why (fault_of_search e)
+  search_refused why e refusal =
+      refused domain problem is.task p.translated why e is.spelled is.translation (subst (λ (t : FiniteDomainTask). why t e) over_is refusal)

@@ -13,51 +13,73 @@ use Rattle.translate_vars.specs.declared.fault.TranslateFault.TheVariants as tra
 use Rattle.translate.specs.Translated.{TranslatedTask, IsTranslation, IsUntranslated}
 use Rattle.checker_pddl.specs.Answers.{IsAnswer}
 use Rattle.checker_pddl.specs.declared.verdict.PlanningVerdict.TheVariants.{Accepted}
+use Rattle.validate.specs.Steps.{Step}
 use Rattle.optplan_plans.specs.Plans.{step_of, text_of_plan}
-use Rattle.optplan_sas.specs.declared.found.Found.{Found}
-use Rattle.optplan_sas.specs.declared.found.Found.TheVariants as found
+use Rattle.packed_spread.specs.Spreads as spread
+use Rattle.packed_spread.specs.Spreads.{zobrist_owner}
+use Rattle.extract.specs.Ends.{EndOf}
+use Rattle.extract.specs.Bounds.{least_best}
+use Rattle.optplan_sas.specs.Findings.{IsSettledEnd, IsShortEnd}
+use Rattle.optplan_sas.specs.SasAnswers.{IsBestWritten}
+use Rattle.optplan_sas.specs.declared.answer.WrittenPlan.{WrittenPlan}
+use Rattle.optplan_sas.specs.declared.answer.CheapestPlan.{CheapestPlan}
+use Rattle.optplan_sas.specs.declared.answer.KnownSoFar.{KnownSoFar}
+use Rattle.optplan_sas.specs.declared.answer.Answer.{Answer}
+use Rattle.optplan_sas.specs.declared.answer.Answer.TheVariants.{Solved, Unsolvable, Limit}
 use Rattle.optplan_sas.specs.declared.fault.SearchFault.{SearchFault}
 use Rattle.optplan_sas.specs.declared.fault.SearchFault.TheVariants as search
 use Rattle.optplan_pddl.specs.declared.fault.PlanningFault.{PlanningFault}
-use Rattle.optplan_pddl.specs.declared.fault.PlanningFault.TheVariants.{OutOfMemory, Task, GroundLimit, TaskTooLarge, TotalTooLarge}
-use Rattle.optplan_pddl.specs.declared.solving.PlanningSolution.{PlanningSolution}
-use Rattle.optplan_pddl.specs.declared.solving.PlanningAnswer.{PlanningAnswer}
-use Rattle.optplan_pddl.specs.declared.solving.PlanningAnswer.TheVariants.{Solved, Unsolvable, Limit}
+use Rattle.optplan_pddl.specs.declared.fault.PlanningFault.TheVariants.{OutOfMemory, Task, GroundLimit, TaskTooLarge, TotalTooLarge, Gate}
 
--- a valid plan of that cost, and every valid plan costs at least that
-pub record IsCheapestPlan (task : PlanningTask) (plan : List Action) (cost : ℕ) : Type 0 where
-  pub valid : IsValidPlan task plan
-  pub costs : total_cost plan ≡ cost
-  pub least : ValidPlansCostAtLeast task (Finite cost)
+-- a plan is given by its steps
+abbrev pub PlanningAnswer : Type 0
+PlanningAnswer = Answer (Vec Step Global)
 
 -- the checker, which reads only the texts, accepts the certificate for the bound, if the certificate's text has at most
 -- 2^30 bytes
 abbrev pub IsAccepted : List ℕ → List ℕ → List ℕ → Distance → Type 0
 IsAccepted domain problem cert bound = length cert ≤ 2 ^ 30 → IsAnswer domain problem cert (Accepted bound)
 
--- a cheapest plan of the task, by its steps and as a text, with the text of a certificate
-pub record IsPlanningSolution (domain problem : List ℕ) (task : PlanningTask) (s : PlanningSolution) : Type 0 where
+-- a valid plan of that cost, by its steps and as a text
+pub record IsPlanningPlan (task : PlanningTask) (p : WrittenPlan (Vec Step Global)) : Type 0 where
   pub actions : List Action
-  pub cheapest : IsCheapestPlan task actions s.cost
-  pub steps : s.plan.items ≡ map (step_of task.vocabulary) actions
-  pub written : string_bytes s.plan_text ≡ text_of_plan task actions s.cost
-  pub accepted : IsAccepted domain problem s.cert.items (Finite s.cost)
+  pub valid : IsValidPlan task actions
+  pub costs : total_cost actions ≡ p.cost
+  pub steps : p.plan.items ≡ map (step_of task.vocabulary) actions
+  pub written : string_bytes p.plan_text ≡ text_of_plan task actions p.cost
 
--- the answer for a task by a search that ends settled at a bound, or short of that: a cheapest plan, that there is none,
--- or neither
-abbrev pub IsAnswerFor : List ℕ → List ℕ → PlanningTask → (Distance → Type 0) → Type 0 → PlanningAnswer → Type 0
-IsAnswerFor domain problem task settled short (Solved s) = IsPlanningSolution domain problem task s × settled (Finite s.cost)
-IsAnswerFor domain problem task settled short (Unsolvable cert) = HasNoValidPlan task × IsAccepted domain problem cert.items Infinite × settled Infinite
-IsAnswerFor domain problem task settled short Limit = short
+-- a valid plan such that every valid plan costs at least as much, with the text of a certificate of that
+pub record IsPlanningSolution (domain problem : List ℕ) (task : PlanningTask) (s : CheapestPlan (Vec Step Global)) : Type 0 where
+  pub found : IsPlanningPlan task s.found
+  pub least : ValidPlansCostAtLeast task (Finite s.found.cost)
+  pub accepted : IsAccepted domain problem s.cert.items (Finite s.found.cost)
 
--- the texts spell a task, and this is the answer for it, by a search of a translation of the task
-abbrev pub IsPlanningAnswer : List ℕ → List ℕ → (FiniteDomainTask → Distance → Type 0) → (FiniteDomainTask → Type 0) → PlanningAnswer → Type 0
-IsPlanningAnswer domain problem settled short answer =
-    (task : PlanningTask) × SpellTask domain problem task
-    × ((t : TranslatedTask) × IsTranslation task t × IsAnswerFor domain problem task (settled t.task) (short t.task) answer)
+-- a bound below which no valid plan costs, with the text of a certificate of it, and the best plan so far
+pub record IsPlanningKnown (domain problem : List ℕ) (task : PlanningTask) (most : Distance) (known : KnownSoFar (Vec Step Global)) : Type 0 where
+  pub least : ValidPlansCostAtLeast task (Finite known.bound)
+  pub best : IsBestWritten (IsPlanningPlan task) most known.best
+  pub accepted : IsAccepted domain problem known.cert.items (Finite known.bound)
+
+-- the answer for a task by a search of a translation at its end: a cheapest plan, that there is none, or a bound and the best plan so far;
+-- each with the text of a certificate
+abbrev pub IsAnswerFor : List ℕ → List ℕ → PlanningTask → EndOf spread.Zobrist → PlanningAnswer → Type 0
+IsAnswerFor domain problem task e (Solved s) = IsPlanningSolution domain problem task s × IsSettledEnd zobrist_owner e (Finite s.found.cost)
+IsAnswerFor domain problem task e (Unsolvable cert) = HasNoValidPlan task × IsAccepted domain problem cert.items Infinite × IsSettledEnd zobrist_owner e Infinite
+IsAnswerFor domain problem task e (Limit known) = IsPlanningKnown domain problem task (least_best e) known × IsShortEnd zobrist_owner e known.bound
+
+-- the texts spell a task, and this is the answer for it, by a search of a translation of the task that may end so
+pub record IsPlanningAnswer (domain problem : List ℕ) (ends : FiniteDomainTask → EndOf spread.Zobrist → Type 0) (answer : PlanningAnswer) : Type 0 where
+  pub task : PlanningTask
+  pub spelled : SpellTask domain problem task
+  pub translated : TranslatedTask
+  pub translation : IsTranslation task translated
+  pub end : EndOf spread.Zobrist
+  pub ended : ends translated.task end
+  pub is : IsAnswerFor domain problem task end answer
 
 -- the texts are refused for the fault that comes first; or they spell a task that has too many atoms or actions, whose
--- translation is too large, or for which a path's total is too large in the specified way
+-- translation is too large, or the search of whose translation is refused in the specified way, since a path's total is too large or a gate
+-- made it fail
 abbrev pub IsPlanningRefusal : List ℕ → List ℕ → (FiniteDomainTask → SearchFault → Type 0) → PlanningFault → Type 0
 IsPlanningRefusal domain problem refused OutOfMemory = Unit {0}
 IsPlanningRefusal domain problem refused (Task e) = (e ≢ pddl_fault.OutOfMemory) × IsTaskRefusal domain problem e
@@ -67,13 +89,6 @@ IsPlanningRefusal domain problem refused (TaskTooLarge table) =
 IsPlanningRefusal domain problem refused TotalTooLarge =
     (task : PlanningTask) × SpellTask domain problem task
     × ((t : TranslatedTask) × IsTranslation task t × refused t.task search.TotalTooLarge)
-
--- ---- the texts of a finding
-
--- the answer has the texts of the finding
-abbrev pub HasTextsOf : List ℕ → List ℕ → PlanningTask → Found → PlanningAnswer → Type 0
-HasTextsOf domain problem task (found.Solved s) answer =
-    (p : PlanningSolution) × (answer ≡ Solved p) × IsPlanningSolution domain problem task p × (p.cost ≡ s.cost)
-HasTextsOf domain problem task (found.Unsolvable c) answer =
-    (cert : Vec ℕ Global) × (answer ≡ Unsolvable cert) × HasNoValidPlan task × IsAccepted domain problem cert.items Infinite
-HasTextsOf domain problem task found.Unsettled answer = answer ≡ Limit
+IsPlanningRefusal domain problem refused (Gate worker turn) =
+    (task : PlanningTask) × SpellTask domain problem task
+    × ((t : TranslatedTask) × IsTranslation task t × refused t.task (search.Gate worker turn))

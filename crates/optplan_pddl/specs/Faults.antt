@@ -2,7 +2,7 @@
 use Rattle.pddl.specs.declared.fault.PddlFault.{PddlFault}
 use Rattle.pddl.specs.declared.fault.PddlFault.TheVariants as reading
 use Rattle.optplan_sas.specs.declared.fault.SearchFault.{SearchFault}
-use Rattle.optplan_sas.specs.declared.fault.SearchFault.TheVariants.{OutOfMemory, TotalTooLarge}
+use Rattle.optplan_sas.specs.declared.fault.SearchFault.TheVariants.{OutOfMemory, TotalTooLarge, Gate}
 use Rattle.optplan_pddl.specs.declared.fault.PlanningFault.{PlanningFault}
 use Rattle.optplan_pddl.specs.declared.fault.PlanningFault.TheVariants as planning
 
@@ -14,3 +14,4 @@ fault_of_reading (reading.Section file fault) = planning.Task (reading.Section f
 abbrev pub fault_of_search : SearchFault → PlanningFault
 fault_of_search OutOfMemory = planning.OutOfMemory
 fault_of_search TotalTooLarge = planning.TotalTooLarge
+fault_of_search (Gate worker turn) = planning.Gate worker turn

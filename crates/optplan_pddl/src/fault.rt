@@ -22,6 +22,9 @@ pub enum PlanningFault {
     TaskTooLarge(TaskLimit),
     /// F60: a path would have a cost, or a number of actions, above 2^62.
     TotalTooLarge,
+    /// The gate of a search by threads made it fail before a turn: the worker's number, counted from 0, and the turn's, counted from 1
+    /// in its round.
+    Gate(usize, u64),
 }
 
 impl From<AllocError> for PlanningFault {
@@ -51,6 +54,7 @@ impl From<SearchFault> for PlanningFault {
         match fault {
             SearchFault::OutOfMemory => PlanningFault::OutOfMemory,
             SearchFault::TotalTooLarge => PlanningFault::TotalTooLarge,
+            SearchFault::Gate(worker, turn) => PlanningFault::Gate(worker, turn),
         }
     }
 }

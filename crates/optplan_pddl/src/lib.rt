@@ -1,5 +1,5 @@
-//! Planning: from the texts of a domain and a problem, and a schedule of the owners' steps, to a cheapest plan, or that
-//! there is none, with a certificate that the checker accepts if its text has at most 2^30 bytes.
+//! Planning: from the texts of a domain and a problem to a cheapest plan, or that there is none, with a certificate that the checker
+//! accepts if its text has at most 2^30 bytes; by threads, or by a schedule of the owners' steps.
 #![tactic(auto)]
 
 mod fault;
@@ -7,5 +7,5 @@ mod preparing;
 mod solving;
 
 pub use fault::PlanningFault;
-pub use optplan_sas::Options;
-pub use solving::{PlanningAnswer, PlanningSolution, simulate, solve_steps};
+pub use optplan_sas::{Gate, Open, Options, Stop};
+pub use solving::{PlanningAnswer, simulate, solve, solve_steps};

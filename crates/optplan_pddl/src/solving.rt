@@ -1,48 +1,73 @@
 //! Solving a planning task, from texts to texts.
 
 ghost use Rattle.std.specs.Prelude.{◌≡◌, ℕ, List, IfOk, IfErr};
-ghost use Rattle.fdr.specs.Tasks.{IsPlan};
+ghost use Rattle.cost.specs.Distances.{Distance};
 ghost use Rattle.pddl_task.specs.Planning.{PlanningTask};
 ghost use Rattle.pddl.specs.Texts.{SpellTask};
 ghost use Rattle.translate.specs.Translated.{IsTranslation, HasSamePlans};
+ghost use Rattle.packed_spread.specs.Spreads as spread;
+ghost use Rattle.packed_spread.specs.Spreads.{zobrist_owner};
+ghost use Rattle.extract.specs.Ends.{EndOf};
 ghost use Rattle.optplan_kind.specs.Kinds.{translation_kind};
-ghost use Rattle.optplan_sas.specs.Findings.{IsSolution, IsTrueOf};
-ghost use Rattle.optplan_sas.specs.Searches.{IsSettledAfter, IsShortAfter, IsRefusedAfter, IsSettledBySeed, IsShortBySeed, IsRefusedBySeed};
-ghost use Rattle.optplan_pddl.specs.Answers.{IsPlanningAnswer, IsPlanningRefusal, IsPlanningSolution, HasTextsOf};
+ghost use Rattle.optplan_sas.specs.Findings.{IsPlanAt, IsBestSoFar, IsSolution, IsSoFar, IsFound, IsTrueOf};
+ghost use Rattle.optplan_sas.specs.SasAnswers.{IsBestWritten};
+ghost use Rattle.optplan_sas.specs.Searches.{EndsAfter, IsRefusedAfter, EndsBySeed, IsRefusedBySeed, EndsByThreads, IsRefusedByThreads};
+ghost use Rattle.optplan_pddl.specs.Answers.{IsPlanningPlan, IsPlanningSolution, IsPlanningKnown, IsAnswerFor, IsPlanningAnswer, IsPlanningRefusal};
 
 use crate::fault::PlanningFault;
 use crate::preparing::{Prepared, prepare};
 use cert_text::write_cert;
 use netcore::WorldStep;
 use optplan_plans::named_steps;
-use optplan_sas::{Found, Options, Solution, found_after, found_by_seed};
+use optplan_sas::{
+    Answer, CheapestPlan, Found, FoundPlan, Gate, KnownSoFar, Options, SoFar, Solution,
+    WrittenPlan, found_after, found_by_seed, found_by_threads,
+};
 use sasfile_writer::sas_plan_text;
 use std::alloc::{AllocError, Global};
+use std::sync::Wait;
+use std::thread::Threads;
+use std::time::Clock;
 use translate::Translated;
 use validate::Step;
 
-/// A cheapest plan of a planning task, with its text and that of a certificate.
-#[derive(Drop)]
-pub struct PlanningSolution {
-    /// The cost of the plan.
-    pub cost: u64,
-    /// Its steps, by their words.
-    pub plan: Vec<Step>,
-    /// The text of the plan.
-    pub plan_text: String,
-    /// The text of a certificate that every valid plan costs at least `cost`.
-    pub cert: Vec<u8>,
+/// The answer for a planning task: a plan is given by its steps, by their words.
+pub type PlanningAnswer = Answer<Vec<Step>>;
+
+/// The plan of the task that a plan of its translation is, with its text. Fails only if allocation fails.
+fn plan_text(
+    alloc: Global,
+    translated: &Translated,
+    found: FoundPlan,
+) -> Result<WrittenPlan<Vec<Step>>, AllocError>
+    requires { IsPlanAt translated.now.task found.plan.items found.cost }
+    ensures plan { (domain problem : List ℕ) (task : PlanningTask) → SpellTask domain problem task → IsTranslation task translated.now →
+        HasSamePlans task translated.now → IfOk result (IsPlanningPlan task) }
+    ensures cost { IfOk result (λ p. p.cost ≡ found.cost) }
+{
+    let plan = named_steps(alloc, translated.task(), &found.plan)?;
+    let plan_text = sas_plan_text(alloc, translated.task(), &found.plan, found.cost)?;
+    Ok(WrittenPlan {
+        cost: found.cost,
+        plan,
+        plan_text,
+    })
 }
 
-/// The answer for a planning task.
-#[derive(Drop)]
-pub enum PlanningAnswer {
-    /// A cheapest plan.
-    Solved(PlanningSolution),
-    /// There is no valid plan; the text of a certificate of that.
-    Unsolvable(Vec<u8>),
-    /// The search ended before it found either.
-    Limit,
+/// The best plan so far with its text, if there is one. Fails only if allocation fails.
+fn best_text(
+    alloc: Global,
+    translated: &Translated,
+    best: Option<FoundPlan>,
+) -> Result<Option<WrittenPlan<Vec<Step>>>, AllocError>
+    requires { (most : Distance) × IsBestSoFar translated.now.task most best }
+    ensures { (domain problem : List ℕ) (task : PlanningTask) (most : Distance) → SpellTask domain problem task → IsTranslation task translated.now →
+        HasSamePlans task translated.now → IsBestSoFar translated.now.task most best → IfOk result (IsBestWritten (IsPlanningPlan task) most) }
+{
+    match best {
+        Some(found) => Ok(Some(plan_text(alloc, translated, found)?)),
+        None => Ok(None),
+    }
 }
 
 /// The solution with the texts of its plan and its certificate, from a solution of the translation. Fails only if
@@ -51,20 +76,36 @@ fn solution_texts(
     alloc: Global,
     translated: &Translated,
     solution: Solution,
-) -> Result<PlanningSolution, AllocError>
-    requires { IsPlan translated.now.task solution.plan.items }
+) -> Result<CheapestPlan<Vec<Step>>, AllocError>
+    requires { (task : PlanningTask) × IsSolution translated.now.task (translation_kind task translated.now) solution }
     ensures solution { (domain problem : List ℕ) (task : PlanningTask) → SpellTask domain problem task → IsTranslation task translated.now →
         HasSamePlans task translated.now → IsSolution translated.now.task (translation_kind task translated.now) solution →
         IfOk result (IsPlanningSolution domain problem task) }
-    ensures cost { IfOk result (λ s. s.cost ≡ solution.cost) }
+    ensures cost { IfOk result (λ s. s.found.cost ≡ solution.found.cost) }
 {
-    let plan = named_steps(alloc, translated.task(), &solution.plan)?;
-    let plan_text = sas_plan_text(alloc, translated.task(), &solution.plan, solution.cost)?;
     let cert = write_cert(alloc, &solution.certificate)?;
-    Ok(PlanningSolution {
-        cost: solution.cost,
-        plan,
-        plan_text,
+    let found = plan_text(alloc, translated, solution.found)?;
+    Ok(CheapestPlan { found, cert })
+}
+
+/// What is known so far with the texts of the best plan and of the certificate, from what is known of the translation. Fails
+/// only if allocation fails.
+fn known_texts(
+    alloc: Global,
+    translated: &Translated,
+    known: SoFar,
+) -> Result<KnownSoFar<Vec<Step>>, AllocError>
+    requires { (task : PlanningTask) × ((most : Distance) × IsSoFar translated.now.task (translation_kind task translated.now) most known) }
+    ensures known { (domain problem : List ℕ) (task : PlanningTask) (most : Distance) → SpellTask domain problem task → IsTranslation task translated.now →
+        HasSamePlans task translated.now → IsSoFar translated.now.task (translation_kind task translated.now) most known →
+        IfOk result (IsPlanningKnown domain problem task most) }
+    ensures bound { IfOk result (λ k. k.bound ≡ known.bound) }
+{
+    let cert = write_cert(alloc, &known.certificate)?;
+    let best = best_text(alloc, translated, known.best)?;
+    Ok(KnownSoFar {
+        bound: known.bound,
+        best,
         cert,
     })
 }
@@ -76,24 +117,20 @@ fn answer_texts(
     found: Found,
 ) -> Result<PlanningAnswer, AllocError>
     requires { (task : PlanningTask) × IsTrueOf translated.now.task (translation_kind task translated.now) found }
-    ensures { (domain problem : List ℕ) (task : PlanningTask) → SpellTask domain problem task → IsTranslation task translated.now →
-        HasSamePlans task translated.now → IsTrueOf translated.now.task (translation_kind task translated.now) found →
-        IfOk result (HasTextsOf domain problem task found) }
+    ensures { (domain problem : List ℕ) (task : PlanningTask) (e : EndOf spread.Zobrist) → SpellTask domain problem task →
+        IsTranslation task translated.now → HasSamePlans task translated.now → e.space.task ≡ translated.now.task →
+        IsFound zobrist_owner e (translation_kind task translated.now) found → IfOk result (IsAnswerFor domain problem task e) }
 {
     match found {
-        Found::Solved(solution) => Ok(PlanningAnswer::Solved(solution_texts(
-            alloc, translated, solution,
-        )?)),
-        Found::Unsolvable(certificate) => {
-            Ok(PlanningAnswer::Unsolvable(write_cert(alloc, &certificate)?))
-        }
-        Found::Unsettled => Ok(PlanningAnswer::Limit),
+        Found::Solved(solution) => Ok(Answer::Solved(solution_texts(alloc, translated, solution)?)),
+        Found::Unsolvable(certificate) => Ok(Answer::Unsolvable(write_cert(alloc, &certificate)?)),
+        Found::Stopped(known) => Ok(Answer::Limit(known_texts(alloc, translated, known)?)),
     }
 }
 
-/// The answer for the task that the texts spell, after these steps of a world of owners: a cheapest plan, or that there
-/// is none, with a certificate that the checker accepts if its text has at most 2^30 bytes; `Limit` if the owners are not
-/// settled after the steps, or a step requests an owner to expand more nodes than its limit allows.
+/// The answer for the task that the texts spell, after these steps of a world of owners, with a certificate that the checker accepts
+/// if its text has at most 2^30 bytes: a cheapest plan, or that there is none; `Limit` with a bound and the best plan so far if the
+/// owners are not settled. No step is done from the first on that asks an owner for more nodes than its limit allows.
 ///
 /// Fails with the fault of the texts that comes first, with `GroundLimit` or `TaskTooLarge` if the task or its
 /// translation exceeds a limit, with `TotalTooLarge` if a path would have a cost or a number of actions above 2^62, or if
@@ -105,7 +142,7 @@ pub fn solve_steps<R: AllocGlobal>(
     options: &Options,
     steps: &[WorldStep],
 ) -> Result<PlanningAnswer, PlanningFault>
-    ensures answer { IfOk result (IsPlanningAnswer domain.now problem.now (IsSettledAfter options.now steps.now) (IsShortAfter options.now steps.now)) }
+    ensures answer { IfOk result (IsPlanningAnswer domain.now problem.now (EndsAfter options.now steps.now)) }
     ensures refused { IfErr result (IsPlanningRefusal domain.now problem.now (IsRefusedAfter options.now steps.now)) }
 {
     let alloc = rt.alloc();
@@ -116,8 +153,7 @@ pub fn solve_steps<R: AllocGlobal>(
 
 /// The answer for the task that the texts spell, after steps drawn from the seed, at most as many as the options allow:
 /// each is the step whose number is the next word of Xoshiro256++ modulo the number of steps that would change something.
-/// The guarantees are those of `solve_steps` for these steps, but `Limit` is answered if there is work left after the
-/// last one.
+/// The guarantees are those of `solve_steps` for these steps.
 pub fn simulate<R: AllocGlobal>(
     rt: &R,
     domain: &[u8],
@@ -125,11 +161,35 @@ pub fn simulate<R: AllocGlobal>(
     options: &Options,
     seed: u64,
 ) -> Result<PlanningAnswer, PlanningFault>
-    ensures answer { IfOk result (IsPlanningAnswer domain.now problem.now (IsSettledBySeed options.now seed) (IsShortBySeed options.now seed)) }
+    ensures answer { IfOk result (IsPlanningAnswer domain.now problem.now (EndsBySeed options.now seed)) }
     ensures refused { IfErr result (IsPlanningRefusal domain.now problem.now (IsRefusedBySeed options.now seed)) }
 {
     let alloc = rt.alloc();
     let Prepared { translated, kind } = prepare(alloc, domain, problem)?;
     let found = found_by_seed(alloc, translated.task(), options, seed, kind)?;
+    Ok(answer_texts(alloc, &translated, found)?)
+}
+
+/// The answer for the task that the texts spell, by the chosen number of workers, each in a thread of its own, with a certificate that the
+/// checker accepts if its text has at most 2^30 bytes: a cheapest plan, or that there is none; `Limit` with a bound and the best plan so
+/// far if one of the owners has reached its limit, or the gate ended the search, before they were settled.
+///
+/// Fails with the fault of the texts that comes first, with `GroundLimit` or `TaskTooLarge` if the task or its
+/// translation exceeds a limit, with `TotalTooLarge` if a path would have a cost or a number of actions above 2^62, with `Gate` if the
+/// gate makes the search fail, or if allocation fails. Whether it ends at all is not promised: the workers go on as long as the scheduler
+/// lets none of them get on.
+pub fn solve<R: Threads + Wait + Clock + Sync + AllocGlobal, G: Gate + Sync>(
+    rt: &R,
+    domain: &[u8],
+    problem: &[u8],
+    options: &Options,
+    gate: &G,
+) -> Result<PlanningAnswer, PlanningFault>
+    ensures answer { IfOk result (IsPlanningAnswer domain.now problem.now (EndsByThreads options.now (G.may_stop gate.now))) }
+    ensures refused { IfErr result (IsPlanningRefusal domain.now problem.now (IsRefusedByThreads options.now (G.may_stop gate.now))) }
+{
+    let alloc = rt.alloc();
+    let Prepared { translated, kind } = prepare(alloc, domain, problem)?;
+    let found = found_by_threads(rt, alloc, translated.task(), options, kind, gate)?;
     Ok(answer_texts(alloc, &translated, found)?)
 }

@@ -3,7 +3,7 @@
 ghost use Rattle.std.specs.Prelude.{◌≡◌, IfOk, OnOk, map, ◌++◌, string_bytes};
 ghost use Rattle.optplan_device.specs.Memory.{event_of};
 ghost use Rattle.optplan_runs.specs.declared.outcome.RunFault.TheVariants.{OutOfMemory, NotUtf8};
-ghost use Rattle.optplan_runs.specs.Outcomes.{put_by, reported_by, put_of, reported_of, status_of_verdict, wanted_out, wanted_err, wanted_status};
+ghost use Rattle.optplan_runs.specs.Outcomes.{put_by, reported_by, put_of, reported_of};
 
 use optplan_device::Recorded;
 use std::alloc::{AllocError, AllocFailed, Global};
@@ -83,48 +83,4 @@ pub fn recorded(alloc: Global, events: &[Recorded], status: u8) -> Result<Outcom
         note_event(&mut outcome, event)?;
     }
     Ok(outcome)
-}
-
-/// Three texts joined. Fails only if allocation fails.
-fn joined(alloc: Global, before: &str, text: &str, after: &str) -> Result<String, AllocError>
-    ensures { IfOk result (λ s. string_bytes s ≡ before.now ++ text.now ++ after.now) }
-{
-    let mut all = String::from_str(alloc, before)?;
-    all.push_str(text)?;
-    all.push_str(after)?;
-    Ok(all)
-}
-
-/// The exit status of a verdict: 0 if a plan is valid or a certificate is accepted, else 3.
-fn status_of_verdict(answer: &str) -> u8
-    ensures { result ≡ status_of_verdict answer.now }
-{
-    if answer.starts_with("valid ") {
-        return 0;
-    }
-    if answer.starts_with("accepted ") {
-        return 0;
-    }
-    3
-}
-
-/// The outcome that is expected for an answer: a verdict's line on standard output, or a fault's line, with the program's
-/// name, on standard error, and nothing else. A fault's answer starts with `F`. Fails only if allocation fails.
-pub fn wanted(alloc: Global, answer: &str) -> Result<Outcome, AllocError>
-    ensures out { IfOk result (λ o. string_bytes o.out ≡ wanted_out answer.now) }
-    ensures err { IfOk result (λ o. string_bytes o.err ≡ wanted_err answer.now) }
-    ensures status { IfOk result (λ o. o.status ≡ wanted_status answer.now) }
-{
-    if answer.starts_with("F") {
-        return Ok(Outcome {
-            out: String::new(alloc),
-            err: joined(alloc, "optplan: ", answer, "\n")?,
-            status: 1,
-        });
-    }
-    Ok(Outcome {
-        out: joined(alloc, "", answer, "\n")?,
-        err: String::new(alloc),
-        status: status_of_verdict(answer),
-    })
 }

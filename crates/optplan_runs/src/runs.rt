@@ -7,6 +7,9 @@ use crate::outcome::{Outcome, RunFault, recorded};
 use optplan_command::run;
 use optplan_device::MemoryDevice;
 use std::alloc::{AllocError, Global};
+use std::sync::Wait;
+use std::thread::Threads;
+use std::time::Clock;
 
 /// A number of calls that no run of the program exceeds.
 pub const CALLS_OF_A_RUN: u64 = 100;
@@ -23,7 +26,7 @@ pub fn program_words(alloc: Global, words: &[&str]) -> Result<Vec<String>, Alloc
 }
 
 /// The outcome of the program over these files, each a name and bytes.
-pub fn run_over<R: AllocGlobal>(
+pub fn run_over<R: Threads + Wait + Clock + Sync + AllocGlobal>(
     rt: &R,
     words: &[&str],
     files: &[(&str, &[u8])],
@@ -32,21 +35,4 @@ pub fn run_over<R: AllocGlobal>(
     let mut device = MemoryDevice::new(rt.alloc(), files, CALLS_OF_A_RUN);
     let status = run(&words, &mut device, rt);
     recorded(rt.alloc(), device.events(), status.code())
-}
-
-/// The outcome of a plan's validation over these texts.
-pub fn validated<R: AllocGlobal>(
-    rt: &R,
-    domain: &[u8],
-    problem: &[u8],
-    plan: &[u8],
-) -> Result<Outcome, RunFault> {
-    let files = [("d", domain), ("p", problem), ("l", plan)];
-    run_over(rt, &["validate", "d", "p", "l"], &files)
-}
-
-/// The outcome of a certificate's check for a finite-domain task over these texts.
-pub fn checked<R: AllocGlobal>(rt: &R, sas: &[u8], cert: &[u8]) -> Result<Outcome, RunFault> {
-    let files = [("s", sas), ("c", cert)];
-    run_over(rt, &["check-sas", "s", "c"], &files)
 }

@@ -1,7 +1,5 @@
 //! Tasks that several rows use.
 
-use std::alloc::{AllocError, Global};
-
 /// A step goes along a road, at cost 1.
 pub const ROAD_DOMAIN: &str = "(define (domain road)
  (:requirements :typing)
@@ -19,13 +17,6 @@ pub const ROAD_PROBLEM: &str = "(define (problem r1) (:domain road)
  (:goal (at c)))
 ";
 
-/// The roads of `ROAD_PROBLEM`, with the start as the goal.
-pub const ROAD_PROBLEM_AT_ITS_GOAL: &str = "(define (problem r1) (:domain road)
- (:objects a b c - loc)
- (:init (at a) (road a b) (road b c))
- (:goal (at a)))
-";
-
 /// A road from each of two places to the third, with a goal that no road leads to.
 pub const ROAD_PROBLEM_WITHOUT_WAY: &str = "(define (problem r1) (:domain road)
  (:objects a b c - loc)
@@ -33,88 +24,12 @@ pub const ROAD_PROBLEM_WITHOUT_WAY: &str = "(define (problem r1) (:domain road)
  (:goal (at c)))
 ";
 
-/// A step goes along a road, at the cost of the road's length.
-pub const DRIVE_DOMAIN: &str = "(define (domain drive)
- (:requirements :typing)
- (:types loc)
- (:predicates (at ?x - loc) (road ?x ?y - loc))
- (:functions (total-cost) - number (len ?x ?y - loc) - number)
- (:action go :parameters (?x ?y - loc)
-  :precondition (and (at ?x) (road ?x ?y))
-  :effect (and (not (at ?x)) (at ?y) (increase (total-cost) (len ?x ?y)))))
-";
-
-/// From a to c, over b or directly.
-pub const DRIVE_PROBLEM: &str = "(define (problem d1) (:domain drive)
- (:objects a b c - loc)
- (:init (at a) (road a b) (road b c) (road a c)
-  (= (len a b) 3) (= (len b c) 4) (= (len a c) 8))
- (:goal (at c)) (:metric minimize (total-cost)))
-";
-
-/// `DRIVE_PROBLEM` with a road whose length is not stated.
-pub const DRIVE_PROBLEM_WITHOUT_A_LENGTH: &str = "(define (problem d1) (:domain drive)
- (:objects a b c - loc)
- (:init (at a) (road a b) (road b c) (road a c)
-  (= (len a b) 3) (= (len a c) 8))
- (:goal (at c)) (:metric minimize (total-cost)))
-";
-
-/// A door is entered if it is not locked.
-pub const DOOR_DOMAIN: &str = "(define (domain door)
- (:predicates (in) (locked ?d))
- (:action enter :parameters (?d)
-  :precondition (not (locked ?d)) :effect (in)))
-";
-
-/// Balls are picked up and dropped in two rooms.
-pub const GRIP_DOMAIN: &str = "(define (domain grip)
- (:predicates (room ?r) (ball ?b) (here ?r) (in ?b ?r) (free) (held ?b))
- (:action move :parameters (?f ?t)
-  :precondition (and (room ?f) (room ?t) (here ?f) (not (= ?f ?t)))
-  :effect (and (here ?t) (not (here ?f))))
- (:action pick :parameters (?b ?r)
-  :precondition (and (ball ?b) (room ?r) (here ?r) (in ?b ?r) (free))
-  :effect (and (held ?b) (not (in ?b ?r)) (not (free))))
- (:action drop :parameters (?b ?r)
-  :precondition (and (ball ?b) (room ?r) (here ?r) (held ?b))
-  :effect (and (in ?b ?r) (free) (not (held ?b)))))
-";
-
-/// Two balls that are to go from p to q.
-pub const GRIP_PROBLEM: &str = "(define (problem g1) (:domain grip) (:objects p q x y)
- (:init (room p) (room q) (ball x) (ball y) (here p) (in x p) (in y p) (free))
- (:goal (and (in x q) (in y q))))
-";
-
-/// A domain in upper case, whose one action adds (p) and has these increases. Its name is at byte 72, and the first
-/// number at byte 132, counted from 0.
-pub fn noop_domain(alloc: Global, increases: &str) -> Result<String, AllocError> {
-    format!(in alloc;
-        "(DEFINE (DOMAIN N) (:PREDICATES (P)) (:FUNCTIONS (TOTAL-COST)) \
-         (:ACTION NOOP :PARAMETERS () :EFFECT (AND (P) {increases})))\n"
-    )
-}
-
-/// The goal is (p), at the least total cost.
-pub const NOOP_PROBLEM: &str =
-    "(define (problem n1) (:domain other) (:init) (:goal (P)) (:metric minimize (total-cost))) ; end";
-
 /// `ROAD_PROBLEM` as Fast Downward's translator writes it, in 45 lines: one variable, whose values are the places.
 pub const ROAD_SAS: &str = "begin_version\n3\nend_version\nbegin_metric\n0\nend_metric\n1\n\
 begin_variable\nvar0\n-1\n3\nAtom at(a)\nAtom at(b)\nAtom at(c)\nend_variable\n\
 1\nbegin_mutex_group\n3\n0 0\n0 1\n0 2\nend_mutex_group\nbegin_state\n0\nend_state\n\
 begin_goal\n1\n0 2\nend_goal\n2\nbegin_operator\ngo a b\n0\n1\n0 0 0 1\n1\nend_operator\n\
 begin_operator\ngo b c\n0\n1\n0 0 1 2\n1\nend_operator\n0\n";
-
-/// Four places: from a to b and to c, and from each of these to d, the goal; each step costs 1.
-pub const SQUARE_SAS: &str = "begin_version\n3\nend_version\nbegin_metric\n0\nend_metric\n1\n\
-begin_variable\nvar0\n-1\n4\nAtom at(a)\nAtom at(b)\nAtom at(c)\nAtom at(d)\nend_variable\n\
-0\nbegin_state\n0\nend_state\nbegin_goal\n1\n0 3\nend_goal\n4\n\
-begin_operator\ngo a b\n0\n1\n0 0 0 1\n1\nend_operator\n\
-begin_operator\ngo a c\n0\n1\n0 0 0 2\n1\nend_operator\n\
-begin_operator\ngo b d\n0\n1\n0 0 1 3\n1\nend_operator\n\
-begin_operator\ngo c d\n0\n1\n0 0 2 3\n1\nend_operator\n0\n";
 
 /// Every plan of `ROAD_SAS` costs at least 2: a search that closed a and b, without a heuristic.
 pub const ROAD_CERTIFICATE: &str =

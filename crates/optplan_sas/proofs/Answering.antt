@@ -1,41 +1,40 @@
 -- From what a search has found to what is answered.
-use Rattle.std.proofs.Common.{ℕ, List, sym, subst}
-use Rattle.cost.specs.Distances.{Distance, Finite}
+use Rattle.std.proofs.Common.{◌≡◌, ℕ, List}
 use Rattle.fdr.specs.Tasks.{FiniteDomainTask}
 use Rattle.cert_value.specs.Certificates.{Kind, FiniteDomain}
 use Rattle.sasfile.specs.SasTexts.{SpellsTask}
-use Rattle.optplan_sas.specs.Findings.{IsFinding, IsTrueOf}
-use Rattle.optplan_sas.specs.SasAnswers.{IsSasAnswerFor, IsSasRefusal, HasTextsOf}
+use Rattle.packed_spread.specs.Spreads as spread
+use Rattle.packed_spread.specs.Spreads.{zobrist_owner}
+use Rattle.extract.specs.Ends.{EndOf}
+use Rattle.optplan_sas.specs.Findings.{IsFound, IsFinding, IsTrueOf}
+use Rattle.optplan_sas.specs.SasAnswers.{SasAnswer, IsSasAnswerFor, IsSasAnswer, IsSasRefusal}
 use Rattle.optplan_sas.specs.Faults.{fault_of_search}
 use Rattle.optplan_sas.specs.declared.found.Found.{Found}
-use Rattle.optplan_sas.specs.declared.found.Found.TheVariants.{Solved, Unsolvable, Unsettled}
 use Rattle.optplan_sas.specs.declared.fault.SearchFault.{SearchFault}
 use Rattle.optplan_sas.specs.declared.fault.SearchFault.TheVariants as search
 use Rattle.optplan_sas.specs.declared.fault.SasSolveFault.{SasSolveFault}
 use Rattle.optplan_sas.specs.declared.fault.SasSolveFault.TheVariants as solve
-use Rattle.optplan_sas.specs.declared.sas.SasAnswer.{SasAnswer}
 
-pub true_of : (task : FiniteDomainTask) (kind : Kind) (settled : Distance → Type 0) (short : Type 0) (f : Found) → IsFinding task kind settled short f → IsTrueOf task kind f
-true_of task kind settled short (Solved s) found = (found.0, tt)
-true_of task kind settled short (Unsolvable c) (none, certified, found) = (none, certified, tt)
-true_of task kind settled short Unsettled found = tt
+pub true_of : (task : FiniteDomainTask) (kind : Kind) (ends : EndOf spread.Zobrist → Type 0) (f : Found) → IsFinding task kind ends f → IsTrueOf task kind f
+true_of task kind ends f found = (found.end, found.task_is, found.found)
 
 -- the texts of what was found are the answer
-pub answered : (sas : List ℕ) (task : FiniteDomainTask) (settled : Distance → Type 0) (short : Type 0) (f : Found) (answer : SasAnswer) → IsFinding task FiniteDomain settled short f
-    → HasTextsOf sas task f answer → IsSasAnswerFor sas task settled short answer
-answered sas task settled short (Solved s) answer found (t, is, solution, cost) =
-    subst (IsSasAnswerFor sas task settled short) (sym is) (solution, subst (λ (n : ℕ). settled (Finite n)) (sym cost) found.1)
-answered sas task settled short (Unsolvable c) answer (none, certified, ends) (cert, is, accepted) =
-    subst (IsSasAnswerFor sas task settled short) (sym is) (none, accepted, ends)
-answered sas task settled short Unsettled answer found is = subst (IsSasAnswerFor sas task settled short) (sym is) found
+pub answered : (sas : List ℕ) (task : FiniteDomainTask) (ends : FiniteDomainTask → EndOf spread.Zobrist → Type 0) (f : Found) (answer : SasAnswer)
+    → SpellsTask sas task → IsFinding task FiniteDomain (ends task) f
+    → ((text : List ℕ) (e : EndOf spread.Zobrist) → SpellsTask text task → e.space.task ≡ task → IsFound zobrist_owner e FiniteDomain f → IsSasAnswerFor text task e answer)
+    → IsSasAnswer sas ends answer
+answered sas task ends f answer spells found texts =
+    record { task = task; spelled = spells; end = found.end; ended = found.ended; is = texts sas found.end spells found.task_is found.found }
 
 -- a refused search is a refusal of what asked for it
 pub refused : (sas : List ℕ) (task : FiniteDomainTask) (why : FiniteDomainTask → SearchFault → Type 0) (e : SearchFault) → SpellsTask sas task → why task e → IsSasRefusal sas why (fault_of_search e)
 refused sas task why search.OutOfMemory spells is = tt
 refused sas task why search.TotalTooLarge spells is = (task, spells, is)
+refused sas task why (search.Gate worker turn) spells is = (task, spells, is)
 
 -- a refused text is one, whatever the search
 pub text_refused : (sas : List ℕ) (why : FiniteDomainTask → SearchFault → Type 0) (e : SasSolveFault) → IsSasRefusal sas (λ task f. ⊥) e → IsSasRefusal sas why e
 text_refused sas why solve.OutOfMemory is = tt
 text_refused sas why (solve.Sas e) is = is
 text_refused sas why solve.TotalTooLarge (task, spells, never) = absurd never
+text_refused sas why (solve.Gate worker turn) (task, spells, never) = absurd never

@@ -1,5 +1,5 @@
 -- Steps that are drawn one after another.
-use Rattle.std.proofs.Common.{◌≡◌, ◌≢◌, ℕ, zero, suc, ◌+◌, ◌<◌, ◌≤◌, ◌%◌, ⊎_elim, min, Some, None, List, [], ◌∷◌, ◌++◌, length, take, length-append, false, refl, sym, ap, subst, ◌∙◌, arith, add-one}
+use Rattle.std.proofs.Common.{◌≡◌, ◌≢◌, ℕ, zero, suc, ◌+◌, ◌<◌, ◌≤◌, ◌%◌, ⊎_elim, inl, inr, min, Some, List, [], ◌∷◌, ◌++◌, length, take, length-append, false, refl, sym, ap, subst, ◌∙◌, arith, add-one}
 use Rattle.std.proofs.Math.Nat.{mod-eq_of_lt}
 use Rattle.std.proofs.Math.Seq.{take-append_seam}
 use Rattle.std.proofs.lemmas.List.{take-append-le}
@@ -14,14 +14,13 @@ use Rattle.owner_theory.specs.Owners.{At, SearchSpace}
 use Rattle.owner_theory.specs.Worlds as machine
 use Rattle.owner_theory.specs.Worlds.{world_start, IsQuiet}
 use Rattle.owner.specs.Spaces.{SpaceOf, searched}
-use Rattle.owner.specs.declared.fault.OwnerFault.{OwnerFault}
 use Rattle.owner.specs.declared.fault.OwnerFault.TheVariants.{OutOfMemory, TotalTooLarge, LimitReached}
 use Rattle.netcore.specs.declared.step.WorldStep.{WorldStep}
-use Rattle.netcore.specs.Worlds.{WorldOf, Shows, Steps, IsAfter, IsStepRefusal, space_in, world_after_run}
+use Rattle.netcore.specs.Worlds.{WorldOf, Shows, Steps, IsAfter, IsWorldAfter, IsStepRefusal, space_in, world_after_run}
 use Rattle.netcore.proofs.Places.{at_below, at_some, at_read}
 use Rattle.netcore.proofs.Starting.{at_snoc}
 use Rattle.netcore.proofs.Shown.{after_step}
-use Rattle.optplan_sas.specs.Schedules.{state_after, word_of, IsAfterWords, Draws, IsNextDrawn, AreDrawn, IsSimulated, IsSimulationRefusal}
+use Rattle.optplan_sas.specs.Schedules.{state_after, word_of, IsAfterWords, Draws, HasWork, IsNextDrawn, AreDrawn, IsSimulated, IsSimulationRefusal}
 
 -- ---- words
 
@@ -64,35 +63,34 @@ module _ {S : Type 0} (owner : S → List ℕ → ℕ → ℕ) (over : SpaceOf S
   none_drawn i step at = absurd at
 
   -- one more of those that are drawn
-  one_drawn : (asked : List WorldStep) (last : WorldStep) → AreDrawn owner over n seed asked → IsNextDrawn owner over n seed asked last
-      → AreDrawn owner over n seed (asked ++ last ∷ [])
-  one_drawn asked last so_far next i step at = ⊎_elim
+  one_drawn : (asked : List WorldStep) (last : WorldStep) (world : WorldOf S) → AreDrawn owner over n seed asked
+      → IsNextDrawn owner over n seed asked last world → AreDrawn owner over n seed (asked ++ last ∷ [])
+  one_drawn asked last world so_far next i step at = ⊎_elim
       (λ (there : At asked i step).
       let le : i ≤ length asked = let lt = at_below asked i step there in omega arith in
-      subst (λ (before : List WorldStep). IsNextDrawn owner over n seed before step) (sym (take-append-le i asked (last ∷ []) le)) (so_far i step there))
+      subst (λ (before : List WorldStep). (w : WorldOf S) × IsNextDrawn owner over n seed before step w) (sym (take-append-le i asked (last ∷ []) le))
+      (so_far i step there))
       (λ (h : (i ≡ length asked) × (last ≡ step)).
       let all : take i (asked ++ last ∷ []) ≡ asked =
       ap (λ (k : ℕ). take k (asked ++ last ∷ [])) h.0 ∙ take-append_seam asked (last ∷ []) in
-      subst (λ (before : List WorldStep). IsNextDrawn owner over n seed before step) (sym all)
-      (subst (IsNextDrawn owner over n seed asked) h.1 next))
+      subst (λ (before : List WorldStep). (w : WorldOf S) × IsNextDrawn owner over n seed before step w) (sym all)
+      (world, subst (λ (s : WorldStep). IsNextDrawn owner over n seed asked s world) h.1 next))
       (at_snoc asked last i step at)
 
-  -- a world of the space after so many steps that are drawn
+  -- the world of the space after so many steps that are drawn
   pub record IsUnderWay (taken : ℕ) (w : WorldOf S) : Type 0 where
     pub asked : List WorldStep
     pub drawn : AreDrawn owner over n seed asked
-    pub after : IsAfter owner (searched owner over n) asked w
+    pub world : IsWorldAfter owner over n asked w
     pub long : length asked ≡ taken
-    pub space : w.space ≡ over
-    pub owners : length w.owners ≡ n
     pub whole : w.spent ≡ false
 
   -- a step that is drawn in a world in which something is left to do
   pub record IsTurn (taken : ℕ) (old : WorldOf S) (step : WorldStep) : Type 0 where
-    pub left : (world : machine.World) → Shows owner old world → 0 < machine.count (space_in owner old) world
+    pub left : HasWork owner old
     pub drawn : Draws owner old (word_of seed taken) step
 
-  pub same_space : (w : WorldOf S) → w.space ≡ over → length w.owners ≡ n → space_in owner w ≡ searched owner over n
+  same_space : (w : WorldOf S) → w.space ≡ over → length w.owners ≡ n → space_in owner w ≡ searched owner over n
   same_space w space owners = ap (λ (s : SpaceOf S). searched owner s (length w.owners)) space ∙ ap (searched owner over) owners
 
   -- no step yet
@@ -101,78 +99,115 @@ module _ {S : Type 0} (owner : S → List ℕ → ℕ → ℕ) (over : SpaceOf S
   begun w shows space owners whole = record {
     asked = [];
     drawn = none_drawn;
-    after = record { steps = []; run = tt; shown = shows };
+    world = record { after = record { steps = []; run = tt; shown = shows }; space = space; owners = owners };
     long = refl;
-    space = space;
-    owners = owners;
     whole = whole;
   }
 
-  -- memory ran out before the first step
+  -- memory ran out
   pub not_begun : IsSimulationRefusal owner over n seed OutOfMemory
   not_begun = ([], none_drawn, tt)
+
+  -- the step is the next one
+  is_next : (taken : ℕ) (step : WorldStep) (old : WorldOf S) (so_far : IsUnderWay taken old) → IsTurn taken old step
+      → IsNextDrawn owner over n seed so_far.asked step old
+  is_next taken step old so_far turn = record {
+    after = so_far.world;
+    left = turn.left;
+    drawn = subst (λ (k : ℕ). Draws owner old (word_of seed k) step) (sym so_far.long) turn.drawn;
+  }
 
   -- what was drawn with this step
   all_drawn : (taken : ℕ) (step : WorldStep) (old : WorldOf S) (so_far : IsUnderWay taken old) → IsTurn taken old step
       → AreDrawn owner over n seed (so_far.asked ++ step ∷ [])
-  all_drawn taken step old so_far turn = one_drawn so_far.asked step so_far.drawn (record {
-    world = old;
-    after = so_far.after;
-    space_is = so_far.space;
-    owners = so_far.owners;
-    left = turn.left;
-    drawn = subst (λ (k : ℕ). Draws owner old (word_of seed k) step) (sym so_far.long) turn.drawn;
-  })
+  all_drawn taken step old so_far turn = one_drawn so_far.asked step old so_far.drawn (is_next taken step old so_far turn)
 
   -- a step more
   pub one_more : (taken : ℕ) (step : WorldStep) (old new : WorldOf S) → IsUnderWay taken old → IsTurn taken old step
       → ((world : machine.World) → Shows owner old world → Steps owner old world step new) → new.space ≡ old.space
       → length new.owners ≡ length old.owners → new.spent ≡ old.spent → IsUnderWay (taken + 1) new
   one_more taken step old new so_far turn stepped spaces owners_are spents =
-      let same = same_space old so_far.space so_far.owners in
+      let same = same_space old so_far.world.space so_far.world.owners in
       record {
         asked = so_far.asked ++ step ∷ [];
         drawn = all_drawn taken step old so_far turn;
-        after =
-            subst (λ (sp : SearchSpace). IsAfter owner sp (so_far.asked ++ step ∷ []) new) same
-            (after_step owner old new so_far.asked step stepped (subst (λ (sp : SearchSpace). IsAfter owner sp so_far.asked old) (sym same) so_far.after));
+        world =
+            record {
+              after =
+                  subst (λ (sp : SearchSpace). IsAfter owner sp (so_far.asked ++ step ∷ []) new) same
+                  (after_step owner old new so_far.asked step stepped
+                  (subst (λ (sp : SearchSpace). IsAfter owner sp so_far.asked old) (sym same) so_far.world.after));
+              space = spaces ∙ so_far.world.space;
+              owners = owners_are ∙ so_far.world.owners;
+            };
         long = let more = length-append so_far.asked (step ∷ []) in let long = so_far.long in omega (arith, more, long);
-        space = spaces ∙ so_far.space;
-        owners = owners_are ∙ so_far.owners;
         whole = spents ∙ so_far.whole;
       }
 
-  -- a step that is refused
-  pub one_refused : (taken : ℕ) (step : WorldStep) (old new : WorldOf S) (e : OwnerFault) → IsUnderWay taken old → IsTurn taken old step
-      → IsStepRefusal owner old new step e → IsSimulationRefusal owner over n seed e
-  one_refused taken step old new OutOfMemory so_far turn refusal = not_begun
-  one_refused taken step old new LimitReached so_far turn (v, o, b, is, at, seen, why, same) = (
+  -- the next step is past an owner's limit
+  pub limited : (taken most : ℕ) (step : WorldStep) (old new : WorldOf S) → IsUnderWay taken old → taken ≤ most → IsTurn taken old step
+      → IsStepRefusal owner old new step LimitReached → IsSimulated owner over n seed most new × (new.spent ≡ false)
+  limited taken most step old new so_far le turn (v, o, b, is, at, seen, why, same) =
+      let long = so_far.long in
+      subst (λ (w : WorldOf S). IsSimulated owner over n seed most w × (w.spent ≡ false)) (sym same) (
+        record {
+          asked = so_far.asked;
+          drawn = so_far.drawn;
+          few = omega (arith, long, le);
+          world = so_far.world;
+          ends = inr (inl (step, is_next taken step old so_far turn, (v, o, b, is, at, seen, why, refl)));
+        },
+        so_far.whole,
+      )
+
+  -- a step leads past the greatest total
+  pub too_large : (taken : ℕ) (step : WorldStep) (old new : WorldOf S) → IsUnderWay taken old → IsTurn taken old step
+      → IsStepRefusal owner old new step TotalTooLarge → IsSimulationRefusal owner over n seed TotalTooLarge
+  too_large taken step old new so_far turn (v, o, b, is, at, seen, why, same) = (
     so_far.asked ++ step ∷ [],
     all_drawn taken step old so_far turn,
-    (so_far.asked, step, [], old, refl, so_far.after, (v, o, b, is, at, seen, why, refl)),
-  )
-  one_refused taken step old new TotalTooLarge so_far turn (v, o, b, is, at, seen, why, same) = (
-    so_far.asked ++ step ∷ [],
-    all_drawn taken step old so_far turn,
-    (so_far.asked, step, [], old, refl, so_far.after, (v, o, b, is, at, seen, why, refl)),
+    (
+      old,
+      record {
+        before = so_far.asked;
+        step = step;
+        rest = [];
+        are = refl;
+        world = so_far.world;
+        refused = (v, o, b, is, at, seen, why, refl);
+      },
+    ),
   )
 
   -- nothing is left to do
   pub ended : (taken most : ℕ) (w : WorldOf S) → IsUnderWay taken w → taken ≤ most
       → ((asked : List WorldStep) (after : IsAfter owner (space_in owner w) asked w) → IsQuiet (space_in owner w) (world_after_run (space_in owner w) after.steps))
-      → IsSimulated owner over n seed most (Some w)
+      → IsSimulated owner over n seed most w
   ended taken most w so_far le quiet =
-      let long = so_far.long in (
-        so_far.asked,
-        so_far.drawn,
-        so_far.after,
-        omega (arith, long, le),
-        so_far.space,
-        so_far.owners,
-        so_far.whole,
-        subst (λ (sp : SearchSpace). (after : IsAfter owner sp so_far.asked w) → IsQuiet sp (world_after_run sp after.steps)) (same_space w so_far.space so_far.owners)
-            (quiet so_far.asked) so_far.after,
-      )
+      let long = so_far.long in
+      record {
+        asked = so_far.asked;
+        drawn = so_far.drawn;
+        few = omega (arith, long, le);
+        world = so_far.world;
+        ends = inl (
+          so_far.world.after,
+          subst (λ (sp : SearchSpace). (after : IsAfter owner sp so_far.asked w) → IsQuiet sp (world_after_run sp after.steps))
+              (same_space w so_far.world.space so_far.world.owners) (quiet so_far.asked) so_far.world.after,
+        );
+      }
+
+  -- there were as many steps as may be
+  pub used_up : (taken most : ℕ) (w : WorldOf S) → IsUnderWay taken w → taken ≡ most → IsSimulated owner over n seed most w
+  used_up taken most w so_far all =
+      let long = so_far.long in
+      record {
+        asked = so_far.asked;
+        drawn = so_far.drawn;
+        few = omega (arith, long, all);
+        world = so_far.world;
+        ends = inr (inr (long ∙ all));
+      }
 
 some_left : (n m count : ℕ) → count ≡ min n m → count ≢ 0 → 0 < n
 some_left zero m count is some = absurd (some (is ∙ omega arith))
@@ -180,14 +215,5 @@ some_left (suc n) m count is some = omega arith
 
 -- where the count is not 0, something is left to do
 pub left_of : {S : Type 0} (owner : S → List ℕ → ℕ → ℕ) (m count : ℕ) (w : WorldOf S)
-    → ((world : machine.World) → Shows owner w world → count ≡ min (machine.count (space_in owner w) world) m) → count ≢ 0
-    → (world : machine.World) → Shows owner w world → 0 < machine.count (space_in owner w) world
+    → ((world : machine.World) → Shows owner w world → count ≡ min (machine.count (space_in owner w) world) m) → count ≢ 0 → HasWork owner w
 left_of owner m count w counted some world shows = some_left (machine.count (space_in owner w) world) m count (counted world shows) some
-
--- something is left to do after as many steps as may be
-pub cut : {S : Type 0} (owner : S → List ℕ → ℕ → ℕ) (over : SpaceOf S) (n seed taken most m count : ℕ) (w : WorldOf S)
-    → IsUnderWay owner over n seed taken w → taken ≡ most
-    → ((world : machine.World) → Shows owner w world → count ≡ min (machine.count (space_in owner w) world) m) → count ≢ 0
-    → IsSimulated owner over n seed most None
-cut owner over n seed taken most m count w so_far all counted some =
-    (so_far.asked, so_far.drawn, w, so_far.after, so_far.long ∙ all, so_far.space, so_far.owners, left_of owner m count w counted some)

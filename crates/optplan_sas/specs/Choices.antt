@@ -2,9 +2,10 @@
 use Rattle.std.specs.Prelude.{ℕ, Option}
 
 -- the number of owners, the greatest number of abstract states of a table, the greatest number of nodes that each owner
--- may expand, if there is a limit, and the greatest number of steps of a simulation
+-- may expand, if there is a limit, the room of a link between two workers in messages, and the greatest number of steps of a simulation
 pub record Choices : Type 0 where
   pub workers : ℕ
   pub table : ℕ
   pub limit : Option ℕ
+  pub ring : ℕ
   pub steps : ℕ

@@ -1,14 +1,24 @@
--- The finding of a search: a cheapest plan, or that there is none, with a certificate.
-use Rattle.std.specs.Prelude.{◌≡◌, ℕ, ◌<◌, ◌^◌, List, length}
+-- The finding of a search: a cheapest plan, that there is none, or how far it came; each with a certificate.
+use Rattle.std.specs.Prelude.{◌≡◌, ℕ, ◌<◌, ◌≤◌, ◌^◌, List, length, Option, Some, None}
 use Rattle.cost.specs.Distances.{Distance, Finite, Infinite}
 use Rattle.fdr.specs.Tasks.{FiniteDomainTask, IsPlan, plan_cost, EveryPlanCostsAtLeast, HasNoPlan}
 use Rattle.cert_value.specs.Certificates.{Kind, CertificateValue}
 use Rattle.cert_text.specs.Lawful.{IsLawful, IsLawfulKind}
 use Rattle.checker_clauses.specs.Violations.{IsHeld}
+use Rattle.packed_spread.specs.Spreads as spread
+use Rattle.packed_spread.specs.Spreads.{zobrist_owner}
 use Rattle.extract.specs.Ends.{EndOf, IsSettledAt, space_at}
+use Rattle.extract.specs.Bounds.{least_best, lower_bound}
+use Rattle.optplan_sas.specs.declared.found.FoundPlan.{FoundPlan}
 use Rattle.optplan_sas.specs.declared.found.Solution.{Solution}
+use Rattle.optplan_sas.specs.declared.found.SoFar.{SoFar}
 use Rattle.optplan_sas.specs.declared.found.Found.{Found}
-use Rattle.optplan_sas.specs.declared.found.Found.TheVariants.{Solved, Unsolvable, Unsettled}
+use Rattle.optplan_sas.specs.declared.found.Found.TheVariants.{Solved, Unsolvable, Stopped}
+
+-- the operators are a plan of that cost
+pub record IsPlanAt (task : FiniteDomainTask) (plan : List ℕ) (cost : ℕ) : Type 0 where
+  pub leads : IsPlan task plan
+  pub costs : plan_cost task plan ≡ cost
 
 -- the operators are a plan of that cost, and no plan costs less
 pub record IsCheapestPlan (task : FiniteDomainTask) (plan : List ℕ) (cost : ℕ) : Type 0 where
@@ -26,23 +36,46 @@ pub record IsCertificateOf (task : FiniteDomainTask) (kind : Kind) (bound : Dist
 
 -- a cheapest plan with a certificate of its cost
 pub record IsSolution (task : FiniteDomainTask) (kind : Kind) (s : Solution) : Type 0 where
-  pub cheapest : IsCheapestPlan task s.plan.items s.cost
-  pub certified : IsCertificateOf task kind (Finite s.cost) s.certificate
+  pub cheapest : IsCheapestPlan task s.found.plan.items s.found.cost
+  pub certified : IsCertificateOf task kind (Finite s.found.cost) s.certificate
 
--- the finding for a task by a search that ends settled at a bound, or short of that
-abbrev pub IsFinding : FiniteDomainTask → Kind → (Distance → Type 0) → Type 0 → Found → Type 0
-IsFinding task kind settled short (Solved s) = IsSolution task kind s × settled (Finite s.cost)
-IsFinding task kind settled short (Unsolvable c) = HasNoPlan task × IsCertificateOf task kind Infinite c × settled Infinite
-IsFinding task kind settled short Unsettled = short
+-- the best plan so far: none where no goal state was taken, and else one that costs at most as much as the best goal state that was
+abbrev pub IsBestSoFar : FiniteDomainTask → Distance → Option FoundPlan → Type 0
+IsBestSoFar task Infinite None = Unit {0}
+IsBestSoFar task Infinite (Some p) = ⊥
+IsBestSoFar task (Finite most) None = ⊥
+IsBestSoFar task (Finite most) (Some p) = IsPlanAt task p.plan.items p.cost × (p.cost ≤ most)
 
--- the finding holds of the task, however the search ended
-abbrev pub IsTrueOf : FiniteDomainTask → Kind → Found → Type 0
-IsTrueOf task kind found = IsFinding task kind (λ bound. Unit {0}) (Unit {0}) found
+-- a bound below which no plan costs, with a certificate of it, and the best plan so far
+pub record IsSoFar (task : FiniteDomainTask) (kind : Kind) (best : Distance) (s : SoFar) : Type 0 where
+  pub least : EveryPlanCostsAtLeast task (Finite s.bound)
+  pub certified : IsCertificateOf task kind (Finite s.bound) s.certificate
+  pub best_is : IsBestSoFar task best s.best
+
+-- ---- by where the search ended
 
 -- the owners at an end are settled at the bound
 abbrev pub IsSettledEnd : {S : Type 0} → (S → List ℕ → ℕ → ℕ) → EndOf S → Distance → Type 0
 IsSettledEnd owner e bound = IsSettledAt (space_at owner e) e.owners e.left bound
 
+-- the owners at an end are not settled, and this is its lower bound
+pub record IsShortEnd {S : Type 0} (owner : S → List ℕ → ℕ → ℕ) (e : EndOf S) (bound : ℕ) : Type 0 where
+  pub unsettled : (at : Distance) → IsSettledEnd owner e at → ⊥
+  pub bound_is : lower_bound owner e ≡ Finite bound
+
 -- the finding of a search at its end
 abbrev pub IsFound : {S : Type 0} → (S → List ℕ → ℕ → ℕ) → EndOf S → Kind → Found → Type 0
-IsFound owner e kind found = IsFinding e.space.task kind (IsSettledEnd owner e) ((bound : Distance) → IsSettledEnd owner e bound → ⊥) found
+IsFound owner e kind (Solved s) = IsSolution e.space.task kind s × IsSettledEnd owner e (Finite s.found.cost)
+IsFound owner e kind (Unsolvable c) = HasNoPlan e.space.task × IsCertificateOf e.space.task kind Infinite c × IsSettledEnd owner e Infinite
+IsFound owner e kind (Stopped s) = IsSoFar e.space.task kind (least_best e) s × IsShortEnd owner e s.bound
+
+-- the finding for a task by a search that ends so, its states spread by a hash
+pub record IsFinding (task : FiniteDomainTask) (kind : Kind) (ends : EndOf spread.Zobrist → Type 0) (f : Found) : Type 0 where
+  pub end : EndOf spread.Zobrist
+  pub ended : ends end
+  pub task_is : end.space.task ≡ task
+  pub found : IsFound zobrist_owner end kind f
+
+-- the finding is that of some end for the task
+abbrev pub IsTrueOf : FiniteDomainTask → Kind → Found → Type 0
+IsTrueOf task kind found = (e : EndOf spread.Zobrist) × (e.space.task ≡ task) × IsFound zobrist_owner e kind found

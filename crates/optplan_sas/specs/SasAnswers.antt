@@ -1,59 +1,82 @@
 -- The answer for the text of a finite-domain task.
-use Rattle.std.specs.Prelude.{◌≡◌, ◌≢◌, ℕ, ◌≤◌, ◌^◌, List, length, Err, Vec}
+use Rattle.std.specs.Prelude.{◌≡◌, ◌≢◌, ℕ, ◌≤◌, ◌^◌, List, length, Option, Some, None, Err, Vec}
 use Rattle.std.specs.String.{string_bytes}
 use Rattle.std.specs.Global.{Global}
 use Rattle.cost.specs.Distances.{Distance, Finite, Infinite}
-use Rattle.fdr.specs.Tasks.{FiniteDomainTask, HasNoPlan}
+use Rattle.fdr.specs.Tasks.{FiniteDomainTask, EveryPlanCostsAtLeast, HasNoPlan}
 use Rattle.sasfile.specs.SasTexts.{SpellsTask}
 use Rattle.sasfile.specs.Reading.{task_in}
 use Rattle.sasfile.specs.declared.fault.SasFault.TheVariants as sas_fault
 use Rattle.sasfile_writer.specs.Plans.{sas_plan_text}
 use Rattle.checker.specs.Answers.{IsAnswer}
 use Rattle.checker.specs.declared.verdict.Verdict.TheVariants.{Accepted}
-use Rattle.optplan_sas.specs.Findings.{IsCheapestPlan}
-use Rattle.optplan_sas.specs.declared.found.Found.{Found}
-use Rattle.optplan_sas.specs.declared.found.Found.TheVariants as found
+use Rattle.packed_spread.specs.Spreads as spread
+use Rattle.packed_spread.specs.Spreads.{zobrist_owner}
+use Rattle.extract.specs.Ends.{EndOf}
+use Rattle.extract.specs.Bounds.{least_best}
+use Rattle.optplan_sas.specs.Findings.{IsPlanAt, IsSettledEnd, IsShortEnd}
 use Rattle.optplan_sas.specs.declared.fault.SearchFault.{SearchFault}
 use Rattle.optplan_sas.specs.declared.fault.SearchFault.TheVariants as search
 use Rattle.optplan_sas.specs.declared.fault.SasSolveFault.{SasSolveFault}
-use Rattle.optplan_sas.specs.declared.fault.SasSolveFault.TheVariants.{OutOfMemory, Sas, TotalTooLarge}
-use Rattle.optplan_sas.specs.declared.sas.SasSolution.{SasSolution}
-use Rattle.optplan_sas.specs.declared.sas.SasAnswer.{SasAnswer}
-use Rattle.optplan_sas.specs.declared.sas.SasAnswer.TheVariants.{Solved, Unsolvable, Limit}
+use Rattle.optplan_sas.specs.declared.fault.SasSolveFault.TheVariants.{OutOfMemory, Sas, TotalTooLarge, Gate}
+use Rattle.optplan_sas.specs.declared.answer.WrittenPlan.{WrittenPlan}
+use Rattle.optplan_sas.specs.declared.answer.CheapestPlan.{CheapestPlan}
+use Rattle.optplan_sas.specs.declared.answer.KnownSoFar.{KnownSoFar}
+use Rattle.optplan_sas.specs.declared.answer.Answer.{Answer}
+use Rattle.optplan_sas.specs.declared.answer.Answer.TheVariants.{Solved, Unsolvable, Limit}
+
+-- a plan is given by the numbers of its operators
+abbrev pub SasAnswer : Type 0
+SasAnswer = Answer (Vec ℕ Global)
 
 -- the checker, which reads only the texts, accepts the certificate for the bound, if the certificate's text has at most
 -- 2^30 bytes
 abbrev pub IsAccepted : List ℕ → List ℕ → Distance → Type 0
 IsAccepted sas cert bound = length cert ≤ 2 ^ 30 → IsAnswer sas cert (Accepted bound)
 
+-- a plan of that cost, with its text
+pub record IsSasPlan (task : FiniteDomainTask) (p : WrittenPlan (Vec ℕ Global)) : Type 0 where
+  pub is : IsPlanAt task p.plan.items p.cost
+  pub written : string_bytes p.plan_text ≡ sas_plan_text task p.plan.items p.cost
+
+-- the best plan so far: none where no goal state was taken, and else one that costs at most as much as the best goal state that was
+abbrev pub IsBestWritten : {P : Type 0} → (WrittenPlan P → Type 0) → Distance → Option (WrittenPlan P) → Type 0
+IsBestWritten is_plan Infinite None = Unit {0}
+IsBestWritten is_plan Infinite (Some p) = ⊥
+IsBestWritten is_plan (Finite most) None = ⊥
+IsBestWritten is_plan (Finite most) (Some p) = is_plan p × (p.cost ≤ most)
+
 -- a cheapest plan of the task, with its text and the text of a certificate
-pub record IsSasSolution (sas : List ℕ) (task : FiniteDomainTask) (s : SasSolution) : Type 0 where
-  pub cheapest : IsCheapestPlan task s.plan.items s.cost
-  pub written : string_bytes s.plan_text ≡ sas_plan_text task s.plan.items s.cost
-  pub accepted : IsAccepted sas s.cert.items (Finite s.cost)
+pub record IsSasSolution (sas : List ℕ) (task : FiniteDomainTask) (s : CheapestPlan (Vec ℕ Global)) : Type 0 where
+  pub found : IsSasPlan task s.found
+  pub least : EveryPlanCostsAtLeast task (Finite s.found.cost)
+  pub accepted : IsAccepted sas s.cert.items (Finite s.found.cost)
 
--- the answer for a task by a search that ends settled at a bound, or short of that: a cheapest plan, that there is none,
--- or neither
-abbrev pub IsSasAnswerFor : List ℕ → FiniteDomainTask → (Distance → Type 0) → Type 0 → SasAnswer → Type 0
-IsSasAnswerFor sas task settled short (Solved s) = IsSasSolution sas task s × settled (Finite s.cost)
-IsSasAnswerFor sas task settled short (Unsolvable cert) = HasNoPlan task × IsAccepted sas cert.items Infinite × settled Infinite
-IsSasAnswerFor sas task settled short Limit = short
+-- a bound below which no plan costs, with the text of a certificate of it, and the best plan so far
+pub record IsSasKnown (sas : List ℕ) (task : FiniteDomainTask) (most : Distance) (known : KnownSoFar (Vec ℕ Global)) : Type 0 where
+  pub least : EveryPlanCostsAtLeast task (Finite known.bound)
+  pub best : IsBestWritten (IsSasPlan task) most known.best
+  pub accepted : IsAccepted sas known.cert.items (Finite known.bound)
 
--- the text spells a task, and this is the answer for it
-abbrev pub IsSasAnswer : List ℕ → (FiniteDomainTask → Distance → Type 0) → (FiniteDomainTask → Type 0) → SasAnswer → Type 0
-IsSasAnswer sas settled short answer = (task : FiniteDomainTask) × SpellsTask sas task × IsSasAnswerFor sas task (settled task) (short task) answer
+-- the answer for a task by a search at its end: a cheapest plan, that there is none, or a bound and the best plan so far; each with the
+-- text of a certificate
+abbrev pub IsSasAnswerFor : List ℕ → FiniteDomainTask → EndOf spread.Zobrist → SasAnswer → Type 0
+IsSasAnswerFor sas task e (Solved s) = IsSasSolution sas task s × IsSettledEnd zobrist_owner e (Finite s.found.cost)
+IsSasAnswerFor sas task e (Unsolvable cert) = HasNoPlan task × IsAccepted sas cert.items Infinite × IsSettledEnd zobrist_owner e Infinite
+IsSasAnswerFor sas task e (Limit known) = IsSasKnown sas task (least_best e) known × IsShortEnd zobrist_owner e known.bound
 
--- the text is refused for its first fault; or it spells a task, for which a path's total is too large in the specified
--- way
+-- the text spells a task, and this is the answer for it by a search that may end so
+pub record IsSasAnswer (sas : List ℕ) (ends : FiniteDomainTask → EndOf spread.Zobrist → Type 0) (answer : SasAnswer) : Type 0 where
+  pub task : FiniteDomainTask
+  pub spelled : SpellsTask sas task
+  pub end : EndOf spread.Zobrist
+  pub ended : ends task end
+  pub is : IsSasAnswerFor sas task end answer
+
+-- the text is refused for its first fault; or it spells a task, the search for which is refused in the specified way, since a path's total
+-- is too large or a gate made it fail
 abbrev pub IsSasRefusal : List ℕ → (FiniteDomainTask → SearchFault → Type 0) → SasSolveFault → Type 0
 IsSasRefusal sas refused OutOfMemory = Unit {0}
 IsSasRefusal sas refused (Sas e) = (e ≢ sas_fault.OutOfMemory) × (task_in sas ≡ Err e)
 IsSasRefusal sas refused TotalTooLarge = (task : FiniteDomainTask) × SpellsTask sas task × refused task search.TotalTooLarge
-
--- ---- the texts of a finding
-
--- the answer has the texts of the finding
-abbrev pub HasTextsOf : List ℕ → FiniteDomainTask → Found → SasAnswer → Type 0
-HasTextsOf sas task (found.Solved s) answer = (t : SasSolution) × (answer ≡ Solved t) × IsSasSolution sas task t × (t.cost ≡ s.cost)
-HasTextsOf sas task (found.Unsolvable c) answer = (cert : Vec ℕ Global) × (answer ≡ Unsolvable cert) × IsAccepted sas cert.items Infinite
-HasTextsOf sas task found.Unsettled answer = answer ≡ Limit
+IsSasRefusal sas refused (Gate worker turn) = (task : FiniteDomainTask) × SpellsTask sas task × refused task (search.Gate worker turn)

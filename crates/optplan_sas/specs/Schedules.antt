@@ -1,5 +1,5 @@
 -- Worlds after steps that are drawn from a seed.
-use Rattle.std.specs.Prelude.{◌≡◌, ℕ, zero, suc, ◌≤◌, ◌<◌, ◌%◌, false, List, length, take, slice_get, Option, Some, None}
+use Rattle.std.specs.Prelude.{◌≡◌, ℕ, zero, suc, ◌≤◌, ◌<◌, ◌⊎◌, ◌%◌, List, length, take, slice_get, Some}
 use Rattle.rand_core.specs.Steps.{stream_of, steps_u64_high}
 use Rattle.rand_xoshiro.specs.SplitMix64.{splitmix_seed}
 use Rattle.rand_xoshiro.specs.Xoshiro256.{of_seed, plus_plus}
@@ -9,7 +9,8 @@ use Rattle.owner_theory.specs.Worlds.{IsQuiet}
 use Rattle.owner.specs.Spaces.{SpaceOf, searched}
 use Rattle.owner.specs.declared.fault.OwnerFault.{OwnerFault}
 use Rattle.netcore.specs.declared.step.WorldStep.{WorldStep}
-use Rattle.netcore.specs.Worlds.{WorldOf, Shows, IsAfter, IsRunRefusal, space_in, world_after_run}
+use Rattle.owner.specs.declared.fault.OwnerFault.TheVariants.{LimitReached}
+use Rattle.netcore.specs.Worlds.{WorldOf, Shows, IsAfter, IsWorldAfter, IsStepRefusal, IsRunRefusal, space_in, world_after_run}
 use Rattle.netcore.specs.Possible.{possible_steps}
 
 -- ---- words
@@ -35,35 +36,45 @@ IsAfterWords seed count generator =
 abbrev pub Draws : {S : Type 0} → (S → List ℕ → ℕ → ℕ) → WorldOf S → ℕ → WorldStep → Type 0
 Draws owner w word step = slice_get (possible_steps owner w) (word % length (possible_steps owner w)) ≡ Some step
 
--- after the steps before, n owners of the space have work left, and the next word from the seed draws the step
+-- something is left to do in the world
+abbrev pub HasWork : {S : Type 0} → (S → List ℕ → ℕ → ℕ) → WorldOf S → Type 0
+HasWork owner w = (shown : machine.World) → Shows owner w shown → 0 < machine.count (space_in owner w) shown
+
+-- in this world, which is that of n owners of the space after the steps before, something is left to do, and the next word from the seed
+-- draws the step
 pub record IsNextDrawn {S : Type 0} (owner : S → List ℕ → ℕ → ℕ) (space : SpaceOf S) (n seed : ℕ) (before : List WorldStep) (step : WorldStep)
-    : Type 0 where
-  pub world : WorldOf S
-  pub after : IsAfter owner (searched owner space n) before world
-  pub space_is : world.space ≡ space
-  pub owners : length world.owners ≡ n
-  pub left : (shown : machine.World) → Shows owner world shown → 0 < machine.count (space_in owner world) shown
+    (world : WorldOf S) : Type 0 where
+  pub after : IsWorldAfter owner space n before world
+  pub left : HasWork owner world
   pub drawn : Draws owner world (word_of seed (length before)) step
 
 -- each of the steps is drawn after those before it
 abbrev pub AreDrawn : {S : Type 0} → (S → List ℕ → ℕ → ℕ) → SpaceOf S → ℕ → ℕ → List WorldStep → Type 0
-AreDrawn owner space n seed asked = (i : ℕ) (step : WorldStep) → At asked i step → IsNextDrawn owner space n seed (take i asked) step
+AreDrawn {S = S} owner space n seed asked =
+    (i : ℕ) (step : WorldStep) → At asked i step → (world : WorldOf S) × IsNextDrawn owner space n seed (take i asked) step world
 
 -- ---- simulations
 
--- the world after steps that are drawn, at most `most`, whose count is 0; or some world after exactly `most` steps has a
--- count above 0
-abbrev pub IsSimulated : {S : Type 0} → (S → List ℕ → ℕ → ℕ) → SpaceOf S → ℕ → ℕ → ℕ → Option (WorldOf S) → Type 0
-IsSimulated owner space n seed most (Some w) =
-    (asked : List WorldStep) × AreDrawn owner space n seed asked × (after : IsAfter owner (searched owner space n) asked w)
-    × (length asked ≤ most) × (w.space ≡ space) × (length w.owners ≡ n) × (w.spent ≡ false)
-    × IsQuiet (searched owner space n) (world_after_run (searched owner space n) after.steps)
-IsSimulated {S = S} owner space n seed most None =
-    (asked : List WorldStep) × AreDrawn owner space n seed asked × (w : WorldOf S) × IsAfter owner (searched owner space n) asked w
-    × (length asked ≡ most) × (w.space ≡ space) × (length w.owners ≡ n)
-    × ((world : machine.World) → Shows owner w world → 0 < machine.count (space_in owner w) world)
+-- nothing is left to do in the world after these steps
+abbrev pub IsQuietAfter : {S : Type 0} → (S → List ℕ → ℕ → ℕ) → SpaceOf S → ℕ → List WorldStep → WorldOf S → Type 0
+IsQuietAfter owner space n asked w =
+    (after : IsAfter owner (searched owner space n) asked w) × IsQuiet (searched owner space n) (world_after_run (searched owner space n) after.steps)
 
--- a step that is drawn is refused
+-- the step that is drawn next asks an owner for more nodes than its limit allows
+abbrev pub IsLimitedNext : {S : Type 0} → (S → List ℕ → ℕ → ℕ) → SpaceOf S → ℕ → ℕ → List WorldStep → WorldOf S → Type 0
+IsLimitedNext owner space n seed asked w =
+    (step : WorldStep) × IsNextDrawn owner space n seed asked step w × IsStepRefusal owner w w step LimitReached
+
+-- the world after steps that are drawn, at most `most`: nothing is left to do in it, or the next step is past an owner's limit, or there
+-- were exactly `most` steps
+pub record IsSimulated {S : Type 0} (owner : S → List ℕ → ℕ → ℕ) (space : SpaceOf S) (n seed most : ℕ) (w : WorldOf S) : Type 0 where
+  pub asked : List WorldStep
+  pub drawn : AreDrawn owner space n seed asked
+  pub few : length asked ≤ most
+  pub world : IsWorldAfter owner space n asked w
+  pub ends : IsQuietAfter owner space n asked w ⊎ (IsLimitedNext owner space n seed asked w ⊎ (length asked ≡ most))
+
+-- a step that is drawn is refused, otherwise than for the limit
 abbrev pub IsSimulationRefusal : {S : Type 0} → (S → List ℕ → ℕ → ℕ) → SpaceOf S → ℕ → ℕ → OwnerFault → Type 0
 IsSimulationRefusal owner space n seed e =
-    (asked : List WorldStep) × AreDrawn owner space n seed asked × IsRunRefusal owner (searched owner space n) asked e
+    (asked : List WorldStep) × AreDrawn owner space n seed asked × IsRunRefusal owner space n asked e

@@ -3,8 +3,9 @@
 ghost use Rattle.std.specs.Prelude.{◌≡◌};
 ghost use Rattle.optplan_sas.specs.declared.fault.SearchFault.TheVariants as search;
 ghost use Rattle.optplan_sas.specs.declared.fault.SasSolveFault.TheVariants as solve;
-ghost use Rattle.optplan_sas.specs.Faults.{fault_of_search};
+ghost use Rattle.optplan_sas.specs.Faults.{fault_of_engine, fault_of_search};
 
+use engine::EngineFault;
 use sasfile::SasFault;
 use std::alloc::AllocError;
 
@@ -15,6 +16,9 @@ pub enum SearchFault {
     OutOfMemory,
     /// A path would have a cost, or a number of operators, above 2^62.
     TotalTooLarge,
+    /// The gate of a search by threads made it fail before a turn: the worker's number, counted from 0, and the turn's, counted from 1
+    /// in its round.
+    Gate(usize, u64),
 }
 
 /// Why a finite-domain task is not solved.
@@ -26,6 +30,9 @@ pub enum SasSolveFault {
     Sas(SasFault),
     /// F60: a path would have a cost, or a number of operators, above 2^62.
     TotalTooLarge,
+    /// The gate of a search by threads made it fail before a turn: the worker's number, counted from 0, and the turn's, counted from 1
+    /// in its round.
+    Gate(usize, u64),
 }
 
 impl From<AllocError> for SearchFault {
@@ -33,6 +40,18 @@ impl From<AllocError> for SearchFault {
 
     fn from(_e: AllocError) -> SearchFault {
         SearchFault::OutOfMemory
+    }
+}
+
+impl From<EngineFault> for SearchFault {
+    ghost from_gives = { λ fault e. e ≡ fault_of_engine fault };
+
+    fn from(fault: EngineFault) -> SearchFault {
+        match fault {
+            EngineFault::OutOfMemory => SearchFault::OutOfMemory,
+            EngineFault::TotalTooLarge => SearchFault::TotalTooLarge,
+            EngineFault::Gate(worker, turn) => SearchFault::Gate(worker, turn),
+        }
     }
 }
 
@@ -51,6 +70,7 @@ impl From<SearchFault> for SasSolveFault {
         match fault {
             SearchFault::OutOfMemory => SasSolveFault::OutOfMemory,
             SearchFault::TotalTooLarge => SasSolveFault::TotalTooLarge,
+            SearchFault::Gate(worker, turn) => SasSolveFault::Gate(worker, turn),
         }
     }
 }

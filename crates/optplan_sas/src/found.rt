@@ -1,26 +1,47 @@
 //! The finding of a search.
 
-ghost use Rattle.std.specs.Prelude.{◌≡◌, IfOk};
+ghost use Rattle.std.specs.Prelude.{◌≡◌, ◌≤◌, ◌^◌, ℕ, Some, IfOk, IsSomeAnd};
 ghost use Rattle.cert_value.specs.Views.{kind_of};
-ghost use Rattle.cost.specs.Distances.{Finite};
-ghost use Rattle.extract.specs.Ends.{IsSettledAt, space_at};
-ghost use Rattle.optplan_sas.specs.Findings.{IsFound, IsSolution};
+ghost use Rattle.cost.specs.Distances.{Distance, Finite, ◌≤ᵈ◌};
+ghost use Rattle.fdr.specs.Tasks.{plan_cost};
+ghost use Rattle.extract.specs.Bounds.{least_best, lower_bound};
+ghost use Rattle.extract.specs.Ends.{IsBestGoal};
+ghost use Rattle.optplan_sas.specs.Findings.{IsPlanAt, IsBestSoFar, IsSettledEnd, IsFound, IsSolution, IsSoFar};
 
 use cert::cert_of;
 use cert_value::{Certificate, CertificateKind};
 use extract::{Joined, plan_of};
+use fdr::FdrTask;
 use packed::StateForm;
 use packed_spread::Spread;
 use std::alloc::{AllocError, Global};
 
-/// A cheapest plan, with a certificate of its cost.
+/// A plan with its cost.
 #[derive(Drop)]
-pub struct Solution {
+pub struct FoundPlan {
     /// The cost of the plan.
     pub cost: u64,
     /// The numbers of its operators, counted from 0, in the order of the plan.
     pub plan: Vec<usize>,
-    /// A certificate that every plan costs at least `cost`.
+}
+
+/// A cheapest plan, with a certificate of its cost.
+#[derive(Drop)]
+pub struct Solution {
+    /// The plan.
+    pub found: FoundPlan,
+    /// A certificate that every plan costs at least as much.
+    pub certificate: Certificate,
+}
+
+/// What is known where a search was stopped.
+#[derive(Drop)]
+pub struct SoFar {
+    /// No plan costs less.
+    pub bound: u64,
+    /// The best plan so far, if there is one.
+    pub best: Option<FoundPlan>,
+    /// A certificate that every plan costs at least `bound`.
     pub certificate: Certificate,
 }
 
@@ -31,38 +52,100 @@ pub enum Found {
     Solved(Solution),
     /// There is no plan; a certificate of that.
     Unsolvable(Certificate),
-    /// The search was not settled.
-    Unsettled,
+    /// The search was stopped before it was settled.
+    Stopped(SoFar),
+}
+
+/// The cost of these operators.
+fn cost_of_plan(task: &FdrTask, plan: &[usize]) -> u64
+    requires { plan_cost task.now plan.now ≤ 2 ^ 62 }
+    ensures { result ≡ plan_cost task.now plan.now }
+{
+    let mut cost = 0;
+    for operator in plan {
+        cost += task.cost(*operator).get();
+    }
+    cost
+}
+
+/// The plan to a goal node of least cost, with its own cost: at most that of the node, and exactly the bound if the search is settled.
+/// Fails only if allocation fails.
+fn plan_to<'a, S: Spread + Drop, F: StateForm + Drop>(
+    alloc: Global,
+    joined: &Joined<'a, S, F>,
+    goal: (usize, usize),
+) -> Result<FoundPlan, AllocError>
+    requires { IsBestGoal joined.now (Some goal) }
+    ensures plan { IfOk result (λ p. IsPlanAt joined.now.space.task p.plan.items p.cost) }
+    ensures within { IfOk result (λ p. Finite p.cost ≤ᵈ least_best joined.now) }
+    ensures settled { (cost : ℕ) → IsSettledEnd S.owner joined.now (Finite cost) → IfOk result (λ p. p.cost ≡ cost) }
+{
+    joined.recall();
+    let plan = plan_of(alloc, joined, goal)?;
+    let (worker, _) = goal;
+    joined.owners()[worker].recall();
+    let cost = cost_of_plan(joined.space().task(), &plan);
+    Ok(FoundPlan { cost, plan })
+}
+
+/// The best plan so far, if a goal state was taken. Fails only if allocation fails.
+fn best_plan<'a, S: Spread + Drop, F: StateForm + Drop>(
+    alloc: Global,
+    joined: &Joined<'a, S, F>,
+) -> Result<Option<FoundPlan>, AllocError>
+    ensures best { IfOk result (IsBestSoFar joined.now.space.task (least_best joined.now)) }
+    ensures settled { (cost : ℕ) → IsSettledEnd S.owner joined.now (Finite cost) → IfOk result (λ best. IsSomeAnd best (λ p. p.cost ≡ cost)) }
+{
+    joined.recall();
+    match joined.best(alloc)? {
+        Some(goal) => Ok(Some(plan_to(alloc, joined, goal)?)),
+        None => Ok(None),
+    }
 }
 
 /// The solution of a search that is settled at a cost. Fails only if allocation fails.
 fn solution_of<'a, S: Spread + Drop, F: StateForm + Drop>(
     alloc: Global,
     joined: &Joined<'a, S, F>,
-    cost: u64,
     kind: CertificateKind,
 ) -> Result<Solution, AllocError>
-    requires { IsSettledAt (space_at S.owner joined.now) joined.now.owners joined.now.left (Finite cost) }
+    requires { (cost : ℕ) × IsSettledEnd S.owner joined.now (Finite cost) }
     ensures solution { IfOk result (IsSolution joined.now.space.task (kind_of kind)) }
-    ensures cost { IfOk result (λ s. s.cost ≡ cost) }
+    ensures settled { IfOk result (λ s. IsSettledEnd S.owner joined.now (Finite s.found.cost)) }
 {
     joined.recall();
-    match joined.best(alloc)? {
-        Some(goal) => {
-            let plan = plan_of(alloc, joined, goal)?;
-            let certificate = cert_of(alloc, joined, kind)?;
-            Ok(Solution {
-                cost,
-                plan,
-                certificate,
-            })
-        }
+    let certificate = cert_of(alloc, joined, kind)?;
+    match best_plan(alloc, joined)? {
+        Some(found) => Ok(Solution { found, certificate }),
         None => unreachable!(),
     }
 }
 
-/// The finding of the search: if it is settled, a cheapest plan, or that there is none, with a certificate of this kind;
-/// else `Unsettled`. Fails only if allocation fails.
+/// What is known where a search is not settled. Fails only if allocation fails.
+fn so_far_of<'a, S: Spread + Drop, F: StateForm + Drop>(
+    alloc: Global,
+    joined: &Joined<'a, S, F>,
+    kind: CertificateKind,
+) -> Result<SoFar, AllocError>
+    requires { (at : Distance) → IsSettledEnd S.owner joined.now at → ⊥ }
+    ensures known { IfOk result (IsSoFar joined.now.space.task (kind_of kind) (least_best joined.now)) }
+    ensures bound { IfOk result (λ s. lower_bound S.owner joined.now ≡ Finite s.bound) }
+{
+    joined.recall();
+    let certificate = cert_of(alloc, joined, kind)?;
+    let best = best_plan(alloc, joined)?;
+    match certificate.bound().get() {
+        Some(bound) => Ok(SoFar {
+            bound,
+            best,
+            certificate,
+        }),
+        None => unreachable!(),
+    }
+}
+
+/// The finding of the search, with a certificate of this kind: if it is settled, a cheapest plan, or that there is none; else a bound
+/// below which no plan costs, with the best plan so far. Fails only if allocation fails.
 pub fn found_by<'a, S: Spread + Drop, F: StateForm + Drop>(
     alloc: Global,
     joined: &Joined<'a, S, F>,
@@ -72,9 +155,9 @@ pub fn found_by<'a, S: Spread + Drop, F: StateForm + Drop>(
 {
     joined.recall();
     match joined.settled(alloc)? {
-        None => Ok(Found::Unsettled),
+        None => Ok(Found::Stopped(so_far_of(alloc, joined, kind)?)),
         Some(bound) => match bound.get() {
-            Some(cost) => Ok(Found::Solved(solution_of(alloc, joined, cost, kind)?)),
+            Some(_) => Ok(Found::Solved(solution_of(alloc, joined, kind)?)),
             None => Ok(Found::Unsolvable(cert_of(alloc, joined, kind)?)),
         },
     }

@@ -1,7 +1,8 @@
-//! Solving: from the text of a finite-domain task and a schedule of the owners' steps to a cheapest plan, or that there
-//! is none, with a certificate.
+//! Solving: from the text of a finite-domain task to a cheapest plan, or that there is none, with a certificate; by threads, or by a
+//! schedule of the owners' steps.
 #![tactic(auto)]
 
+mod answer;
 mod fault;
 mod found;
 mod options;
@@ -9,9 +10,11 @@ mod sas;
 mod schedule;
 mod searching;
 
+pub use answer::{Answer, CheapestPlan, KnownSoFar, WrittenPlan};
+pub use engine::{Gate, Open, Stop};
 pub use fault::{SasSolveFault, SearchFault};
-pub use found::{Found, Solution, found_by};
-pub use options::{MAX_TABLE, MAX_WORKERS, Options};
-pub use sas::{SasAnswer, SasSolution, simulate_sas, solve_sas_steps};
+pub use found::{Found, FoundPlan, SoFar, Solution, found_by};
+pub use options::{MAX_RING, MAX_TABLE, MAX_WORKERS, Options};
+pub use sas::{SasAnswer, simulate_sas, solve_sas, solve_sas_steps};
 pub use schedule::simulated;
-pub use searching::{found_after, found_by_seed};
+pub use searching::{found_after, found_by_seed, found_by_threads};

@@ -10,13 +10,18 @@ pub const MAX_WORKERS: usize = 64;
 /// The greatest number of abstract states of a table, 2^24.
 pub const MAX_TABLE: usize = 16_777_216;
 
+/// The greatest room of a link, in messages.
+pub const MAX_RING: usize = 65_536;
+
 /// How a task is solved: the number of owners (1 to 64), the greatest number of abstract states of a table (1 to 2^24),
-/// the limit on the nodes that each owner expands, if there is one, and the greatest number of steps of a simulation.
+/// the limit on the nodes that each owner expands, if there is one, the room of a link between two workers in messages (1 to 65,536), and
+/// the greatest number of steps of a simulation.
 #[derive(Debug, Drop)]
 pub struct Options {
     workers: usize,
     table: usize,
     limit: Option<u64>,
+    ring: usize,
     steps: u64,
 }
 
@@ -26,21 +31,22 @@ impl Model for Options {
 
     ghost Value = { Choices };
 
-    ghost view = { λ o. record { workers = o.workers; table = o.table; limit = o.limit; steps = o.steps } };
+    ghost view = { λ o. record { workers = o.workers; table = o.table; limit = o.limit; ring = o.ring; steps = o.steps } };
 
-    ghost invariant = { λ o. (1 ≤ o.workers) × (o.workers ≤ 64) × (1 ≤ o.table) × (o.table ≤ 2 ^ 24) };
+    ghost invariant = { λ o. (1 ≤ o.workers) × (o.workers ≤ 64) × (1 ≤ o.table) × (o.table ≤ 2 ^ 24) × (1 ≤ o.ring) × (o.ring ≤ 2 ^ 16) };
 }
 
 impl Options {
-    /// The defaults: 4 owners, tables of at most 100,000 abstract states, no limit on expansions, and 1,000,000 steps of
-    /// a simulation.
+    /// The defaults: 4 owners, tables of at most 100,000 abstract states, no limit on expansions, links with room for 64 messages, and
+    /// 1,000,000 steps of a simulation.
     pub fn new() -> Options
-        ensures { result ≡ record { workers = 4; table = 100000; limit = None; steps = 1000000 } }
+        ensures { result ≡ record { workers = 4; table = 100000; limit = None; ring = 64; steps = 1000000 } }
     {
         Options {
             workers: 4,
             table: 100_000,
             limit: None,
+            ring: 64,
             steps: 1_000_000,
         }
     }
@@ -73,6 +79,15 @@ impl Options {
         }
     }
 
+    /// These options with links that have room for this number of messages, 1 to 65,536.
+    pub fn with_ring(self, ring: usize) -> Options
+        requires some { 1 ≤ ring }
+        requires few { ring ≤ 2 ^ 16 }
+        ensures { result ≡ record self { ring = ring } }
+    {
+        Options { ring, ..self }
+    }
+
     /// These options with this greatest number of steps of a simulation.
     pub fn with_steps(self, steps: u64) -> Options
         ensures { result ≡ record self { steps = steps } }
@@ -103,6 +118,15 @@ impl Options {
         ensures { result ≡ self.now.limit }
     {
         self.limit
+    }
+
+    /// The room of a link between two workers, in messages.
+    pub fn ring(&self) -> usize
+        ensures value { result ≡ self.now.ring }
+        ensures some { 1 ≤ result }
+        ensures few { result ≤ 2 ^ 16 }
+    {
+        self.ring
     }
 
     /// The greatest number of steps of a simulation.

@@ -3,45 +3,33 @@
 ghost use Rattle.std.specs.Prelude.{◌≡◌, ℕ, List, IfOk, IfErr};
 ghost use Rattle.cert_value.specs.Certificates.{FiniteDomain};
 ghost use Rattle.sasfile.specs.SasTexts.{SpellsTask};
-ghost use Rattle.optplan_sas.specs.Findings.{IsSolution, IsTrueOf};
-ghost use Rattle.optplan_sas.specs.Searches.{IsSettledAfter, IsShortAfter, IsRefusedAfter, IsSettledBySeed, IsShortBySeed, IsRefusedBySeed};
-ghost use Rattle.optplan_sas.specs.SasAnswers.{IsSasAnswer, IsSasRefusal, IsSasSolution, HasTextsOf};
+ghost use Rattle.cost.specs.Distances.{Distance};
+ghost use Rattle.packed_spread.specs.Spreads as spread;
+ghost use Rattle.packed_spread.specs.Spreads.{zobrist_owner};
+ghost use Rattle.extract.specs.Ends.{EndOf};
+ghost use Rattle.optplan_sas.specs.Findings.{IsPlanAt, IsBestSoFar, IsSolution, IsSoFar, IsFound, IsTrueOf};
+ghost use Rattle.optplan_sas.specs.Searches.{EndsAfter, IsRefusedAfter, EndsBySeed, IsRefusedBySeed, EndsByThreads, IsRefusedByThreads};
+ghost use Rattle.optplan_sas.specs.SasAnswers.{IsSasAnswer, IsSasAnswerFor, IsSasRefusal, IsSasPlan, IsSasSolution, IsSasKnown, IsBestWritten};
 
+use crate::answer::{Answer, CheapestPlan, KnownSoFar, WrittenPlan};
 use crate::fault::SasSolveFault;
-use crate::found::{Found, Solution};
+use crate::found::{Found, FoundPlan, SoFar, Solution};
 use crate::options::Options;
-use crate::searching::{found_after, found_by_seed};
+use crate::searching::{found_after, found_by_seed, found_by_threads};
 use cert_text::write_cert;
 use cert_value::CertificateKind;
+use engine::Gate;
 use fdr::FdrTask;
 use netcore::WorldStep;
 use sasfile::{SasFault, read_sas};
 use sasfile_writer::sas_plan_text;
 use std::alloc::{AllocError, Global};
+use std::sync::Wait;
+use std::thread::Threads;
+use std::time::Clock;
 
-/// A cheapest plan of a finite-domain task, with its text and that of a certificate.
-#[derive(Drop)]
-pub struct SasSolution {
-    /// The cost of the plan.
-    pub cost: u64,
-    /// The numbers of its operators, counted from 0, in the order of the plan.
-    pub plan: Vec<usize>,
-    /// The text of the plan.
-    pub plan_text: String,
-    /// The text of a certificate that every plan costs at least `cost`.
-    pub cert: Vec<u8>,
-}
-
-/// The answer for a finite-domain task.
-#[derive(Drop)]
-pub enum SasAnswer {
-    /// A cheapest plan.
-    Solved(SasSolution),
-    /// There is no plan; the text of a certificate of that.
-    Unsolvable(Vec<u8>),
-    /// The search ended before it found either.
-    Limit,
-}
+/// The answer for a finite-domain task: a plan is given by the numbers of its operators, counted from 0.
+pub type SasAnswer = Answer<Vec<usize>>;
 
 /// The task that the text spells. Fails with the first fault of the text, or if allocation fails.
 fn read_task(alloc: Global, sas: &[u8]) -> Result<FdrTask, SasSolveFault>
@@ -55,22 +43,70 @@ fn read_task(alloc: Global, sas: &[u8]) -> Result<FdrTask, SasSolveFault>
     }
 }
 
+/// The plan with its text. Fails only if allocation fails.
+fn plan_text(
+    alloc: Global,
+    task: &FdrTask,
+    found: FoundPlan,
+) -> Result<WrittenPlan<Vec<usize>>, AllocError>
+    requires { IsPlanAt task.now found.plan.items found.cost }
+    ensures plan { IfOk result (IsSasPlan task.now) }
+    ensures cost { IfOk result (λ p. p.cost ≡ found.cost) }
+{
+    let plan_text = sas_plan_text(alloc, task, &found.plan, found.cost)?;
+    Ok(WrittenPlan {
+        cost: found.cost,
+        plan: found.plan,
+        plan_text,
+    })
+}
+
+/// The best plan so far with its text, if there is one. Fails only if allocation fails.
+fn best_text(
+    alloc: Global,
+    task: &FdrTask,
+    best: Option<FoundPlan>,
+) -> Result<Option<WrittenPlan<Vec<usize>>>, AllocError>
+    requires { (most : Distance) × IsBestSoFar task.now most best }
+    ensures { (most : Distance) → IsBestSoFar task.now most best → IfOk result (IsBestWritten (IsSasPlan task.now) most) }
+{
+    match best {
+        Some(found) => Ok(Some(plan_text(alloc, task, found)?)),
+        None => Ok(None),
+    }
+}
+
 /// The solution with the texts of its plan and its certificate. Fails only if allocation fails.
 fn solution_texts(
     alloc: Global,
     task: &FdrTask,
     solution: Solution,
-) -> Result<SasSolution, AllocError>
+) -> Result<CheapestPlan<Vec<usize>>, AllocError>
     requires { IsSolution task.now FiniteDomain solution }
     ensures solution { (sas : List ℕ) → SpellsTask sas task.now → IfOk result (IsSasSolution sas task.now) }
-    ensures cost { IfOk result (λ s. s.cost ≡ solution.cost) }
+    ensures cost { IfOk result (λ s. s.found.cost ≡ solution.found.cost) }
 {
-    let plan_text = sas_plan_text(alloc, task, &solution.plan, solution.cost)?;
     let cert = write_cert(alloc, &solution.certificate)?;
-    Ok(SasSolution {
-        cost: solution.cost,
-        plan: solution.plan,
-        plan_text,
+    let found = plan_text(alloc, task, solution.found)?;
+    Ok(CheapestPlan { found, cert })
+}
+
+/// What is known so far with the texts of the best plan and of the certificate. Fails only if allocation fails.
+fn known_texts(
+    alloc: Global,
+    task: &FdrTask,
+    known: SoFar,
+) -> Result<KnownSoFar<Vec<usize>>, AllocError>
+    requires { (most : Distance) × IsSoFar task.now FiniteDomain most known }
+    ensures known { (sas : List ℕ) (most : Distance) → SpellsTask sas task.now → IsSoFar task.now FiniteDomain most known →
+        IfOk result (IsSasKnown sas task.now most) }
+    ensures bound { IfOk result (λ k. k.bound ≡ known.bound) }
+{
+    let cert = write_cert(alloc, &known.certificate)?;
+    let best = best_text(alloc, task, known.best)?;
+    Ok(KnownSoFar {
+        bound: known.bound,
+        best,
         cert,
     })
 }
@@ -78,21 +114,19 @@ fn solution_texts(
 /// The answer with the texts of what a search has found. Fails only if allocation fails.
 fn answer_texts(alloc: Global, task: &FdrTask, found: Found) -> Result<SasAnswer, AllocError>
     requires { IsTrueOf task.now FiniteDomain found }
-    ensures { (sas : List ℕ) → SpellsTask sas task.now → IfOk result (HasTextsOf sas task.now found) }
+    ensures { (sas : List ℕ) (e : EndOf spread.Zobrist) → SpellsTask sas task.now → e.space.task ≡ task.now →
+        IsFound zobrist_owner e FiniteDomain found → IfOk result (IsSasAnswerFor sas task.now e) }
 {
     match found {
-        Found::Solved(solution) => Ok(SasAnswer::Solved(solution_texts(alloc, task, solution)?)),
-        Found::Unsolvable(certificate) => Ok(SasAnswer::Unsolvable(write_cert(
-            alloc,
-            &certificate,
-        )?)),
-        Found::Unsettled => Ok(SasAnswer::Limit),
+        Found::Solved(solution) => Ok(Answer::Solved(solution_texts(alloc, task, solution)?)),
+        Found::Unsolvable(certificate) => Ok(Answer::Unsolvable(write_cert(alloc, &certificate)?)),
+        Found::Stopped(known) => Ok(Answer::Limit(known_texts(alloc, task, known)?)),
     }
 }
 
-/// The answer for the task that the text spells, after these steps of a world of owners: a cheapest plan, or that there
-/// is none, with a certificate that the checker accepts if its text has at most 2^30 bytes; `Limit` if the owners are not
-/// settled after the steps, or a step requests an owner to expand more nodes than its limit allows.
+/// The answer for the task that the text spells, after these steps of a world of owners, with a certificate that the checker accepts
+/// if its text has at most 2^30 bytes: a cheapest plan, or that there is none; `Limit` with a bound and the best plan so far if the
+/// owners are not settled. No step is done from the first on that asks an owner for more nodes than its limit allows.
 ///
 /// Fails with the first fault of the text, with `TotalTooLarge` if a path would have a cost or a number of operators
 /// above 2^62, or if allocation fails.
@@ -102,7 +136,7 @@ pub fn solve_sas_steps<R: AllocGlobal>(
     options: &Options,
     steps: &[WorldStep],
 ) -> Result<SasAnswer, SasSolveFault>
-    ensures answer { IfOk result (IsSasAnswer sas.now (IsSettledAfter options.now steps.now) (IsShortAfter options.now steps.now)) }
+    ensures answer { IfOk result (IsSasAnswer sas.now (EndsAfter options.now steps.now)) }
     ensures refused { IfErr result (IsSasRefusal sas.now (IsRefusedAfter options.now steps.now)) }
 {
     let alloc = rt.alloc();
@@ -113,19 +147,40 @@ pub fn solve_sas_steps<R: AllocGlobal>(
 
 /// The answer for the task that the text spells, after steps drawn from the seed, at most as many as the options allow:
 /// each is the step whose number is the next word of Xoshiro256++ modulo the number of steps that would change something.
-/// The guarantees are those of `solve_sas_steps` for these steps, but `Limit` is answered if there is work left after the
-/// last one.
+/// The guarantees are those of `solve_sas_steps` for these steps.
 pub fn simulate_sas<R: AllocGlobal>(
     rt: &R,
     sas: &[u8],
     options: &Options,
     seed: u64,
 ) -> Result<SasAnswer, SasSolveFault>
-    ensures answer { IfOk result (IsSasAnswer sas.now (IsSettledBySeed options.now seed) (IsShortBySeed options.now seed)) }
+    ensures answer { IfOk result (IsSasAnswer sas.now (EndsBySeed options.now seed)) }
     ensures refused { IfErr result (IsSasRefusal sas.now (IsRefusedBySeed options.now seed)) }
 {
     let alloc = rt.alloc();
     let task = read_task(alloc, sas)?;
     let found = found_by_seed(alloc, &task, options, seed, CertificateKind::Sas)?;
+    Ok(answer_texts(alloc, &task, found)?)
+}
+
+/// The answer for the task that the text spells, by the chosen number of workers, each in a thread of its own, with a certificate that the
+/// checker accepts if its text has at most 2^30 bytes: a cheapest plan, or that there is none; `Limit` with a bound and the best plan so
+/// far if one of the owners has reached its limit, or the gate ended the search, before they were settled.
+///
+/// Fails with the first fault of the text, with `TotalTooLarge` if a path would have a cost or a number of operators
+/// above 2^62, with `Gate` if the gate makes the search fail, or if allocation fails. Whether it ends at all is not promised: the workers
+/// go on as long as the scheduler lets none of them get on.
+pub fn solve_sas<R: Threads + Wait + Clock + Sync + AllocGlobal, G: Gate + Sync>(
+    rt: &R,
+    sas: &[u8],
+    options: &Options,
+    gate: &G,
+) -> Result<SasAnswer, SasSolveFault>
+    ensures answer { IfOk result (IsSasAnswer sas.now (EndsByThreads options.now (G.may_stop gate.now))) }
+    ensures refused { IfErr result (IsSasRefusal sas.now (IsRefusedByThreads options.now (G.may_stop gate.now))) }
+{
+    let alloc = rt.alloc();
+    let task = read_task(alloc, sas)?;
+    let found = found_by_threads(rt, alloc, &task, options, CertificateKind::Sas, gate)?;
     Ok(answer_texts(alloc, &task, found)?)
 }

@@ -1,6 +1,6 @@
 //! Schedules that are drawn from a seed.
 
-ghost use Rattle.std.specs.Prelude.{◌≡◌, ℕ, ◌<◌, ◌+◌, length, IfOk, IfErr};
+ghost use Rattle.std.specs.Prelude.{◌≡◌, ℕ, ◌<◌, ◌+◌, false, length, IfOk, IfErr};
 ghost use Rattle.fdr.specs.Tasks.{ranges};
 ghost use Rattle.netcore.specs.Possible.{possible_steps};
 ghost use Rattle.optplan_sas.specs.Schedules.{word_of, IsAfterWords, Draws, IsSimulated, IsSimulationRefusal};
@@ -27,33 +27,36 @@ fn drawn<'a, S: Spread + Drop, F: StateForm + Drop>(
     world.possible_step(word % world.possible_count()).unwrap()
 }
 
-/// A world after steps drawn one after another: each is, of the steps that would change something, in the world's order,
+/// The world after steps drawn one after another: each is, of the steps that would change something, in the world's order,
 /// the one whose number is the next word of Xoshiro256++ (Blackman and Vigna 2021) from this seed modulo their number.
-/// The run ends when the world's count is 0; if it is not 0 after `steps` steps, the result is `None`. A fault is that of
-/// a step, or `OutOfMemory`.
+/// The run ends when the world's count is 0, after `steps` steps, or before a step that asks an owner for more nodes than its limit
+/// allows. A fault is that of a step, or `OutOfMemory`.
 pub fn simulated<'a, S: Spread + Drop, F: StateForm + Drop>(
     alloc: Global,
     space: &'a Space<'a, S>,
     owners: usize,
     seed: u64,
     steps: u64,
-) -> Result<Option<World<'a, S, F>>, OwnerFault>
+) -> Result<World<'a, S, F>, OwnerFault>
     requires owners { 0 < owners }
     requires fits { F.Fits (ranges space.now.task) }
     ensures run { IfOk result (IsSimulated S.owner space.now owners seed steps) }
+    ensures whole { IfOk result (λ w. w.spent ≡ false) }
     ensures refused { IfErr result (IsSimulationRefusal S.owner space.now owners seed) }
 {
     let mut world = World::start(alloc, space, owners)?;
     let mut generator = Xoshiro256PlusPlus::seed_from_u64(seed);
     for _ in 0..steps {
         if world.count() == 0 {
-            return Ok(Some(world));
+            return Ok(world);
         }
-        world.step(drawn(&world, &mut generator))?;
+        let step = drawn(&world, &mut generator);
+        match world.step(step) {
+            Ok(_) => {}
+            Err(OwnerFault::LimitReached) => return Ok(world),
+            Err(OwnerFault::TotalTooLarge) => return Err(OwnerFault::TotalTooLarge),
+            Err(OwnerFault::OutOfMemory) => return Err(OwnerFault::OutOfMemory),
+        }
     }
-    if world.count() == 0 {
-        Ok(Some(world))
-    } else {
-        Ok(None)
-    }
+    Ok(world)
 }

@@ -1,23 +1,27 @@
-//! Searches for a plan of a task, by a schedule that is given or drawn.
+//! Searches for a plan of a task, by threads or by a schedule that is given or drawn.
 
 ghost use Rattle.std.specs.Prelude.{◌≡◌, IfOk, IfErr};
 ghost use Rattle.cert_value.specs.Views.{kind_of};
 ghost use Rattle.fdr.specs.Tasks.{ranges};
 ghost use Rattle.optplan_sas.specs.Findings.{IsFinding};
-ghost use Rattle.optplan_sas.specs.Searches.{IsSpaceFor, IsSettledAfter, IsShortAfter, IsRefusedAfter, IsSettledBySeed, IsShortBySeed, IsRefusedBySeed};
+ghost use Rattle.optplan_sas.specs.Searches.{IsSpaceFor, EndsAfter, IsRefusedAfter, EndsBySeed, IsRefusedBySeed, EndsByThreads, IsRefusedByThreads};
 
 use crate::fault::SearchFault;
 use crate::found::{Found, found_by};
 use crate::options::Options;
 use crate::schedule::simulated;
 use cert_value::CertificateKind;
+use engine::{EngineFault, Gate, Searched, search};
 use fdr::FdrTask;
 use netcore::{World, WorldStep};
 use owner::{OwnerFault, Space};
-use packed::{StateForm, in_smallest_form};
+use packed::{Bits, Plain, StateForm, in_smallest_form};
 use packed_spread::Zobrist;
 use scp::choose_columns;
 use std::alloc::{AllocError, Global};
+use std::sync::Wait;
+use std::thread::Threads;
+use std::time::Clock;
 
 /// The search space for a task: columns of tables of the size that the options allow, and a spread of the states by a
 /// hash. Fails only if allocation fails.
@@ -43,12 +47,12 @@ fn after_steps<'a, F: StateForm + Drop>(
 ) -> Result<Found, SearchFault>
     requires fits { F.Fits (ranges space.now.task) }
     requires space { IsSpaceFor space.now.task options.now space.now }
-    ensures found { IfOk result (IsFinding space.now.task (kind_of kind) (IsSettledAfter options.now steps.now space.now.task) (IsShortAfter options.now steps.now space.now.task)) }
+    ensures found { IfOk result (IsFinding space.now.task (kind_of kind) (EndsAfter options.now steps.now space.now.task)) }
     ensures refused { IfErr result (IsRefusedAfter options.now steps.now space.now.task) }
 {
     match World::<'a, Zobrist<'a>, F>::run(alloc, space, options.workers(), steps) {
         Ok(world) => Ok(found_by(alloc, &world.joined(), kind)?),
-        Err(OwnerFault::LimitReached) => Ok(Found::Unsettled),
+        Err(OwnerFault::LimitReached) => unreachable!(),
         Err(OwnerFault::TotalTooLarge) => Err(SearchFault::TotalTooLarge),
         Err(OwnerFault::OutOfMemory) => Err(SearchFault::OutOfMemory),
     }
@@ -64,15 +68,38 @@ fn by_seed<'a, F: StateForm + Drop>(
 ) -> Result<Found, SearchFault>
     requires fits { F.Fits (ranges space.now.task) }
     requires space { IsSpaceFor space.now.task options.now space.now }
-    ensures found { IfOk result (IsFinding space.now.task (kind_of kind) (IsSettledBySeed options.now seed space.now.task) (IsShortBySeed options.now seed space.now.task)) }
+    ensures found { IfOk result (IsFinding space.now.task (kind_of kind) (EndsBySeed options.now seed space.now.task)) }
     ensures refused { IfErr result (IsRefusedBySeed options.now seed space.now.task) }
 {
     match simulated::<Zobrist<'a>, F>(alloc, space, options.workers(), seed, options.steps()) {
-        Ok(Some(world)) => Ok(found_by(alloc, &world.joined(), kind)?),
-        Ok(None) => Ok(Found::Unsettled),
-        Err(OwnerFault::LimitReached) => Ok(Found::Unsettled),
+        Ok(world) => Ok(found_by(alloc, &world.joined(), kind)?),
+        Err(OwnerFault::LimitReached) => unreachable!(),
         Err(OwnerFault::TotalTooLarge) => Err(SearchFault::TotalTooLarge),
         Err(OwnerFault::OutOfMemory) => Err(SearchFault::OutOfMemory),
+    }
+}
+
+/// The finding of a search by threads, as `found_by_threads` returns it, of owners whose states have the form `F`.
+fn by_threads<'a, R: Threads + Wait + Clock + Sync, G: Gate + Sync, F: StateForm + Drop + Send>(
+    rt: &R,
+    alloc: Global,
+    space: &'a Space<'a, Zobrist<'a>>,
+    options: &Options,
+    kind: CertificateKind,
+    gate: &G,
+) -> Result<Found, SearchFault>
+    requires fits { F.Fits (ranges space.now.task) }
+    requires space { IsSpaceFor space.now.task options.now space.now }
+    ensures found { IfOk result (IsFinding space.now.task (kind_of kind) (EndsByThreads options.now (G.may_stop gate.now) space.now.task)) }
+    ensures refused { IfErr result (IsRefusedByThreads options.now (G.may_stop gate.now) space.now.task) }
+{
+    let (workers, capacity) = (options.workers(), options.ring());
+    match search::<R, Zobrist<'a>, F, G>(rt, alloc, space, workers, capacity, gate) {
+        Ok(Searched::Settled(joined)) => Ok(found_by(alloc, &joined, kind)?),
+        Ok(Searched::Stopped(joined)) => Ok(found_by(alloc, &joined, kind)?),
+        Err(EngineFault::OutOfMemory) => Err(SearchFault::OutOfMemory),
+        Err(EngineFault::TotalTooLarge) => Err(SearchFault::TotalTooLarge),
+        Err(EngineFault::Gate(worker, turn)) => Err(SearchFault::Gate(worker, turn)),
     }
 }
 
@@ -85,7 +112,7 @@ fn after_steps_in_smallest_form<'a>(
     kind: CertificateKind,
 ) -> Result<Found, SearchFault>
     requires { IsSpaceFor space.now.task options.now space.now }
-    ensures found { IfOk result (IsFinding space.now.task (kind_of kind) (IsSettledAfter options.now steps.now space.now.task) (IsShortAfter options.now steps.now space.now.task)) }
+    ensures found { IfOk result (IsFinding space.now.task (kind_of kind) (EndsAfter options.now steps.now space.now.task)) }
     ensures refused { IfErr result (IsRefusedAfter options.now steps.now space.now.task) }
 {
     in_smallest_form!(
@@ -103,15 +130,43 @@ fn by_seed_in_smallest_form<'a>(
     kind: CertificateKind,
 ) -> Result<Found, SearchFault>
     requires { IsSpaceFor space.now.task options.now space.now }
-    ensures found { IfOk result (IsFinding space.now.task (kind_of kind) (IsSettledBySeed options.now seed space.now.task) (IsShortBySeed options.now seed space.now.task)) }
+    ensures found { IfOk result (IsFinding space.now.task (kind_of kind) (EndsBySeed options.now seed space.now.task)) }
     ensures refused { IfErr result (IsRefusedBySeed options.now seed space.now.task) }
 {
     in_smallest_form!(space.layout(), by_seed(alloc, space, options, seed, kind))
 }
 
-/// The finding for the task after these steps of a world of owners: a cheapest plan, or that there is none, with a
-/// certificate of that kind; `Unsettled` if the owners are not settled after the steps, or a step requests an owner to
-/// expand more nodes than its limit allows.
+/// The finding of a search by threads, of owners whose states have the smallest form.
+fn by_threads_in_smallest_form<'a, R: Threads + Wait + Clock + Sync, G: Gate + Sync>(
+    rt: &R,
+    alloc: Global,
+    space: &'a Space<'a, Zobrist<'a>>,
+    options: &Options,
+    kind: CertificateKind,
+    gate: &G,
+) -> Result<Found, SearchFault>
+    requires { IsSpaceFor space.now.task options.now space.now }
+    ensures found { IfOk result (IsFinding space.now.task (kind_of kind) (EndsByThreads options.now (G.may_stop gate.now) space.now.task)) }
+    ensures refused { IfErr result (IsRefusedByThreads options.now (G.may_stop gate.now) space.now.task) }
+{
+    let layout = space.layout();
+    // `in_smallest_form!` calls a function that has no type parameter but the form
+    if Bits::<1>::fits(layout) {
+        by_threads::<R, G, Bits<1>>(rt, alloc, space, options, kind, gate)
+    } else if Bits::<2>::fits(layout) {
+        by_threads::<R, G, Bits<2>>(rt, alloc, space, options, kind, gate)
+    } else if Bits::<4>::fits(layout) {
+        by_threads::<R, G, Bits<4>>(rt, alloc, space, options, kind, gate)
+    } else if Bits::<8>::fits(layout) {
+        by_threads::<R, G, Bits<8>>(rt, alloc, space, options, kind, gate)
+    } else {
+        by_threads::<R, G, Plain>(rt, alloc, space, options, kind, gate)
+    }
+}
+
+/// The finding for the task after these steps of a world of owners, with a certificate of that kind: a cheapest plan, or that there is
+/// none; where the owners are not settled, what is known so far. No step is done from the first on that asks an owner for more nodes
+/// than its limit allows.
 ///
 /// Fails with `TotalTooLarge` if a path would have a cost or a number of operators above 2^62, or if allocation fails.
 pub fn found_after<'a>(
@@ -121,16 +176,16 @@ pub fn found_after<'a>(
     steps: &[WorldStep],
     kind: CertificateKind,
 ) -> Result<Found, SearchFault>
-    ensures found { IfOk result (IsFinding task.now (kind_of kind) (IsSettledAfter options.now steps.now task.now) (IsShortAfter options.now steps.now task.now)) }
+    ensures found { IfOk result (IsFinding task.now (kind_of kind) (EndsAfter options.now steps.now task.now)) }
     ensures refused { IfErr result (IsRefusedAfter options.now steps.now task.now) }
 {
     let space: Space<'a, Zobrist<'a>> = space_for(alloc, task, options)?;
     after_steps_in_smallest_form(alloc, &space, options, steps, kind)
 }
 
-/// The finding for the task after steps drawn from the seed, at most as many as the options allow: a cheapest plan, or
-/// that there is none, with a certificate of that kind; `Unsettled` if there is work left after the last step, or an
-/// owner is to expand more nodes than its limit allows.
+/// The finding for the task after steps drawn from the seed, at most as many as the options allow, with a certificate of that kind: a
+/// cheapest plan, or that there is none; where the owners are not settled, what is known so far. No step is done from the first on
+/// that asks an owner for more nodes than its limit allows.
 ///
 /// Fails with `TotalTooLarge` if a path would have a cost or a number of operators above 2^62, or if allocation fails.
 pub fn found_by_seed<'a>(
@@ -140,9 +195,29 @@ pub fn found_by_seed<'a>(
     seed: u64,
     kind: CertificateKind,
 ) -> Result<Found, SearchFault>
-    ensures found { IfOk result (IsFinding task.now (kind_of kind) (IsSettledBySeed options.now seed task.now) (IsShortBySeed options.now seed task.now)) }
+    ensures found { IfOk result (IsFinding task.now (kind_of kind) (EndsBySeed options.now seed task.now)) }
     ensures refused { IfErr result (IsRefusedBySeed options.now seed task.now) }
 {
     let space: Space<'a, Zobrist<'a>> = space_for(alloc, task, options)?;
     by_seed_in_smallest_form(alloc, &space, options, seed, kind)
+}
+
+/// The finding for the task by the chosen number of workers, each in a thread of its own, with a certificate of that kind: a cheapest plan,
+/// or that there is none; where one of the owners has reached its limit before, or the gate ended the search, what is known so far.
+///
+/// Fails with `TotalTooLarge` if a path would have a cost or a number of operators above 2^62, with `Gate` if the gate makes it fail, or
+/// if allocation fails. Whether it ends at all is not promised.
+pub fn found_by_threads<'a, R: Threads + Wait + Clock + Sync, G: Gate + Sync>(
+    rt: &R,
+    alloc: Global,
+    task: &'a FdrTask,
+    options: &Options,
+    kind: CertificateKind,
+    gate: &G,
+) -> Result<Found, SearchFault>
+    ensures found { IfOk result (IsFinding task.now (kind_of kind) (EndsByThreads options.now (G.may_stop gate.now) task.now)) }
+    ensures refused { IfErr result (IsRefusedByThreads options.now (G.may_stop gate.now) task.now) }
+{
+    let space: Space<'a, Zobrist<'a>> = space_for(alloc, task, options)?;
+    by_threads_in_smallest_form(rt, alloc, &space, options, kind, gate)
 }

@@ -1,4 +1,4 @@
 pub mod Outputs
+pub mod Schedules
 pub mod Solving
 pub mod SasSolving
-pub mod Texts

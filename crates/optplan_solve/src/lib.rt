@@ -5,7 +5,8 @@ mod outputs;
 mod sas_solving;
 mod settings;
 mod solving;
+mod time_limit;
 
 pub use sas_solving::run_solve_sas;
-pub use settings::Settings;
+pub use settings::{Schedule, Settings};
 pub use solving::run_solve;

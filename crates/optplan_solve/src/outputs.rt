@@ -1,51 +1,57 @@
 //! What is written and printed for an answer.
 
-ghost use Rattle.std.specs.Prelude.{◌≡◌, ◌≢◌, ◌≤◌, ◌+◌, ◌++◌, List, Some, IfOk, IfErr, OnOk};
+ghost use Rattle.std.specs.Prelude.{◌≡◌, ◌≢◌, ◌≤◌, ◌+◌, ◌++◌, List, Some, IfOk, IfErr, OnOk, string_bytes};
 ghost use Rattle.std.specs.Option.{option_map};
 ghost use Rattle.optplan_device.specs.Events.{Event};
 ghost use Rattle.optplan_replies.specs.Faults.{fault_status};
 ghost use Rattle.optplan_replies.specs.Runs.{IsDeviceFault, IsQuiet};
-ghost use Rattle.optplan_solve.specs.Outputs.{writes};
-ghost use Rattle.optplan_solve.specs.Texts.{files_of, text_writes, text_line, text_outputs, text_status};
+ghost use Rattle.optplan_solve.specs.Outputs.{files_of, writes, best_writes, answer_writes, best_text, limit_text, answer_text, outputs, answer_status};
 
 use crate::settings::Settings;
 use optplan_device::{Device, DeviceFault};
 use optplan_replies::{Fault, FileWord, Status, put_text, report};
-use std::alloc::Global;
+use optplan_sas::{Answer, KnownSoFar, WrittenPlan};
+use std::alloc::{AllocError, Global};
 
-/// The texts of an answer.
-#[derive(Drop)]
-pub(crate) enum AnswerTexts {
-    /// The text of a cheapest plan, and that of a certificate of its cost.
-    Solved(String, Vec<u8>),
-    /// The text of a certificate that there is no plan.
-    Unsolvable(Vec<u8>),
-    /// The search ended before it found either.
-    Limit,
+/// The text of the best plan so far, empty if there is none.
+fn best_text<P: Drop>(best: &Option<WrittenPlan<P>>) -> &str
+    ensures { result.now ≡ best_text best.now }
+{
+    match best {
+        Some(best) => best.plan_text.as_str(),
+        None => "",
+    }
 }
 
-impl AnswerTexts {
-    /// What is printed: the plan, or a line.
-    fn line(&self) -> &[u8]
-        ensures { result.now ≡ text_line self.now }
-    {
-        match self {
-            AnswerTexts::Solved(plan, _) => plan.as_bytes(),
-            AnswerTexts::Unsolvable(_) => "unsolvable\n".as_bytes(),
-            AnswerTexts::Limit => "limit\n".as_bytes(),
-        }
-    }
+/// What is printed at a limit: a line with the bound, and behind it the best plan so far. Fails only if allocation fails.
+fn limit_text<P: Drop>(alloc: Global, known: &KnownSoFar<P>) -> Result<String, AllocError>
+    ensures { IfOk result (λ text. string_bytes text ≡ limit_text known.now) }
+{
+    let bound = known.bound;
+    let best = best_text(&known.best);
+    format!(in alloc; "limit {bound}\n{best}")
+}
 
-    /// The exit status.
-    fn status(&self) -> Status
-        ensures status { result ≡ text_status self.now }
-        ensures answered { (result ≢ Status.OutOfMemory) × (result ≢ Status.DeviceFailed) }
-    {
-        match self {
-            AnswerTexts::Solved(_, _) => Status::Done,
-            AnswerTexts::Unsolvable(_) => Status::Unsolvable,
-            AnswerTexts::Limit => Status::Limited,
-        }
+/// What is printed: the plan, or a line, behind which the best plan so far stands at a limit. Fails only if allocation fails.
+fn answer_text<P: Drop>(alloc: Global, answer: &Answer<P>) -> Result<String, AllocError>
+    ensures { IfOk result (λ text. string_bytes text ≡ answer_text answer.now) }
+{
+    match answer {
+        Answer::Solved(solution) => String::from_str(alloc, solution.found.plan_text.as_str()),
+        Answer::Unsolvable(_) => String::from_str(alloc, "unsolvable\n"),
+        Answer::Limit(known) => limit_text(alloc, known),
+    }
+}
+
+/// The exit status of an answer.
+fn answer_status<P: Drop>(answer: &Answer<P>) -> Status
+    ensures status { result ≡ answer_status answer.now }
+    ensures answered { (result ≢ Status.OutOfMemory) × (result ≢ Status.DeviceFailed) }
+{
+    match answer {
+        Answer::Solved(_) => Status::Done,
+        Answer::Unsolvable(_) => Status::Unsolvable,
+        Answer::Limit(_) => Status::Limited,
     }
 }
 
@@ -71,63 +77,88 @@ fn write_file<D: Device>(
     }
 }
 
+/// Writes the best plan so far to a file, if there is a plan and the file has a name. Fails as `write_file` does.
+fn write_best<D: Device, P: Drop>(
+    device: &mut D,
+    name: Option<&str>,
+    best: &Option<WrittenPlan<P>>,
+) -> Result<(), Fault>
+    ensures told { (h : List Event) → D.history device.old ≡ Some h →
+        OnOk result (D.history device.new ≡ Some (h ++ best_writes (option_map (λ n. n.now) name.entry) best.now)) }
+    ensures same { OnOk result (D.failure_count device.new ≡ D.failure_count device.old) }
+    ensures failed { IfErr result (λ e. IsDeviceFault e (D.failure_count device.old) (D.failure_count device.new)) }
+{
+    match best {
+        Some(best) => write_file(device, name, best.plan_text.as_bytes(), FileWord::Plan),
+        None => Ok(()),
+    }
+}
+
 /// Writes the files that are requested, the certificate's first. Fails as `write_file` does; the certificate's file may
 /// then be written.
-fn write_files<D: Device>(
+fn write_files<D: Device, P: Drop>(
     device: &mut D,
-    answer: &AnswerTexts,
+    answer: &Answer<P>,
     settings: &Settings<'_>,
 ) -> Result<(), Fault>
     ensures told { (h : List Event) → D.history device.old ≡ Some h →
-        OnOk result (D.history device.new ≡ Some (h ++ text_writes (files_of settings.now) answer.now)) }
+        OnOk result (D.history device.new ≡ Some (h ++ answer_writes (files_of settings.now) answer.now)) }
     ensures same { OnOk result (D.failure_count device.new ≡ D.failure_count device.old) }
     ensures failed { IfErr result (λ e. IsDeviceFault e (D.failure_count device.old) (D.failure_count device.new)) }
 {
     match answer {
-        AnswerTexts::Solved(plan, cert) => {
-            write_file(device, settings.cert, cert, FileWord::Cert)?;
-            write_file(device, settings.plan, plan.as_bytes(), FileWord::Plan)
+        Answer::Solved(solution) => {
+            write_file(device, settings.cert, &solution.cert, FileWord::Cert)?;
+            let plan = solution.found.plan_text.as_bytes();
+            write_file(device, settings.plan, plan, FileWord::Plan)
         }
-        AnswerTexts::Unsolvable(cert) => write_file(device, settings.cert, cert, FileWord::Cert),
-        AnswerTexts::Limit => Ok(()),
+        Answer::Unsolvable(cert) => write_file(device, settings.cert, cert, FileWord::Cert),
+        Answer::Limit(known) => {
+            write_file(device, settings.cert, &known.cert, FileWord::Cert)?;
+            write_best(device, settings.plan, &known.best)
+        }
     }
 }
 
-/// Writes an answer's files and prints its plan or line, and returns the exit status.
-fn put_answer<D: Device>(
+/// Writes an answer's files and prints its plan or line, and returns the exit status. What is printed is made before anything
+/// is written.
+fn put_answer<D: Device, P: Drop>(
     alloc: Global,
     device: &mut D,
-    answer: &AnswerTexts,
+    answer: &Answer<P>,
     settings: &Settings<'_>,
 ) -> Status
     ensures told { (h : List Event) → D.history device.old ≡ Some h → result ≢ Status.OutOfMemory → result ≢ Status.DeviceFailed →
-        D.history device.new ≡ Some (h ++ text_outputs (files_of settings.now) answer.now) }
-    ensures status { result ≢ Status.OutOfMemory → result ≢ Status.DeviceFailed → result ≡ text_status answer.now }
+        D.history device.new ≡ Some (h ++ outputs (files_of settings.now) answer.now) }
+    ensures status { result ≢ Status.OutOfMemory → result ≢ Status.DeviceFailed → result ≡ answer_status answer.now }
     ensures counted { result ≡ Status.DeviceFailed → D.failure_count device.old + 1 ≤ D.failure_count device.new }
 {
+    let Ok(text) = answer_text(alloc, answer) else {
+        return report(alloc, device, &Fault::OutOfMemory);
+    };
     match write_files(device, answer, settings) {
-        Ok(()) => put_text(alloc, device, answer.line(), answer.status()),
+        Ok(()) => put_text(alloc, device, text.as_bytes(), answer_status(answer)),
         Err(fault) => report(alloc, device, &fault),
     }
 }
 
 /// Writes and prints the answer for the texts of a task, or reports their fault, and returns the exit status.
-pub(crate) fn reply_answer<D: Device>(
+pub(crate) fn reply_answer<D: Device, P: Drop>(
     alloc: Global,
     device: &mut D,
-    answer: &Result<AnswerTexts, Fault>,
+    answer: &Result<Answer<P>, Fault>,
     settings: &Settings<'_>,
 ) -> Status
     ensures answered { (h : List Event) → D.history device.old ≡ Some h → result ≢ Status.OutOfMemory → result ≢ Status.DeviceFailed →
-        IfOk answer.now (λ t. D.history device.new ≡ Some (h ++ text_outputs (files_of settings.now) t)) }
-    ensures status { result ≢ Status.OutOfMemory → result ≢ Status.DeviceFailed → IfOk answer.now (λ t. result ≡ text_status t) }
-    ensures counted { result ≡ Status.DeviceFailed → IfOk answer.now (λ t. D.failure_count device.old + 1 ≤ D.failure_count device.new) }
+        IfOk answer.now (λ a. D.history device.new ≡ Some (h ++ outputs (files_of settings.now) a)) }
+    ensures status { result ≢ Status.OutOfMemory → result ≢ Status.DeviceFailed → IfOk answer.now (λ a. result ≡ answer_status a) }
+    ensures counted { result ≡ Status.DeviceFailed → IfOk answer.now (λ a. D.failure_count device.old + 1 ≤ D.failure_count device.new) }
     ensures refused { (h : List Event) → D.history device.old ≡ Some h →
         IfErr answer.now (λ e. (later : List Event) × (D.history device.new ≡ Some (h ++ later)) × IsQuiet later) }
     ensures refusal { IfErr answer.now (λ e. result ≡ fault_status e) }
 {
     match answer {
-        Ok(texts) => put_answer(alloc, device, texts, settings),
+        Ok(answer) => put_answer(alloc, device, answer, settings),
         Err(fault) => report(alloc, device, fault),
     }
 }

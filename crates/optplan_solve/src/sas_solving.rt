@@ -3,71 +3,84 @@
 ghost use Rattle.std.specs.Prelude.{◌≡◌, ◌≢◌, ◌≤◌, ◌+◌, ◌++◌, ℕ, List, Some, IfOk, IfErr};
 ghost use Rattle.optplan_device.specs.Events.{Event};
 ghost use Rattle.optplan_sas.specs.Choices.{Choices};
-ghost use Rattle.optplan_sas.specs.Searches.{IsRefusedBySeed};
-ghost use Rattle.optplan_sas.specs.SasAnswers.{IsSasRefusal};
-ghost use Rattle.optplan_solve.specs.Outputs.{OutputFiles};
-ghost use Rattle.optplan_solve.specs.SasSolving.{sas_outputs, sas_answer_status, IsSasSolveRefusal, SolvesSas};
-ghost use Rattle.optplan_solve.specs.Texts.{files_of, text_outputs, text_status, IsSasAnsweredBy};
+ghost use Rattle.optplan_sas.specs.SasAnswers.{IsSasAnswer, IsSasRefusal};
+ghost use Rattle.optplan_solve.specs.Outputs.{files_of};
+ghost use Rattle.optplan_solve.specs.Schedules.{EndsBy, IsRefusedBy};
+ghost use Rattle.optplan_solve.specs.declared.settings.Schedule.{Schedule};
+ghost use Rattle.optplan_solve.specs.SasSolving.{IsSasSolveRefusal, SolvesSas};
 
-use crate::outputs::{AnswerTexts, reply_answer};
-use crate::settings::Settings;
+use crate::outputs::reply_answer;
+use crate::settings::{Schedule, Settings};
+use crate::time_limit::TimeLimit;
 use optplan_device::Device;
 use optplan_replies::{Fault, FileWord, Status, read_file, report};
-use optplan_sas::{SasAnswer, SasSolveFault, simulate_sas};
+use optplan_sas::{SasAnswer, SasSolveFault, simulate_sas, solve_sas};
+use std::sync::Wait;
+use std::thread::Threads;
+use std::time::Clock;
 
-/// The texts of an answer.
-fn texts_of(answer: SasAnswer) -> AnswerTexts
-    ensures outputs { (files : OutputFiles) → text_outputs files result ≡ sas_outputs files answer }
-    ensures status { text_status result ≡ sas_answer_status answer }
-{
-    match answer {
-        SasAnswer::Solved(solution) => AnswerTexts::Solved(solution.plan_text, solution.cert),
-        SasAnswer::Unsolvable(cert) => AnswerTexts::Unsolvable(cert),
-        SasAnswer::Limit => AnswerTexts::Limit,
-    }
-}
-
-/// The solver's fault as the program's.
+/// The solver's fault as the program's, whose gates make no search fail.
 fn solve_fault(fault: SasSolveFault) -> Fault
-    ensures { (sas : List ℕ) (choices : Choices) (seed : ℕ) → IsSasRefusal sas (IsRefusedBySeed choices seed) fault → IsSasSolveRefusal sas choices seed result }
+    requires { (sas : List ℕ) × ((choices : Choices) × ((schedule : Schedule) × IsSasRefusal sas (IsRefusedBy choices schedule) fault)) }
+    ensures { (sas : List ℕ) (choices : Choices) (schedule : Schedule) → IsSasRefusal sas (IsRefusedBy choices schedule) fault → IsSasSolveRefusal sas choices schedule result }
 {
     match fault {
         SasSolveFault::OutOfMemory => Fault::OutOfMemory,
         SasSolveFault::Sas(fault) => Fault::Sas(fault),
         SasSolveFault::TotalTooLarge => Fault::TotalTooLarge,
+        SasSolveFault::Gate(_, _) => unreachable!(),
     }
 }
 
-/// The texts of the answer for the task that the text spells.
-///
-/// Fails with the first fault of the text, with `TotalTooLarge` if a path's total is too large, or with `OutOfMemory`.
-fn answer_of<R: AllocGlobal>(
+/// The answer for the task that the text spells, by the schedule that the settings request, whose seconds count from now on. Fails as the
+/// solver does.
+fn solved<R: Threads + Wait + Clock + Sync + AllocGlobal>(
     rt: &R,
     sas: &[u8],
     settings: &Settings<'_>,
-) -> Result<AnswerTexts, Fault>
-    ensures answer { IfOk result (IsSasAnsweredBy sas.now settings.now.options settings.now.seed) }
-    ensures refused { IfErr result (IsSasSolveRefusal sas.now settings.now.options settings.now.seed) }
+) -> Result<SasAnswer, SasSolveFault>
+    ensures answer { IfOk result (IsSasAnswer sas.now (EndsBy settings.now.options settings.now.schedule)) }
+    ensures refused { IfErr result (IsSasRefusal sas.now (IsRefusedBy settings.now.options settings.now.schedule)) }
 {
-    match simulate_sas(rt, sas, &settings.options, settings.seed) {
-        Ok(answer) => Ok(texts_of(answer)),
+    match settings.schedule {
+        Schedule::Threads(seconds) => {
+            let limit = TimeLimit::new(rt, seconds);
+            solve_sas(rt, sas, &settings.options, &limit)
+        }
+        Schedule::Drawn(seed) => simulate_sas(rt, sas, &settings.options, seed),
+    }
+}
+
+/// The answer for the task that the text spells.
+///
+/// Fails with the first fault of the text, with `TotalTooLarge` if a path's total is too large, or with `OutOfMemory`.
+fn answer_of<R: Threads + Wait + Clock + Sync + AllocGlobal>(
+    rt: &R,
+    sas: &[u8],
+    settings: &Settings<'_>,
+) -> Result<SasAnswer, Fault>
+    ensures answer { IfOk result (IsSasAnswer sas.now (EndsBy settings.now.options settings.now.schedule)) }
+    ensures refused { IfErr result (IsSasSolveRefusal sas.now settings.now.options settings.now.schedule) }
+{
+    match solved(rt, sas, settings) {
+        Ok(answer) => Ok(answer),
         Err(fault) => Err(solve_fault(fault)),
     }
 }
 
-/// Solves a finite-domain task by steps drawn from the seed: reads the file; then writes the certificate and the plan, if
-/// requested, and prints the plan, `unsolvable` or `limit`; or reports a fault.
+/// Solves a finite-domain task by threads, or by steps drawn from a seed: reads the file; then writes the certificate and the plan, if
+/// requested, and prints the plan, `unsolvable`, or `limit` with a bound and the best plan so far; or reports a fault.
 ///
-/// Returns the exit status: `Done` with a plan, `Unsolvable` if there is none, `Limited` at a limit, or the fault's. For
-/// `unsolvable` no plan is written, and for `limit` no file.
-pub fn run_solve_sas<D: Device, R: AllocGlobal>(
+/// Returns the exit status: `Done` with a cheapest plan, `Unsolvable` if there is none, `Limited` at a limit, or the fault's.
+/// No plan is written where there is none.
+pub fn run_solve_sas<D: Device, R: Threads + Wait + Clock + Sync + AllocGlobal>(
     rt: &R,
     device: &mut D,
     sas: &str,
     settings: &Settings<'_>,
 ) -> Status
     ensures done { (h : List Event) → D.history device.old ≡ Some h → D.failure_count device.new ≡ D.failure_count device.old → result ≢ Status.OutOfMemory →
-        (new : List Event) × (D.history device.new ≡ Some new) × SolvesSas h new sas.now settings.now.options settings.now.seed (files_of settings.now) result }
+        (new : List Event) × (D.history device.new ≡ Some new) × SolvesSas h new sas.now settings.now.options settings.now.schedule (files_of settings.now) result }
     ensures device_failed { result ≡ Status.DeviceFailed → D.failure_count device.old + 1 ≤ D.failure_count device.new }
 {
     match read_file(rt.alloc(), device, sas, FileWord::Sas) {

@@ -2,13 +2,23 @@
 
 use optplan_sas::Options;
 
+/// How the owners' steps follow each other.
+#[derive(Clone, Copy, Debug, PartialEq, Eq)]
+pub enum Schedule {
+    /// The owners search in threads, one each, and end as at a limit after so many seconds, if these are given. The seconds count
+    /// from when the files are read, but only the search can be ended, at the next turn of each owner.
+    Threads(Option<u64>),
+    /// The owners' steps are drawn from this seed, one after another.
+    Drawn(u64),
+}
+
 /// What the words of a solve command request beside its files.
 #[derive(Drop)]
 pub struct Settings<'a> {
     /// The number of owners, the size of tables, and the limits of the search.
     pub options: Options,
-    /// The seed from which the owners' steps are drawn.
-    pub seed: u64,
+    /// How the owners' steps follow each other.
+    pub schedule: Schedule,
     /// The name of the file to which the plan is written, if requested.
     pub plan: Option<&'a str>,
     /// The name of the file to which the certificate is written, if requested.

@@ -14,3 +14,4 @@ pub use fault::OwnerFault;
 pub use openlist::Rank;
 pub use owner::Owner;
 pub use space::Space;
+pub use successors::MAX_TOTAL;

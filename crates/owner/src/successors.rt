@@ -19,7 +19,7 @@ use packed_spread::Spread;
 use std::alloc::{AllocError, Global};
 
 /// The greatest cost of a path, and the greatest number of operators on it: 2^62.
-const MAX_TOTAL: u64 = 4_611_686_018_427_387_904;
+pub const MAX_TOTAL: u64 = 4_611_686_018_427_387_904;
 
 /// Whether the successor by one of these operators would have a cost or a number of operators above 2^62.
 pub(crate) fn has_large_successor(task: &FdrTask, operators: &[usize], rank: Rank) -> bool

@@ -1,24 +1,12 @@
-//! Tests of the whole program over tasks that it solves, its command line, files that do not exist, devices that fail,
-//! lines of faults, and how rows are judged.
+//! Tests of the whole program that no run over files shows: a device whose calls fail, memory that is refused, lists of steps, and the lines of
+//! faults that no small file has.
 #![tactic(auto)]
 
 #[cfg(test)]
-mod answers;
-#[cfg(test)]
-mod command_line;
-#[cfg(test)]
 mod fault_lines;
-#[cfg(test)]
-mod mismatches;
-#[cfg(test)]
-mod options;
-#[cfg(test)]
-mod runs;
-#[cfg(test)]
-mod seeds;
 #[cfg(test)]
 mod solve_surroundings;
 #[cfg(test)]
-mod surroundings;
+mod steps;
 #[cfg(test)]
-mod tasks;
+mod surroundings;

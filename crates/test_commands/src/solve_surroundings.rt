@@ -1,12 +1,27 @@
 //! A device of which one call fails.
 
-use crate::runs::written_names;
 use optplan_command::run;
-use optplan_device::DeviceFault;
+use optplan_device::{DeviceFault, Recorded};
 use optplan_runs::texts::{ROAD_DOMAIN, ROAD_PROBLEM, ROAD_PROBLEM_WITHOUT_WAY, ROAD_SAS};
 use optplan_runs::{FaultyDevice, program_words, recorded};
+use std::alloc::{AllocError, Global};
 use std::process::Abort;
+use std::sync::Wait;
 use std::test::Fail;
+use std::thread::Threads;
+use std::time::Clock;
+
+/// The names of the files that were written, in order, each followed by a space.
+fn written_names(alloc: Global, events: &[Recorded]) -> Result<String, AllocError> {
+    let mut names = String::new(alloc);
+    for event in events {
+        if let Recorded::Written(name, _) = event {
+            names.push_str(name.as_str())?;
+            names.push(' ')?;
+        }
+    }
+    Ok(names)
+}
 
 const PLAN: &str = "(go a b)\n(go b c)\n; cost = 2 (unit cost)\n";
 
@@ -110,11 +125,19 @@ const FAILING_ROWS: &[Row] = &[
         SOLVE_TO_A_LIMIT,
         2,
         "",
-        "optplan: F71 CannotWrite output\n",
+        "optplan: F71 CannotWrite cert\n",
         7,
         "",
     ),
-    (SOLVE_TO_A_LIMIT, 3, "limit\n", "", 5, ""),
+    (
+        SOLVE_TO_A_LIMIT,
+        3,
+        "",
+        "optplan: F71 CannotWrite output\n",
+        7,
+        "c ",
+    ),
+    (SOLVE_TO_A_LIMIT, 4, "limit 2\n", "", 5, "c "),
     // A report that fails leaves the status as it is.
     (SOLVE_NO_PROBLEM, 2, "", "", 1, ""),
     (
@@ -141,10 +164,15 @@ const MEMORY_ROWS: &[Row] = &[
     (SOLVE_SAS, 3, "", OUT_OF_MEMORY, 6, "c l "),
     (SOLVE_WITHOUT_WAY, 2, "", OUT_OF_MEMORY, 6, ""),
     (SOLVE_TO_A_LIMIT, 2, "", OUT_OF_MEMORY, 6, ""),
+    (SOLVE_TO_A_LIMIT, 3, "", OUT_OF_MEMORY, 6, "c "),
 ];
 
 /// Checks the outcome of the program if one call of its device fails with this fault.
-fn does<R: Abort + AllocGlobal>(rt: &R, row: &Row, fault: DeviceFault) -> Result<(), Fail> {
+fn does<R: Threads + Wait + Clock + Sync + Abort + AllocGlobal>(
+    rt: &R,
+    row: &Row,
+    fault: DeviceFault,
+) -> Result<(), Fail> {
     let (words, calls_before, out, err, status, written) = row;
     let files = [
         ("d", ROAD_DOMAIN.as_bytes()),

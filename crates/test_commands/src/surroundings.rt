@@ -1,4 +1,4 @@
-//! Files that do not exist, and a device that fails.
+//! A device that fails, and a file whose name is empty.
 
 use optplan_command::run;
 use optplan_device::{DeviceFault, MemoryDevice};
@@ -6,7 +6,10 @@ use optplan_runs::texts::{ROAD_CERTIFICATE, ROAD_DOMAIN, ROAD_PROBLEM, ROAD_SAS}
 use optplan_runs::{FaultyDevice, Outcome, program_words, recorded, run_over};
 use std::alloc::{AllocError, Global};
 use std::process::Abort;
+use std::sync::Wait;
 use std::test::Fail;
+use std::thread::Threads;
+use std::time::Clock;
 
 const PLAN: &str = "(go a b)(go b c)";
 
@@ -22,99 +25,35 @@ fn wanted(alloc: Global, texts: Texts) -> Result<Outcome, AllocError> {
     })
 }
 
-/// A word for each of the three files, and the expected outcome.
-const MISSING_ROWS: &[([&str; 3], Texts)] = &[
-    (["domain", "problem", "plan"], ("valid 2\n", "", 0)),
-    (
-        ["gone", "problem", "plan"],
-        ("", "optplan: F70 CannotRead domain\n", 7),
-    ),
-    (
-        ["domain", "gone", "plan"],
-        ("", "optplan: F70 CannotRead problem\n", 7),
-    ),
-    (
-        ["domain", "problem", "gone"],
-        ("", "optplan: F70 CannotRead plan\n", 7),
-    ),
-    (
-        ["gone", "gone", "gone"],
-        ("", "optplan: F70 CannotRead domain\n", 7),
-    ),
-    (
-        ["", "problem", "plan"],
-        ("", "optplan: F70 CannotRead domain\n", 7),
-    ),
-    // All files are read before any text is looked at.
-    (
-        ["plan", "problem", "gone"],
-        ("", "optplan: F70 CannotRead plan\n", 7),
-    ),
-    // Which text is which is determined by its place among the words.
-    (
-        ["domain", "domain", "domain"],
-        ("", "optplan: F10 Shape problem 0\n", 1),
-    ),
-    (
-        ["plan", "problem", "plan"],
-        ("", "optplan: F7 Trailing domain 8\n", 1),
-    ),
-    (
-        ["domain", "problem", "problem"],
-        ("", "optplan: F25 PlanShape plan 8\n", 1),
-    ),
-];
-
-#[test]
-fn files_that_are_not_there(rt: HostRuntime) -> Result<(), Fail> {
-    let files = [
-        ("domain", ROAD_DOMAIN.as_bytes()),
-        ("problem", ROAD_PROBLEM.as_bytes()),
-        ("plan", PLAN.as_bytes()),
-    ];
-    for (names, texts) in MISSING_ROWS {
-        let [domain, problem, plan] = names;
-        let outcome = run_over(&rt, &["validate", domain, problem, plan], &files)?;
-        assert_eq!(rt;
-            outcome,
-            wanted(rt.alloc(), *texts)?,
-            "at {domain} {problem} {plan}"
-        );
-    }
+/// Checks that the program over these files puts this out, and reports nothing.
+fn puts<R: Threads + Wait + Clock + Sync + Abort + AllocGlobal>(
+    rt: &R,
+    words: &[&str],
+    files: &[(&str, &[u8])],
+    out: &'static str,
+) -> Result<(), Fail> {
+    let outcome = run_over(rt, words, files)?;
+    assert_eq!(rt; outcome, wanted(rt.alloc(), (out, "", 0))?, "at {words:?}");
     Ok(())
 }
 
-/// A word for each of the two files, and the expected outcome.
-const MISSING_CHECK_ROWS: &[([&str; 2], Texts)] = &[
-    (["sas", "cert"], ("accepted 2\n", "", 0)),
-    (["gone", "cert"], ("", "optplan: F70 CannotRead sas\n", 7)),
-    (["sas", "gone"], ("", "optplan: F70 CannotRead cert\n", 7)),
-    (["gone", "gone"], ("", "optplan: F70 CannotRead sas\n", 7)),
-    (["", "cert"], ("", "optplan: F70 CannotRead sas\n", 7)),
-    // Both files are read before any text is looked at.
-    (["cert", "gone"], ("", "optplan: F70 CannotRead cert\n", 7)),
-    // Which text is which is determined by its place among the words, and the fault of the task comes first.
-    (["sas", "sas"], ("", "optplan: F50 Header cert\n", 1)),
-    (["cert", "cert"], ("", "optplan: F41 Expected sas 1\n", 1)),
-    (["cert", "sas"], ("", "optplan: F41 Expected sas 1\n", 1)),
-];
-
 #[test]
-fn files_of_a_check_that_are_not_there(rt: HostRuntime) -> Result<(), Fail> {
-    let files = [
-        ("sas", ROAD_SAS.as_bytes()),
-        ("cert", ROAD_CERTIFICATE.as_bytes()),
+fn a_file_whose_name_is_empty(rt: HostRuntime) -> Result<(), Fail> {
+    let texts = [
+        ("", ROAD_DOMAIN.as_bytes()),
+        ("p", ROAD_PROBLEM.as_bytes()),
+        ("l", PLAN.as_bytes()),
     ];
-    for (names, texts) in MISSING_CHECK_ROWS {
-        let [sas, cert] = names;
-        let outcome = run_over(&rt, &["check-sas", sas, cert], &files)?;
-        assert_eq!(rt; outcome, wanted(rt.alloc(), *texts)?, "at {sas} {cert}");
-    }
-    Ok(())
+    puts(&rt, &["validate", "", "p", "l"], &texts, "valid 2\n")?;
+    let texts = [
+        ("", ROAD_SAS.as_bytes()),
+        ("c", ROAD_CERTIFICATE.as_bytes()),
+    ];
+    puts(&rt, &["check-sas", "", "c"], &texts, "accepted 2\n")
 }
 
 /// The outcome of the program if one call of its device fails with a fault.
-fn run_with_fault<R: AllocGlobal>(
+fn run_with_fault<R: Threads + Wait + Clock + Sync + AllocGlobal>(
     rt: &R,
     words: &[&str],
     plan: &str,
@@ -194,7 +133,7 @@ const FAILING_ROWS: &[FaultRow] = &[
         ("", "optplan: F25 PlanShape plan 0\n", 1),
     ),
     (&["validate", "d", "p", "gone"], PLAN, 3, ("", "", 7)),
-    (&["solve", "d", "p"], PLAN, 0, ("", "", 2)),
+    (&["solve", "d"], PLAN, 0, ("", "", 2)),
     (
         &["--help"],
         PLAN,

@@ -1,6 +1,6 @@
 //! The least closed set of atoms, and the ground actions over it.
 
-use crate::texts::{actions_at_first, grounding_of};
+use crate::texts::{Told, tells};
 use std::process::Abort;
 use std::test::*;
 
@@ -39,9 +39,7 @@ fn grounds<R: Abort + AllocGlobal>(
 ) -> Result<(), Fail> {
     let domain = format!(in rt.alloc(); "{PLACES}{action})")?;
     let problem = format!(in rt.alloc(); "{AT_A}{goal}))")?;
-    let found = grounding_of(rt.alloc(), domain.as_str(), problem.as_str())?;
-    assert_eq!(rt; found.as_str(), want, "{action} {goal}");
-    Ok(())
+    tells(rt, domain.as_str(), problem.as_str(), Told::Grounding, want)
 }
 
 #[test]
@@ -134,9 +132,7 @@ fn grounds_to<R: Abort + AllocGlobal>(
     problem: &str,
     want: &str,
 ) -> Result<(), Fail> {
-    let found = grounding_of(rt.alloc(), domain, problem)?;
-    assert_eq!(rt; found.as_str(), want, "{problem}");
-    Ok(())
+    tells(rt, domain, problem, Told::Grounding, want)
 }
 
 #[test]
@@ -162,7 +158,11 @@ fn actions_without_a_cost_are_left_out(rt: HostRuntime) -> Result<(), Fail> {
 fn actions_over_a_set_that_is_not_closed(rt: HostRuntime) -> Result<(), Fail> {
     let domain = format!(in rt.alloc(); "{PLACES}{GO})")?;
     let problem = "(define (problem p) (:init (at a) (road a b)) (:goal ()))";
-    let found = actions_at_first(rt.alloc(), domain.as_str(), problem)?;
-    assert_eq!(rt; found.as_str(), "go a b");
-    Ok(())
+    tells(
+        &rt,
+        domain.as_str(),
+        problem,
+        Told::InitialActions,
+        "go a b",
+    )
 }

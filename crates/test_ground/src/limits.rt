@@ -1,7 +1,6 @@
 //! The greatest number of atoms, and more.
 
-use crate::texts::count_of;
-use ground::GroundFault;
+use crate::texts::{Told, tells};
 use std::alloc::{AllocError, Global};
 use std::process::Abort;
 use std::test::*;
@@ -21,20 +20,14 @@ fn problem_of(alloc: Global, count: usize) -> Result<String, AllocError> {
 }
 
 /// Checks the number of atoms with this number of objects.
-fn counts<R: Abort + AllocGlobal>(
-    rt: &R,
-    objects: usize,
-    want: Result<usize, GroundFault>,
-) -> Result<(), Fail> {
+fn counts<R: Abort + AllocGlobal>(rt: &R, objects: usize, want: &str) -> Result<(), Fail> {
     let problem = problem_of(rt.alloc(), objects)?;
-    let found = count_of(rt.alloc(), PAIRS, problem.as_str());
-    assert_eq!(rt; found, Some(want), "{objects}");
-    Ok(())
+    tells(rt, PAIRS, problem.as_str(), Told::Count, want)
 }
 
 #[test]
 fn as_many_atoms_as_the_limit_are_listed(rt: HostRuntime) -> Result<(), Fail> {
     // 512 objects have 262,144 pairs.
-    counts(&rt, 512, Ok(262_144))?;
-    counts(&rt, 513, Err(GroundFault::GroundLimit))
+    counts(&rt, 512, "262144")?;
+    counts(&rt, 513, "more than the limit")
 }

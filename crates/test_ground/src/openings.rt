@@ -1,6 +1,6 @@
 //! The first action over a set of atoms that adds another one, and the least such atom.
 
-use crate::texts::opening_of;
+use crate::texts::{Told, tells};
 use std::process::Abort;
 use std::test::*;
 
@@ -25,9 +25,7 @@ fn opens<R: Abort + AllocGlobal>(
     let problem = format!(in rt.alloc();
         "(define (problem p) (:init (road a b) {atoms}) (:goal ()))"
     )?;
-    let found = opening_of(rt.alloc(), domain.as_str(), problem.as_str())?;
-    assert_eq!(rt; found.as_str(), want, "{action} {atoms}");
-    Ok(())
+    tells(rt, domain.as_str(), problem.as_str(), Told::Opening, want)
 }
 
 #[test]

@@ -9,6 +9,8 @@ use pddl::read_task;
 use pddl_names::Names;
 use pddl_task::{GroundAction, GroundAtom, Task};
 use std::alloc::{AllocError, Global};
+use std::process::Abort;
+use std::test::Fail;
 
 /// Appends the name of that number and those of the objects, after a `|` unless the text is empty.
 fn push_named(
@@ -85,19 +87,6 @@ fn grounding_text(alloc: Global, task: &Task) -> Result<String, AllocError>
     }
 }
 
-/// The atoms and the actions of a task's grounding, separated by a blank line. Each function called borrows what its
-/// caller owns, since the proof of a function that owns a task and may return at many places is long.
-pub(crate) fn grounding_of(
-    alloc: Global,
-    domain: &str,
-    problem: &str,
-) -> Result<String, AllocError> {
-    match read_task(alloc, domain.as_bytes(), problem.as_bytes()) {
-        Ok(task) => grounding_text(alloc, &task),
-        Err(_) => String::from_str(alloc, "no task"),
-    }
-}
-
 /// The atoms as a list without repeats.
 fn listed(alloc: Global, atoms: &[GroundAtom]) -> Result<Atoms, AllocError> {
     let mut list = Atoms::new(alloc);
@@ -114,18 +103,6 @@ fn initial_actions(alloc: Global, task: &Task) -> Result<String, AllocError>
     match actions_over(alloc, task, &atoms) {
         Ok(actions) => actions_text(alloc, task, &actions),
         Err(_) => String::from_str(alloc, "no actions"),
-    }
-}
-
-/// The actions over a task's initial atoms.
-pub(crate) fn actions_at_first(
-    alloc: Global,
-    domain: &str,
-    problem: &str,
-) -> Result<String, AllocError> {
-    match read_task(alloc, domain.as_bytes(), problem.as_bytes()) {
-        Ok(task) => initial_actions(alloc, &task),
-        Err(_) => String::from_str(alloc, "no task"),
     }
 }
 
@@ -153,22 +130,59 @@ fn opening_text(alloc: Global, task: &Task) -> Result<String, AllocError>
     }
 }
 
-/// The first action over a task's initial atoms that adds another atom, and the least such atom, or that there is none.
-pub(crate) fn opening_of(alloc: Global, domain: &str, problem: &str) -> Result<String, AllocError> {
+/// How many atoms a task's grounding has, or that there are more than the limit.
+fn count_text(alloc: Global, task: &Task) -> Result<String, AllocError>
+    requires { IsTrue (has_small_costs task.now) }
+{
+    match ground(alloc, task) {
+        Ok(grounded) => format!(in alloc; "{}", grounded.atoms.len()),
+        Err(GroundFault::GroundLimit) => String::from_str(alloc, "more than the limit"),
+        Err(GroundFault::OutOfMemory) => String::from_str(alloc, "no grounding"),
+    }
+}
+
+/// What is told of a task.
+#[derive(Clone, Copy)]
+pub(crate) enum Told {
+    /// The atoms and the actions of its grounding, separated by a blank line.
+    Grounding,
+    /// The number of atoms of its grounding.
+    Count,
+    /// The actions over its initial atoms.
+    InitialActions,
+    /// The first action over its initial atoms that adds another atom, and the least such atom, or that there is none.
+    Opening,
+}
+
+fn told_of(alloc: Global, task: &Task, told: Told) -> Result<String, AllocError>
+    requires { IsTrue (has_small_costs task.now) }
+{
+    match told {
+        Told::Grounding => grounding_text(alloc, task),
+        Told::Count => count_text(alloc, task),
+        Told::InitialActions => initial_actions(alloc, task),
+        Told::Opening => opening_text(alloc, task),
+    }
+}
+
+/// What is told of the task that the texts spell. Nothing else owns a task, since the proof of a function that does, and may return at many
+/// places, is long.
+fn text_of(alloc: Global, domain: &str, problem: &str, told: Told) -> Result<String, AllocError> {
     match read_task(alloc, domain.as_bytes(), problem.as_bytes()) {
-        Ok(task) => opening_text(alloc, &task),
+        Ok(task) => told_of(alloc, &task, told),
         Err(_) => String::from_str(alloc, "no task"),
     }
 }
 
-/// The number of atoms of a task's grounding, or that there are too many.
-pub(crate) fn count_of(
-    alloc: Global,
+/// Checks what is told of the task.
+pub(crate) fn tells<R: Abort + AllocGlobal>(
+    rt: &R,
     domain: &str,
     problem: &str,
-) -> Option<Result<usize, GroundFault>> {
-    match read_task(alloc, domain.as_bytes(), problem.as_bytes()) {
-        Ok(task) => Some(ground(alloc, &task).map(|grounded| grounded.atoms.len())),
-        Err(_) => None,
-    }
+    told: Told,
+    want: &str,
+) -> Result<(), Fail> {
+    let found = text_of(rt.alloc(), domain, problem, told)?;
+    assert_eq!(rt; found.as_str(), want, "{domain} {problem}");
+    Ok(())
 }

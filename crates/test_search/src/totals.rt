@@ -10,7 +10,7 @@ ghost use Rattle.owner.specs.Owned.{IsMessageTo};
 use crate::schedules::CYCLE;
 use cost::Dist;
 use fdr::FdrTask;
-use owner::{Message, Owner, OwnerFault, Parent, Rank, Space};
+use owner::{MAX_TOTAL, Message, Owner, OwnerFault, Parent, Rank, Space};
 use packed::{Bits, Plain, StateForm};
 use packed_spread::ByValue;
 use sasfile::read_sas;
@@ -18,9 +18,6 @@ use scp::make_columns;
 use std::alloc::Global;
 use std::process::Abort;
 use std::test::Fail;
-
-/// The greatest total, 2^62.
-const MAX_TOTAL: u64 = 4_611_686_018_427_387_904;
 
 /// The message with which the second of two owners is handed the state 1, at the greatest cost.
 fn message_at_most_total<'a, F: StateForm + Drop, R: Abort>(

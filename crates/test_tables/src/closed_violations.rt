@@ -9,6 +9,7 @@ use fdr::FdrTask;
 use std::alloc::{AllocError, Global};
 use std::process::Abort;
 use std::test::*;
+use std::thread::Threads;
 use test_tasks::{fact, operator, task};
 
 const HUGE: u64 = 18_446_744_073_709_551_615;
@@ -31,7 +32,8 @@ fn listed(alloc: Global, states: &[(u64, u32)]) -> Result<ClosedList, Fail> {
 }
 
 /// The first violation of the clauses from the initial state on.
-fn uncovered(
+fn uncovered<R: Threads + Sync>(
+    rt: &R,
     alloc: Global,
     task: &FdrTask,
     certificate: &Certificate,
@@ -43,14 +45,15 @@ fn uncovered(
     if let Some(violation) = coverage.start_violation() {
         return Ok(Some(violation));
     }
-    if let Some(violation) = first_goal_violation(alloc, task, certificate)? {
+    if let Some(violation) = first_goal_violation(rt, alloc, task, certificate)? {
         return Ok(Some(violation));
     }
-    coverage.first_successor_violation(alloc)
+    coverage.first_successor_violation(rt, alloc)
 }
 
 /// The first violation of the clauses 4 to 8.
-fn first_violation(
+fn first_violation<R: Threads + Sync>(
+    rt: &R,
     alloc: Global,
     task: &FdrTask,
     certificate: &Certificate,
@@ -58,21 +61,22 @@ fn first_violation(
     if let Some(violation) = first_table_violation(alloc, task, certificate)? {
         return Ok(Some(violation));
     }
-    if let Some(violation) = first_closed_violation(alloc, task, certificate)? {
+    if let Some(violation) = first_closed_violation(rt, alloc, task, certificate)? {
         return Ok(Some(violation));
     }
-    uncovered(alloc, task, certificate)
+    uncovered(rt, alloc, task, certificate)
 }
 
 /// The first violation of the clauses 4 to 8 of a certificate without tables.
-fn found(
+fn found<R: Threads + Sync>(
+    rt: &R,
     alloc: Global,
     task: &FdrTask,
     bound: Dist,
     closed: ClosedList,
 ) -> Result<Option<Violation>, Fail> {
     let certificate = Certificate::new(CertificateKind::Sas, bound, Vec::new(alloc), closed);
-    Ok(first_violation(alloc, task, &certificate)?)
+    Ok(first_violation(rt, alloc, task, &certificate)?)
 }
 
 #[test]
@@ -100,7 +104,7 @@ fn finds_the_first_violation(rt: HostRuntime) -> Result<(), Fail> {
     ] {
         let bound = bound.and_then(Dist::fin).unwrap_or(Dist::inf());
         let closed = listed(rt.alloc(), states)?;
-        assert_eq!(rt; found(rt.alloc(), &task, bound, closed)?, want);
+        assert_eq!(rt; found(&rt, rt.alloc(), &task, bound, closed)?, want);
     }
     Ok(())
 }
@@ -110,7 +114,7 @@ fn refuses_states_of_two_values(rt: HostRuntime) -> Result<(), Fail> {
     let task = road(rt.alloc())?;
     let mut closed = ClosedList::new(rt.alloc());
     closed.push(0, &[0, 0])?;
-    let got = found(rt.alloc(), &task, Dist::ZERO, closed)?;
+    let got = found(&rt, rt.alloc(), &task, Dist::ZERO, closed)?;
     assert_eq!(rt; got, Some(Violation::ClosedState(0)));
     Ok(())
 }

@@ -2,11 +2,15 @@
 //! tested.
 
 ghost use Rattle.std.specs.Prelude.{◌<◌, ◌≤◌, All, IsTrue, length};
+ghost use Rattle.pddl_task.specs.Planning.{has_small_costs};
 
+use crate::texts::{GRIPPER, TWO_BALLS};
 use cost::Cost;
 use fdr::{Fact, Operator};
+use ground::ground;
 use ground_atoms::Atoms;
 use indexmap::IndexMap;
+use pddl::read_task;
 use pddl_names::Names;
 use pddl_task::{GroundAction, GroundAtom, GroundLiteral, Task, Vocabulary};
 use smallvec::SmallVec;
@@ -71,10 +75,10 @@ struct Row<'a> {
     deletes: &'a [Atom<'a>],
 }
 
-/// The action of a schema, of cost 1.
-fn action(rt: &impl Abort, alloc: Global, schema: usize, row: Row<'_>) -> GroundAction {
+/// The action of the first schema, of cost 1.
+fn action(rt: &impl Abort, alloc: Global, row: Row<'_>) -> GroundAction {
     GroundAction {
-        schema,
+        schema: 0,
         objects: SmallVec::from_slice(alloc, row.objects).expect(rt, "memory"),
         precondition: literals(rt, alloc, row.wanted, row.excluded),
         adds: atoms(rt, alloc, row.adds),
@@ -86,9 +90,7 @@ fn action(rt: &impl Abort, alloc: Global, schema: usize, row: Row<'_>) -> Ground
 fn actions(rt: &impl Abort, alloc: Global, rows: &[Row<'_>]) -> Vec<GroundAction> {
     let mut actions = Vec::new(alloc);
     for row in rows {
-        actions
-            .push(action(rt, alloc, 0, *row))
-            .expect(rt, "memory");
+        actions.push(action(rt, alloc, *row)).expect(rt, "memory");
     }
     actions
 }
@@ -197,6 +199,11 @@ fn name_of(names: &[Vec<String>], variable: usize, value: usize) -> &str {
     }
 }
 
+/// Whether the values of these variables have these names.
+fn are_names(names: &[Vec<String>], rows: &[(usize, usize, &str)]) -> bool {
+    rows.iter().all(|(variable, value, name)| name_of(names, *variable, *value) == *name)
+}
+
 /// Whether the facts are these, each a variable and a value.
 fn are(facts: &[Fact], rows: &[(usize, u32)]) -> bool {
     facts.len() == rows.len()
@@ -254,136 +261,65 @@ fn road(rt: &impl Abort, alloc: Global, rows: &[(&[usize], bool)]) -> Parts {
     parts(rt, alloc, &task, &atoms, &actions, &variables)
 }
 
+fn is_road_of_one_variable(parts: &Parts) -> bool {
+    are_names(
+        &parts.value_names,
+        &[
+            (0, 0, "Atom at(a)"),
+            (0, 1, "Atom at(b)"),
+            (0, 2, "Atom at(c)"),
+            (0, 3, "no such value"),
+        ],
+    ) && parts.initial.as_slice() == [0].as_slice()
+        && are(&parts.goal, &[(0, 2)])
+        && parts.operators.len() == 2
+        && is(&parts.operators, 0, "go a b", &[(0, 0)], &[(0, 1)])
+        && is(&parts.operators, 1, "go b c", &[(0, 1)], &[(0, 2)])
+        && parts.carried.as_slice() == [0, 1].as_slice()
+}
+
 #[test]
 fn a_road_of_one_variable(rt: HostRuntime) {
     let parts = road(&rt, rt.alloc(), &[(&[0, 1, 2], false)]);
-    for (value, name) in [(0, "Atom at(a)"), (1, "Atom at(b)"), (2, "Atom at(c)")] {
-        assert_eq!(rt; name_of(&parts.value_names, 0, value), name);
-    }
-    assert_eq!(rt; name_of(&parts.value_names, 0, 3), "no such value");
-    assert_eq!(rt; parts.initial.as_slice(), [0].as_slice());
-    assert!(rt; are(&parts.goal, &[(0, 2)]));
-    assert_eq!(rt; parts.operators.len(), 2);
-    assert!(rt; is(&parts.operators, 0, "go a b", &[(0, 0)], &[(0, 1)]));
-    assert!(rt; is(&parts.operators, 1, "go b c", &[(0, 1)], &[(0, 2)]));
-    assert_eq!(rt; parts.carried.as_slice(), [0, 1].as_slice());
+    assert!(rt; is_road_of_one_variable(&parts));
+}
+
+fn is_road_of_two_variables(parts: &Parts) -> bool {
+    are_names(
+        &parts.value_names,
+        &[
+            (0, 0, "Atom at(a)"),
+            (0, 1, "NegatedAtom at(a)"),
+            (1, 0, "Atom at(b)"),
+            (1, 1, "Atom at(c)"),
+            (1, 2, "<none of those>"),
+        ],
+    ) && parts.initial.as_slice() == [0, 2].as_slice()
+        && are(&parts.goal, &[(1, 1)])
+        && is(&parts.operators, 0, "go a b", &[(0, 0)], &[(0, 1), (1, 0)])
+        && is(&parts.operators, 1, "go b c", &[(1, 0)], &[(1, 1)])
 }
 
 #[test]
 fn a_road_of_two_variables(rt: HostRuntime) {
     let parts = road(&rt, rt.alloc(), &[(&[0], true), (&[1, 2], true)]);
-    let table = [
-        (0, 0, "Atom at(a)"),
-        (0, 1, "NegatedAtom at(a)"),
-        (1, 0, "Atom at(b)"),
-        (1, 1, "Atom at(c)"),
-        (1, 2, "<none of those>"),
-    ];
-    for (variable, value, name) in table {
-        assert_eq!(rt; name_of(&parts.value_names, variable, value), name);
-    }
-    assert_eq!(rt; parts.initial.as_slice(), [0, 2].as_slice());
-    assert!(rt; are(&parts.goal, &[(1, 1)]));
-    assert!(rt; is(&parts.operators, 0, "go a b", &[(0, 0)], &[(0, 1), (1, 0)]));
-    assert!(rt; is(&parts.operators, 1, "go b c", &[(1, 0)], &[(1, 1)]));
+    assert!(rt; is_road_of_two_variables(&parts));
 }
 
-const GRIPPER: Texts<'static> = Texts {
-    objects: &["p", "q", "x", "y"],
-    predicates: &["room", "ball", "here", "in", "free", "held"],
-    schemas: &["go", "pick", "drop"],
-};
-
-/// An action of the gripper without preconditions, add effects and delete effects.
-fn empty_action(rt: &impl Abort, alloc: Global, schema: usize, objects: &[usize]) -> GroundAction {
-    GroundAction {
-        schema,
-        objects: SmallVec::from_slice(alloc, objects).expect(rt, "memory"),
-        precondition: Vec::new(alloc),
-        adds: Vec::new(alloc),
-        deletes: Vec::new(alloc),
-        cost: 1,
-    }
-}
-
-/// Adds the atom to the action's precondition.
-fn want(rt: &impl Abort, alloc: Global, action: &mut GroundAction, row: Atom<'_>) {
-    let literal = GroundLiteral {
-        atom: atom(rt, alloc, row),
-        positive: true,
-    };
-    action.precondition.push(literal).expect(rt, "memory");
-}
-
-/// Adds the first atom to the action's precondition and delete effects, and the second to its add effects.
-fn exchange(
+/// The parts over all actions of the gripper: it goes from each of the rooms p and q to the other, and picks up and drops each
+/// of the balls x and y in each.
+fn gripper_parts(
     rt: &impl Abort,
     alloc: Global,
-    action: &mut GroundAction,
-    old: Atom<'_>,
-    new: Atom<'_>,
-) {
-    want(rt, alloc, action, old);
-    let deleted = atom(rt, alloc, old);
-    action.deletes.push(deleted).expect(rt, "memory");
-    let added = atom(rt, alloc, new);
-    action.adds.push(added).expect(rt, "memory");
+    task: &Task,
+    atoms: &Atoms,
+    variables: &[ListedVariable],
+) -> Parts
+    requires { IsTrue (has_small_costs task.now) }
+{
+    let grounded = ground(alloc, task).expect(rt, "room");
+    parts(rt, alloc, task, atoms, &grounded.actions, variables)
 }
-
-/// The action that goes from one room to another.
-fn go(rt: &impl Abort, alloc: Global, start: usize, end: usize) -> GroundAction {
-    let mut action = empty_action(rt, alloc, 0, &[start, end]);
-    want(rt, alloc, &mut action, (0, &[start]));
-    want(rt, alloc, &mut action, (0, &[end]));
-    exchange(rt, alloc, &mut action, (2, &[start]), (2, &[end]));
-    action
-}
-
-/// The action that picks up a ball in a room.
-fn pick(rt: &impl Abort, alloc: Global, ball: usize, room: usize) -> GroundAction {
-    let mut action = empty_action(rt, alloc, 1, &[ball, room]);
-    want(rt, alloc, &mut action, (0, &[room]));
-    want(rt, alloc, &mut action, (1, &[ball]));
-    want(rt, alloc, &mut action, (2, &[room]));
-    want(rt, alloc, &mut action, (4, &[]));
-    exchange(rt, alloc, &mut action, (3, &[ball, room]), (5, &[ball]));
-    let free = atom(rt, alloc, (4, &[]));
-    action.deletes.push(free).expect(rt, "memory");
-    action
-}
-
-/// The action that drops a ball in a room.
-fn drop_ball(rt: &impl Abort, alloc: Global, ball: usize, room: usize) -> GroundAction {
-    let mut action = empty_action(rt, alloc, 2, &[ball, room]);
-    want(rt, alloc, &mut action, (0, &[room]));
-    want(rt, alloc, &mut action, (1, &[ball]));
-    want(rt, alloc, &mut action, (2, &[room]));
-    exchange(rt, alloc, &mut action, (5, &[ball]), (3, &[ball, room]));
-    let free = atom(rt, alloc, (4, &[]));
-    action.adds.push(free).expect(rt, "memory");
-    action
-}
-
-/// The gripper goes from each of the rooms p and q to the other, and picks up and drops each of the balls x and y in each.
-fn gripper_actions(rt: &impl Abort, alloc: Global) -> Vec<GroundAction> {
-    let mut actions = Vec::new(alloc);
-    for (start, end) in [(0, 1), (1, 0)] {
-        actions.push(go(rt, alloc, start, end)).expect(rt, "memory");
-    }
-    for (ball, room) in BALLS_IN_ROOMS {
-        actions
-            .push(pick(rt, alloc, ball, room))
-            .expect(rt, "memory");
-    }
-    for (ball, room) in BALLS_IN_ROOMS {
-        actions
-            .push(drop_ball(rt, alloc, ball, room))
-            .expect(rt, "memory");
-    }
-    actions
-}
-
-const BALLS_IN_ROOMS: [(usize, usize); 4] = [(2, 0), (2, 1), (3, 0), (3, 1)];
 
 /// Variables for the gripper's room, for each ball, and for whether the gripper is free; the atoms of rooms and balls are
 /// constant.
@@ -401,34 +337,43 @@ fn gripper(rt: &impl Abort, alloc: Global) -> Parts {
         (5, &[3]),
         (4, &[]),
     ];
-    let initial: [Atom<'_>; 4] = [(2, &[0]), (3, &[2, 0]), (3, &[3, 0]), (4, &[])];
-    let goal: [Atom<'_>; 2] = [(3, &[2, 1]), (3, &[3, 1])];
     let places: [(&[usize], bool); 4] = [
         (&[2, 3], false),
         (&[4, 5, 6], false),
         (&[7, 8, 9], false),
         (&[10], true),
     ];
-    let task = task(rt, alloc, GRIPPER, &initial, &goal);
-    let atoms = listed(rt, alloc, &all);
-    let actions = gripper_actions(rt, alloc);
-    let variables = variables(rt, alloc, &places);
-    parts(rt, alloc, &task, &atoms, &actions, &variables)
+    let task = read_task(alloc, GRIPPER.as_bytes(), TWO_BALLS.as_bytes()).expect(rt, "a task");
+    gripper_parts(
+        rt,
+        alloc,
+        &task,
+        &listed(rt, alloc, &all),
+        &variables(rt, alloc, &places),
+    )
+}
+
+fn is_gripper(parts: &Parts) -> bool {
+    let pick: [(usize, u32); 3] = [(0, 0), (1, 0), (3, 0)];
+    let drop: [(usize, u32); 2] = [(0, 1), (1, 2)];
+    are_names(
+        &parts.value_names,
+        &[
+            (1, 1, "Atom in(x, q)"),
+            (1, 3, "no such value"),
+            (3, 0, "Atom free()"),
+        ],
+    ) && parts.initial.as_slice() == [0, 0, 0, 0].as_slice()
+        && are(&parts.goal, &[(1, 1), (2, 1)])
+        && parts.operators.len() == 10
+        && is(&parts.operators, 2, "pick x p", &pick, &[(1, 2), (3, 1)])
+        && is(&parts.operators, 7, "drop x q", &drop, &[(1, 1), (3, 0)])
 }
 
 #[test]
 fn a_gripper(rt: HostRuntime) {
     let parts = gripper(&rt, rt.alloc());
-    let pick: [(usize, u32); 3] = [(0, 0), (1, 0), (3, 0)];
-    let drop: [(usize, u32); 2] = [(0, 1), (1, 2)];
-    assert_eq!(rt; name_of(&parts.value_names, 1, 1), "Atom in(x, q)");
-    assert_eq!(rt; name_of(&parts.value_names, 1, 3), "no such value");
-    assert_eq!(rt; name_of(&parts.value_names, 3, 0), "Atom free()");
-    assert_eq!(rt; parts.initial.as_slice(), [0, 0, 0, 0].as_slice());
-    assert!(rt; are(&parts.goal, &[(1, 1), (2, 1)]));
-    assert_eq!(rt; parts.operators.len(), 10);
-    assert!(rt; is(&parts.operators, 2, "pick x p", &pick, &[(1, 2), (3, 1)]));
-    assert!(rt; is(&parts.operators, 7, "drop x q", &drop, &[(1, 1), (3, 0)]));
+    assert!(rt; is_gripper(&parts));
 }
 
 const DOOR: Texts<'static> = Texts {
@@ -452,12 +397,16 @@ fn door(rt: &impl Abort, alloc: Global) -> Parts {
     parts(rt, alloc, &task, &atoms, &actions, &variables)
 }
 
+fn is_door(parts: &Parts) -> bool {
+    parts.initial.as_slice() == [1, 0].as_slice()
+        && are(&parts.goal, &[(0, 0)])
+        && is(&parts.operators, 0, "enter d", &[(1, 1)], &[(0, 0)])
+}
+
 #[test]
 fn a_door_that_may_be_locked(rt: HostRuntime) {
     let parts = door(&rt, rt.alloc());
-    assert_eq!(rt; parts.initial.as_slice(), [1, 0].as_slice());
-    assert!(rt; are(&parts.goal, &[(0, 0)]));
-    assert!(rt; is(&parts.operators, 0, "enter d", &[(1, 1)], &[(0, 0)]));
+    assert!(rt; is_door(&parts));
 }
 
 const LAMPS: Texts<'static> = Texts {
@@ -503,69 +452,54 @@ fn lamps(rt: &impl Abort, alloc: Global, rows: &[Row<'_>], free: bool) -> Parts 
     parts(rt, alloc, &task, &atoms, &actions, &variables)
 }
 
+/// An action, and the precondition and the effect of its operator.
+type Turn<'a> = (Row<'a>, &'a [(usize, u32)], &'a [(usize, u32)]);
+
 /// Whether the action has an operator with these facts.
-fn turns(
-    rt: &impl Abort,
-    alloc: Global,
-    row: Row<'_>,
-    before: &[(usize, u32)],
-    after: &[(usize, u32)],
-) -> bool {
-    let parts = lamps(rt, alloc, &[row], false);
+fn turns(rt: &impl Abort, alloc: Global, turn: &Turn<'_>) -> bool {
+    let (row, before, after) = turn;
+    let parts = lamps(rt, alloc, &[*row], false);
     is(&parts.operators, 0, "turn", before, after)
 }
 
 #[test]
 fn what_is_deleted(rt: HostRuntime) {
-    let alloc = rt.alloc();
-    // where the green lamp is on, the red one is not
-    assert!(rt; turns(&rt, alloc, turn(&[GREEN], &[], &[], &[RED]), &[(0, 1)], &[]));
-    assert!(rt;
-        turns(
-            &rt,
-            alloc,
-            turn(&[RED], &[], &[], &[RED]),
-            &[(0, 0)],
-            &[(0, 2)]
-        )
-    );
-    assert!(rt; turns(&rt, alloc, turn(&[], &[], &[], &[FAN]), &[], &[(1, 1)]));
-    assert!(rt;
-        turns(
-            &rt,
-            alloc,
-            turn(&[RED], &[], &[RED], &[RED]),
-            &[(0, 0)],
-            &[]
-        )
-    );
-    assert!(rt;
-        turns(
-            &rt,
-            alloc,
-            turn(&[GREEN], &[], &[RED], &[GREEN]),
-            &[(0, 1)],
-            &[(0, 0)]
-        )
-    );
+    let rows: [Turn<'_>; 5] = [
+        // where the green lamp is on, the red one is not
+        (turn(&[GREEN], &[], &[], &[RED]), &[(0, 1)], &[]),
+        (turn(&[RED], &[], &[], &[RED]), &[(0, 0)], &[(0, 2)]),
+        (turn(&[], &[], &[], &[FAN]), &[], &[(1, 1)]),
+        (turn(&[RED], &[], &[RED], &[RED]), &[(0, 0)], &[]),
+        (turn(&[GREEN], &[], &[RED], &[GREEN]), &[(0, 1)], &[(0, 0)]),
+    ];
+    for (number, row) in rows.iter().enumerate() {
+        assert!(rt; turns(&rt, rt.alloc(), row), "row {number}");
+    }
 }
 
 #[test]
 fn what_is_excluded(rt: HostRuntime) {
-    let alloc = rt.alloc();
-    assert!(rt; turns(&rt, alloc, turn(&[RED], &[GREEN], &[], &[]), &[(0, 0)], &[]));
-    assert!(rt;
-        turns(
-            &rt,
-            alloc,
-            turn(&[], &[RED], &[FAN], &[]),
-            &[(0, 2)],
-            &[(1, 0)]
-        )
-    );
-    let parts = lamps(&rt, alloc, &[], false);
-    assert!(rt; are(&parts.goal, &[(0, 2), (1, 0)]));
-    assert_eq!(rt; parts.initial.as_slice(), [0, 1].as_slice());
+    let rows: [Turn<'_>; 2] = [
+        (turn(&[RED], &[GREEN], &[], &[]), &[(0, 0)], &[]),
+        (turn(&[], &[RED], &[FAN], &[]), &[(0, 2)], &[(1, 0)]),
+    ];
+    for (number, row) in rows.iter().enumerate() {
+        assert!(rt; turns(&rt, rt.alloc(), row), "row {number}");
+    }
+}
+
+#[test]
+fn a_goal_and_a_state_of_lamps(rt: HostRuntime) {
+    let parts = lamps(&rt, rt.alloc(), &[], false);
+    let agree = are(&parts.goal, &[(0, 2), (1, 0)])
+        && parts.initial.as_slice() == [0, 1].as_slice();
+    assert!(rt; agree);
+}
+
+/// Whether the actions of these numbers have an operator, and each has this cost.
+fn are_carried(parts: &Parts, carried: &[usize], cost: Cost) -> bool {
+    parts.carried.as_slice() == carried
+        && parts.operators.iter().all(|operator| operator.cost == cost)
 }
 
 #[test]
@@ -576,19 +510,8 @@ fn actions_without_operator_are_left_out(rt: HostRuntime) {
         turn(&[FAN], &[FAN], &[], &[]),
         turn(&[], &[], &[FAN], &[]),
     ];
-    let parts = lamps(&rt, rt.alloc(), &rows, true);
-    assert_eq!(rt; parts.carried.as_slice(), [1, 3].as_slice());
-    assert!(rt;
-        parts
-            .operators
-            .iter()
-            .all(|operator| operator.cost == Cost::ZERO)
-    );
-    let parts = lamps(&rt, rt.alloc(), &rows, false);
-    assert!(rt;
-        parts
-            .operators
-            .iter()
-            .all(|operator| operator.cost == Cost::ONE)
-    );
+    for (free, cost) in [(true, Cost::ZERO), (false, Cost::ONE)] {
+        let parts = lamps(&rt, rt.alloc(), &rows, free);
+        assert!(rt; are_carried(&parts, &[1, 3], cost), "free {free}");
+    }
 }

@@ -9,4 +9,8 @@ mod chosen_variables;
 #[cfg(test)]
 mod listed_parts;
 #[cfg(test)]
+mod numbers;
+#[cfg(test)]
 mod proposed_groups;
+#[cfg(test)]
+mod texts;

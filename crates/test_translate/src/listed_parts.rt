@@ -1,16 +1,13 @@
 //! Faults of given atoms and variables.
 
-ghost use Rattle.std.specs.Prelude.{All};
+ghost use Rattle.std.specs.Prelude.{All, IsTrue};
 ghost use Rattle.std.specs.Bool.{OnTrue};
 ghost use Rattle.std.specs.List.Sorted.{IsStrictlyIncreasing};
+ghost use Rattle.pddl_task.specs.Planning.{has_small_costs};
 ghost use Rattle.translate_theory.specs.Variables.{IsPlaced};
 
-use indexmap::IndexMap;
-use pddl_names::Names;
-use pddl_task::{
-    ActionSchema, Condition, GroundAtom, GroundLiteral, LiftedAtom, LiftedEffect, Task, Term,
-    Vocabulary,
-};
+use pddl::read_task;
+use pddl_task::{GroundAtom, Task};
 use smallvec::SmallVec;
 use std::alloc::Global;
 use std::process::Abort;
@@ -34,17 +31,6 @@ const ROAD_B_C: Row = (1, [1, 2]);
 /// The atoms of the task, where the last two are the roads.
 const LISTED: [Row; 5] = [AT_A, AT_B, AT_C, ROAD_A_B, ROAD_B_C];
 
-fn lifted(rt: &impl Abort, alloc: Global, row: Row) -> LiftedAtom {
-    let (predicate, parameters) = row;
-    let mut terms = Vec::new(alloc);
-    for (place, parameter) in parameters.iter().enumerate() {
-        if place <= predicate {
-            terms.push(Term::Parameter(*parameter)).expect(rt, "memory");
-        }
-    }
-    LiftedAtom { predicate, terms }
-}
-
 fn atom(rt: &impl Abort, alloc: Global, row: Row) -> GroundAtom {
     let (predicate, parameters) = row;
     let mut objects = SmallVec::new(alloc);
@@ -64,65 +50,10 @@ fn atoms(rt: &impl Abort, alloc: Global, rows: &[Row]) -> Vec<GroundAtom> {
     atoms
 }
 
-/// The action that goes from the first parameter to the second.
-fn go(rt: &impl Abort, alloc: Global) -> ActionSchema {
-    let mut precondition = Vec::new(alloc);
-    for row in [(0, [0, 0]), (1, [0, 1])] {
-        precondition
-            .push(Condition::Positive(lifted(rt, alloc, row)))
-            .expect(rt, "memory");
-    }
-    let mut effect = Vec::new(alloc);
-    for (row, positive) in [((0, [1, 0]), true), ((0, [0, 0]), false)] {
-        let atom = lifted(rt, alloc, row);
-        let effect_atom = LiftedEffect { atom, positive };
-        effect.push(effect_atom).expect(rt, "memory");
-    }
-    ActionSchema {
-        parameters: Vec::from_slice(alloc, &[0, 0]).expect(rt, "memory"),
-        precondition,
-        effect,
-        increases: Vec::new(alloc),
-    }
-}
+/// A variable, given as the first place of its atoms, one past the last, and whether there is a none value.
+type VariableRow = (usize, usize, bool);
 
-/// The road from a by b to c, with the goals and these initial atoms beside the roads.
-fn road(rt: &impl Abort, alloc: Global, initial: &[Row], goals: &[Row]) -> Task {
-    let mut schemas = Vec::new(alloc);
-    schemas.push(go(rt, alloc)).expect(rt, "memory");
-    let mut there = atoms(rt, alloc, initial);
-    for row in [ROAD_A_B, ROAD_B_C] {
-        there.push(atom(rt, alloc, row)).expect(rt, "memory");
-    }
-    let mut goal = Vec::new(alloc);
-    for row in goals {
-        let atom = atom(rt, alloc, *row);
-        let goal_atom = GroundLiteral {
-            atom,
-            positive: true,
-        };
-        goal.push(goal_atom).expect(rt, "memory");
-    }
-    Task {
-        supertypes: Vec::from_slice(alloc, &[0]).expect(rt, "memory"),
-        object_types: Vec::from_slice(alloc, &[0, 0, 0]).expect(rt, "memory"),
-        arities: Vec::from_slice(alloc, &[1, 2]).expect(rt, "memory"),
-        schemas,
-        initial: there,
-        goal,
-        values: IndexMap::new(alloc),
-        metric: false,
-        vocabulary: Vocabulary {
-            objects: Names::new(alloc),
-            predicates: Names::new(alloc),
-            functions: Names::new(alloc),
-            schemas: Names::new(alloc),
-        },
-    }
-}
-
-/// Variables, each given as the first place of its atoms, one past the last, and whether there is a none value.
-fn variables(rt: &impl Abort, alloc: Global, rows: &[(usize, usize, bool)]) -> Vec<ListedVariable> {
+fn variables(rt: &impl Abort, alloc: Global, rows: &[VariableRow]) -> Vec<ListedVariable> {
     let mut variables = Vec::new(alloc);
     for (first, end, has_none) in rows {
         let mut places = Vec::new(alloc);
@@ -190,11 +121,12 @@ fn answer(
     alloc: Global,
     task: &Task,
     listed: &[Row],
-    rows: &[(usize, usize, bool)],
-) -> (&'static str, usize) {
+    rows: &[VariableRow],
+) -> (&'static str, usize)
+    requires { IsTrue (has_small_costs task.now) }
+{
     let atoms = atoms(rt, alloc, listed);
     let variables = variables(rt, alloc, rows);
-    assert!(rt; task.has_small_costs());
     assert!(rt; are_placed(&variables, atoms.len()));
     match check_parts(alloc, task, &atoms, &variables) {
         Ok(parts) => ("fit", parts.actions.len()),
@@ -202,136 +134,109 @@ fn answer(
     }
 }
 
-/// Checks the answer for the task, the atoms and the variables.
-fn answers(
-    rt: &impl Abort,
-    alloc: Global,
-    task: &Task,
-    listed: &[Row],
-    rows: &[(usize, usize, bool)],
-    want: (&str, usize),
-) {
-    assert_eq!(rt; answer(rt, alloc, task, listed, rows), want);
+const ROAD: &str = "(define (domain road) (:constants a b c) (:predicates (at ?x) (road ?x ?y))
+    (:action go :parameters (?x ?y) :precondition (and (at ?x) (road ?x ?y)) :effect (and (at ?y) (not (at ?x)))))";
+
+/// Initial atoms beside the roads from a by b to c, a goal, atoms and variables, and the answer for them.
+#[derive(Clone, Copy)]
+struct Case<'a> {
+    initial: &'a str,
+    goal: &'a str,
+    listed: &'a [Row],
+    variables: &'a [VariableRow],
+    want: (&'a str, usize),
 }
 
-/// From a with the goal c, over all atoms: variables of at a and at b, and of at c.
+fn check(rt: &impl Abort, alloc: Global, case: &Case<'_>) {
+    let problem = format!(in alloc;
+        "(define (problem p) (:init {} (road a b) (road b c)) (:goal {}))",
+        case.initial, case.goal
+    )
+    .expect(rt, "memory");
+    let task = read_task(alloc, ROAD.as_bytes(), problem.as_bytes()).expect(rt, "a task");
+    assert_eq!(rt;
+        answer(rt, alloc, &task, case.listed, case.variables),
+        case.want
+    );
+}
+
+fn check_all(rt: &impl Abort, alloc: Global, cases: &[Case<'_>]) {
+    for case in cases {
+        check(rt, alloc, case);
+    }
+}
+
+/// From a with the goal c, over all atoms.
+const fn with_variables<'a>(variables: &'a [VariableRow], want: (&'a str, usize)) -> Case<'a> {
+    Case {
+        initial: "(at a)",
+        goal: "(at c)",
+        listed: &LISTED,
+        variables,
+        want,
+    }
+}
+
+/// Variables of at a and at b, and of at c.
 #[test]
 fn the_first_fault_of_variables_is_told(rt: HostRuntime) {
-    let task = road(&rt, rt.alloc(), &[AT_A], &[AT_C]);
-    let alloc = rt.alloc();
-    answers(
-        &rt,
-        alloc,
-        &task,
-        &LISTED,
-        &[(0, 2, true), (2, 3, true)],
-        ("fit", 2),
-    );
-    answers(&rt, alloc, &task, &LISTED, &[(0, 3, false)], ("fit", 2));
-    answers(
-        &rt,
-        alloc,
-        &task,
-        &LISTED,
-        &[(0, 2, false), (2, 3, true)],
-        ("not full", 0),
-    );
-    answers(
-        &rt,
-        alloc,
-        &task,
-        &LISTED,
-        &[(0, 2, true)],
-        ("uncovered", 2),
-    );
-    answers(
-        &rt,
-        alloc,
-        &task,
-        &LISTED,
-        &[(0, 3, true), (3, 4, true)],
-        ("misplaced", 1),
-    );
-    answers(
-        &rt,
-        alloc,
-        &task,
-        &LISTED,
-        &[(0, 2, true), (1, 3, true)],
-        ("misplaced", 1),
-    );
-    answers(
-        &rt,
-        alloc,
-        &task,
-        &LISTED,
-        &[(0, 1, false), (1, 3, true)],
-        ("misplaced", 0),
-    );
+    let cases = [
+        with_variables(&[(0, 2, true), (2, 3, true)], ("fit", 2)),
+        with_variables(&[(0, 3, false)], ("fit", 2)),
+        with_variables(&[(0, 2, false), (2, 3, true)], ("not full", 0)),
+        with_variables(&[(0, 2, true)], ("uncovered", 2)),
+        with_variables(&[(0, 3, true), (3, 4, true)], ("misplaced", 1)),
+        with_variables(&[(0, 2, true), (1, 3, true)], ("misplaced", 1)),
+        with_variables(&[(0, 1, false), (1, 3, true)], ("misplaced", 0)),
+    ];
+    check_all(&rt, rt.alloc(), &cases);
 }
 
-/// Checks the answer for one variable of all three atoms.
-fn answers_of_one(
-    rt: &impl Abort,
-    alloc: Global,
-    initial: &[Row],
-    goals: &[Row],
-    want: (&str, usize),
-) {
-    let task = road(rt, alloc, initial, goals);
-    answers(rt, alloc, &task, &LISTED, &[(0, 3, true)], want);
+/// One variable of all three atoms.
+const fn with_one_variable<'a>(
+    initial: &'a str,
+    goal: &'a str,
+    want: (&'a str, usize),
+) -> Case<'a> {
+    Case {
+        initial,
+        goal,
+        listed: &LISTED,
+        variables: &[(0, 3, true)],
+        want,
+    }
 }
 
 #[test]
 fn two_true_atoms_or_goals_are_in_no_variable(rt: HostRuntime) {
-    answers_of_one(&rt, rt.alloc(), &[AT_A, AT_B], &[AT_C], ("no group", 0));
-    answers_of_one(&rt, rt.alloc(), &[AT_A], &[AT_B, AT_C], ("misplaced", 0));
+    let cases = [
+        with_one_variable("(at a) (at b)", "(at c)", ("no group", 0)),
+        with_one_variable("(at a)", "(and (at b) (at c))", ("misplaced", 0)),
+    ];
+    check_all(&rt, rt.alloc(), &cases);
 }
 
-/// Checks the answer for the goals and the atoms, without variables.
-fn answers_of_none(
-    rt: &impl Abort,
-    alloc: Global,
-    goals: &[Row],
-    listed: &[Row],
-    want: (&str, usize),
-) {
-    let task = road(rt, alloc, &[AT_A], goals);
-    answers(rt, alloc, &task, listed, &[], want);
+/// From a, without variables.
+const fn with_atoms<'a>(goal: &'a str, listed: &'a [Row], want: (&'a str, usize)) -> Case<'a> {
+    Case {
+        initial: "(at a)",
+        goal,
+        listed,
+        variables: &[],
+        want,
+    }
 }
 
 #[test]
 fn the_first_fault_of_atoms_is_told(rt: HostRuntime) {
-    let alloc = rt.alloc();
-    answers_of_none(
-        &rt,
-        alloc,
-        &[],
-        &[AT_A, AT_B, AT_C, ROAD_A_B],
-        ("missing", 1),
-    );
-    answers_of_none(
-        &rt,
-        alloc,
-        &[],
-        &[AT_C, AT_B, ROAD_A_B, ROAD_B_C],
-        ("missing", 0),
-    );
-    answers_of_none(
-        &rt,
-        alloc,
-        &[AT_C],
-        &[AT_A, AT_B, ROAD_A_B, ROAD_B_C],
-        ("missing", 2),
-    );
-    answers_of_none(
-        &rt,
-        alloc,
-        &[],
-        &[AT_A, AT_B, ROAD_A_B, ROAD_B_C],
-        ("not closed", 2),
-    );
-    answers_of_none(&rt, alloc, &[], &[AT_A, AT_B, AT_A], ("bad atom", 2));
-    answers_of_none(&rt, alloc, &[], &[AT_A, (1, [0, 7])], ("bad atom", 1));
-    answers_of_none(&rt, alloc, &[], &[(2, [0, 0])], ("bad atom", 0));
+    let cases = [
+        with_atoms("()", &[AT_A, AT_B, AT_C, ROAD_A_B], ("missing", 1)),
+        with_atoms("()", &[AT_C, AT_B, ROAD_A_B, ROAD_B_C], ("missing", 0)),
+        with_atoms("(at c)", &[AT_A, AT_B, ROAD_A_B, ROAD_B_C], ("missing", 2)),
+        with_atoms("()", &[AT_A, AT_B, ROAD_A_B, ROAD_B_C], ("not closed", 2)),
+        with_atoms("()", &[AT_A, AT_B, AT_A], ("bad atom", 2)),
+        with_atoms("()", &[AT_A, (1, [0, 7])], ("bad atom", 1)),
+        with_atoms("()", &[(2, [0, 0])], ("bad atom", 0)),
+    ];
+    check_all(&rt, rt.alloc(), &cases);
 }

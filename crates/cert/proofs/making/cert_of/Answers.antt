@@ -1,11 +1,11 @@
-use Rattle.std.proofs.Common.{◌≡◌, ◌∙◌, length, map, ap, sym, subst}
+use Rattle.std.proofs.Common.{◌≡◌, ◌∙◌, length, ap, sym, subst}
 use Rattle.std.specs.List.Sorted.{IsPermutation}
-use Rattle.cost.specs.Distances.{least}
 use Rattle.fdr.specs.Tasks.{FiniteDomainTask}
 use Rattle.cert_value.specs.Certificates.{CertificateValue}
 use Rattle.cert_value.specs.Views.{kind_of}
+use Rattle.extract.specs.Bounds.{lower_bound}
 use Rattle.cert.specs.Expanded.{closed_in}
-use Rattle.cert.proofs.Searches.{widths, IsMade, made_rising, made_held, made_lawful}
+use Rattle.cert.proofs.Searches.{widths, IsMade, made_rising, made_held, made_lawful, made_settled}
 use Rattle.cert.proofs.making.cert_of.Goals as goal
 
 pub expanded_states-requires : goal.expanded_states-requires
@@ -22,8 +22,9 @@ returns g c =
     let owner = g.S.Spread.owner in
     let ok = c.recall.ensures.space in
     let ends = c.recall.ensures.lawful in
-    let is : c.new.result ≡ record { kind = kind_of c.args.kind; bound = least (map (λ o. o.best) c.args.joined.now.owners); columns = c.args.joined.now.space.columns; closed = c.in_ok-closed.closed } =
-    rw (c.best_goal-bound.ensures, c.owners-2.ensures, c.in_ok-columns.ensures, c.tables.ensures, c.columns-2.ensures, c.space-space.ensures) at c.new.ensures in
+    let form = c.recall.ensures.form in
+    let is : c.new.result ≡ record { kind = kind_of c.args.kind; bound = lower_bound g.S.Spread.owner c.args.joined.now; columns = c.args.joined.now.space.columns; closed = c.in_ok-closed.closed } =
+    rw (c.in_ok-bound.ensures, c.in_ok-columns.ensures, c.tables.ensures, c.columns-2.ensures, c.space-space.ensures) at c.new.ensures in
     let moved : IsPermutation (closed_in c.args.joined.now.owners) c.in_ok-closed.closed =
     rw (c.deref.ensures.value, c.deref-2.ensures.value, c.in_ok-states.ensures.states, c.owners.ensures) at c.in_ok-closed.ensures.permutation in
     let made : IsMade g.S.Spread.owner c.args.joined.now c.recall.ensures.space c.recall.ensures.lawful (kind_of c.args.kind) c.in_ok-closed.closed c.new.result =
@@ -37,6 +38,7 @@ returns g c =
       closed = subst (λ (v : CertificateValue). IsPermutation (closed_in c.args.joined.now.owners) v.closed) (sym is) moved;
       rising = made_rising owner end ok ends kind closed c.new.result made;
       bound = ap (λ (v : CertificateValue). v.bound) is;
-      held = λ bound settled. made_held owner end ok ends kind closed c.new.result made divided bound settled;
-      lawful = λ bound settled lawful few. made_lawful owner end ok ends kind closed c.new.result made divided bound settled limits cheap lawful few;
+      held = made_held owner end ok ends kind closed c.new.result made form divided;
+      lawful = made_lawful owner end ok ends kind closed c.new.result made form divided limits cheap;
+      settled = made_settled owner end ok ends kind closed c.new.result made form divided cheap;
     }

@@ -2,7 +2,7 @@ use Rattle.checker.proofs.FirstFound.{none_met, met_more, found_more_if}
 use Rattle.checker.proofs.fdr_check.covering_violation.Goals as goal
 
 pub returns : goal.returns
-returns c =
+returns g c =
     let task = c.args.task.now in
     let certificate = c.args.certificate.now in
     let six = met_more task certificate 6 c.requires.clauses

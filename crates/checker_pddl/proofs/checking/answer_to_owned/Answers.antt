@@ -1,4 +1,4 @@
-use Rattle.std.proofs.Common.{◌≡◌, sym, subst, ◌∙◌}
+use Rattle.std.proofs.Common.{sym, ◌∙◌}
 use Rattle.checker_pddl.proofs.Verdicts.{answer_is, refusal_is, if_ok_with, if_ok_each, if_err_map}
 use Rattle.checker_pddl.proofs.checking.answer_to_owned.Goals as goal
 

@@ -1,7 +1,7 @@
 use Rattle.std.proofs.Common.{refl}
 use Rattle.std.specs.Prelude.{codes}
 use Rattle.clap.specs.Matches.{found_of, first_value}
-use Rattle.optplan_solve.specs.Texts.{files_of}
+use Rattle.optplan_solve.specs.Outputs.{files_of}
 use Rattle.optplan_command.proofs.Operands.{operand_is, renamed_solves}
 use Rattle.optplan_command.proofs.solve_words.solve_by_words.Goals as goal
 
@@ -18,6 +18,6 @@ returns-clause-done g c = λ h is same known.
       record {
         settings = settings;
         asked = c.in-Ok.ensures;
-        solves = renamed_solves h done.0 _ c.unwrap_or-domain.result.now _ c.unwrap_or-problem.result.now settings.options settings.seed (files_of settings) c.run_solve.result d p done.2;
+        solves = renamed_solves h done.0 _ c.unwrap_or-domain.result.now _ c.unwrap_or-problem.result.now settings.options settings.schedule (files_of settings) c.run_solve.result d p done.2;
       },
     )

@@ -1,7 +1,7 @@
 use Rattle.std.proofs.Common.{refl}
 use Rattle.std.specs.Prelude.{codes}
 use Rattle.clap.specs.Matches.{found_of, first_value}
-use Rattle.optplan_solve.specs.Texts.{files_of}
+use Rattle.optplan_solve.specs.Outputs.{files_of}
 use Rattle.optplan_command.proofs.Operands.{operand_is, renamed_solves_sas}
 use Rattle.optplan_command.proofs.solve_words.solve_sas_by_words.Goals as goal
 
@@ -16,6 +16,6 @@ returns-clause-done g c = λ h is same known.
       record {
         settings = settings;
         asked = c.in-Ok.ensures;
-        solves = renamed_solves_sas h done.0 _ c.unwrap_or-sas.result.now settings.options settings.seed (files_of settings) c.run_solve_sas.result s done.2;
+        solves = renamed_solves_sas h done.0 _ c.unwrap_or-sas.result.now settings.options settings.schedule (files_of settings) c.run_solve_sas.result s done.2;
       },
     )

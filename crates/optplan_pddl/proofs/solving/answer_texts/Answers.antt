@@ -1,23 +1,42 @@
-use Rattle.std.proofs.Common.{refl, subst, sym}
-use Rattle.cost.specs.Distances.{Infinite}
+use Rattle.std.proofs.Common.{subst}
+use Rattle.packed_spread.specs.Spreads.{zobrist_owner}
+use Rattle.extract.specs.Bounds.{least_best}
 use Rattle.optplan_kind.specs.Kinds.{translation_kind}
-use Rattle.optplan_sas.specs.declared.found.Found.{Found}
-use Rattle.optplan_sas.specs.Findings.{IsTrueOf}
-use Rattle.optplan_pddl.specs.declared.solving.PlanningAnswer.TheVariants.{Solved, Unsolvable}
-use Rattle.optplan_pddl.specs.Answers.{HasTextsOf}
-use Rattle.optplan_pddl.proofs.Accepting.{accepted}
+use Rattle.optplan_sas.specs.Findings.{IsFound, IsTrueOf}
+use Rattle.optplan_pddl.proofs.Answering.{solution_there, known_there, solved_answer, unsolvable_answer, limit_answer}
 use Rattle.optplan_pddl.proofs.solving.answer_texts.Goals as goal
 
+pub solution_texts-requires : goal.solution_texts-requires
+solution_texts-requires c =
+    let t = c.args.translated.now in
+    let kind = translation_kind c.requires.0 t in
+    (c.requires.0, solution_there t.task kind c.in-Solved.solution (subst (IsTrueOf t.task kind) c.in-Solved.is c.requires.1))
+
+pub known_texts-requires : goal.known_texts-requires
+known_texts-requires c =
+    let t = c.args.translated.now in
+    let kind = translation_kind c.requires.0 t in
+    (c.requires.0, known_there t.task kind c.in-Stopped.known (subst (IsTrueOf t.task kind) c.in-Stopped.is c.requires.1))
+
 pub returns-in_ok-solution_texts-in-Solved : goal.returns-in_ok-solution_texts-in-Solved
-returns-in_ok-solution_texts-in-Solved c = λ domain problem task spells made same holds.
-    let is = subst (IsTrueOf c.args.translated.now.task (translation_kind task c.args.translated.now)) c.in-Solved.is holds in
+returns-in_ok-solution_texts-in-Solved c = λ domain problem task e spells made plans same found.
+    let t = c.args.translated.now in
     let texts = c.in_ok-solution_texts-in-Solved in
-    subst (λ (f : Found). HasTextsOf domain problem task f (Solved texts.field-0)) (sym c.in-Solved.is)
-    (texts.field-0, refl, texts.ensures.solution domain problem task spells made same is.0, texts.ensures.cost)
+    solved_answer domain problem task t e spells made plans same c.in-Solved.solution texts.field-0
+    (subst (IsFound zobrist_owner e (translation_kind task t)) c.in-Solved.is found)
+    (texts.ensures.solution domain problem task spells made plans) texts.ensures.cost
 
 pub returns-in_ok-write_cert-in-Unsolvable : goal.returns-in_ok-write_cert-in-Unsolvable
-returns-in_ok-write_cert-in-Unsolvable c = λ domain problem task spells made same holds.
-    let is = subst (IsTrueOf c.args.translated.now.task (translation_kind task c.args.translated.now)) c.in-Unsolvable.is holds in
-    let cert = c.in_ok-write_cert-in-Unsolvable.field-0 in
-    subst (λ (f : Found). HasTextsOf domain problem task f (Unsolvable cert)) (sym c.in-Unsolvable.is)
-    (cert, refl, same.none.0 is.0, accepted domain problem cert.items task c.args.translated.now Infinite c.in-Unsolvable.certificate spells made is.1 c.in_ok-write_cert-in-Unsolvable.ensures)
+returns-in_ok-write_cert-in-Unsolvable c = λ domain problem task e spells made plans same found.
+    let t = c.args.translated.now in
+    let text = c.in_ok-write_cert-in-Unsolvable in
+    unsolvable_answer domain problem task t e spells made plans same c.in-Unsolvable.certificate text.field-0
+    (subst (IsFound zobrist_owner e (translation_kind task t)) c.in-Unsolvable.is found) text.ensures
+
+pub returns-in_ok-known_texts-in-Stopped : goal.returns-in_ok-known_texts-in-Stopped
+returns-in_ok-known_texts-in-Stopped c = λ domain problem task e spells made plans same found.
+    let t = c.args.translated.now in
+    let texts = c.in_ok-known_texts-in-Stopped in
+    limit_answer domain problem task t e spells made plans same c.in-Stopped.known texts.field-0
+    (subst (IsFound zobrist_owner e (translation_kind task t)) c.in-Stopped.is found)
+    (texts.ensures.known domain problem task (least_best e) spells made plans) texts.ensures.bound

@@ -12,8 +12,8 @@ returns-in_ok-cert_of-in-None-get g c =
     let settled = subst (IsSettledAnswer (space_at g.S.Spread.owner e) e.owners e.left) c.in-Some.is c.in_ok-settled.ensures in
     let settled_there = subst (IsSettledAt (space_at g.S.Spread.owner e) e.owners e.left) c.in-None-get.ensures.value settled in
     let told = c.in_ok-cert_of-in-None-get.ensures in
-    let held = told.held Infinite settled_there in (
-      none_of e.space.task c.in_ok-cert_of-in-None-get.field-0 c.recall.ensures.space.task held.0 held.1,
-      certified e.space.task (kind_of c.args.kind) Infinite c.in_ok-cert_of-in-None-get.field-0 (closed_in e.owners) told.kind told.closed held (told.lawful Infinite settled_there),
+    let bound = told.settled Infinite settled_there in (
+      none_of e.space.task c.in_ok-cert_of-in-None-get.field-0 c.recall.ensures.space.task bound told.held,
+      certified e.space.task (kind_of c.args.kind) Infinite c.in_ok-cert_of-in-None-get.field-0 (closed_in e.owners) told.kind told.closed bound told.held told.lawful,
       settled_there,
     )

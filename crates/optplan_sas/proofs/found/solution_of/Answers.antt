@@ -1,28 +1,27 @@
-use Rattle.std.proofs.Common.{subst}
+use Rattle.std.proofs.Common.{◌≡◌, ℕ, Option, IsSomeAnd, sym, subst}
 use Rattle.cost.specs.Distances.{Finite}
 use Rattle.cert_value.specs.Views.{kind_of}
-use Rattle.extract.specs.Ends.{IsBestGoal}
+use Rattle.extract.specs.Bounds.{least_best}
 use Rattle.cert.specs.Expanded.{closed_in}
-use Rattle.optplan_sas.proofs.Ends.{has_goal, bound_of, certified}
+use Rattle.optplan_sas.specs.Findings.{IsBestSoFar, IsSettledEnd}
+use Rattle.optplan_sas.specs.declared.found.FoundPlan.{FoundPlan}
+use Rattle.optplan_sas.proofs.Ends.{certified, solved}
 use Rattle.optplan_sas.proofs.found.solution_of.Goals as goal
-
-pub unreachable-requires : goal.unreachable-requires
-unreachable-requires g c =
-    has_goal g.S.Spread.owner c.args.joined.now c.args.cost c.recall.ensures.space c.recall.ensures.lawful c.requires
-    (subst (IsBestGoal c.args.joined.now) c.in-None.is c.in_ok-goal.ensures)
 
 pub returns-clause-solution : goal.returns-clause-solution
 returns-clause-solution g c =
-    let told = c.in_ok-certificate-in-Some.ensures in
-    let held = told.held (Finite c.args.cost) c.requires in
-    record {
-      cheapest =
-          record {
-            leads = c.in_ok-plan-in-Some.ensures.plan;
-            costs = c.in_ok-plan-in-Some.ensures.cost c.args.cost c.requires;
-            least = bound_of c.args.joined.now.space.task c.in_ok-certificate-in-Some.certificate (Finite c.args.cost) c.recall.ensures.space.task held.0 held.1;
-          };
-      certified =
-          certified c.args.joined.now.space.task (kind_of c.args.kind) (Finite c.args.cost) c.in_ok-certificate-in-Some.certificate (closed_in c.args.joined.now.owners) told.kind told.closed held
-          (told.lawful (Finite c.args.cost) c.requires);
-    }
+    let e = c.args.joined.now in
+    let cost = c.requires.0 in
+    let settled = c.requires.1 in
+    let told = c.in_ok-certificate.ensures in
+    let known = subst (IsBestSoFar e.space.task (least_best e)) c.in-Some.is c.in_ok-found.ensures.best in
+    let costs = subst (λ (b : Option FoundPlan). IsSomeAnd b (λ p. p.cost ≡ cost)) c.in-Some.is (c.in_ok-found.ensures.settled cost settled) in
+    let of = certified e.space.task (kind_of c.args.kind) (Finite cost) c.in_ok-certificate.certificate (closed_in e.owners) told.kind told.closed (told.settled (Finite cost) settled) told.held told.lawful in
+    let all = solved e.space.task (kind_of c.args.kind) (least_best e) cost c.in-Some.found c.in_ok-certificate.certificate c.recall.ensures.space.task (sym settled.best) known costs of in
+    record { cheapest = all.0; certified = all.1 }
+
+pub returns-clause-settled : goal.returns-clause-settled
+returns-clause-settled g c =
+    let cost = c.requires.0 in
+    let costs = subst (λ (b : Option FoundPlan). IsSomeAnd b (λ p. p.cost ≡ cost)) c.in-Some.is (c.in_ok-found.ensures.settled cost c.requires.1) in
+    subst (λ (k : ℕ). IsSettledEnd g.S.Spread.owner c.args.joined.now (Finite k)) (sym costs) c.requires.1

@@ -1,20 +1,31 @@
-use Rattle.std.proofs.Common.{refl, subst, sym}
-use Rattle.cost.specs.Distances.{Infinite}
+use Rattle.std.proofs.Common.{subst}
 use Rattle.cert_value.specs.Certificates.{FiniteDomain}
-use Rattle.optplan_sas.specs.declared.found.Found.{Found}
-use Rattle.optplan_sas.specs.declared.sas.SasAnswer.TheVariants.{Solved, Unsolvable}
-use Rattle.optplan_sas.specs.Findings.{IsTrueOf}
-use Rattle.optplan_sas.specs.SasAnswers.{HasTextsOf}
-use Rattle.optplan_sas.proofs.Spelled.{accepted}
+use Rattle.packed_spread.specs.Spreads.{zobrist_owner}
+use Rattle.extract.specs.Bounds.{least_best}
+use Rattle.optplan_sas.specs.Findings.{IsFound, IsTrueOf}
+use Rattle.optplan_sas.proofs.Texts.{solution_there, known_there, solved_answer, unsolvable_answer, limit_answer}
 use Rattle.optplan_sas.proofs.sas.answer_texts.Goals as goal
 
+pub solution_texts-requires : goal.solution_texts-requires
+solution_texts-requires c = solution_there c.args.task.now c.in-Solved.solution (subst (IsTrueOf c.args.task.now FiniteDomain) c.in-Solved.is c.requires)
+
+pub known_texts-requires : goal.known_texts-requires
+known_texts-requires c = known_there c.args.task.now c.in-Stopped.known (subst (IsTrueOf c.args.task.now FiniteDomain) c.in-Stopped.is c.requires)
+
 pub returns-in_ok-solution_texts-in-Solved : goal.returns-in_ok-solution_texts-in-Solved
-returns-in_ok-solution_texts-in-Solved c = λ sas spells.
-    subst (λ (f : Found). HasTextsOf sas c.args.task.now f (Solved c.in_ok-solution_texts-in-Solved.field-0)) (sym c.in-Solved.is)
-    (c.in_ok-solution_texts-in-Solved.field-0, refl, c.in_ok-solution_texts-in-Solved.ensures.solution sas spells, c.in_ok-solution_texts-in-Solved.ensures.cost)
+returns-in_ok-solution_texts-in-Solved c = λ sas e spells same found.
+    let texts = c.in_ok-solution_texts-in-Solved in
+    solved_answer sas c.args.task.now e spells same c.in-Solved.solution texts.field-0 (subst (IsFound zobrist_owner e FiniteDomain) c.in-Solved.is found)
+    (texts.ensures.solution sas spells) texts.ensures.cost
 
 pub returns-in_ok-write_cert-in-Unsolvable : goal.returns-in_ok-write_cert-in-Unsolvable
-returns-in_ok-write_cert-in-Unsolvable c = λ sas spells.
-    let holds = subst (IsTrueOf c.args.task.now FiniteDomain) c.in-Unsolvable.is c.requires in
-    subst (λ (f : Found). HasTextsOf sas c.args.task.now f (Unsolvable c.in_ok-write_cert-in-Unsolvable.field-0)) (sym c.in-Unsolvable.is)
-    (c.in_ok-write_cert-in-Unsolvable.field-0, refl, accepted sas c.args.task.now Infinite c.in-Unsolvable.certificate c.in_ok-write_cert-in-Unsolvable.field-0.items spells holds.1 c.in_ok-write_cert-in-Unsolvable.ensures)
+returns-in_ok-write_cert-in-Unsolvable c = λ sas e spells same found.
+    let text = c.in_ok-write_cert-in-Unsolvable in
+    unsolvable_answer sas c.args.task.now e spells same c.in-Unsolvable.certificate text.field-0 (subst (IsFound zobrist_owner e FiniteDomain) c.in-Unsolvable.is found)
+    text.ensures
+
+pub returns-in_ok-known_texts-in-Stopped : goal.returns-in_ok-known_texts-in-Stopped
+returns-in_ok-known_texts-in-Stopped c = λ sas e spells same found.
+    let texts = c.in_ok-known_texts-in-Stopped in
+    limit_answer sas c.args.task.now e spells same c.in-Stopped.known texts.field-0 (subst (IsFound zobrist_owner e FiniteDomain) c.in-Stopped.is found)
+    (texts.ensures.known sas (least_best e) spells) texts.ensures.bound

@@ -1,19 +1,21 @@
-use Rattle.std.proofs.Common.{List, ℕ, ◌<◌, length, subst, sym, ap, ◌∙◌}
-use Rattle.std.specs.Prelude.{All}
+use Rattle.std.proofs.Common.{ℕ, subst, sym}
 use Rattle.cost.specs.Distances.{Finite}
-use Rattle.sasfile_writer.specs.Plans.{sas_plan_text}
-use Rattle.optplan_sas.proofs.PlanTexts.{plan_operators_exist}
+use Rattle.fdr.specs.Tasks.{EveryPlanCostsAtLeast}
+use Rattle.optplan_sas.specs.SasAnswers.{IsAccepted}
 use Rattle.optplan_sas.proofs.Spelled.{accepted}
 use Rattle.optplan_sas.proofs.sas.solution_texts.Goals as goal
 
-pub sas_plan_text-requires : goal.sas_plan_text-requires
-sas_plan_text-requires c =
-    subst (λ (plan : List ℕ). All (λ o. o < length c.args.task.now.operators) plan) (sym c.deref.ensures.value)
-    (plan_operators_exist c.args.task.now c.args.solution.plan.items c.requires.cheapest.leads)
+pub plan_text-requires : goal.plan_text-requires
+plan_text-requires c = record { leads = c.requires.cheapest.leads; costs = c.requires.cheapest.costs }
 
 pub returns-clause-solution : goal.returns-clause-solution
-returns-clause-solution c = λ sas spells. record {
-  cheapest = c.requires.cheapest;
-  written = c.in_ok-plan_text.ensures ∙ ap (λ (plan : List ℕ). sas_plan_text c.args.task.now plan c.args.solution.cost) c.deref.ensures.value;
-  accepted = accepted sas c.args.task.now (Finite c.args.solution.cost) c.args.solution.certificate c.in_ok-cert.cert.items spells c.requires.certified c.in_ok-cert.ensures;
-}
+returns-clause-solution c = λ sas spells.
+    let task = c.args.task.now in
+    let cost = sym c.in_ok-found.ensures.cost in
+    record {
+      found = c.in_ok-found.ensures.plan;
+      least = subst (λ (n : ℕ). EveryPlanCostsAtLeast task (Finite n)) cost c.requires.cheapest.least;
+      accepted =
+          subst (λ (n : ℕ). IsAccepted sas c.in_ok-cert.cert.items (Finite n)) cost
+          (accepted sas task (Finite c.args.solution.found.cost) c.args.solution.certificate c.in_ok-cert.cert.items spells c.requires.certified c.in_ok-cert.ensures);
+    }

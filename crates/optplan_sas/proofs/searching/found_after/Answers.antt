@@ -3,7 +3,7 @@ use Rattle.std.specs.Prelude.{IfOk, IfErr}
 use Rattle.fdr.specs.Tasks.{FiniteDomainTask}
 use Rattle.cert_value.specs.Views.{kind_of}
 use Rattle.optplan_sas.specs.Findings.{IsFinding}
-use Rattle.optplan_sas.specs.Searches.{IsSettledAfter, IsShortAfter, IsRefusedAfter}
+use Rattle.optplan_sas.specs.Searches.{EndsAfter, IsRefusedAfter}
 use Rattle.optplan_sas.proofs.searching.found_after.Goals as goal
 
 pub returns-clause-found : goal.returns-clause-found
@@ -12,7 +12,7 @@ returns-clause-found c =
     let options = c.args.options.now in
     subst
     (λ (t : FiniteDomainTask). IfOk c.after_steps_in_smallest_form.result
-    (IsFinding t (kind_of c.args.kind) (IsSettledAfter options steps t) (IsShortAfter options steps t)))
+    (IsFinding t (kind_of c.args.kind) (EndsAfter options steps t)))
     c.in_ok-space.ensures.task_is c.after_steps_in_smallest_form.ensures.found
 
 pub returns-clause-refused : goal.returns-clause-refused

@@ -3,7 +3,7 @@ use Rattle.std.specs.Prelude.{IfOk, IfErr}
 use Rattle.fdr.specs.Tasks.{FiniteDomainTask}
 use Rattle.cert_value.specs.Views.{kind_of}
 use Rattle.optplan_sas.specs.Findings.{IsFinding}
-use Rattle.optplan_sas.specs.Searches.{IsSettledBySeed, IsShortBySeed, IsRefusedBySeed}
+use Rattle.optplan_sas.specs.Searches.{EndsBySeed, IsRefusedBySeed}
 use Rattle.optplan_sas.proofs.searching.found_by_seed.Goals as goal
 
 pub returns-clause-found : goal.returns-clause-found
@@ -12,7 +12,7 @@ returns-clause-found c =
     let options = c.args.options.now in
     subst
     (λ (t : FiniteDomainTask). IfOk c.by_seed_in_smallest_form.result
-    (IsFinding t (kind_of c.args.kind) (IsSettledBySeed options seed t) (IsShortBySeed options seed t)))
+    (IsFinding t (kind_of c.args.kind) (EndsBySeed options seed t)))
     c.in_ok-space.ensures.task_is c.by_seed_in_smallest_form.ensures.found
 
 pub returns-clause-refused : goal.returns-clause-refused

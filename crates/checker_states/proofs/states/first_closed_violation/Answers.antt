@@ -1,0 +1,12 @@
+use Rattle.std.proofs.Common.{length, ◌∙◌, ap, sym}
+use Rattle.std.proofs.lemmas.Result.{IfOk-weaker}
+use Rattle.checker_states.specs.Pieces.{says_state}
+use Rattle.checker_states.proofs.PieceLaws.{first_among, states_found}
+use Rattle.checker_states.proofs.states.first_closed_violation.Goals as goal
+
+pub returns : goal.returns
+returns g c =
+    let counted = c.len.ensures ∙ ap length c.closed.ensures in
+    IfOk-weaker c.first_in_pieces.result _ _
+    (λ v h. states_found c.args.task.now c.args.certificate.now v (rw (sym counted)
+    (first_among (says_state c.args.task.now c.args.certificate.now) _ c.len.result (λ start end p is. is) v h))) c.first_in_pieces.ensures

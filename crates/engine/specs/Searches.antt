@@ -1,0 +1,59 @@
+-- How a search by threads ends, and why it may fail.
+use Rattle.std.specs.Prelude.{◌≡◌, ℕ, ◌<◌, ◌⊎◌, List, [], length, None}
+use Rattle.cost.specs.Distances.{Distance}
+use Rattle.owner_theory.specs.Owners.{At}
+use Rattle.owner_theory.specs.Families.{Family}
+use Rattle.owner.specs.declared.fault.OwnerFault.{OwnerFault}
+use Rattle.owner.specs.declared.fault.OwnerFault.TheVariants as owner_fault
+use Rattle.owner.specs.Spaces.{SpaceOf}
+use Rattle.owner.specs.Owned.{OwnerOf, IsRefusal}
+use Rattle.extract.specs.Ends.{EndOf, IsEndOf, IsSettledAt, IsSettledAnswer, space_at}
+use Rattle.engine_round.specs.Turns.{MayStop}
+use Rattle.engine_round.specs.declared.gate.Stop.TheVariants.{Fail, Limit}
+use Rattle.engine.specs.declared.fault.EngineFault.{EngineFault}
+use Rattle.engine.specs.declared.fault.EngineFault.TheVariants.{OutOfMemory, TotalTooLarge, Gate}
+use Rattle.engine.specs.declared.searched.Searched.{Searched}
+use Rattle.engine.specs.declared.searched.Searched.TheVariants.{Settled, Stopped}
+
+-- so many owners of that space, which have taken all messages
+pub record IsEndIn {S : Type 0} (searched_space : SpaceOf S) (workers : ℕ) (e : EndOf S) : Type 0 where
+  pub space : e.space ≡ searched_space
+  pub count : length e.owners ≡ workers
+  pub left : e.left ≡ []
+
+-- one of the owners refuses to expand its next node below some bound, for this fault
+pub record IsRefusedBy {S : Type 0} (owner : S → List ℕ → ℕ → ℕ) (e : EndOf S) (fault : OwnerFault) : Type 0 where
+  pub number : ℕ
+  pub holder : OwnerOf S
+  pub there : At e.owners number holder
+  pub bound : Distance
+  pub refusal : IsRefusal owner bound holder holder fault
+
+-- the gate may end a search of so many workers as at a limit
+pub record IsEndedByGate (may_stop : MayStop) (workers : ℕ) : Type 0 where
+  pub worker : ℕ
+  pub within : worker < workers
+  pub turn : ℕ
+  pub stops : may_stop worker turn Limit
+
+-- the end of a search of so many workers: the owners are settled; or they are not, as one of them has reached its limit, or the gate ended
+-- the search
+abbrev pub IsSearched : {S F : Type 0} → (S → List ℕ → ℕ → ℕ) → MayStop → SpaceOf S → ℕ → Searched S F → Type 0
+IsSearched owner may_stop space workers (Settled e) =
+    IsEndIn space workers e × ((bound : Distance) × IsSettledAt (space_at owner e) e.owners e.left bound)
+IsSearched owner may_stop space workers (Stopped e) =
+    IsEndIn space workers e × IsSettledAnswer (space_at owner e) e.owners e.left None
+    × (IsRefusedBy owner e owner_fault.LimitReached ⊎ IsEndedByGate may_stop workers)
+
+-- the end of a search of so many owners, one of which refuses to expand its next node, for this fault
+pub record IsRefusedEnd {S : Type 0} (owner : S → List ℕ → ℕ → ℕ) (searched_space : SpaceOf S) (workers : ℕ) (fault : OwnerFault) : Type 0 where
+  pub end : EndOf S
+  pub is_in : IsEndIn searched_space workers end
+  pub family : ∥ ((family : Family) × IsEndOf owner end family) ∥₁
+  pub refused : IsRefusedBy owner end fault
+
+-- why a search of so many workers fails: memory ran out; a successor's total is too large; or the gate may make it fail before that turn
+abbrev pub IsSearchFault : {S : Type 0} → (S → List ℕ → ℕ → ℕ) → MayStop → SpaceOf S → ℕ → EngineFault → Type 0
+IsSearchFault owner may_stop space workers OutOfMemory = Unit {0}
+IsSearchFault owner may_stop space workers TotalTooLarge = IsRefusedEnd owner space workers owner_fault.TotalTooLarge
+IsSearchFault owner may_stop space workers (Gate worker turn) = (worker < workers) × may_stop worker turn Fail

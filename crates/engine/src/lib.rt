@@ -1,0 +1,12 @@
+//! A search by threads, each of which has the states of one owner (hash distributed A*: Kishimoto, Fukunaga and Botea 2013).
+#![tactic(auto)]
+
+mod fault;
+mod halt;
+mod searched;
+mod searches;
+
+pub use engine_round::{Gate, Open, Stop};
+pub use fault::EngineFault;
+pub use searched::Searched;
+pub use searches::search;

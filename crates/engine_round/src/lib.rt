@@ -1,0 +1,17 @@
+//! A round of a search by threads: workers that take turns at once (hash distributed A*: Kishimoto, Fukunaga and Botea 2013).
+#![tactic(auto)]
+
+mod crew;
+mod fault;
+mod finish;
+mod gate;
+mod job;
+mod pause;
+mod rounds;
+mod seats;
+mod start;
+mod work;
+
+pub use fault::TurnFault;
+pub use gate::{Gate, Open, Stop};
+pub use rounds::{RoundEnd, round};

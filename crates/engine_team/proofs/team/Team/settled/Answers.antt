@@ -1,0 +1,24 @@
+use Rattle.std.proofs.Common.{◌∙◌, List, map, sym, ap}
+use Rattle.cost.specs.Distances.{least}
+use Rattle.extract.specs.Pending.{least_held}
+use Rattle.worker.specs.Workers.{WorkerOf}
+use Rattle.engine_team.specs.Teams.{TeamOf}
+use Rattle.engine_team.proofs.Joining.{form_of}
+use Rattle.engine_team.proofs.Settling.{team_settled, team_unsettled}
+use Rattle.engine_team.proofs.team.Team.settled.Goals as goal
+
+pub returns-then-le : goal.returns-then-le
+returns-then-le g c =
+    rw (← c.self.view_is)
+    (let t : TeamOf g.row.S.Denot = record { space = c.self.inside.space.now; workers = c.self.inside.workers.items; best = c.self.inside.best } in
+    team_settled g.S.Spread.owner t (form_of g.S.Spread.owner t c.self.invariant c.recall_each.ensures) c.best_goal-best.result c.least_pending.result
+    (c.best_goal-best.ensures ∙ ap (λ (ws : List (WorkerOf g.row.S.Denot)). least (map (λ w. w.owner.best) ws)) c.deref.ensures.value)
+    (c.least_pending.ensures ∙ ap (λ (ws : List (WorkerOf g.row.S.Denot)). least (map (λ w. least_held g.S.Spread.owner w.owner) ws)) c.deref-2.ensures.value) (sym c.le.ensures ∙ c.if-le.true))
+
+pub returns : goal.returns
+returns g c =
+    rw (← c.self.view_is)
+    (let t : TeamOf g.row.S.Denot = record { space = c.self.inside.space.now; workers = c.self.inside.workers.items; best = c.self.inside.best } in
+    team_unsettled g.S.Spread.owner t (form_of g.S.Spread.owner t c.self.invariant c.recall_each.ensures) c.best_goal-best.result c.least_pending.result
+    (c.best_goal-best.ensures ∙ ap (λ (ws : List (WorkerOf g.row.S.Denot)). least (map (λ w. w.owner.best) ws)) c.deref.ensures.value)
+    (c.least_pending.ensures ∙ ap (λ (ws : List (WorkerOf g.row.S.Denot)). least (map (λ w. least_held g.S.Spread.owner w.owner) ws)) c.deref-2.ensures.value) (sym c.le.ensures ∙ c.if-le.false))

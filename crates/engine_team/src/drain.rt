@@ -1,0 +1,162 @@
+//! The rings between workers, which are emptied between rounds, while no other thread has a worker.
+
+ghost use Rattle.std.specs.Prelude.{◌≡◌, ◌≢◌, ℕ, ◌+◌, ◌<◌, ◌≤◌, [], length, IfOk};
+ghost use Rattle.std.specs.List.{insert};
+ghost use Rattle.owner_theory.specs.Owners.{At};
+ghost use Rattle.owner.specs.Spaces.{SpaceOf};
+ghost use Rattle.worker.specs.Workers.{WorkerOf, IsKept};
+ghost use Rattle.engine_team.specs.Teams.{AreMembers};
+ghost use Rattle.engine_team.specs.Draining.{AreLookedAt, IsLinkMatched, IsLinkEmptied, AreLinksEmptied, AreDrained, IsDrained};
+
+use crate::team::Team;
+use packed::StateForm;
+use packed_spread::Spread;
+use std::alloc::AllocError;
+use worker::Worker;
+
+/// What holds of each worker, stated as a contract for all of them.
+pub(crate) fn recall_each<S: Spread + Drop, F: StateForm + Drop>(workers: &Vec<Worker<'_, S, F>>)
+    ensures { (v : ℕ) (w : WorkerOf S) → At workers.now.items v w → IsKept S.owner w }
+{
+    for worker in workers {
+        worker.recall();
+    }
+}
+
+/// The place of worker `from` among all workers but worker `to`.
+fn place_beside(from: usize, to: usize) -> usize
+    requires { from ≢ to }
+    ensures before { from < to → result ≡ from }
+    ensures behind { to ≤ from → result + 1 ≡ from }
+{
+    if from < to { from } else { from - 1 }
+}
+
+/// The number of messages in the ring from worker `from` to the receiver, which is worker `to` and stands beside the others. Allocates
+/// nothing.
+fn match_link<'a, S: Spread + Drop, F: StateForm + Drop>(
+    others: &mut Vec<Worker<'a, S, F>>,
+    receiver: &mut Worker<'a, S, F>,
+    from: usize,
+    to: usize,
+) -> usize
+    requires from { from ≤ length others.old.items }
+    requires to { to ≤ length others.old.items }
+    requires members { (space : SpaceOf S) × AreMembers space (insert others.old.items to receiver.old) }
+    ensures { IsLinkMatched S.owner from to (insert others.old.items to receiver.old) (insert others.new.items to receiver.new) result }
+{
+    if from == to {
+        return receiver.match_own_link();
+    }
+    let place = place_beside(from, to);
+    others[place].match_link(receiver)
+}
+
+/// Looks at both ends of each link to the receiver, so that it is known that no message stands aside in it. Allocates nothing.
+fn match_links<'a, S: Spread + Drop, F: StateForm + Drop>(
+    others: &mut Vec<Worker<'a, S, F>>,
+    receiver: &mut Worker<'a, S, F>,
+    to: usize,
+)
+    requires to { to ≤ length others.old.items }
+    requires members { (space : SpaceOf S) × AreMembers space (insert others.old.items to receiver.old) }
+    ensures looked { AreLookedAt S.owner (insert others.old.items to receiver.old) (insert others.new.items to receiver.new) }
+    ensures none_aside { receiver.new.misfits ≡ [] }
+{
+    for from in 0..receiver.workers() {
+        let _ = match_link(others, receiver, from, to);
+    }
+    recall_each(others);
+    receiver.recall();
+    receiver.owner().recall();
+}
+
+/// The receiver takes all messages in the ring from worker `from`. Fails only if allocation fails.
+fn empty_ring<'a, S: Spread + Drop, F: StateForm + Drop>(
+    others: &mut Vec<Worker<'a, S, F>>,
+    receiver: &mut Worker<'a, S, F>,
+    from: usize,
+    to: usize,
+) -> Result<(), AllocError>
+    requires from { from ≤ length others.old.items }
+    requires to { to ≤ length others.old.items }
+    requires members { (space : SpaceOf S) × AreMembers space (insert others.old.items to receiver.old) }
+    requires none_aside { receiver.old.misfits ≡ [] }
+    ensures { IfOk result (λ _. IsLinkEmptied S.owner from to (insert others.old.items to receiver.old) (insert others.new.items to receiver.new)) }
+{
+    let waiting = match_link(others, receiver, from, to);
+    for _ in 0..waiting {
+        receiver.begin_round(); // what is taken here is counted in no round
+        let _ = receiver.receive(from)?;
+        let _ = match_link(others, receiver, from, to);
+        recall_each(others);
+        receiver.recall();
+        receiver.owner().recall();
+    }
+    Ok(())
+}
+
+/// The receiver takes all messages in the rings to it. Fails only if allocation fails.
+fn empty_rings<'a, S: Spread + Drop, F: StateForm + Drop>(
+    others: &mut Vec<Worker<'a, S, F>>,
+    receiver: &mut Worker<'a, S, F>,
+    to: usize,
+) -> Result<(), AllocError>
+    requires to { to ≤ length others.old.items }
+    requires members { (space : SpaceOf S) × AreMembers space (insert others.old.items to receiver.old) }
+    ensures { IfOk result (λ _. AreLinksEmptied S.owner (length (insert others.old.items to receiver.old)) to (insert others.old.items to receiver.old) (insert others.new.items to receiver.new)) }
+{
+    match_links(others, receiver, to);
+    for from in 0..receiver.workers() {
+        empty_ring(others, receiver, from, to)?;
+    }
+    Ok(())
+}
+
+/// One of these workers takes all messages in the rings to it. Fails only if allocation fails.
+fn empty_rings_to<S: Spread + Drop, F: StateForm + Drop>(
+    workers: &mut Vec<Worker<'_, S, F>>,
+    to: usize,
+) -> Result<(), AllocError>
+    requires to { to < length workers.old.items }
+    requires members { (space : SpaceOf S) × AreMembers space workers.old.items }
+    ensures { IfOk result (λ _. AreLinksEmptied S.owner (length workers.old.items) to workers.old.items workers.new.items) }
+{
+    let mut receiver = workers.remove(to);
+    empty_rings(workers, &mut receiver, to)?;
+    workers.insert(to, receiver)?;
+    Ok(())
+}
+
+/// Each of these workers takes all messages in the rings to it. Fails only if allocation fails.
+fn empty_all<S: Spread + Drop, F: StateForm + Drop>(
+    workers: &mut Vec<Worker<'_, S, F>>,
+) -> Result<(), AllocError>
+    requires { (space : SpaceOf S) × AreMembers space workers.old.items }
+    ensures { IfOk result (λ _. AreDrained S.owner (length workers.old.items) workers.old.items workers.new.items) }
+{
+    for to in 0..workers.len() {
+        empty_rings_to(workers, to)?;
+    }
+    Ok(())
+}
+
+impl<'a, S: Spread + Drop, F: StateForm + Drop> Team<'a, S, F> {
+    /// The team after each worker has taken the messages that were left in the rings to it: those from worker 0 first, and of each
+    /// sender the oldest first. Fails only if allocation fails, and then the team is gone.
+    pub fn drain(self) -> Result<Team<'a, S, F>, AllocError>
+        ensures { IfOk result (IsDrained S.owner self.entry) }
+    {
+        let Team {
+            space,
+            mut workers,
+            best,
+        } = self;
+        empty_all(&mut workers)?;
+        Ok(Team {
+            space,
+            workers,
+            best,
+        })
+    }
+}

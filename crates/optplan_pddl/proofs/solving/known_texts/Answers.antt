@@ -1,0 +1,11 @@
+use Rattle.std.proofs.Common.{refl}
+use Rattle.optplan_pddl.proofs.Accepting.{known_for}
+use Rattle.optplan_pddl.proofs.solving.known_texts.Goals as goal
+
+pub best_text-requires : goal.best_text-requires
+best_text-requires c = (c.requires.1.0, c.requires.1.1.best_is)
+
+pub returns-clause-known : goal.returns-clause-known
+returns-clause-known c = λ domain problem task most spells made same is.
+    known_for domain problem task c.args.translated.now spells made same most c.args.known _ is
+    (c.in_ok-best.ensures domain problem task most spells made same is.best_is) refl c.in_ok-cert.ensures

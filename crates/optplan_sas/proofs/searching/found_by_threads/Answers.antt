@@ -1,0 +1,21 @@
+use Rattle.std.proofs.Common.{subst}
+use Rattle.std.specs.Prelude.{IfOk, IfErr}
+use Rattle.fdr.specs.Tasks.{FiniteDomainTask}
+use Rattle.cert_value.specs.Views.{kind_of}
+use Rattle.optplan_sas.specs.Findings.{IsFinding}
+use Rattle.optplan_sas.specs.Searches.{EndsByThreads, IsRefusedByThreads}
+use Rattle.optplan_sas.proofs.searching.found_by_threads.Goals as goal
+
+pub returns-clause-found : goal.returns-clause-found
+returns-clause-found g c =
+    let options = c.args.options.now in
+    subst
+    (λ (t : FiniteDomainTask). IfOk c.by_threads_in_smallest_form.result
+    (IsFinding t (kind_of c.args.kind) (EndsByThreads options (g.G.Gate.may_stop c.args.gate.now) t)))
+    c.in_ok-space.ensures.task_is c.by_threads_in_smallest_form.ensures.found
+
+pub returns-clause-refused : goal.returns-clause-refused
+returns-clause-refused g c =
+    subst
+    (λ (t : FiniteDomainTask). IfErr c.by_threads_in_smallest_form.result (IsRefusedByThreads c.args.options.now (g.G.Gate.may_stop c.args.gate.now) t))
+    c.in_ok-space.ensures.task_is c.by_threads_in_smallest_form.ensures.refused

@@ -1,0 +1,45 @@
+//! Answers with the texts of their plans and certificates.
+
+ghost use Rattle.std.specs.Prelude.{◌≡◌};
+
+/// A plan with its cost and its text; `P` is how the plan itself is given.
+#[derive(Drop)]
+pub struct WrittenPlan<P: Drop> {
+    /// The cost of the plan.
+    pub cost: u64,
+    /// The plan.
+    pub plan: P,
+    /// The text of the plan.
+    pub plan_text: String,
+}
+
+/// A cheapest plan, with the text of a certificate.
+#[derive(Drop)]
+pub struct CheapestPlan<P: Drop> {
+    /// The plan.
+    pub found: WrittenPlan<P>,
+    /// The text of a certificate that every plan costs at least as much.
+    pub cert: Vec<u8>,
+}
+
+/// What is known where a search was stopped.
+#[derive(Drop)]
+pub struct KnownSoFar<P: Drop> {
+    /// No plan costs less.
+    pub bound: u64,
+    /// The best plan so far, if there is one.
+    pub best: Option<WrittenPlan<P>>,
+    /// The text of a certificate that every plan costs at least `bound`.
+    pub cert: Vec<u8>,
+}
+
+/// The answer for a task.
+#[derive(Drop)]
+pub enum Answer<P: Drop> {
+    /// A cheapest plan.
+    Solved(CheapestPlan<P>),
+    /// There is no plan; the text of a certificate of that.
+    Unsolvable(Vec<u8>),
+    /// The search was stopped before it found either.
+    Limit(KnownSoFar<P>),
+}

@@ -1,0 +1,95 @@
+//! The solver by lists of steps that were worked out by hand, which no command takes.
+
+use checker::{Verdict, check_sas};
+use checker_pddl::{PlanningVerdict, check_pddl};
+use cost::Dist;
+use netcore::WorldStep;
+use netcore::WorldStep::Expand;
+use optplan_pddl::{Options, solve_steps};
+use optplan_runs::texts::{ROAD_DOMAIN, ROAD_PROBLEM, ROAD_SAS};
+use optplan_sas::{Answer, solve_sas_steps};
+use std::process::Abort;
+use std::test::Fail;
+use std::thread::Threads;
+
+/// The one worker expands a, and b is reached.
+const TOO_FEW: &[WorldStep] = &[Expand(0)];
+
+/// It expands a and b, and the goal c is reached.
+const ENOUGH: &[WorldStep] = &[Expand(0), Expand(0)];
+
+/// What is answered for the road's texts: a plan's text, or that there is none, or that it is not known.
+fn answer<R: AllocGlobal>(rt: &R, steps: &[WorldStep]) -> Result<String, Fail> {
+    let options = Options::new().with_workers(1);
+    let (domain, problem) = (ROAD_DOMAIN.as_bytes(), ROAD_PROBLEM.as_bytes());
+    match solve_steps(rt, domain, problem, &options, steps)? {
+        Answer::Solved(solution) => Ok(solution.found.plan_text),
+        Answer::Unsolvable(_) => Ok(String::from_str(rt.alloc(), "unsolvable")?),
+        Answer::Limit(known) => Ok(format!(in rt.alloc(); "limit {}", known.bound)?),
+    }
+}
+
+/// The certificate of the plan that is found for the road's texts.
+fn certificate<R: AllocGlobal>(rt: &R) -> Result<Vec<u8>, Fail> {
+    let options = Options::new().with_workers(1);
+    let (domain, problem) = (ROAD_DOMAIN.as_bytes(), ROAD_PROBLEM.as_bytes());
+    match solve_steps(rt, domain, problem, &options, ENOUGH)? {
+        Answer::Solved(solution) => Ok(solution.cert),
+        Answer::Unsolvable(_) | Answer::Limit(_) => Ok(Vec::new(rt.alloc())),
+    }
+}
+
+#[test]
+fn steps_on_a_planning_task(rt: HostRuntime) -> Result<(), Fail> {
+    assert_eq!(rt; answer(&rt, TOO_FEW)?.as_str(), "limit 2");
+    let plan = answer(&rt, ENOUGH)?;
+    assert_eq!(rt;
+        plan.as_str(),
+        "(go a b)\n(go b c)\n; cost = 2 (unit cost)\n"
+    );
+    Ok(())
+}
+
+/// Checks that the checker accepts the certificate for this bound.
+fn certifies<R: Threads + Sync + Abort + AllocGlobal>(
+    rt: &R,
+    cert: &[u8],
+    bound: Dist,
+) -> Result<(), Fail> {
+    match check_pddl(rt, ROAD_DOMAIN.as_bytes(), ROAD_PROBLEM.as_bytes(), cert)? {
+        PlanningVerdict::Accepted(accepted) => assert_eq!(rt; accepted, bound),
+        PlanningVerdict::Rejected(violation) => panic!(rt; "rejected {violation}"),
+    }
+    Ok(())
+}
+
+#[test]
+fn certificate_of_a_planning_task(rt: HostRuntime) -> Result<(), Fail> {
+    let cert = certificate(&rt)?;
+    let bound = Dist::fin(2).ok_or("a distance")?;
+    certifies(&rt, &cert, bound)
+}
+
+#[test]
+fn steps_on_a_finite_domain_task(rt: HostRuntime) -> Result<(), Fail> {
+    let options = Options::new().with_workers(1);
+    let sas = ROAD_SAS.as_bytes();
+    let short = solve_sas_steps(&rt, sas, &options, TOO_FEW)?;
+    assert!(rt; matches!(short, Answer::Limit(_)));
+    match solve_sas_steps(&rt, sas, &options, ENOUGH)? {
+        Answer::Solved(solution) => {
+            assert_eq!(rt;
+                (solution.found.cost, solution.found.plan.as_slice()),
+                (2, [0, 1].as_slice())
+            );
+            let bound = Dist::fin(2).ok_or("a distance")?;
+            assert_eq!(rt;
+                check_sas(&rt, sas, &solution.cert)?,
+                Verdict::Accepted(bound)
+            );
+            Ok(())
+        }
+        Answer::Unsolvable(_) => panic!(rt; "unsolvable"),
+        Answer::Limit(_) => panic!(rt; "unsettled"),
+    }
+}

@@ -1,0 +1,7 @@
+//! Searches by threads, whose answers are compared with those of owners in one thread.
+#![tactic(auto)]
+
+#[cfg(test)]
+mod gates;
+#[cfg(test)]
+mod searches;

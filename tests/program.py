@@ -1,0 +1,103 @@
+"""The program as the tests call it: a run over files in a folder of its own, and what it prints, reports and writes."""
+
+import dataclasses
+import os
+import subprocess
+import tempfile
+import unittest
+
+# The seconds after which a run is ended, and fails.
+SECONDS_OF_A_RUN = 60
+
+
+@dataclasses.dataclass(frozen=True)
+class Outcome:
+    """What a run wrote to standard output and to standard error, its exit status, and the files that it wrote."""
+
+    out: bytes = b""
+    err: bytes = b""
+    status: int = 0
+    files: dict = dataclasses.field(default_factory=dict)
+
+
+def as_bytes(text):
+    return text.encode() if isinstance(text, str) else text
+
+
+def run(*words, files=None):
+    """The outcome of the program with these words, in a folder that has these files: texts or bytes by their names."""
+    given = {name: as_bytes(text) for name, text in (files or {}).items()}
+    with tempfile.TemporaryDirectory(prefix="optplan-test-") as folder:
+        for name, text in given.items():
+            with open(os.path.join(folder, name), "wb") as file:
+                file.write(text)
+        ended = subprocess.run([os.environ["OPTPLAN"], *words], cwd=folder, stdin=subprocess.DEVNULL, stdout=subprocess.PIPE,
+                               stderr=subprocess.PIPE, timeout=SECONDS_OF_A_RUN, check=False)
+        return Outcome(ended.stdout, ended.stderr, ended.returncode, written(folder, given))
+
+
+def written(folder, given):
+    """The files of a folder that are new or have other bytes than were given."""
+    found = {}
+    for name in os.listdir(folder):
+        with open(os.path.join(folder, name), "rb") as file:
+            text = file.read()
+        if given.get(name) != text:
+            found[name] = text
+    return found
+
+
+def validated(domain, problem, plan=""):
+    """The outcome of a plan's validation over these texts."""
+    return run("validate", "d", "p", "l", files={"d": domain, "p": problem, "l": plan})
+
+
+def checked(domain, problem, cert):
+    """The outcome of a certificate's check for a planning task over these texts."""
+    return run("check", "d", "p", "c", files={"d": domain, "p": problem, "c": cert})
+
+
+def checked_sas(sas, cert):
+    """The outcome of a certificate's check for a finite-domain task over these texts."""
+    return run("check-sas", "s", "c", files={"s": sas, "c": cert})
+
+
+def translated(domain, problem):
+    """The outcome of a planning task's translation."""
+    return run("translate", "d", "p", files={"d": domain, "p": problem})
+
+
+def wanted(answer):
+    """The outcome that is expected for an answer: a verdict's line on standard output, or a fault's line, with the program's name, on
+    standard error, and nothing else. A fault's answer starts with `F`. Status 0 is that of a plan that is valid and of a certificate that
+    is accepted, and 3 that of one that is not."""
+    line = as_bytes(answer) + b"\n"
+    if line.startswith(b"F"):
+        return Outcome(err=b"optplan: " + line, status=1)
+    return Outcome(out=line, status=0 if line.startswith((b"valid ", b"accepted ")) else 3)
+
+
+class ProgramTest(unittest.TestCase):
+    """Tests that run the program. A row of texts that has another outcome than expected fails alone: the rows behind it are run too."""
+
+    maxDiff = 4000
+
+    def is_answered(self, outcome, answer, **row):
+        """Fails, with the row, unless the outcome is that of this answer."""
+        with self.subTest(**row):
+            self.assertEqual(outcome, wanted(answer))
+
+    def domains_are_answered(self, rows):
+        """Fails for each row (domain, answer) with another answer, for a problem without a goal and an empty plan."""
+        for domain, answer in rows:
+            self.is_answered(validated(domain, "(define (problem p) (:goal ()))"), answer, domain=domain)
+
+    def problems_are_answered(self, rows):
+        """Fails for each row (domain, problem, answer) with another answer, for an empty plan."""
+        for domain, problem, answer in rows:
+            self.is_answered(validated(domain, problem), answer, domain=domain, problem=problem)
+
+    def plans_are_answered(self, domain, rows):
+        """Fails for each row (problem, plan, answer) with another answer in one domain."""
+        for problem, plan, answer in rows:
+            self.is_answered(validated(domain, problem, plan), answer, problem=problem, plan=plan)

@@ -1,0 +1,143 @@
+"""Searches that are stopped by `--limit` or `--steps`: the bound, the best plan so far, and the certificate of the bound."""
+
+import os
+
+from program import Outcome, ProgramTest, checked, checked_sas, run
+
+EXAMPLES = os.path.join(os.path.dirname(os.path.dirname(os.path.abspath(__file__))), "examples")
+
+# Examples that are solved, or shown to have no plan, after few states.
+SMALL_TASKS = ("blocks", "door", "drive", "grip", "gripper", "noop", "road")
+
+STOPPED = 5
+
+
+def example(*place):
+    with open(os.path.join(EXAMPLES, *place), encoding="ascii") as file:
+        return file.read()
+
+
+ROAD, R1 = example("road", "domain.pddl"), example("road", "problem.pddl")
+DRIVE, D1 = example("drive", "domain.pddl"), example("drive", "problem.pddl")
+
+# R1 with a goal that holds at first.
+R1_AT_A = R1.replace("(:goal (at c))", "(:goal (at a))")
+
+# Tables of one state say nothing, so f is the cost so far. The states are a, b and c: the first expansion reaches b at 3 and the goal c
+# at 8.
+DRIVE_WITHOUT_TABLES = ("--table", "1", "--workers", "1")
+
+DRIVE_CERTIFICATE = """optplan-cert 1
+pddl
+bound 3
+atoms 6
+at a
+at b
+at c
+road a b
+road a c
+road b c
+vars 1
+0 3 0 1 2
+columns 0
+closed 1
+0 0
+end
+"""
+
+
+def solved(domain, problem, *words, seed=1):
+    """The outcome of a solution with these words, by the schedule of the seed, or by threads if there is none: the plan goes to the file
+    `plan`, the certificate to the file `cert`."""
+    schedule = () if seed is None else ("--simulate", str(seed))
+    return run("solve", "d", "p", *schedule, "--plan", "plan", "--cert", "cert", *words, files={"d": domain, "p": problem})
+
+
+def bound_of(outcome):
+    """What a certificate of this answer is accepted for: the bound, the cost of a cheapest plan, or that there is no plan."""
+    if outcome.out == b"unsolvable\n":
+        return "unsolvable"
+    if outcome.status == STOPPED:
+        return outcome.out.splitlines()[0].removeprefix(b"limit ").decode()
+    return outcome.out.splitlines()[-1].removeprefix(b"; cost = ").split()[0].decode()
+
+
+class LimitTest(ProgramTest):
+    def is_solved(self, outcome, out, status, plan=None, **row):
+        """Fails, with the row, unless this was printed, with this status, and the plan's file is this, if one is expected."""
+        with self.subTest(**row):
+            files = {"cert": outcome.files.get("cert")} | ({} if plan is None else {"plan": plan})
+            self.assertIsNotNone(files["cert"])
+            self.assertEqual(outcome, Outcome(out=out, status=status, files=files))
+
+    def is_certified(self, domain, problem, outcome, **row):
+        """Fails, with the row, unless the certificate is accepted for exactly what was answered."""
+        self.is_answered(checked(domain, problem, outcome.files["cert"]), f"accepted {bound_of(outcome)}", **row)
+
+    def test_bound_before_a_plan_is_found(self):
+        # the tables of ROAD are exact, so the least open f is 2 from the first state on, and after one step of any owner too
+        for words in (("--workers", "1", "--limit", "1"), ("--workers", "1", "--limit", "0"), ("--steps", "1"), ("--steps", "0")):
+            outcome = solved(ROAD, R1, *words)
+            self.is_solved(outcome, b"limit 2\n", STOPPED, words=words)
+            self.is_certified(ROAD, R1, outcome, words=words)
+
+    def test_what_is_settled_is_solved_all_the_same(self):
+        plan = b"; cost = 0 (unit cost)\n"
+        for words in (("--workers", "1", "--limit", "0"), ("--workers", "1", "--steps", "0")):
+            outcome = solved(ROAD, R1_AT_A, *words)
+            self.is_solved(outcome, plan, 0, plan, words=words)
+            self.is_certified(ROAD, R1_AT_A, outcome, words=words)
+
+    def test_best_plan_so_far(self):
+        plan = b"(go a c)\n; cost = 8 (general cost)\n"
+        for seed in [*range(20), None]:
+            outcome = solved(DRIVE, D1, *DRIVE_WITHOUT_TABLES, "--limit", "1", seed=seed)
+            self.is_solved(outcome, b"limit 3\n" + plan, STOPPED, plan, seed=seed)
+            self.assertEqual(outcome.files["cert"].decode(), DRIVE_CERTIFICATE)
+        self.is_answered(checked(DRIVE, D1, DRIVE_CERTIFICATE), "accepted 3")
+
+    def test_next_bound_is_no_bound(self):
+        self.is_answered(checked(DRIVE, D1, DRIVE_CERTIFICATE.replace("bound 3", "bound 4")), "rejected C8 state 0 op 0")
+
+    def test_no_state_expanded(self):
+        outcome = solved(DRIVE, D1, *DRIVE_WITHOUT_TABLES, "--limit", "0")
+        self.is_solved(outcome, b"limit 0\n", STOPPED)
+        self.is_certified(DRIVE, D1, outcome)
+
+    def test_limit_that_is_never_met(self):
+        # the second expansion, of b, reaches c at 7, and nothing is open below that
+        plan = b"(go a b)\n(go b c)\n; cost = 7 (general cost)\n"
+        outcome = solved(DRIVE, D1, *DRIVE_WITHOUT_TABLES, "--limit", "2")
+        self.is_solved(outcome, plan, 0, plan)
+        self.is_certified(DRIVE, D1, outcome)
+
+    def test_finite_domain_task(self):
+        sas = example("road", "task.sas")
+        words = ["solve-sas", "s", "--simulate", "1", "--workers", "1", "--limit", "1", "--plan", "plan", "--cert", "cert"]
+        outcome = run(*words, files={"s": sas})
+        self.is_solved(outcome, b"limit 2\n", STOPPED)
+        self.is_answered(checked_sas(sas, outcome.files["cert"]), "accepted 2")
+
+    def test_certificates_are_accepted_for_what_is_answered(self):
+        for name in SMALL_TASKS:
+            domain, problem = example(name, "domain.pddl"), example(name, "problem.pddl")
+            for limit in range(0, 41, 4):
+                for workers in range(1, 5):
+                    for seed in ((limit + workers) % 20, None):
+                        row = {"name": name, "limit": limit, "workers": workers, "seed": seed}
+                        outcome = solved(domain, problem, "--limit", str(limit), "--workers", str(workers), seed=seed)
+                        self.is_certified(domain, problem, outcome, **row)
+
+    def test_bound_never_falls_as_the_limit_rises(self):
+        # in one thread, with one seed, the steps of a lesser limit are the first of those of a greater one
+        for name in SMALL_TASKS:
+            domain, problem = example(name, "domain.pddl"), example(name, "problem.pddl")
+            least = 0
+            for limit in range(41):
+                outcome = solved(domain, problem, "--table", "1", "--workers", "2", "--limit", str(limit))
+                if outcome.status != STOPPED:
+                    break
+                bound = int(bound_of(outcome))
+                with self.subTest(name=name, limit=limit):
+                    self.assertLessEqual(least, bound)
+                least = bound

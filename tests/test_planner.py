@@ -1,0 +1,220 @@
+"""Small planning tasks whose optimal costs are known: blocks, lamps and locks, and tiles. Each is solved by the schedules of many
+seeds and by threads, and each answer is judged by the commands that validate plans and check certificates, which read only the texts."""
+
+from program import Outcome, ProgramTest, checked, run, validated, wanted
+
+# The seeds of schedules.
+SEEDS = range(20)
+
+# The numbers of workers with which a task is solved.
+WORKERS = (1, 2, 5)
+
+# The numbers of threads by which a task is solved, how often by each, and the room of a link in turn: one of one message is often full.
+THREADS = range(1, 9)
+SEARCHES = 20
+ROOMS = (1, 64)
+
+# The greatest number of abstract states of a table: small, so that searches expand nodes.
+TABLE = 100
+
+
+def solved(domain, problem, **options):
+    """The outcome of the solver for a task, by threads, or by the schedule of a seed with `simulate`: it writes the plan to the file `l`,
+    the certificate to `c`."""
+    words = [word for name, number in options.items() for word in (f"--{name}", str(number))]
+    return run("solve", "d", "p", *words, "--plan", "l", "--cert", "c", files={"d": domain, "p": problem})
+
+
+def by_seeds(*numbers):
+    """The options of a search for each of these numbers of workers and each seed."""
+    return [{"workers": workers, "simulate": seed} for workers in numbers for seed in SEEDS]
+
+
+def by_threads(*numbers):
+    """The options of some searches for each of these numbers of threads."""
+    return [{"workers": workers, "ring": ROOMS[search % len(ROOMS)]} for workers in numbers for search in range(SEARCHES)]
+
+
+class PlannerTest(ProgramTest):
+    """Tests that solve tasks, and check each answer."""
+
+    def certifies(self, domain, problem, cert, bound):
+        """Fails unless the checker accepts the certificate for this bound."""
+        self.assertEqual(checked(domain, problem, cert), wanted(f"accepted {bound}"))
+
+    def is_cheapest(self, domain, problem, outcome, cost):
+        """Fails unless the outcome is a plan that is valid at this cost, and a certificate that the checker accepts for it."""
+        self.assertEqual((outcome.err, outcome.status, sorted(outcome.files)), (b"", 0, ["c", "l"]), outcome)
+        kind = "general" if "(:metric" in problem else "unit"
+        self.assertEqual(outcome.out.decode().splitlines()[-1], f"; cost = {cost} ({kind} cost)")
+        self.assertEqual(outcome.files["l"], outcome.out)
+        self.assertEqual(validated(domain, problem, outcome.out), wanted(f"valid {cost}"))
+        self.certifies(domain, problem, outcome.files["c"], cost)
+
+    def costs_by(self, searches, domain, problem, cost, table=TABLE):
+        """Fails for each of these searches, given by its options, that does not solve the task at this cost."""
+        for options in searches:
+            with self.subTest(problem=problem, **options):
+                self.is_cheapest(domain, problem, solved(domain, problem, table=table, **options), cost)
+
+    def costs(self, domain, problem, cost, table=TABLE):
+        """Fails unless owners in one thread and threads solve the task at this cost, with tables of that size."""
+        self.costs_by(by_seeds(*WORKERS), domain, problem, cost, table)
+        self.costs_by(by_threads(*THREADS), domain, problem, cost, table)
+
+    def unsolvable(self, domain, problem):
+        """Fails unless owners in one thread and threads find that the task has no plan, with a certificate of that."""
+        for options in by_seeds(*WORKERS) + by_threads(*THREADS):
+            with self.subTest(problem=problem, **options):
+                outcome = solved(domain, problem, table=TABLE, **options)
+                cert = outcome.files.get("c", b"")
+                self.assertEqual(outcome, Outcome(out=b"unsolvable\n", status=4, files={"c": cert}))
+                self.certifies(domain, problem, cert, "unsolvable")
+
+
+# Blocks on a table, moved by one hand with four operators.
+BLOCKS = """(define (domain blocks)
+ (:requirements :strips)
+ (:predicates (on ?x ?y) (on-table ?x) (clear ?x) (empty) (held ?x))
+ (:action pick-up :parameters (?x)
+  :precondition (and (clear ?x) (on-table ?x) (empty))
+  :effect (and (not (on-table ?x)) (not (clear ?x)) (not (empty)) (held ?x)))
+ (:action put-down :parameters (?x)
+  :precondition (held ?x)
+  :effect (and (not (held ?x)) (clear ?x) (empty) (on-table ?x)))
+ (:action stack :parameters (?x ?y)
+  :precondition (and (held ?x) (clear ?y))
+  :effect (and (not (held ?x)) (not (clear ?y)) (clear ?x) (empty) (on ?x ?y)))
+ (:action unstack :parameters (?x ?y)
+  :precondition (and (on ?x ?y) (clear ?x) (empty))
+  :effect (and (held ?x) (clear ?y) (not (clear ?x)) (not (empty)) (not (on ?x ?y)))))
+"""
+
+# Sussman's anomaly.
+ANOMALY = """(define (problem anomaly) (:domain blocks)
+ (:objects a b c)
+ (:init (on c a) (on-table a) (on-table b) (clear c) (clear b) (empty))
+ (:goal (and (on a b) (on b c))))
+"""
+
+# A tower that is to stand the other way round.
+REVERSAL = """(define (problem reversal) (:domain blocks)
+ (:objects a b c)
+ (:init (on a b) (on b c) (on-table c) (clear a) (empty))
+ (:goal (and (on c b) (on b a))))
+"""
+
+
+class Blocks(PlannerTest):
+    """Three blocks, which are to form another tower."""
+
+    def test_anomaly(self):
+        # c must be off a before a goes on b, and b on c before that: three blocks move, and each is taken and laid down.
+        self.costs(BLOCKS, ANOMALY, 6)
+
+    def test_reversal(self):
+        # a must go to the table, b onto a, and c, which stands on the table, onto b: three moves of a block, each of two steps.
+        self.costs(BLOCKS, REVERSAL, 6)
+
+
+# Nobody leaves before it is dark in the hall, and a lamp is switched off where it is.
+LAMPS = """(define (domain lamps)
+ (:requirements :typing :negative-preconditions)
+ (:types room)
+ (:constants hall - room)
+ (:predicates (in ?r - room) (outside) (lit ?r - room) (next ?x ?y - room))
+ (:action walk :parameters (?x ?y - room)
+  :precondition (and (in ?x) (next ?x ?y))
+  :effect (and (not (in ?x)) (in ?y)))
+ (:action switch-off :parameters (?r - room)
+  :precondition (and (in ?r) (lit ?r))
+  :effect (not (lit ?r)))
+ (:action leave :parameters ()
+  :precondition (and (in hall) (not (lit hall)))
+  :effect (and (not (in hall)) (outside))))
+"""
+
+THREE_LAMPS = """(define (problem three) (:domain lamps)
+ (:objects kitchen bath - room)
+ (:init (in hall) (lit hall) (lit kitchen) (lit bath)
+  (next hall kitchen) (next kitchen hall) (next hall bath) (next bath hall))
+ (:goal (and (outside) (not (lit kitchen)) (not (lit bath)))))
+"""
+
+LOCKS = """(define (domain locks)
+ (:requirements :typing)
+ (:types room key)
+ (:predicates (in ?r - room) (lies ?k - key ?r - room) (has ?k - key) (door ?x ?y - room) (lock ?k - key ?x ?y - room))
+ (:action walk :parameters (?x ?y - room)
+  :precondition (and (in ?x) (door ?x ?y))
+  :effect (and (not (in ?x)) (in ?y)))
+ (:action take :parameters (?k - key ?r - room)
+  :precondition (and (in ?r) (lies ?k ?r))
+  :effect (and (not (lies ?k ?r)) (has ?k)))
+ (:action unlock :parameters (?k - key ?x ?y - room)
+  :precondition (and (in ?x) (has ?k) (lock ?k ?x ?y))
+  :effect (door ?x ?y)))
+"""
+
+KEY_BEHIND_ITS_LOCK = """(define (problem locked) (:domain locks)
+ (:objects a b c - room brass iron - key)
+ (:init (in a) (door a b) (door b a) (lock iron b c) (lock brass c a) (lies brass a) (lies iron c))
+ (:goal (in c)))
+"""
+
+
+class Houses(PlannerTest):
+    """Lamps and locks."""
+
+    def test_lamps(self):
+        # Three lamps, the ways to the kitchen and to the bath and back, and the step outside: 3 + 4 + 1.
+        self.costs(LAMPS, THREE_LAMPS, 8)
+
+    def test_locks(self):
+        # The only way to c is by the lock of the iron key, which lies in c.
+        self.unsolvable(LOCKS, KEY_BEHIND_ITS_LOCK)
+
+
+TILES = """(define (domain tiles)
+ (:requirements :typing)
+ (:types tile cell)
+ (:constants one two three - tile a b c d - cell)
+ (:predicates (at ?t - tile ?c - cell) (blank ?c - cell) (next ?x ?y - cell))
+ (:action slide :parameters (?t - tile ?from ?to - cell)
+  :precondition (and (at ?t ?from) (blank ?to) (next ?from ?to))
+  :effect (and (not (at ?t ?from)) (at ?t ?to) (not (blank ?to)) (blank ?from))))
+"""
+
+TWO_MOVES = """(define (problem near) (:domain tiles)
+ (:init (next a b) (next b c) (next c d) (next d a) (next b a) (next c b) (next d c) (next a d)
+  (blank a) (at two b) (at three c) (at one d))
+ (:goal (and (at one a) (at two b) (at three d))))
+"""
+
+SIX_MOVES = """(define (problem far) (:domain tiles)
+ (:init (next a b) (next b c) (next c d) (next d a) (next b a) (next c b) (next d c) (next a d)
+  (blank a) (at three b) (at one c) (at two d))
+ (:goal (and (at one a) (at two b) (at three d))))
+"""
+
+# The goal with tiles one and two exchanged.
+SWAPPED = """(define (problem swapped) (:domain tiles)
+ (:init (next a b) (next b c) (next c d) (next d a) (next b a) (next c b) (next d c) (next a d)
+  (at two a) (at one b) (blank c) (at three d))
+ (:goal (and (at one a) (at two b) (at three d))))
+"""
+
+
+class Tiles(PlannerTest):
+    """Three tiles on four cells in a square, a and b above d and c. Around the square the tiles keep their cyclic order, so 12 of the 24
+    placements can be reached, and the blank leads through them in a cycle."""
+
+    def test_moves(self):
+        # The tile one goes up, and three to the left: the blank goes half round the square.
+        self.costs(TILES, TWO_MOVES, 2)
+        # The blank goes once and a half round the square, one way or the other: half of the cycle.
+        self.costs(TILES, SIX_MOVES, 6)
+
+    def test_swapped_tiles(self):
+        # Round the square the order is two, one, three, and the goal's is one, two, three.
+        self.unsolvable(TILES, SWAPPED)
