@@ -20,6 +20,7 @@ use closed::{Entry, Message};
 use cost::Dist;
 use packed::{Layout, StateForm};
 use packed_spread::Spread;
+use scp::Places;
 use std::alloc::{AllocError, Global};
 use std::collections::VecDeque;
 use std::marker::Model;
@@ -37,11 +38,14 @@ pub struct Owner<'a, S: Spread + Drop, F: StateForm + Drop> {
     successor: Vec<u32>,
     /// A buffer for the operators that apply in that state.
     applicable: Vec<usize>,
+    /// The places of that state in the columns, while its successors are treated.
+    places: Places<'a>,
 }
 
 impl<'a, S: Spread + Drop, F: StateForm + Drop> Model for Owner<'a, S, F> {
     ghost use Rattle.std.specs.Prelude.{◌≡◌, length};
     ghost use Rattle.owner.specs.Owned.{OwnerOf};
+    ghost use Rattle.owner.specs.Held.{places_in};
 
     ghost Value = { OwnerOf S };
 
@@ -49,7 +53,8 @@ impl<'a, S: Spread + Drop, F: StateForm + Drop> Model for Owner<'a, S, F> {
 
     ghost invariant = { λ o.
         (length o.state.items ≡ length o.holdings.space.task.value_names)
-        × (length o.successor.items ≡ length o.holdings.space.task.value_names) };
+        × (length o.successor.items ≡ length o.holdings.space.task.value_names)
+        × (o.places ≡ places_in o.holdings.space o.places.state) };
 }
 
 /// Writes the values of a message's state into `state`.
@@ -96,12 +101,14 @@ impl<'a, S: Spread + Drop, F: StateForm + Drop> Owner<'a, S, F> {
         let width = space.task().variable_count();
         let state = vec![in alloc; 0; width]?;
         let successor = vec![in alloc; 0; width]?;
+        let places = space.columns().places(alloc)?;
         Ok(Owner {
             alloc,
             holdings: Holdings::start(alloc, space, worker, owners)?,
             state,
             successor,
             applicable: Vec::new(alloc),
+            places,
         })
     }
 
@@ -152,12 +159,13 @@ impl<'a, S: Spread + Drop, F: StateForm + Drop> Owner<'a, S, F> {
             return Err(OwnerFault::TotalTooLarge);
         }
         self.holdings.expand_next();
+        self.places.enter(&self.state);
         let posted = treat_successors(
             self.alloc,
             &mut self.holdings,
             bound,
             next,
-            &self.state,
+            &mut self.places,
             &self.applicable,
             &mut self.successor,
         )?;
