@@ -16,8 +16,8 @@ use Rattle.closed.specs.Outcomes.{ComesLast, GivesWay, Stays}
 
 -- ---- the nodes are those of an owner that takes the messages
 
-pub arrival-message_of : (m : Message) → arrival m ≡ node_of (message_of m)
-arrival-message_of m = refl
+pub arrival-message_of : {F : Type 0} (values : F → List ℕ) (m : Message F) → arrival values m ≡ node_of (message_of values m)
+arrival-message_of values m = refl
 
 pub reached-node_of : (nodes : List Node) (m : machine.Message) → reached nodes (node_of m) ≡ improve nodes m
 reached-node_of [] m = refl
@@ -29,8 +29,9 @@ reached-node_of (n ∷ ns) m =
     else n ∷ xs)
     (reached-node_of ns m)
 
-pub reached-arrival : (nodes : List Node) (m : Message) → reached nodes (arrival m) ≡ improve nodes (message_of m)
-reached-arrival nodes m = reached-node_of nodes (message_of m)
+pub reached-arrival : {F : Type 0} (values : F → List ℕ) (nodes : List Node) (m : Message F) →
+    reached nodes (arrival values m) ≡ improve nodes (message_of values m)
+reached-arrival values nodes m = reached-node_of nodes (message_of values m)
 
 -- a state that this owner reached itself
 pub reached-fresh : (nodes : List Node) (state : List ℕ) (rank : Rank) (p : Parent) → reached nodes (fresh state rank (Some p))
@@ -39,12 +40,12 @@ reached-fresh nodes state rank p =
     reached-node_of nodes (record { state = state; cost = rank.cost; steps = rank.steps; parent = parent_of p })
 
 -- so are those after several messages, taken one after the other
-pub reached_all-arrival : (ms : List Message) (nodes : List Node) →
-    fold reached nodes (map arrival ms) ≡ fold improve nodes (map message_of ms)
-reached_all-arrival [] nodes = refl
-reached_all-arrival (m ∷ ms) nodes =
-    reached_all-arrival ms (reached nodes (arrival m))
-    ∙ ap (λ (xs : List Node). fold improve xs (map message_of ms)) (reached-arrival nodes m)
+pub reached_all-arrival : {F : Type 0} (values : F → List ℕ) (ms : List (Message F)) (nodes : List Node) →
+    fold reached nodes (map (arrival values) ms) ≡ fold improve nodes (map (message_of values) ms)
+reached_all-arrival values [] nodes = refl
+reached_all-arrival values (m ∷ ms) nodes =
+    reached_all-arrival values ms (reached nodes (arrival values m))
+    ∙ ap (λ (xs : List Node). fold improve xs (map (message_of values) ms)) (reached-arrival values nodes m)
 
 -- ---- what an outcome tells
 

@@ -16,9 +16,10 @@ use Rattle.closed.specs.declared.table.Outcome.TheVariants.{New, Better, Kept}
 abbrev pub parent_of : Parent → machine.Parent
 parent_of p = record { worker = p.worker; index = p.index; operator = p.operator }
 
-abbrev pub message_of : Message → machine.Message
-message_of m =
-    record { state = m.state.values.items; cost = m.rank.cost; steps = m.rank.steps; parent = parent_of m.parent }
+-- the message whose state's form has these values
+abbrev pub message_of : {F : Type 0} → (F → List ℕ) → Message F → machine.Message
+message_of values m =
+    record { state = values m.state; cost = m.rank.cost; steps = m.rank.steps; parent = parent_of m.parent }
 
 -- a state with its entry
 abbrev pub node_with : List ℕ → Entry → Node
@@ -66,6 +67,6 @@ abbrev pub outcomes_of : List Node → List Node → List Outcome
 outcomes_of nodes [] = []
 outcomes_of nodes (m ∷ ms) = outcome_of nodes m ∷ outcomes_of (reached nodes m) ms
 
--- the node of a message's state
-abbrev pub arrival : Message → Node
-arrival m = fresh m.state.values.items m.rank (Some m.parent)
+-- the node of a message's state, whose form has these values
+abbrev pub arrival : {F : Type 0} → (F → List ℕ) → Message F → Node
+arrival values m = fresh (values m.state) m.rank (Some m.parent)

@@ -10,13 +10,15 @@ ghost use Rattle.closed.specs.declared.table.Outcome.TheVariants.{New, Better, K
 ghost use Rattle.closed.specs.Tables.{parent_of, message_of, fresh, reached, outcome_of, arrival};
 ghost use Rattle.closed.specs.Outcomes.{ComesLast, GivesWay, Stays};
 
+use packed::StateForm;
+
 /// Reaching the states of messages changes the nodes as an owner of states does when it takes these messages, and so does
 /// reaching a state from one of its own.
-pub fn reaching_is_improving()
+pub fn reaching_is_improving<F: StateForm + Drop>()
     ensures message { (nodes : List Node) (m : machine.Message) → reached nodes (node_of m) ≡ improve nodes m }
-    ensures arrival { (m : Message) → arrival m ≡ node_of (message_of m) }
-    ensures all { (nodes : List Node) (ms : List Message) →
-        fold reached nodes (map arrival ms) ≡ fold improve nodes (map message_of ms) }
+    ensures arrival { (values : F → List ℕ) (m : Message F) → arrival values m ≡ node_of (message_of values m) }
+    ensures all { (values : F → List ℕ) (nodes : List Node) (ms : List (Message F)) →
+        fold reached nodes (map (arrival values) ms) ≡ fold improve nodes (map (message_of values) ms) }
     ensures own { (nodes : List Node) (state : List ℕ) (rank : Rank) (p : Parent) →
         reached nodes (fresh state rank (Some p)) ≡
         improve nodes (record { state = state; cost = rank.cost; steps = rank.steps; parent = parent_of p }) }

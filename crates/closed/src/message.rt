@@ -1,7 +1,7 @@
 //! Messages: states that one owner sends to another.
 
 use openlist::Rank;
-use packed::Plain;
+use packed::StateForm;
 
 /// Where a state was reached from.
 #[derive(Clone, Copy, Debug, PartialEq, Eq)]
@@ -16,9 +16,9 @@ pub struct Parent {
 
 /// A state that was reached, with its rank and its parent.
 #[derive(Drop)]
-pub struct Message {
-    /// The state.
-    pub state: Plain,
+pub struct Message<F: StateForm + Drop> {
+    /// The form of the state.
+    pub state: F,
     /// The rank at which it was reached.
     pub rank: Rank,
     /// Where it was reached from.

@@ -110,9 +110,11 @@ impl<F: StateForm + Drop> ClosedTable<F> {
         self.len() == 0
     }
 
-    /// Every state in the table is a state of the task: it follows from the type's invariant.
+    /// Every state in the table is a state of the task, and states of the task have the form: it follows from the type's
+    /// invariant.
     pub fn recall(&self)
-        ensures { All (λ n. IsState self.now.ranges n.state) self.now.nodes }
+        ensures states { All (λ n. IsState self.now.ranges n.state) self.now.nodes }
+        ensures fits { F.Fits self.now.ranges }
     {
         let _ = self.entries.len();
     }
@@ -265,14 +267,14 @@ impl<F: StateForm + Drop> ClosedTable<F> {
     /// with `replaced` undoes what was written.
     fn reach_noting(
         &mut self,
-        message: &Message,
+        message: &Message<F>,
         values: &mut [u32],
         replaced: &mut Vec<(usize, SmallEntry)>,
     ) -> Result<Outcome, AllocError>
-        requires state { IsState self.old.ranges (arrival message.now).state }
+        requires state { IsState self.old.ranges (arrival (F.values self.old.ranges) message.now).state }
         requires len { length values.old ≡ length self.old.ranges }
-        ensures nodes { OnOk result (self.new.nodes ≡ reached self.old.nodes (arrival message.now)) }
-        ensures outcome { IfOk result (λ o. o ≡ outcome_of self.old.nodes (arrival message.now)) }
+        ensures nodes { OnOk result (self.new.nodes ≡ reached self.old.nodes (arrival (F.values self.old.ranges) message.now)) }
+        ensures outcome { IfOk result (λ o. o ≡ outcome_of self.old.nodes (arrival (F.values self.old.ranges) message.now)) }
         ensures ranges { self.new.ranges ≡ self.old.ranges }
         ensures no_fewer { length self.old.nodes ≤ length self.new.nodes }
         ensures taken_back { (len : ℕ) → len ≤ length self.old.nodes →
@@ -290,17 +292,17 @@ impl<F: StateForm + Drop> ClosedTable<F> {
     /// with `replaced` undoes what was written.
     fn reach_all(
         &mut self,
-        messages: &[Message],
+        messages: &[Message<F>],
         values: &mut [u32],
         outcomes: &mut Vec<Outcome>,
         replaced: &mut Vec<(usize, SmallEntry)>,
     ) -> Result<(), AllocError>
-        requires states { All (λ m. IsState self.old.ranges (arrival m).state) messages.now }
+        requires states { All (λ m. IsState self.old.ranges (arrival (F.values self.old.ranges) m).state) messages.now }
         requires len { length values.old ≡ length self.old.ranges }
         requires outcomes { outcomes.old.items ≡ [] }
         requires replaced { replaced.old.items ≡ [] }
-        ensures nodes { OnOk result (self.new.nodes ≡ fold reached self.old.nodes (map arrival messages.now)) }
-        ensures outcomes { OnOk result (outcomes.new.items ≡ outcomes_of self.old.nodes (map arrival messages.now)) }
+        ensures nodes { OnOk result (self.new.nodes ≡ fold reached self.old.nodes (map (arrival (F.values self.old.ranges)) messages.now)) }
+        ensures outcomes { OnOk result (outcomes.new.items ≡ outcomes_of self.old.nodes (map (arrival (F.values self.old.ranges)) messages.now)) }
         ensures ranges { self.new.ranges ≡ self.old.ranges }
         ensures taken_back { taken_back replaced.new.items (take (length self.old.nodes) self.new.nodes) ≡ self.old.nodes }
     {
@@ -353,11 +355,11 @@ impl<F: StateForm + Drop> ClosedTable<F> {
     pub fn improve_all(
         &mut self,
         alloc: Global,
-        messages: &[Message],
+        messages: &[Message<F>],
     ) -> Result<Vec<Outcome>, AllocError>
-        requires { All (λ m. IsState self.old.ranges (arrival m).state) messages.now }
-        ensures nodes { OnOk result (self.new.nodes ≡ fold reached self.old.nodes (map arrival messages.now)) }
-        ensures outcomes { IfOk result (λ os. os.items ≡ outcomes_of self.old.nodes (map arrival messages.now)) }
+        requires { All (λ m. IsState self.old.ranges (arrival (F.values self.old.ranges) m).state) messages.now }
+        ensures nodes { OnOk result (self.new.nodes ≡ fold reached self.old.nodes (map (arrival (F.values self.old.ranges)) messages.now)) }
+        ensures outcomes { IfOk result (λ os. os.items ≡ outcomes_of self.old.nodes (map (arrival (F.values self.old.ranges)) messages.now)) }
         ensures ranges { self.new.ranges ≡ self.old.ranges }
         ensures unchanged { OnErr result (self.new ≡ self.old) }
     {

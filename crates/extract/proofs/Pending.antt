@@ -8,6 +8,7 @@ use Rattle.std.proofs.lemmas.Bool.{cond_both}
 use Rattle.std.proofs.lemmas.List.Elements.{All-nil, All-cons, All-head, All-tail, All-weaker}
 use Rattle.cost.specs.Distances.{Distance, Finite, Infinite, ◌≤ᵈ◌, is_at_most, distance_cmp, lesser, least}
 use Rattle.cost.proofs.DistanceLaws.{at_most_through, at_most_infinite, at_most_lesser, lesser_at_most_left, lesser_at_most_right, least-append, at_most_not_below, is_at_most-true, is_at_most-false}
+use Rattle.fdr.specs.Tasks.{ranges}
 use Rattle.closed.specs.declared.message.Message as memory
 use Rattle.closed.specs.Tables.{message_of}
 use Rattle.owner_theory.specs.Owners.{At, list_at, SearchSpace, Node, Packet, f_value}
@@ -23,11 +24,18 @@ use Rattle.extract.proofs.Leasts.{at_most_each, at_most_least_of}
 
 -- ---- as the messages lie in memory
 
-pub small_messages : {S : Type 0} (owner : S → List ℕ → ℕ → ℕ) (o : OwnerOf S) (to : ℕ) (space : SpaceOf S)
-    (messages : List memory.Message) → space ≡ o.space → map message_of messages ≡ list_at o.outboxes to
-    → All (IsMessageTo (space_of owner o) to) (list_at o.outboxes to) → All (λ m. IsSmallMessage space.task (message_of m)) messages
-small_messages owner o to space messages same are small =
-    all_under (IsSmallMessage space.task) message_of messages
+-- the messages of an outbox have these values by the space that is read from the owner too
+pub read_there : {S F : Type 0} (values : List ℕ → F → List ℕ) (o : OwnerOf S) (to : ℕ) (space : SpaceOf S) (messages : List (memory.Message F))
+    → space ≡ o.space → map (message_of (values (ranges o.space.task))) messages ≡ list_at o.outboxes to
+    → map (message_of (values (ranges space.task))) messages ≡ list_at o.outboxes to
+read_there {S = S} values o to space messages same are =
+    ap (λ (s : SpaceOf S). map (message_of (values (ranges s.task))) messages) same ∙ are
+
+pub small_messages : {S F : Type 0} (owner : S → List ℕ → ℕ → ℕ) (values : F → List ℕ) (o : OwnerOf S) (to : ℕ) (space : SpaceOf S)
+    (messages : List (memory.Message F)) → space ≡ o.space → map (message_of values) messages ≡ list_at o.outboxes to
+    → All (IsMessageTo (space_of owner o) to) (list_at o.outboxes to) → All (λ m. IsSmallMessage space.task (message_of values m)) messages
+small_messages owner values o to space messages same are small =
+    all_under (IsSmallMessage space.task) (message_of values) messages
     (subst (All (IsSmallMessage space.task)) (sym are)
     (All-weaker (IsMessageTo (space_of owner o) to) (IsSmallMessage space.task)
     (λ m (h : IsMessageTo (space_of owner o) to m). subst (λ (s : SpaceOf _). IsSmallMessage s.task m) (sym same) (h.state, h.cost))
@@ -37,11 +45,11 @@ map_twice : {X Y Z : Type 0} (f : Y → Z) (g : X → Y) (xs : List X) → map (
 map_twice f g [] = refl
 map_twice f g (x ∷ xs) = ap (λ (ys : List _). f (g x) ∷ ys) (map_twice f g xs)
 
-pub least_in_memory : {S : Type 0} (o : OwnerOf S) (to : ℕ) (space : SpaceOf S) (messages : List memory.Message) → space ≡ o.space
-    → map message_of messages ≡ list_at o.outboxes to
-    → least (map (λ m. f_at space (message_of m)) messages) ≡ least_message o.space (list_at o.outboxes to)
-least_in_memory o to space messages same are =
-    ap least (map_twice (f_at space) message_of messages) ∙ ap (least_message space) are
+pub least_in_memory : {S F : Type 0} (values : F → List ℕ) (o : OwnerOf S) (to : ℕ) (space : SpaceOf S) (messages : List (memory.Message F))
+    → space ≡ o.space → map (message_of values) messages ≡ list_at o.outboxes to
+    → least (map (λ m. f_at space (message_of values m)) messages) ≡ least_message o.space (list_at o.outboxes to)
+least_in_memory values o to space messages same are =
+    ap least (map_twice (f_at space) (message_of values) messages) ∙ ap (least_message space) are
     ∙ ap (λ (s : SpaceOf _). least_message s (list_at o.outboxes to)) same
 
 -- ---- the open nodes of an owner
@@ -135,24 +143,24 @@ module _ {S : Type 0} (owner : S → List ℕ → ℕ → ℕ) (e : EndOf S) (fo
 
 -- ---- the messages underway as they lie in memory
 
-pub least_underway : {S : Type 0} (space : SpaceOf S) (left : List (VecDeque memory_packet.Packet Global))
-    → least_packet space (all_packets left)
-    ≡ least (map (λ q. least (map (λ p. f_at space (message_of p.message)) q.items)) left)
-least_underway space [] = refl
-least_underway space (q ∷ qs) =
-    let f : Packet → Distance = λ p. f_at space p.message in
-    ap least (map-append f (packets_in q) (all_packets qs)) ∙ least-append (map f (packets_in q)) (map f (all_packets qs))
-    ∙ ap (λ (d : Distance). lesser d (least (map f (all_packets qs)))) (ap least (sym (map_twice f packet_of q.items)))
-    ∙ ap (lesser (least (map (λ p. f (packet_of p)) q.items))) (least_underway space qs)
+module _ {S F : Type 0} (values : F → List ℕ) (space : SpaceOf S) where
+  pub least_underway : (left : List (VecDeque (memory_packet.Packet F) Global)) → least_packet space (all_packets values left)
+      ≡ least (map (λ q. least (map (λ p. f_at space (message_of values p.message)) q.items)) left)
+  least_underway [] = refl
+  least_underway (q ∷ qs) =
+      let f : Packet → Distance = λ p. f_at space p.message in
+      ap least (map-append f (packets_in values q) (all_packets values qs))
+      ∙ least-append (map f (packets_in values q)) (map f (all_packets values qs))
+      ∙ ap (λ (d : Distance). lesser d (least (map f (all_packets values qs)))) (ap least (sym (map_twice f (packet_of values) q.items)))
+      ∙ ap (lesser (least (map (λ p. f (packet_of values p)) q.items))) (least_underway qs)
 
-pub small_packets : {S : Type 0} (space : SpaceOf S) (left : List (VecDeque memory_packet.Packet Global)) (i : ℕ)
-    (q : VecDeque memory_packet.Packet Global) → i < length left → q ≡ get_or left i q
-    → All (λ p. IsSmallMessage space.task p.message) (all_packets left)
-    → All (λ p. IsSmallMessage space.task (message_of p.message)) q.items
-small_packets space left i q lt is small =
-    let P : Packet → Type 0 = λ p. IsSmallMessage space.task p.message in
-    all_under P packet_of q.items
-    (each_at (λ q. All P (packets_in q)) left i q (all_flat P packets_in left small) (at_read left i q lt is))
+  pub small_packets : (left : List (VecDeque (memory_packet.Packet F) Global)) (i : ℕ) (q : VecDeque (memory_packet.Packet F) Global)
+      → i < length left → q ≡ get_or left i q → All (λ p. IsSmallMessage space.task p.message) (all_packets values left)
+      → All (λ p. IsSmallMessage space.task (message_of values p.message)) q.items
+  small_packets left i q lt is small =
+      let P : Packet → Type 0 = λ p. IsSmallMessage space.task p.message in
+      all_under P (packet_of values) q.items
+      (each_at (λ q. All P (packets_in values q)) left i q (all_flat P (packets_in values) left small) (at_read left i q lt is))
 
 -- ---- the answer
 

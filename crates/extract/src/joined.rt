@@ -1,6 +1,7 @@
 //! The end of a search.
 
 ghost use Rattle.std.specs.Prelude.{◌≡◌, IfOk};
+ghost use Rattle.fdr.specs.Tasks.{ranges};
 ghost use Rattle.owner_theory.specs.Families.{Family, IsSearchSpace, IsLowerBound};
 ghost use Rattle.extract.specs.Ends.{EndOf, IsEndOf, IsSettledAnswer, IsBestGoal, IsForm, space_at};
 ghost use Rattle.extract.specs.Bounds.{lower_bound};
@@ -24,18 +25,19 @@ pub struct Joined<'a, S: Spread + Drop, F: StateForm + Drop> {
     space: &'a Space<'a, S>,
     owners: Vec<Owner<'a, S, F>>,
     /// The messages not taken, in a queue for each owner, the oldest first.
-    left: Vec<VecDeque<Packet>>,
-    ghost lawful: { ∥ ((family : Family) × IsEndOf S.owner (record { space = space.now; owners = owners.items; left = all_packets left.items }) family) ∥₁ },
-    ghost form: { IsForm (record { space = space.now; owners = owners.items; left = all_packets left.items }) },
+    left: Vec<VecDeque<Packet<F>>>,
+    ghost lawful: { ∥ ((family : Family) × IsEndOf S.owner (record { space = space.now; owners = owners.items; left = all_packets (F.values (ranges space.now.task)) left.items }) family) ∥₁ },
+    ghost form: { IsForm (record { space = space.now; owners = owners.items; left = all_packets (F.values (ranges space.now.task)) left.items }) },
 }
 
 impl<'a, S: Spread + Drop, F: StateForm + Drop> Model for Joined<'a, S, F> {
+    ghost use Rattle.fdr.specs.Tasks.{ranges};
     ghost use Rattle.extract.specs.Ends.{EndOf};
     ghost use Rattle.extract.specs.Views.{all_packets};
 
     ghost Value = { EndOf S };
 
-    ghost view = { λ j. record { space = j.space.now; owners = j.owners.items; left = all_packets j.left.items } };
+    ghost view = { λ j. record { space = j.space.now; owners = j.owners.items; left = all_packets (F.values (ranges j.space.now.task)) j.left.items } };
 }
 
 impl<'a, S: Spread + Drop, F: StateForm + Drop> Joined<'a, S, F> {
@@ -43,11 +45,11 @@ impl<'a, S: Spread + Drop, F: StateForm + Drop> Joined<'a, S, F> {
     pub fn new(
         space: &'a Space<'a, S>,
         owners: Vec<Owner<'a, S, F>>,
-        left: Vec<VecDeque<Packet>>,
+        left: Vec<VecDeque<Packet<F>>>,
     ) -> Joined<'a, S, F>
-        requires lawful { ∥ ((family : Family) × IsEndOf S.owner (record { space = space.now; owners = owners.items; left = all_packets left.items }) family) ∥₁ }
-        requires form { IsForm (record { space = space.now; owners = owners.items; left = all_packets left.items }) }
-        ensures { result ≡ record { space = space.now; owners = owners.entry.items; left = all_packets left.items } }
+        requires lawful { ∥ ((family : Family) × IsEndOf S.owner (record { space = space.now; owners = owners.items; left = all_packets (F.values (ranges space.now.task)) left.items }) family) ∥₁ }
+        requires form { IsForm (record { space = space.now; owners = owners.items; left = all_packets (F.values (ranges space.now.task)) left.items }) }
+        ensures { result ≡ record { space = space.now; owners = owners.entry.items; left = all_packets (F.values (ranges space.now.task)) left.items } }
     {
         Joined {
             space,

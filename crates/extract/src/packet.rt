@@ -3,12 +3,13 @@
 ghost use Rattle.std.specs.Prelude.{◌≡◌};
 
 use owner::Message;
+use packed::StateForm;
 
 /// A message underway.
 #[derive(Drop)]
-pub struct Packet {
+pub struct Packet<F: StateForm + Drop> {
     /// The worker that sent it, counted from 0.
     pub sender: usize,
     /// The message.
-    pub message: Message,
+    pub message: Message<F>,
 }

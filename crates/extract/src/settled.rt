@@ -2,6 +2,7 @@
 
 ghost use Rattle.std.specs.Prelude.{◌≡◌, length, map, IfOk, All};
 ghost use Rattle.cost.specs.Distances.{least};
+ghost use Rattle.fdr.specs.Tasks.{ranges};
 ghost use Rattle.closed.specs.Tables.{message_of};
 ghost use Rattle.owner.specs.Spaces.{searched};
 ghost use Rattle.extract.specs.Ends.{IsForm, IsSettledAnswer};
@@ -18,24 +19,30 @@ use std::alloc::{AllocError, Global};
 use std::collections::VecDeque;
 
 /// The f-value of a message; `state` is a buffer, here and below.
-fn f_of<S: Spread + Drop>(space: &Space<'_, S>, message: &Message, state: &mut [u32]) -> Dist
-    requires small { IsSmallMessage space.now.task (message_of message.now) }
+fn f_of<S: Spread + Drop, F: StateForm + Drop>(
+    space: &Space<'_, S>,
+    message: &Message<F>,
+    state: &mut [u32],
+) -> Dist
+    requires fits { F.Fits (ranges space.now.task) }
+    requires small { IsSmallMessage space.now.task (message_of (F.values (ranges space.now.task)) message.now) }
     requires buffer { length state.old ≡ length space.now.task.value_names }
-    ensures { result ≡ f_at space.now (message_of message.now) }
+    ensures { result ≡ f_at space.now (message_of (F.values (ranges space.now.task)) message.now) }
 {
     message.state.unpack(space.layout(), state);
     space.f(state, message.rank.cost)
 }
 
 /// The least f-value of these messages, infinite if there is none.
-fn least_of_messages<S: Spread + Drop>(
+fn least_of_messages<S: Spread + Drop, F: StateForm + Drop>(
     space: &Space<'_, S>,
-    messages: &VecDeque<Message>,
+    messages: &VecDeque<Message<F>>,
     state: &mut [u32],
 ) -> Dist
-    requires small { All (λ m. IsSmallMessage space.now.task (message_of m)) messages.now.items }
+    requires fits { F.Fits (ranges space.now.task) }
+    requires small { All (λ m. IsSmallMessage space.now.task (message_of (F.values (ranges space.now.task)) m)) messages.now.items }
     requires buffer { length state.old ≡ length space.now.task.value_names }
-    ensures { result ≡ least (map (λ m. f_at space.now (message_of m)) messages.now.items) }
+    ensures { result ≡ least (map (λ m. f_at space.now (message_of (F.values (ranges space.now.task)) m)) messages.now.items) }
 {
     let mut least = Dist::inf();
     for i in 0..messages.len() {
@@ -45,14 +52,15 @@ fn least_of_messages<S: Spread + Drop>(
 }
 
 /// The least f-value of these messages underway, infinite if there is none.
-fn least_of_packets<S: Spread + Drop>(
+fn least_of_packets<S: Spread + Drop, F: StateForm + Drop>(
     space: &Space<'_, S>,
-    packets: &VecDeque<Packet>,
+    packets: &VecDeque<Packet<F>>,
     state: &mut [u32],
 ) -> Dist
-    requires small { All (λ p. IsSmallMessage space.now.task (message_of p.message)) packets.now.items }
+    requires fits { F.Fits (ranges space.now.task) }
+    requires small { All (λ p. IsSmallMessage space.now.task (message_of (F.values (ranges space.now.task)) p.message)) packets.now.items }
     requires buffer { length state.old ≡ length space.now.task.value_names }
-    ensures { result ≡ least (map (λ p. f_at space.now (message_of p.message)) packets.now.items) }
+    ensures { result ≡ least (map (λ p. f_at space.now (message_of (F.values (ranges space.now.task)) p.message)) packets.now.items) }
 {
     let mut least = Dist::inf();
     for i in 0..packets.len() {
@@ -84,12 +92,13 @@ pub fn least_of_owner<S: Spread + Drop, F: StateForm + Drop>(
 fn least_pending<S: Spread + Drop, F: StateForm + Drop>(
     space: &Space<'_, S>,
     owners: &[Owner<'_, S, F>],
-    left: &[VecDeque<Packet>],
+    left: &[VecDeque<Packet<F>>],
     state: &mut [u32],
 ) -> Dist
-    requires form { IsForm (record { space = space.now; owners = owners.now; left = all_packets left.now }) }
+    requires fits { F.Fits (ranges space.now.task) }
+    requires form { IsForm (record { space = space.now; owners = owners.now; left = all_packets (F.values (ranges space.now.task)) left.now }) }
     requires buffer { length state.old ≡ length space.now.task.value_names }
-    ensures { result ≡ least_pending S.owner (record { space = space.now; owners = owners.now; left = all_packets left.now }) }
+    ensures { result ≡ least_pending S.owner (record { space = space.now; owners = owners.now; left = all_packets (F.values (ranges space.now.task)) left.now }) }
 {
     let mut least = Dist::inf();
     for owner in owners {
@@ -119,12 +128,13 @@ pub fn settled_bound<'a, S: Spread + Drop, F: StateForm + Drop>(
     alloc: Global,
     space: &Space<'a, S>,
     owners: &[Owner<'a, S, F>],
-    left: &[VecDeque<Packet>],
+    left: &[VecDeque<Packet<F>>],
 ) -> Result<Option<Dist>, AllocError>
-    requires { IsForm (record { space = space.now; owners = owners.now; left = all_packets left.now }) }
-    ensures { IfOk result (IsSettledAnswer (searched S.owner space.now (length owners.now)) owners.now (all_packets left.now)) }
+    requires { IsForm (record { space = space.now; owners = owners.now; left = all_packets (F.values (ranges space.now.task)) left.now }) }
+    ensures { IfOk result (IsSettledAnswer (searched S.owner space.now (length owners.now)) owners.now (all_packets (F.values (ranges space.now.task)) left.now)) }
 {
     let mut state = vec![in alloc; 0u32; space.task().variable_count()]?;
+    owners[0].recall(); // states of the task have the form
     let best = best_goal(owners);
     if best <= least_pending(space, owners, left, &mut state) {
         Ok(Some(best))

@@ -42,7 +42,7 @@ module _ {A : Type 0} where
         let w = wide k c at_c in let l = length-append c (x ∷ []) in let l' : length q ≡ length (c ++ x ∷ []) = ap length is in omega arith,
   )
 
-pub fresh_pushed : (capacity n : ℕ) (os : List Out) (is : List In) (o : Out) (i : In) → length os ≡ n → length is ≡ n → AreFresh capacity os is → IsFresh capacity o i → AreFresh capacity (os ++ o ∷ []) (is ++ i ∷ [])
+pub fresh_pushed : {F : Type 0} (capacity n : ℕ) (os : List (Out F)) (is : List (In F)) (o : Out F) (i : In F) → length os ≡ n → length is ≡ n → AreFresh capacity os is → IsFresh capacity o i → AreFresh capacity (os ++ o ∷ []) (is ++ i ∷ [])
 fresh_pushed capacity n os is o i len len' fresh here k p q at at' =
     ⊎_elim
     (λ t. ⊎_elim (λ t'. fresh k p q t t') (λ t'. let low = slice_get_within os k p t in let s = t'.0 in absurd (omega arith)) (get_pushed is i k q at'))
@@ -51,7 +51,7 @@ fresh_pushed capacity n os is o i len len' fresh here k p q at at' =
     (get_pushed is i k q at'))
     (get_pushed os o k p at)
 
-pub matched_grown : (capacity n w : ℕ) (outs : List (List Out)) (ins : List (List In)) (os : List Out) (is : List In)
+pub matched_grown : {F : Type 0} (capacity n w : ℕ) (outs : List (List (Out F))) (ins : List (List (In F))) (os : List (Out F)) (is : List (In F))
     → HasSize w n outs → HasSize n w ins → AreMatched capacity outs ins → AreFresh capacity os is → AreMatched capacity (outs ++ os ∷ []) (grown ins is)
 matched_grown capacity n w outs ins os is (tall, wide) (tall', wide') matched fresh k v os' is' o i at_os at_o at_is at_i =
     let (c, x, at_c, at_x, e) = grown_at ins is v is' at_is in

@@ -6,34 +6,34 @@ use Rattle.links.specs.declared.ends.Out.{Out}
 use Rattle.links.specs.declared.ends.In.{In}
 
 -- every message sent so far, the oldest first
-abbrev pub sent : Out → List Message
+abbrev pub sent : {F : Type 0} → Out F → List (Message F)
 sent o = Ring.sent o.producer
 
 -- the number of further messages for which the sender knows that there is room
-abbrev pub room : Out → ℕ
+abbrev pub room : {F : Type 0} → Out F → ℕ
 room o = Ring.known_free o.producer
 
 -- every message taken so far, the oldest first
-abbrev pub received : In → List Message
+abbrev pub received : {F : Type 0} → In F → List (Message F)
 received i = Ring.received i.consumer
 
 -- the messages that the receiver knows to be in the ring, which the next calls of `pop` return
-abbrev pub known : In → List Message
+abbrev pub known : {F : Type 0} → In F → List (Message F)
 known i = Ring.known_items i.consumer
 
 -- the two ends of one link
-abbrev pub AreEnds : Out → In → Type 0
+abbrev pub AreEnds : {F : Type 0} → Out F → In F → Type 0
 AreEnds o i = Ring.IsPair o.producer i.consumer
 
 -- the same end, before and after a call
-abbrev pub SameOut : Out → Out → Type 0
+abbrev pub SameOut : {F : Type 0} → Out F → Out F → Type 0
 SameOut a b = Ring.SameProducer a.producer b.producer
 
-abbrev pub SameIn : In → In → Type 0
+abbrev pub SameIn : {F : Type 0} → In F → In F → Type 0
 SameIn a b = Ring.SameConsumer a.consumer b.consumer
 
 -- the two ends of a link with room for a number of messages, its capacity, over which nothing was sent
-pub record IsFresh (capacity : ℕ) (o : Out) (i : In) : Type 0 where
+pub record IsFresh {F : Type 0} (capacity : ℕ) (o : Out F) (i : In F) : Type 0 where
   pub ends : AreEnds o i
   pub room_is : room o ≡ capacity
   pub sent_none : sent o ≡ []

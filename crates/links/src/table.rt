@@ -4,24 +4,25 @@ ghost use Rattle.std.specs.Prelude.{◌≡◌, length, IfOk, vec_len};
 ghost use Rattle.links.specs.Tables.{rows, AreFresh, grown, AreMatched, HasSize};
 
 use crate::ends::{In, Out, link};
+use packed::StateForm;
 use std::alloc::{AllocError, Global};
 
 /// The ends of all links: `outs[w][v]` and `ins[v][w]` are the two ends of the link from worker w to worker v. Workers
 /// are counted from 0.
 #[derive(Drop)]
-pub struct LinkTable {
+pub struct LinkTable<F: StateForm + Drop> {
     /// The sending ends, by sender and then by receiver.
-    pub outs: Vec<Vec<Out>>,
+    pub outs: Vec<Vec<Out<F>>>,
     /// The receiving ends, by receiver and then by sender.
-    pub ins: Vec<Vec<In>>,
+    pub ins: Vec<Vec<In<F>>>,
 }
 
 /// The ends of `workers` new links, each with room for `capacity` messages. Fails only if allocation fails.
-fn links_from(
+fn links_from<F: StateForm + Drop>(
     alloc: Global,
     workers: usize,
     capacity: usize,
-) -> Result<(Vec<Out>, Vec<In>), AllocError>
+) -> Result<(Vec<Out<F>>, Vec<In<F>>), AllocError>
     ensures size { IfOk result (λ r. (vec_len r.0 ≡ workers) × (vec_len r.1 ≡ workers)) }
     ensures fresh { IfOk result (λ r. AreFresh capacity r.0.items r.1.items) }
 {
@@ -36,7 +37,11 @@ fn links_from(
 }
 
 /// Appends one more receiving end to each worker's row. Fails only if allocation fails.
-fn add_ends(alloc: Global, ins: Vec<Vec<In>>, ends: Vec<In>) -> Result<Vec<Vec<In>>, AllocError>
+fn add_ends<F: StateForm + Drop>(
+    alloc: Global,
+    ins: Vec<Vec<In<F>>>,
+    ends: Vec<In<F>>,
+) -> Result<Vec<Vec<In<F>>>, AllocError>
     requires { vec_len ins ≡ vec_len ends }
     ensures { IfOk result (λ r. rows r.items ≡ grown (rows ins.items) ends.items) }
 {
@@ -49,7 +54,10 @@ fn add_ends(alloc: Global, ins: Vec<Vec<In>>, ends: Vec<In>) -> Result<Vec<Vec<I
 }
 
 /// An empty row of receiving ends for each of `workers` workers. Fails only if allocation fails.
-fn no_ends(alloc: Global, workers: usize) -> Result<Vec<Vec<In>>, AllocError>
+fn no_ends<F: StateForm + Drop>(
+    alloc: Global,
+    workers: usize,
+) -> Result<Vec<Vec<In<F>>>, AllocError>
     ensures { IfOk result (λ r. HasSize workers 0 (rows r.items)) }
 {
     let mut ins = Vec::with_capacity(alloc, workers)?;
@@ -59,10 +67,10 @@ fn no_ends(alloc: Global, workers: usize) -> Result<Vec<Vec<In>>, AllocError>
     Ok(ins)
 }
 
-impl LinkTable {
+impl<F: StateForm + Drop> LinkTable<F> {
     /// A link from each of `workers` workers to each of them, itself included, with room for `capacity` messages, over
     /// which nothing was sent. Fails only if allocation fails.
-    pub fn new(alloc: Global, workers: usize, capacity: usize) -> Result<LinkTable, AllocError>
+    pub fn new(alloc: Global, workers: usize, capacity: usize) -> Result<LinkTable<F>, AllocError>
         ensures size { IfOk result (λ t. HasSize workers workers (rows t.outs.items) × HasSize workers workers (rows t.ins.items)) }
         ensures matched { IfOk result (λ t. AreMatched capacity (rows t.outs.items) (rows t.ins.items)) }
     {

@@ -25,9 +25,10 @@ use Rattle.netcore.specs.Kept.{IsWorld}
 use Rattle.netcore.proofs.Places.{at_some, at_below}
 
 -- ---- lists of lists
-pub joined_same : (queues : List (VecDeque (Rattle.extract.specs.declared.packet.Packet.Packet) Global)) → flat_map (λ ps. ps) (map packets_in queues) ≡ all_packets queues
-joined_same [] = refl
-joined_same (q ∷ queues) = ap (λ ps. packets_in q ++ ps) (joined_same queues)
+pub joined_same : {F : Type 0} (values : F → List ℕ) (queues : List (VecDeque (Rattle.extract.specs.declared.packet.Packet.Packet F) Global))
+    → flat_map (λ ps. ps) (map (packets_in values) queues) ≡ all_packets values queues
+joined_same values [] = refl
+joined_same values (q ∷ queues) = ap (λ ps. packets_in values q ++ ps) (joined_same values queues)
 
 all_joined : (P : Packet → Type 0) (qs : List (List Packet)) → ((v : ℕ) (ps : List Packet) → At qs v ps → All P ps) → All P (flat_map (λ ps. ps) qs)
 all_joined P [] each = All-nil P

@@ -1,6 +1,6 @@
 //! The number of messages and of active owners in a world.
 
-ghost use Rattle.std.specs.Prelude.{◌≡◌, ◌-◌, ◌^◌, length, min, not, sum_by, count_by};
+ghost use Rattle.std.specs.Prelude.{◌≡◌, ℕ, List, ◌-◌, ◌^◌, length, min, not, sum_by, count_by};
 ghost use Rattle.owner_theory.specs.Worlds.{waiting};
 ghost use Rattle.extract.specs.Views.{all_packets};
 
@@ -22,8 +22,8 @@ pub fn waiting_count<S: Spread + Drop, F: StateForm + Drop>(owners: &[Owner<'_, 
 }
 
 /// The number of messages underway, or 2^128 - 1 if it is greater.
-pub fn underway_count(queues: &[VecDeque<Packet>]) -> u128
-    ensures { result ≡ min (length (all_packets queues.now)) (2 ^ 128 - 1) }
+pub fn underway_count<F: StateForm + Drop>(queues: &[VecDeque<Packet<F>>]) -> u128
+    ensures { (values : F → List ℕ) → result ≡ min (length (all_packets values queues.now)) (2 ^ 128 - 1) }
 {
     let mut count: u128 = 0;
     for queue in queues {

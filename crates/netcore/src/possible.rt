@@ -1,6 +1,6 @@
 //! The steps that would change something.
 
-ghost use Rattle.std.specs.Prelude.{◌≡◌, ◌<◌, ◌-◌, ◌^◌, ◌++◌, min, length, map, slice_get, flat_map};
+ghost use Rattle.std.specs.Prelude.{◌≡◌, ℕ, List, ◌<◌, ◌-◌, ◌^◌, ◌++◌, min, length, map, slice_get, flat_map};
 ghost use Rattle.extract.specs.Views.{packets_in};
 ghost use Rattle.netcore.specs.Possible.{would_change, own_step, by_owner, sends_of, deliveries, possible_steps, below};
 ghost use Rattle.netcore.specs.declared.step.WorldStep.TheVariants.{Expand, Send, Deliver, Offer, Look, Rest};
@@ -37,8 +37,11 @@ impl OwnStep {
 }
 
 /// The step of that number, counted from 0, among those that deliver a message of these queues.
-fn nth_delivery(queues: &[VecDeque<Packet>], number: u128) -> Option<WorldStep>
-    ensures { result ≡ slice_get (deliveries 0 (map packets_in queues.now)) number }
+fn nth_delivery<F: StateForm + Drop>(
+    queues: &[VecDeque<Packet<F>>],
+    number: u128,
+) -> Option<WorldStep>
+    ensures { (values : F → List ℕ) → result ≡ slice_get (deliveries 0 (map (packets_in values) queues.now)) number }
 {
     let mut left = number;
     for (worker, queue) in queues.iter().enumerate() {

@@ -35,7 +35,7 @@ use std::marker::Model;
 pub struct World<'a, S: Spread + Drop, F: StateForm + Drop> {
     pub(crate) space: &'a Space<'a, S>,
     pub(crate) owners: Vec<Owner<'a, S, F>>,
-    pub(crate) underway: Vec<VecDeque<Packet>>,
+    pub(crate) underway: Vec<VecDeque<Packet<F>>>,
     pub(crate) seen: Vec<Dist>,
     pub(crate) bound: Dist,
     pub(crate) resting: Vec<bool>,
@@ -45,6 +45,7 @@ pub struct World<'a, S: Spread + Drop, F: StateForm + Drop> {
 
 impl<'a, S: Spread + Drop, F: StateForm + Drop> Model for World<'a, S, F> {
     ghost use Rattle.std.specs.Prelude.{map};
+    ghost use Rattle.fdr.specs.Tasks.{ranges};
     ghost use Rattle.netcore.specs.Worlds.{WorldOf};
     ghost use Rattle.extract.specs.Views.{packets_in};
 
@@ -53,7 +54,7 @@ impl<'a, S: Spread + Drop, F: StateForm + Drop> Model for World<'a, S, F> {
     ghost view = { λ w. record {
       space = w.space.now;
       owners = w.owners.items;
-      underway = map packets_in w.underway.items;
+      underway = map (packets_in (F.values (ranges w.space.now.task))) w.underway.items;
       seen = w.seen.items;
       bound = w.bound;
       resting = w.resting.items;
@@ -65,7 +66,7 @@ impl<'a, S: Spread + Drop, F: StateForm + Drop> Model for World<'a, S, F> {
     ghost invariant = { λ w. IsWorld S.owner (record {
       space = w.space.now;
       owners = w.owners.items;
-      underway = map packets_in w.underway.items;
+      underway = map (packets_in (F.values (ranges w.space.now.task))) w.underway.items;
       seen = w.seen.items;
       bound = w.bound;
       resting = w.resting.items;
@@ -91,8 +92,11 @@ fn first_owners<'a, S: Spread + Drop, F: StateForm + Drop>(
 }
 
 /// `count` empty queues. Fails only if allocation fails.
-fn empty_queues(alloc: Global, count: usize) -> Result<Vec<VecDeque<Packet>>, AllocError>
-    ensures { IfOk result (λ queues. map packets_in queues.items ≡ replicate count []) }
+fn empty_queues<F: StateForm + Drop>(
+    alloc: Global,
+    count: usize,
+) -> Result<Vec<VecDeque<Packet<F>>>, AllocError>
+    ensures { IfOk result (λ queues. (values : F → List ℕ) → map (packets_in values) queues.items ≡ replicate count []) }
 {
     let mut queues = Vec::with_capacity(alloc, count)?;
     for _ in 0..count {

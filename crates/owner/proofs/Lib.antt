@@ -4,6 +4,7 @@ pub mod Queues
 pub mod Currents
 pub mod Boxing
 pub mod Using
+pub mod Showing
 pub mod Results
 pub mod Choosing
 pub mod Owning

@@ -4,12 +4,12 @@ use Rattle.std.specs.Prelude.{slice_set, replicate, IfSome, is_some}
 use Rattle.std.proofs.lemmas.List.{length-replicate}
 use Rattle.std.specs.List.{list_all}
 use Rattle.std.specs.Option.{option_to_list}
-use Rattle.std.proofs.lemmas.Bool.{eq-eqb, cases_lt}
+use Rattle.std.proofs.lemmas.Bool.{eq-eqb, ne_eqb, cases_lt}
 use Rattle.std.proofs.lemmas.List.Elements.{All-nil, All-cons, All-append, All-head, All-tail}
-use Rattle.cost.specs.Distances.{Distance, Finite, is_at_most, lesser}
+use Rattle.cost.specs.Distances.{Distance, Finite, Infinite, is_at_most, lesser}
 use Rattle.fdr.specs.Tasks.{ranges, IsState, is_goal_state}
 use Rattle.owner_theory.specs.Owners as machine
-use Rattle.owner_theory.specs.Owners.{At, list_at, SearchSpace, Node, Owner, f_value, node_of, improve, marked, took, treat, posted}
+use Rattle.owner_theory.specs.Owners.{At, list_at, SearchSpace, Node, Owner, f_value, node_of, improve, marked, took, treat, posted, first_node, start_owner}
 use Rattle.owner_theory.specs.Worlds.{no_open, idle, is_empty}
 use Rattle.owner_theory.proofs.Lists.{set_cases}
 use Rattle.owner_theory.proofs.Nodes.{improve_at, mark_at}
@@ -18,34 +18,42 @@ use Rattle.openlist.specs.declared.entry.OpenEntry.{OpenEntry}
 use Rattle.closed.specs.declared.message.Parent.{Parent}
 use Rattle.closed.specs.declared.message.Message.{Message}
 use Rattle.closed.specs.declared.table.Outcome.TheVariants.{Kept}
-use Rattle.closed.specs.Tables.{reached, outcome_of, fresh, message_of}
+use Rattle.closed.specs.Tables.{reached, outcome_of, fresh}
 use Rattle.owner.specs.Spaces.{SpaceOf, searched}
 use Rattle.owner.specs.Owned.{OwnerOf, space_of, under, IsMessageTo, IsKept}
 use Rattle.owner.specs.Queues.{ReachedOf, message_at, h_of, IsLeast}
 use Rattle.owner.specs.Held.{IsOwner}
+use Rattle.owner.specs.Outboxes.{shown}
 use Rattle.owner.proofs.Outcomes.{reached_improves, kept_same}
 use Rattle.owner.proofs.Choosing.{no_open_some, both_false}
+
+-- ---- outboxes are shown by the task of their owner's space
+
+abbrev pub boxes_in : {S F : Type 0} → (List ℕ → F → List ℕ) → List (List (Message F)) → SpaceOf S → List (List machine.Message)
+boxes_in values boxes space = shown (values (ranges space.task)) boxes
 
 -- ---- a state of its own is taken
 
 module _ {S : Type 0} (owner : S → List ℕ → ℕ → ℕ) (o : OwnerOf S) where
   -- the owner with other nodes and another best cost
-  abbrev pub with_nodes : SpaceOf S → List Node → Distance → OwnerOf S
-  with_nodes space nodes best = record {
+  abbrev pub with_nodes : SpaceOf S → List Node → List (List machine.Message) → Distance → OwnerOf S
+  with_nodes space nodes boxes best = record {
     space = space;
     worker = o.worker;
     nodes = nodes;
-    outboxes = o.outboxes;
+    outboxes = boxes;
     best = best;
     expansions = o.expansions;
   }
 
-  pub taken_kept : (space : SpaceOf S) (nodes : List Node) (best : Distance) (state : List ℕ) (rank : Rank) (parent : Parent)
-      → IsOwner owner o → IsMessageTo (space_of owner o) o.worker (message_at state rank parent) → space ≡ o.space
-      → nodes ≡ reached o.nodes (fresh state rank (Some parent)) → IsOwner owner (with_nodes space nodes best)
-  taken_kept space nodes best state rank parent h m same is =
-      subst (λ (s : SpaceOf S). IsOwner owner (with_nodes s nodes best)) (sym same)
-      (subst (λ (ns : List Node). IsOwner owner (with_nodes o.space ns best)) (sym (is ∙ reached_improves o.nodes (message_at state rank parent)))
+  pub taken_kept : (space : SpaceOf S) (nodes : List Node) (boxes : List (List machine.Message)) (best : Distance) (state : List ℕ) (rank : Rank)
+      (parent : Parent) → IsOwner owner o → IsMessageTo (space_of owner o) o.worker (message_at state rank parent) → space ≡ o.space
+      → nodes ≡ reached o.nodes (fresh state rank (Some parent)) → boxes ≡ o.outboxes → IsOwner owner (with_nodes space nodes boxes best)
+  taken_kept space nodes boxes best state rank parent h m same is boxes_same =
+      subst (λ (s : SpaceOf S). IsOwner owner (with_nodes s nodes boxes best)) (sym same)
+      (subst (λ (bs : List (List machine.Message)). IsOwner owner (with_nodes o.space nodes bs best)) (sym boxes_same)
+      (subst (λ (ns : List Node). IsOwner owner (with_nodes o.space ns o.outboxes best))
+      (sym (is ∙ reached_improves o.nodes (message_at state rank parent)))
       (record {
         owners = h.owners;
         nodes = λ i n at. ⊎_elim (λ (p : At o.nodes i n). h.nodes i n p)
@@ -58,15 +66,15 @@ module _ {S : Type 0} (owner : S → List ℕ → ℕ → ℕ) (o : OwnerOf S) w
             (improve_at o.nodes (message_at state rank parent) i n at);
         messages = h.messages;
         counted = h.counted;
-      }))
+      })))
 
-  pub taken_is : (space : SpaceOf S) (nodes : List Node) (best bound : Distance) (state : List ℕ) (rank : Rank) (parent : Parent)
-      → nodes ≡ reached o.nodes (fresh state rank (Some parent))
+  pub taken_is : (space : SpaceOf S) (nodes : List Node) (boxes : List (List machine.Message)) (best bound : Distance) (state : List ℕ) (rank : Rank)
+      (parent : Parent) → nodes ≡ reached o.nodes (fresh state rank (Some parent)) → boxes ≡ o.outboxes
       → best ≡ cond (is_goal_state o.space.task state) (lesser o.best (Finite rank.cost)) o.best
-      → under (with_nodes space nodes best) bound ≡ took (space_of owner o) (under o bound) (message_at state rank parent)
-  taken_is space nodes best bound state rank parent is b =
+      → under (with_nodes space nodes boxes best) bound ≡ took (space_of owner o) (under o bound) (message_at state rank parent)
+  taken_is space nodes boxes best bound state rank parent is boxes_same b =
       let ns = is ∙ reached_improves o.nodes (message_at state rank parent) in
-      λ j. record { nodes = ns j; outboxes = o.outboxes; bound = bound; best = b j }
+      λ j. record { nodes = ns j; outboxes = boxes_same j; bound = bound; best = b j }
 
   -- ---- an outbox changes
 
@@ -106,33 +114,33 @@ module _ {S : Type 0} (owner : S → List ℕ → ℕ → ℕ) (o : OwnerOf S) w
       one v f zero d lt = f
       one v f (suc k) d lt = absurd (omega arith)
 
-  rest_all : (P : machine.Message → Type 0) (r : Option Message) (xs : List machine.Message)
-      → All P (map message_of (option_to_list r) ++ xs) → All P xs
-  rest_all P None xs h = h
-  rest_all P (Some x) xs h = All-tail P (message_of x) xs h
+  rest_all : {M : Type 0} (f : M → machine.Message) (P : machine.Message → Type 0) (r : Option M) (xs : List machine.Message)
+      → All P (map f (option_to_list r) ++ xs) → All P xs
+  rest_all f P None xs h = h
+  rest_all f P (Some x) xs h = All-tail P (f x) xs h
 
-  first_all : (P : machine.Message → Type 0) (r : Option Message) (xs : List machine.Message)
-      → All P (map message_of (option_to_list r) ++ xs) → IfSome r (λ x. P (message_of x))
-  first_all P None xs h = tt
-  first_all P (Some x) xs h = All-head P (message_of x) xs h
+  first_all : {M : Type 0} (f : M → machine.Message) (P : machine.Message → Type 0) (r : Option M) (xs : List machine.Message)
+      → All P (map f (option_to_list r) ++ xs) → IfSome r (λ x. P (f x))
+  first_all f P None xs h = tt
+  first_all f P (Some x) xs h = All-head P (f x) xs h
 
-  pub popped_kept : (boxes : List (List machine.Message)) (to : ℕ) (r : Option Message) → IsOwner owner o → to < length o.outboxes
-      → list_at o.outboxes to ≡ map message_of (option_to_list r) ++ list_at boxes to
+  pub popped_kept : {M : Type 0} (f : M → machine.Message) (boxes : List (List machine.Message)) (to : ℕ) (r : Option M)
+      → IsOwner owner o → to < length o.outboxes → list_at o.outboxes to ≡ map f (option_to_list r) ++ list_at boxes to
       → boxes ≡ slice_set o.outboxes to (list_at boxes to) → IsOwner owner (with_boxes boxes)
-  popped_kept boxes to r h lt first is =
+  popped_kept f boxes to r h lt first is =
       boxes_kept boxes (ap length is ∙ length-set o.outboxes to (list_at boxes to)) h
       (λ v lt'. subst (λ (bs : List (List machine.Message)). All (IsMessageTo (space_of owner o) v) (list_at bs v)) (sym is)
       (set_cases o.outboxes to (list_at boxes to) v (All (IsMessageTo (space_of owner o) v))
       (λ same. subst (λ k. All (IsMessageTo (space_of owner o) k) (list_at boxes to)) (sym same)
-      (rest_all (IsMessageTo (space_of owner o) to) r (list_at boxes to)
+      (rest_all f (IsMessageTo (space_of owner o) to) r (list_at boxes to)
       (subst (λ (ms : List machine.Message). All (IsMessageTo (space_of owner o) to) ms) first (h.messages to lt))))
       (h.messages v lt')))
 
-  pub popped_fits : (boxes : List (List machine.Message)) (to : ℕ) (r : Option Message) → IsOwner owner o → to < length o.outboxes
-      → list_at o.outboxes to ≡ map message_of (option_to_list r) ++ list_at boxes to
-      → IfSome r (λ m. IsMessageTo (space_of owner o) to (message_of m))
-  popped_fits boxes to r h lt first =
-      first_all (IsMessageTo (space_of owner o) to) r (list_at boxes to)
+  pub popped_fits : {M : Type 0} (f : M → machine.Message) (boxes : List (List machine.Message)) (to : ℕ) (r : Option M)
+      → IsOwner owner o → to < length o.outboxes → list_at o.outboxes to ≡ map f (option_to_list r) ++ list_at boxes to
+      → IfSome r (λ m. IsMessageTo (space_of owner o) to (f m))
+  popped_fits f boxes to r h lt first =
+      first_all f (IsMessageTo (space_of owner o) to) r (list_at boxes to)
       (subst (λ (ms : List machine.Message). All (IsMessageTo (space_of owner o) to) ms) first (h.messages to lt))
 
 -- ---- a successor is treated
@@ -168,6 +176,17 @@ took_treats space me o m below mine =
     own : (space.owner_of m.state == me) ≡ true
     own = eq-eqb (space.owner_of m.state) me mine
 
+-- a state of another owner is put into that owner's outbox
+pub posted_treats : (space : SearchSpace) (me to : ℕ) (o : Owner) (boxes : List (List machine.Message)) (m : machine.Message)
+    → is_at_most o.bound (f_value space m.state m.cost) ≡ false → space.owner_of m.state ≡ to → (to == me) ≡ false
+    → boxes ≡ slice_set o.outboxes to (list_at o.outboxes to ++ m ∷ []) → record o { outboxes = boxes } ≡ treat space me o m
+posted_treats space me to o boxes m below mine other is =
+    (λ j. record o { outboxes = (is ∙ ap (λ v. slice_set o.outboxes v (list_at o.outboxes v ++ m ∷ [])) (sym mine)) j })
+    ∙ sym (λ j. cond (below j) o (cond (theirs j) (took space o m) (posted space o m)))
+  where
+    theirs : (space.owner_of m.state == me) ≡ false
+    theirs = ap (λ v. v == me) mine ∙ other
+
 -- the message of a state that was packed
 pub packed_fits : {S : Type 0} (owner : S → List ℕ → ℕ → ℕ) (o : OwnerOf S) (to : ℕ) (state state' : List ℕ) (rank : Rank) (parent : Parent)
     → state' ≡ state → IsState (ranges o.space.task) state → owner o.space.spread state (length o.outboxes) ≡ to → rank.cost ≤ 2 ^ 62
@@ -187,22 +206,23 @@ IsMarkedAs old new = (e : OpenEntry) (n : Node) → IsLeast (h_of old.space) old
     }
 
 module _ {S : Type 0} (owner : S → List ℕ → ℕ → ℕ) (o : OwnerOf S) where
-  abbrev pub with_marked : SpaceOf S → List Node → ℕ → OwnerOf S
-  with_marked space nodes expansions = record {
+  abbrev pub with_marked : SpaceOf S → List Node → List (List machine.Message) → ℕ → OwnerOf S
+  with_marked space nodes boxes expansions = record {
     space = space;
     worker = o.worker;
     nodes = nodes;
-    outboxes = o.outboxes;
+    outboxes = boxes;
     best = o.best;
     expansions = expansions;
   }
 
-  pub marked_kept : (space : SpaceOf S) (nodes : List Node) (expansions : ℕ) (i : ℕ) (n : Node) → IsOwner owner o → space ≡ o.space
-      → At o.nodes i n → nodes ≡ slice_set o.nodes i (marked n) → IfSome o.space.limit (λ limit. expansions ≤ limit)
-      → IsOwner owner (with_marked space nodes expansions)
-  marked_kept space nodes expansions i n h same there is few =
-      subst (λ (s : SpaceOf S). IsOwner owner (with_marked s nodes expansions)) (sym same)
-      (subst (λ (ns : List Node). IsOwner owner (with_marked o.space ns expansions)) (sym is)
+  pub marked_kept : (space : SpaceOf S) (nodes : List Node) (boxes : List (List machine.Message)) (expansions : ℕ) (i : ℕ) (n : Node)
+      → IsOwner owner o → space ≡ o.space → boxes ≡ o.outboxes → At o.nodes i n → nodes ≡ slice_set o.nodes i (marked n)
+      → IfSome o.space.limit (λ limit. expansions ≤ limit) → IsOwner owner (with_marked space nodes boxes expansions)
+  marked_kept space nodes boxes expansions i n h same boxes_same there is few =
+      subst (λ (s : SpaceOf S). IsOwner owner (with_marked s nodes boxes expansions)) (sym same)
+      (subst (λ (bs : List (List machine.Message)). IsOwner owner (with_marked o.space nodes bs expansions)) (sym boxes_same)
+      (subst (λ (ns : List Node). IsOwner owner (with_marked o.space ns o.outboxes expansions)) (sym is)
       (record {
         owners = h.owners;
         nodes = λ j x at. ⊎_elim
@@ -217,15 +237,15 @@ module _ {S : Type 0} (owner : S → List ℕ → ℕ → ℕ) (o : OwnerOf S) w
             (mark_at o.nodes i (marked n) j x at);
         messages = h.messages;
         counted = few;
-      }))
+      })))
 
-  pub marked_as : (space : SpaceOf S) (nodes : List Node) (expansions : ℕ) → space ≡ o.space
+  pub marked_as : (space : SpaceOf S) (nodes : List Node) (boxes : List (List machine.Message)) (expansions : ℕ) → space ≡ o.space → boxes ≡ o.outboxes
       → ((e : OpenEntry) (n : Node) → IsLeast (h_of o.space) o.nodes e → At o.nodes e.index n → nodes ≡ slice_set o.nodes e.index (marked n))
       → expansions ≡ cond (is_some o.space.limit) (suc o.expansions) o.expansions
-      → IsMarkedAs o (with_marked space nodes expansions)
-  marked_as space nodes expansions same is count e n least at =
+      → IsMarkedAs o (with_marked space nodes boxes expansions)
+  marked_as space nodes boxes expansions same boxes_same is count e n least at =
       let ns = is e n least at in
-      λ j. record { space = same j; worker = o.worker; nodes = ns j; outboxes = o.outboxes; best = o.best; expansions = count j }
+      λ j. record { space = same j; worker = o.worker; nodes = ns j; outboxes = boxes_same j; best = o.best; expansions = count j }
 
 pub counted_more : (limit : Option ℕ) (k : ℕ) → (limit ≡ Some k → ⊥) → IfSome limit (λ l. k ≤ l) → IfSome limit (λ l. k + 1 ≤ l)
 counted_more None k other h = tt
@@ -292,3 +312,23 @@ first_kept {S = S} owner space worker n state old r is nodes known own i m at =
 pub none_kept : {S : Type 0} (owner : S → List ℕ → ℕ → ℕ) (space : SpaceOf S) (worker n : ℕ) (r : ReachedOf S) → r ≡ record { space = space; nodes = [] }
     → (i : ℕ) (m : Node) → At r.nodes i m → IsKept (searched owner space n) worker m
 none_kept {S = S} owner space worker n r is i m at = absurd (subst (λ (o : ReachedOf S). At o.nodes i m) is at)
+
+-- the owner of the initial state starts with it, and others without a state
+pub started_own : {S : Type 0} (owner : S → List ℕ → ℕ → ℕ) (space : SpaceOf S) (worker n : ℕ) (state : List ℕ) (old : ReachedOf S) (nodes : List Node)
+    (boxes : List (List machine.Message)) (best : Distance) → old ≡ record { space = space; nodes = [] }
+    → nodes ≡ reached old.nodes (fresh state (record { cost = 0; steps = 0 }) None) → state ≡ space.task.initial → boxes ≡ replicate n []
+    → best ≡ cond (is_goal_state space.task space.task.initial) (Finite 0) Infinite → owner space.spread space.task.initial n ≡ worker
+    → record { nodes = nodes; outboxes = boxes; bound = Infinite; best = best } ≡ start_owner (searched owner space n) (owner space.spread space.task.initial n == worker)
+started_own {S = S} owner space worker n state old nodes boxes best was is at empty found own =
+    (λ j. record { nodes = all j; outboxes = empty j; bound = Infinite; best = found j }) ∙ ap (start_owner (searched owner space n)) (sym (eq-eqb (owner space.spread space.task.initial n) worker own))
+  where
+    all : nodes ≡ first_node (searched owner space n) ∷ []
+    all = is ∙ (ap (λ (o : ReachedOf S). reached o.nodes (fresh state (record { cost = 0; steps = 0 }) None)) was
+        ∙ ap (λ st. fresh st (record { cost = 0; steps = 0 }) None ∷ []) at)
+
+pub started_none : {S : Type 0} (owner : S → List ℕ → ℕ → ℕ) (space : SpaceOf S) (worker n : ℕ) (old : ReachedOf S) (boxes : List (List machine.Message))
+    (best : Distance) → old ≡ record { space = space; nodes = [] } → boxes ≡ replicate n [] → best ≡ Infinite
+    → (owner space.spread space.task.initial n ≡ worker → ⊥)
+    → record { nodes = old.nodes; outboxes = boxes; bound = Infinite; best = best } ≡ start_owner (searched owner space n) (owner space.spread space.task.initial n == worker)
+started_none {S = S} owner space worker n old boxes best was empty found other =
+    (λ j. record { nodes = (was j).nodes; outboxes = empty j; bound = Infinite; best = found j }) ∙ ap (start_owner (searched owner space n)) (sym (ne_eqb (owner space.spread space.task.initial n) worker other))

@@ -33,6 +33,12 @@ applied_step T s o = go (slice_get T.operators o)
     go None e = absurd (true≢false (sym e))
     go (Some op) e = (successor op s, chosen (applies op s) (successor op s) e)
 
+-- where an operator that applies leads
+pub applied_leads : (T : FiniteDomainTask) (s s' t : List ℕ) (o : ℕ) → applies_at T o s ≡ true → s' ≡ s → t ≡ unwrap_or (step T s' o) s' → step T s o ≡ Some t
+applied_leads T s s' t o applies same is =
+    let (u, leads) = applied_step T s o applies in
+    leads ∙ ap (λ v. Some v) (sym (is ∙ (ap (λ v. unwrap_or (step T v o) v) same ∙ ap (λ r. unwrap_or r s) leads)))
+
 -- one more of the operators
 pub one_more : (space : SearchSpace) (me : ℕ) (f : ℕ → Option Message) (os : List ℕ) (i o : ℕ) (m : Message) (old new : Owner)
     → i < length os → o ≡ get_or os i 0 → f o ≡ Some m → new ≡ treat space me old m

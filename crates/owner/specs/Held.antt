@@ -1,8 +1,10 @@
--- The invariant of owners.
+-- The invariant of owners, and what they need to treat successors.
 use Rattle.std.specs.Prelude.{ℕ, ◌+◌, ◌<◌, ◌≤◌, List, length, All, IfSome}
 use Rattle.fdr.specs.Tasks.{FiniteDomainTask, cost_of}
 use Rattle.owner_theory.specs.Owners.{At, Node, list_at}
 use Rattle.openlist.specs.declared.entry.Rank.{Rank}
+use Rattle.scp.specs.Places.{PlacesOf}
+use Rattle.owner.specs.Spaces.{SpaceOf}
 use Rattle.owner.specs.Owned.{OwnerOf, space_of, max_total, IsKept, IsMessageTo}
 
 -- the owner is one of several, its nodes are its own, its messages are in the outboxes of their owners, and no more nodes
@@ -16,3 +18,7 @@ pub record IsOwner {S : Type 0} (owner : S → List ℕ → ℕ → ℕ) (o : Ow
 -- the operator leads from this rank to a cost and a number of operators of at most 2^62
 abbrev pub IsSmallStep : FiniteDomainTask → Rank → ℕ → Type 0
 IsSmallStep task rank o = (rank.cost + cost_of task o ≤ max_total) × (rank.steps + 1 ≤ max_total)
+
+-- the columns of the space, with a state
+abbrev pub places_in : {S : Type 0} → SpaceOf S → List ℕ → PlacesOf
+places_in space state = record { task = space.task; columns = space.columns; state = state }

@@ -3,7 +3,7 @@
 ghost use Rattle.std.specs.Prelude.{◌≡◌, ◌≢◌, ℕ, suc, ◌+◌, ◌<◌, ◌≤◌, ◌^◌, ◌++◌, ◌∷◌, [], ◌==◌, length, map, slice_get, slice_set, replicate, Option, Some, None, true, false, is_some, if◌then◌else◌, IsTrue, ◌↔◌, IfOk, IfSome, IfNone, OnOk, OnErr};
 ghost use Rattle.std.specs.Option.{option_to_list};
 ghost use Rattle.cost.specs.Distances.{Distance, Infinite, is_at_most, lesser, Finite, ◌+ᵈ◌};
-ghost use Rattle.fdr.specs.Tasks.{ranges, IsState, is_goal_state};
+ghost use Rattle.fdr.specs.Tasks.{ranges, step, IsState, is_goal_state};
 ghost use Rattle.owner_theory.specs.Owners.{At, Node, list_at, marked, took, treat, start_owner};
 ghost use Rattle.owner_theory.specs.Worlds.{idle, no_open, waiting};
 ghost use Rattle.openlist.specs.declared.entry.OpenEntry.{OpenEntry as EntryOf};
@@ -13,17 +13,18 @@ ghost use Rattle.owner.specs.Spaces.{searched};
 ghost use Rattle.owner.specs.Owned.{space_of, under, max_total, IsMessageTo, IsNext, least_open};
 ghost use Rattle.owner.specs.Queues.{h_of, message_at, IsLeast};
 ghost use Rattle.owner.specs.Outboxes.{count_in_use};
-ghost use Rattle.owner.specs.Held.{IsOwner};
+ghost use Rattle.owner.specs.Held.{IsOwner, places_in};
 
 use crate::outboxes::Outboxes;
 use crate::reached::Reached;
-use crate::space::Space;
+use crate::space::{Space, f_after};
 use closed::{Entry, Message, Outcome, Parent};
 use cost::Dist;
 use fdr::FdrTask;
 use openlist::{OpenEntry, Rank};
-use packed::{Plain, StateForm};
+use packed::StateForm;
 use packed_spread::Spread;
+use scp::Places;
 use std::alloc::{AllocError, Global};
 use std::collections::VecDeque;
 use std::marker::Model;
@@ -34,14 +35,16 @@ use std::marker::Model;
 pub(crate) struct Holdings<'a, S: Spread + Drop, F: StateForm + Drop> {
     worker: usize,
     reached: Reached<'a, S, F>,
-    outboxes: Outboxes,
+    outboxes: Outboxes<F>,
     best: Dist,
     expansions: u64,
 }
 
 impl<'a, S: Spread + Drop, F: StateForm + Drop> Model for Holdings<'a, S, F> {
+    ghost use Rattle.fdr.specs.Tasks.{ranges};
     ghost use Rattle.owner.specs.Owned.{OwnerOf};
     ghost use Rattle.owner.specs.Held.{IsOwner};
+    ghost use Rattle.owner.specs.Outboxes.{shown};
 
     ghost Value = { OwnerOf S };
 
@@ -49,7 +52,7 @@ impl<'a, S: Spread + Drop, F: StateForm + Drop> Model for Holdings<'a, S, F> {
       space = o.reached.space;
       worker = o.worker;
       nodes = o.reached.nodes;
-      outboxes = o.outboxes;
+      outboxes = shown (F.values (ranges o.reached.space.task)) o.outboxes;
       best = o.best;
       expansions = o.expansions;
     } };
@@ -58,7 +61,7 @@ impl<'a, S: Spread + Drop, F: StateForm + Drop> Model for Holdings<'a, S, F> {
       space = o.reached.space;
       worker = o.worker;
       nodes = o.reached.nodes;
-      outboxes = o.outboxes;
+      outboxes = shown (F.values (ranges o.reached.space.task)) o.outboxes;
       best = o.best;
       expansions = o.expansions;
     }) };
@@ -179,23 +182,27 @@ impl<'a, S: Spread + Drop, F: StateForm + Drop> Holdings<'a, S, F> {
         Ok(())
     }
 
-    /// Treats a successor that is its own: takes it unless its f-value reaches the bound. A state that is known at this rank
+    /// Treats a successor, of the state whose places these are, that is its own: takes it unless its f-value reaches the bound. A state that is known at this rank
     /// or a lesser one, and is no goal state, changes nothing in either case, so that its f-value is not computed. Fails
     /// only if allocation fails, and then changes nothing.
     fn treat_own(
         &mut self,
         bound: Dist,
+        places: &mut Places<'_>,
         state: &[u32],
         rank: Rank,
         parent: Parent,
     ) -> Result<(), AllocError>
-        requires { IsMessageTo (space_of S.owner self.old) self.old.worker (message_at state.now rank parent) }
+        requires message { IsMessageTo (space_of S.owner self.old) self.old.worker (message_at state.now rank parent) }
+        requires places { places.old ≡ places_in self.old.space places.old.state }
+        requires step { step self.old.space.task places.old.state parent.operator ≡ Some state.now }
         ensures treated { OnOk result (under self.new bound ≡ treat (space_of S.owner self.old) self.old.worker (under self.old bound) (message_at state.now rank parent)) }
         ensures outboxes { self.new.outboxes ≡ self.old.outboxes }
         ensures space { self.new.space ≡ self.old.space }
         ensures worker { self.new.worker ≡ self.old.worker }
         ensures expansions { self.new.expansions ≡ self.old.expansions }
         ensures unchanged { OnErr result (self.new ≡ self.old) }
+        ensures places { places.new ≡ places.old }
     {
         let outcome = self.look(state, rank);
         let space = self.space();
@@ -204,7 +211,7 @@ impl<'a, S: Spread + Drop, F: StateForm + Drop> Holdings<'a, S, F> {
                 return Ok(());
             }
         }
-        let f = space.f(state, rank.cost);
+        let f = f_after(places, parent.operator, state, rank.cost);
         if is_within(bound, f) {
             return Ok(());
         }
@@ -212,17 +219,20 @@ impl<'a, S: Spread + Drop, F: StateForm + Drop> Holdings<'a, S, F> {
         Ok(())
     }
 
-    /// Treats a successor: drops it if its f-value reaches the bound, takes it if it is this owner's, and else puts it
+    /// Treats a successor of the state whose places these are: drops it if its f-value reaches the bound, takes it if it is this owner's, and else puts it
     /// into the outbox for its owner. Returns whether it was put into an outbox. Fails only if allocation fails.
     pub(crate) fn treat(
         &mut self,
         alloc: Global,
         bound: Dist,
+        places: &mut Places<'_>,
         state: &[u32],
         rank: Rank,
         parent: Parent,
     ) -> Result<bool, AllocError>
         requires state { IsState (ranges self.old.space.task) state.now }
+        requires places { places.old ≡ places_in self.old.space places.old.state }
+        requires step { step self.old.space.task places.old.state parent.operator ≡ Some state.now }
         requires cost { rank.cost ≤ max_total }
         requires steps { rank.steps ≤ max_total }
         ensures treated { OnOk result (under self.new bound ≡ treat (space_of S.owner self.old) self.old.worker (under self.old bound) (message_at state.now rank parent)) }
@@ -231,17 +241,19 @@ impl<'a, S: Spread + Drop, F: StateForm + Drop> Holdings<'a, S, F> {
         ensures space { self.new.space ≡ self.old.space }
         ensures worker { self.new.worker ≡ self.old.worker }
         ensures expansions { self.new.expansions ≡ self.old.expansions }
+        ensures places { places.new ≡ places.old }
     {
         let space = self.reached.space();
         let to = space.owner_of(state, self.outboxes.len());
         if to == self.worker {
-            self.treat_own(bound, state, rank, parent)?;
+            self.treat_own(bound, places, state, rank, parent)?;
             return Ok(false);
         }
-        if is_within(bound, space.f(state, rank.cost)) {
+        if is_within(bound, f_after(places, parent.operator, state, rank.cost)) {
             return Ok(false); // no memory is taken for it
         }
-        let state = Plain::pack(alloc, space.layout(), state)?;
+        self.reached.recall(); // states of the task have the form
+        let state = F::pack(alloc, space.layout(), state)?;
         let message = Message {
             state,
             rank,
@@ -290,11 +302,11 @@ impl<'a, S: Spread + Drop, F: StateForm + Drop> Holdings<'a, S, F> {
     }
 
     /// Removes and returns the oldest message for that owner, or returns `None` if there is none.
-    pub(crate) fn next_out(&mut self, to: usize) -> Option<Message>
+    pub(crate) fn next_out(&mut self, to: usize) -> Option<Message<F>>
         requires { to < length self.old.outboxes }
-        ensures first { list_at self.old.outboxes to ≡ map message_of (option_to_list result) ++ list_at self.new.outboxes to }
+        ensures first { list_at self.old.outboxes to ≡ map (message_of (F.values (ranges self.old.space.task))) (option_to_list result) ++ list_at self.new.outboxes to }
         ensures others { self.new ≡ record self.old { outboxes = slice_set self.old.outboxes to (list_at self.new.outboxes to) } }
-        ensures fits { IfSome result (λ m. IsMessageTo (space_of S.owner self.old) to (message_of m)) }
+        ensures fits { IfSome result (λ m. IsMessageTo (space_of S.owner self.old) to (message_of (F.values (ranges self.old.space.task)) m)) }
         ensures none { IfNone result (list_at self.old.outboxes to ≡ []) }
     {
         self.outboxes.take_out(to)
@@ -341,9 +353,9 @@ impl<'a, S: Spread + Drop, F: StateForm + Drop> Holdings<'a, S, F> {
         self.expansions
     }
 
-    pub(crate) fn outbox(&self, to: usize) -> &VecDeque<Message>
+    pub(crate) fn outbox(&self, to: usize) -> &VecDeque<Message<F>>
         requires { to < length self.now.outboxes }
-        ensures { map message_of result.now.items ≡ list_at self.now.outboxes to }
+        ensures { map (message_of (F.values (ranges self.now.space.task))) result.now.items ≡ list_at self.now.outboxes to }
     {
         self.outboxes.outbox(to)
     }
@@ -383,8 +395,9 @@ impl<'a, S: Spread + Drop, F: StateForm + Drop> Holdings<'a, S, F> {
 
     /// What holds of every owner: the type's invariant, stated as a contract.
     pub(crate) fn recall(&self)
-        ensures { IsOwner S.owner self.now }
+        ensures owner { IsOwner S.owner self.now }
+        ensures fits { F.Fits (ranges self.now.space.task) }
     {
-        let _worker = self.worker;
+        self.reached.recall();
     }
 }

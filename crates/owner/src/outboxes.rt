@@ -1,45 +1,47 @@
 //! The outboxes of an owner.
 
-ghost use Rattle.std.specs.Prelude.{◌≡◌, ℕ, ◌<◌, ◌++◌, ◌∷◌, [], length, map, slice_set, replicate, IfOk, IfNone, OnOk, OnErr};
+ghost use Rattle.std.specs.Prelude.{◌≡◌, ℕ, ◌<◌, ◌++◌, ◌∷◌, [], length, slice_set, replicate, IfOk, IfNone, OnOk, OnErr};
 ghost use Rattle.std.specs.List.{list_all};
 ghost use Rattle.std.specs.Option.{option_to_list};
 ghost use Rattle.owner_theory.specs.Owners.{list_at};
-ghost use Rattle.owner_theory.specs.Worlds.{is_empty, waiting};
-ghost use Rattle.closed.specs.Tables.{message_of};
-ghost use Rattle.owner.specs.Outboxes.{boxes_of, count_in_use};
+ghost use Rattle.owner_theory.specs.Worlds.{is_empty};
+ghost use Rattle.owner.specs.Outboxes.{boxes_of, count_in_use, message_count};
 
 use closed::Message;
+use packed::StateForm;
 use std::alloc::{AllocError, Global};
 use std::collections::VecDeque;
 use std::marker::Model;
 
 /// An outbox for each owner. A contract sees the messages of each, the oldest first.
 #[derive(Drop)]
-pub(crate) struct Outboxes {
-    queues: Vec<VecDeque<Message>>,
+pub(crate) struct Outboxes<F: StateForm + Drop> {
+    queues: Vec<VecDeque<Message<F>>>,
     /// The number of outboxes with a message. It is kept, as is `messages`, so that no query goes through all outboxes.
     in_use: usize,
     /// The number of messages in all outboxes.
     messages: u128,
 }
 
-impl Model for Outboxes {
+impl<F: StateForm + Drop> Model for Outboxes<F> {
     ghost use Rattle.std.specs.Prelude.{◌≡◌, List};
-    ghost use Rattle.owner_theory.specs.Owners as machine;
-    ghost use Rattle.owner_theory.specs.Worlds.{waiting};
-    ghost use Rattle.owner.specs.Outboxes.{boxes_of, count_in_use};
+    ghost use Rattle.closed.specs.declared.message.Message.{Message as MessageOf};
+    ghost use Rattle.owner.specs.Outboxes.{boxes_of, count_in_use, message_count};
 
-    ghost Value = { List (List machine.Message) };
+    ghost Value = { List (List (MessageOf F)) };
 
     ghost view = { λ o. boxes_of o.queues.items };
 
     ghost invariant = { λ o.
         (o.in_use ≡ count_in_use (boxes_of o.queues.items))
-        × (o.messages ≡ waiting (boxes_of o.queues.items)) };
+        × (o.messages ≡ message_count (boxes_of o.queues.items)) };
 }
 
 /// `owners` empty queues. Fails only if allocation fails.
-fn empty_queues(alloc: Global, owners: usize) -> Result<Vec<VecDeque<Message>>, AllocError>
+fn empty_queues<F: StateForm + Drop>(
+    alloc: Global,
+    owners: usize,
+) -> Result<Vec<VecDeque<Message<F>>>, AllocError>
     ensures { IfOk result (λ queues. boxes_of queues.items ≡ replicate owners []) }
 {
     let mut queues = Vec::with_capacity(alloc, owners)?;
@@ -51,13 +53,13 @@ fn empty_queues(alloc: Global, owners: usize) -> Result<Vec<VecDeque<Message>>, 
 
 /// Appends a message to the queue of that number. Fails only if allocation fails, and then leaves the queues as they
 /// were.
-fn push_last(
-    queues: &mut Vec<VecDeque<Message>>,
+fn push_last<F: StateForm + Drop>(
+    queues: &mut Vec<VecDeque<Message<F>>>,
     to: usize,
-    message: Message,
+    message: Message<F>,
 ) -> Result<(), AllocError>
     requires { to < length queues.old.items }
-    ensures posted { OnOk result (boxes_of queues.new.items ≡ slice_set (boxes_of queues.old.items) to (list_at (boxes_of queues.old.items) to ++ message_of message ∷ [])) }
+    ensures posted { OnOk result (boxes_of queues.new.items ≡ slice_set (boxes_of queues.old.items) to (list_at (boxes_of queues.old.items) to ++ message ∷ [])) }
     ensures unchanged { OnErr result (boxes_of queues.new.items ≡ boxes_of queues.old.items) }
 {
     queues[to].push_back(message)?;
@@ -65,9 +67,12 @@ fn push_last(
 }
 
 /// Removes and returns the oldest message of the queue of that number, or returns `None` if it is empty.
-fn pop_oldest(queues: &mut Vec<VecDeque<Message>>, to: usize) -> Option<Message>
+fn pop_oldest<F: StateForm + Drop>(
+    queues: &mut Vec<VecDeque<Message<F>>>,
+    to: usize,
+) -> Option<Message<F>>
     requires { to < length queues.old.items }
-    ensures first { list_at (boxes_of queues.old.items) to ≡ map message_of (option_to_list result) ++ list_at (boxes_of queues.new.items) to }
+    ensures first { list_at (boxes_of queues.old.items) to ≡ option_to_list result ++ list_at (boxes_of queues.new.items) to }
     ensures others { boxes_of queues.new.items ≡ slice_set (boxes_of queues.old.items) to (list_at (boxes_of queues.new.items) to) }
     ensures none { IfNone result (list_at (boxes_of queues.old.items) to ≡ []) }
     ensures len { length queues.new.items ≡ length queues.old.items }
@@ -75,9 +80,9 @@ fn pop_oldest(queues: &mut Vec<VecDeque<Message>>, to: usize) -> Option<Message>
     queues[to].pop_front()
 }
 
-impl Outboxes {
+impl<F: StateForm + Drop> Outboxes<F> {
     /// `owners` empty outboxes. Fails only if allocation fails.
-    pub(crate) fn empty(alloc: Global, owners: usize) -> Result<Outboxes, AllocError>
+    pub(crate) fn empty(alloc: Global, owners: usize) -> Result<Outboxes<F>, AllocError>
         ensures { IfOk result (λ outboxes. outboxes ≡ replicate owners []) }
     {
         Ok(Outboxes {
@@ -89,9 +94,9 @@ impl Outboxes {
 
     /// Appends a message to the outbox for that owner. Fails only if allocation fails, and then leaves the outboxes as
     /// they were.
-    pub(crate) fn post(&mut self, to: usize, message: Message) -> Result<(), AllocError>
+    pub(crate) fn post(&mut self, to: usize, message: Message<F>) -> Result<(), AllocError>
         requires { to < length self.old }
-        ensures posted { OnOk result (self.new ≡ slice_set self.old to (list_at self.old to ++ message_of message ∷ [])) }
+        ensures posted { OnOk result (self.new ≡ slice_set self.old to (list_at self.old to ++ message ∷ [])) }
         ensures unchanged { OnErr result (self.new ≡ self.old) }
     {
         let is_first = self.outbox(to).is_empty();
@@ -104,9 +109,9 @@ impl Outboxes {
     }
 
     /// Removes and returns the oldest message of the outbox for that owner, or returns `None` if it is empty.
-    pub(crate) fn take_out(&mut self, to: usize) -> Option<Message>
+    pub(crate) fn take_out(&mut self, to: usize) -> Option<Message<F>>
         requires { to < length self.old }
-        ensures first { list_at self.old to ≡ map message_of (option_to_list result) ++ list_at self.new to }
+        ensures first { list_at self.old to ≡ option_to_list result ++ list_at self.new to }
         ensures others { self.new ≡ slice_set self.old to (list_at self.new to) }
         ensures none { IfNone result (list_at self.old to ≡ []) }
     {
@@ -119,9 +124,9 @@ impl Outboxes {
     }
 
     /// The outbox for that owner.
-    pub(crate) fn outbox(&self, to: usize) -> &VecDeque<Message>
+    pub(crate) fn outbox(&self, to: usize) -> &VecDeque<Message<F>>
         requires { to < length self.now }
-        ensures { map message_of result.now.items ≡ list_at self.now to }
+        ensures { result.now.items ≡ list_at self.now to }
     {
         &self.queues[to]
     }
@@ -142,7 +147,7 @@ impl Outboxes {
 
     /// The number of messages in all outboxes.
     pub(crate) fn messages(&self) -> u128
-        ensures { result ≡ waiting self.now }
+        ensures { result ≡ message_count self.now }
     {
         self.messages
     }

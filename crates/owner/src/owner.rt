@@ -20,6 +20,7 @@ use closed::{Entry, Message};
 use cost::Dist;
 use packed::{Layout, StateForm};
 use packed_spread::Spread;
+use scp::Places;
 use std::alloc::{AllocError, Global};
 use std::collections::VecDeque;
 use std::marker::Model;
@@ -37,11 +38,14 @@ pub struct Owner<'a, S: Spread + Drop, F: StateForm + Drop> {
     successor: Vec<u32>,
     /// A buffer for the operators that apply in that state.
     applicable: Vec<usize>,
+    /// The places of that state in the columns, while its successors are treated.
+    places: Places<'a>,
 }
 
 impl<'a, S: Spread + Drop, F: StateForm + Drop> Model for Owner<'a, S, F> {
     ghost use Rattle.std.specs.Prelude.{◌≡◌, length};
     ghost use Rattle.owner.specs.Owned.{OwnerOf};
+    ghost use Rattle.owner.specs.Held.{places_in};
 
     ghost Value = { OwnerOf S };
 
@@ -49,14 +53,16 @@ impl<'a, S: Spread + Drop, F: StateForm + Drop> Model for Owner<'a, S, F> {
 
     ghost invariant = { λ o.
         (length o.state.items ≡ length o.holdings.space.task.value_names)
-        × (length o.successor.items ≡ length o.holdings.space.task.value_names) };
+        × (length o.successor.items ≡ length o.holdings.space.task.value_names)
+        × (o.places ≡ places_in o.holdings.space o.places.state) };
 }
 
 /// Writes the values of a message's state into `state`.
-fn unpack(message: &Message, layout: &Layout, state: &mut Vec<u32>)
-    requires form { IsState layout.now message.now.state.values.items }
+fn unpack<F: StateForm + Drop>(message: &Message<F>, layout: &Layout, state: &mut Vec<u32>)
+    requires fits { F.Fits layout.now }
+    requires values { IsState layout.now (F.values layout.now message.now.state) }
     requires len { length state.old.items ≡ length layout.now }
-    ensures { state.new.items ≡ message.now.state.values.items }
+    ensures { state.new.items ≡ F.values layout.now message.now.state }
 {
     message.state.unpack(layout, state);
 }
@@ -95,24 +101,27 @@ impl<'a, S: Spread + Drop, F: StateForm + Drop> Owner<'a, S, F> {
         let width = space.task().variable_count();
         let state = vec![in alloc; 0; width]?;
         let successor = vec![in alloc; 0; width]?;
+        let places = space.columns().places(alloc)?;
         Ok(Owner {
             alloc,
             holdings: Holdings::start(alloc, space, worker, owners)?,
             state,
             successor,
             applicable: Vec::new(alloc),
+            places,
         })
     }
 
     /// Takes a message. Fails only if allocation fails, and then returns the message and leaves the owner as it was.
-    pub fn take(&mut self, message: Message) -> Result<(), (Message, AllocError)>
-        requires { IsMessageTo (space_of S.owner self.old) self.old.worker (message_of message) }
-        ensures taken { OnOk result ((bound : Distance) → under self.new bound ≡ took (space_of S.owner self.old) (under self.old bound) (message_of message)) }
+    pub fn take(&mut self, message: Message<F>) -> Result<(), (Message<F>, AllocError)>
+        requires { IsMessageTo (space_of S.owner self.old) self.old.worker (message_of (F.values (ranges self.old.space.task)) message) }
+        ensures taken { OnOk result ((bound : Distance) → under self.new bound ≡ took (space_of S.owner self.old) (under self.old bound) (message_of (F.values (ranges self.old.space.task)) message)) }
         ensures space { self.new.space ≡ self.old.space }
         ensures worker { self.new.worker ≡ self.old.worker }
         ensures expansions { self.new.expansions ≡ self.old.expansions }
-        ensures refused { IfErr result (λ e. (message_of e.0 ≡ message_of message) × (self.new ≡ self.old)) }
+        ensures refused { IfErr result (λ e. (message_of (F.values (ranges self.old.space.task)) e.0 ≡ message_of (F.values (ranges self.old.space.task)) message) × (self.new ≡ self.old)) }
     {
+        self.holdings.recall(); // states of the task have the form
         unpack(&message, self.holdings.space().layout(), &mut self.state);
         match self
             .holdings
@@ -150,12 +159,13 @@ impl<'a, S: Spread + Drop, F: StateForm + Drop> Owner<'a, S, F> {
             return Err(OwnerFault::TotalTooLarge);
         }
         self.holdings.expand_next();
+        self.places.enter(&self.state);
         let posted = treat_successors(
             self.alloc,
             &mut self.holdings,
             bound,
             next,
-            &self.state,
+            &mut self.places,
             &self.applicable,
             &mut self.successor,
         )?;
@@ -163,11 +173,11 @@ impl<'a, S: Spread + Drop, F: StateForm + Drop> Owner<'a, S, F> {
     }
 
     /// Removes and returns the oldest message for that owner, or returns `None` if there is none. Allocates nothing.
-    pub fn next_out(&mut self, to: usize) -> Option<Message>
+    pub fn next_out(&mut self, to: usize) -> Option<Message<F>>
         requires { to < length self.old.outboxes }
-        ensures first { list_at self.old.outboxes to ≡ map message_of (option_to_list result) ++ list_at self.new.outboxes to }
+        ensures first { list_at self.old.outboxes to ≡ map (message_of (F.values (ranges self.old.space.task))) (option_to_list result) ++ list_at self.new.outboxes to }
         ensures others { self.new ≡ record self.old { outboxes = slice_set self.old.outboxes to (list_at self.new.outboxes to) } }
-        ensures fits { IfSome result (λ m. IsMessageTo (space_of S.owner self.old) to (message_of m)) }
+        ensures fits { IfSome result (λ m. IsMessageTo (space_of S.owner self.old) to (message_of (F.values (ranges self.old.space.task)) m)) }
         ensures none { IfNone result (list_at self.old.outboxes to ≡ []) }
     {
         self.holdings.next_out(to)
@@ -203,9 +213,9 @@ impl<'a, S: Spread + Drop, F: StateForm + Drop> Owner<'a, S, F> {
     }
 
     /// The messages in the outbox for that owner, the oldest first.
-    pub fn outbox(&self, to: usize) -> &VecDeque<Message>
+    pub fn outbox(&self, to: usize) -> &VecDeque<Message<F>>
         requires { to < length self.now.outboxes }
-        ensures { map message_of result.now.items ≡ list_at self.now.outboxes to }
+        ensures { map (message_of (F.values (ranges self.now.space.task))) result.now.items ≡ list_at self.now.outboxes to }
     {
         self.holdings.outbox(to)
     }
@@ -264,7 +274,7 @@ impl<'a, S: Spread + Drop, F: StateForm + Drop> Owner<'a, S, F> {
 
     /// What holds of every owner, the type's invariant stated as a contract: the space is a search space whose heuristic
     /// is a lower bound, nodes have states of the task that are this owner's, messages have states of the task that are
-    /// their receiver's, and costs and numbers of operators are at most 2^62.
+    /// their receiver's, costs and numbers of operators are at most 2^62, and states of the task have the form.
     pub fn recall(&self)
         ensures space { IsSearchSpace (space_of S.owner self.now) }
         ensures lower { IsLowerBound self.now.space.task (space_of S.owner self.now).heuristic }
@@ -272,6 +282,7 @@ impl<'a, S: Spread + Drop, F: StateForm + Drop> Owner<'a, S, F> {
         ensures nodes { All (IsKept (space_of S.owner self.now) self.now.worker) self.now.nodes }
         ensures messages { (to : ℕ) → to < length self.now.outboxes →
             All (IsMessageTo (space_of S.owner self.now) to) (list_at self.now.outboxes to) }
+        ensures fits { F.Fits (ranges self.now.space.task) }
     {
         self.holdings.recall();
         self.holdings.space().recall();

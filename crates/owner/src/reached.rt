@@ -103,6 +103,13 @@ impl<'a, S: Spread + Drop, F: StateForm + Drop> Reached<'a, S, F> {
         })
     }
 
+    /// States of the task have the form: it follows from the type's invariant.
+    pub(crate) fn recall(&self)
+        ensures { F.Fits (ranges self.now.space.task) }
+    {
+        self.table.recall();
+    }
+
     /// The space that is searched.
     pub(crate) fn space(&self) -> &'a Space<'a, S>
         ensures { result.now ≡ self.now.space }

@@ -1,10 +1,10 @@
 //! The space that owners search.
 
-ghost use Rattle.std.specs.Prelude.{◌≡◌, ◌<◌, ◌≤◌, ◌^◌, [], length, IfOk, OnOk, OnErr};
-ghost use Rattle.cost.specs.Distances.{◌+ᵈ◌, Finite};
+ghost use Rattle.std.specs.Prelude.{◌≡◌, ◌<◌, ◌≤◌, ◌^◌, [], length, Some, IfOk, OnOk, OnErr};
+ghost use Rattle.cost.specs.Distances.{◌+ᵈ◌, Finite, IsWithin};
 ghost use Rattle.checker_clauses.specs.Clauses.{heuristic_of};
 ghost use Rattle.fdr.specs.Tasks as tasks;
-ghost use Rattle.fdr.specs.Tasks.{IsState, IsTask};
+ghost use Rattle.fdr.specs.Tasks.{IsState, IsTask, step};
 ghost use Rattle.owner_theory.specs.Families.{IsLowerBound};
 ghost use Rattle.fdr_successors.specs.Applicable.{applicable_operators};
 
@@ -13,7 +13,7 @@ use fdr::FdrTask;
 use fdr_successors::SuccessorGenerator;
 use packed::Layout;
 use packed_spread::Spread;
-use scp::Columns;
+use scp::{Columns, Places};
 use std::alloc::{AllocError, Global};
 use std::marker::Model;
 
@@ -39,6 +39,34 @@ impl<'a, S: Spread + Drop> Model for Space<'a, S> {
     ghost Value = { SpaceOf S };
 
     ghost view = { λ s. record { task = s.task.now; columns = s.columns.columns; spread = s.spread; limit = s.limit } };
+}
+
+/// The cost, which is at most 2^62, plus the heuristic value.
+fn sum(cost: u64, h: Dist) -> Dist
+    requires cost { cost ≤ 2 ^ 62 }
+    requires small { IsWithin (2 ^ 61) h }
+    ensures { result ≡ Finite cost +ᵈ h }
+{
+    match h.get() {
+        Some(h) => Dist::fin(cost + h).unwrap(), // at most 2^62 + 2^61
+        None => Dist::inf(),
+    }
+}
+
+/// The f-value of the successor, by the operator, of the state whose places these are, where that is reached at this
+/// cost, as `Space::f` gives it.
+pub(crate) fn f_after(
+    places: &mut Places<'_>,
+    operator: usize,
+    successor: &[u32],
+    cost: u64,
+) -> Dist
+    requires step { step places.old.task places.old.state operator ≡ Some successor.now }
+    requires cost { cost ≤ 2 ^ 62 }
+    ensures value { result ≡ Finite cost +ᵈ heuristic_of places.old.task places.old.columns successor.now }
+    ensures same { places.new ≡ places.old }
+{
+    sum(cost, places.h_after(operator, successor))
 }
 
 impl<'a, S: Spread + Drop> Space<'a, S> {
@@ -94,10 +122,7 @@ impl<'a, S: Spread + Drop> Space<'a, S> {
         requires cost { cost ≤ 2 ^ 62 }
         ensures { result ≡ Finite cost +ᵈ heuristic_of self.now.task self.now.columns state.now }
     {
-        match self.columns.h(state).get() {
-            Some(h) => Dist::fin(cost + h).unwrap(), // at most 2^62 + 2^61
-            None => Dist::inf(),
-        }
+        sum(cost, self.columns.h(state))
     }
 
     /// The owner of a state, given the number of owners. Owners are counted from 0.

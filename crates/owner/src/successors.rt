@@ -7,7 +7,7 @@ ghost use Rattle.owner_theory.specs.Owners.{treat, treat_all, successor_by, mess
 ghost use Rattle.owner_theory.specs.Worlds.{waiting};
 ghost use Rattle.closed.specs.Tables.{fresh};
 ghost use Rattle.owner.specs.Owned.{space_of, under, max_total};
-ghost use Rattle.owner.specs.Held.{IsSmallStep};
+ghost use Rattle.owner.specs.Held.{IsSmallStep, places_in};
 
 use crate::holdings::Holdings;
 use closed::Parent;
@@ -16,6 +16,7 @@ use fdr::FdrTask;
 use openlist::{OpenEntry, Rank};
 use packed::StateForm;
 use packed_spread::Spread;
+use scp::Places;
 use std::alloc::{AllocError, Global};
 
 /// The greatest cost of a path, and the greatest number of operators on it: 2^62.
@@ -32,31 +33,33 @@ pub(crate) fn has_large_successor(task: &FdrTask, operators: &[usize], rank: Ran
     })
 }
 
-/// Treats the successor of a state by one operator; `successor` is a buffer. Returns whether the successor was put into
+/// Treats the successor, by one operator, of the state whose places these are; `successor` is a buffer. Returns whether the successor was put into
 /// an outbox. Fails only if allocation fails.
 fn treat_successor<S: Spread + Drop, F: StateForm + Drop>(
     alloc: Global,
     holdings: &mut Holdings<'_, S, F>,
     bound: Dist,
     next: OpenEntry,
-    state: &[u32],
+    places: &mut Places<'_>,
     operator: usize,
     successor: &mut [u32],
 ) -> Result<bool, AllocError>
-    requires state { IsState (ranges holdings.old.space.task) state.now }
-    requires buffer { length successor.old ≡ length state.now }
-    requires applies { applies_at holdings.old.space.task operator state.now ≡ true }
+    requires state { IsState (ranges holdings.old.space.task) places.old.state }
+    requires places { places.old ≡ places_in holdings.old.space places.old.state }
+    requires buffer { length successor.old ≡ length places.old.state }
+    requires applies { applies_at holdings.old.space.task operator places.old.state ≡ true }
     requires small { IsSmallStep holdings.old.space.task next.rank operator }
-    ensures treated { OnOk result ((t : List ℕ) → step holdings.old.space.task state.now operator ≡ Some t → under holdings.new bound ≡ treat (space_of S.owner holdings.old) holdings.old.worker (under holdings.old bound) (message_to holdings.old.space.task holdings.old.worker next.index (fresh state.now next.rank None) operator t)) }
+    ensures treated { OnOk result ((t : List ℕ) → step holdings.old.space.task places.old.state operator ≡ Some t → under holdings.new bound ≡ treat (space_of S.owner holdings.old) holdings.old.worker (under holdings.old bound) (message_to holdings.old.space.task holdings.old.worker next.index (fresh places.old.state next.rank None) operator t)) }
     ensures posted { IfOk result (λ posted. waiting holdings.new.outboxes ≡ waiting holdings.old.outboxes + (if posted then 1 else 0)) }
     ensures owners { length holdings.new.outboxes ≡ length holdings.old.outboxes }
     ensures space { holdings.new.space ≡ holdings.old.space }
     ensures worker { holdings.new.worker ≡ holdings.old.worker }
     ensures expansions { holdings.new.expansions ≡ holdings.old.expansions }
+    ensures places { places.new ≡ places.old }
 {
     let task = holdings.space().task();
     task.recall(); // a successor of a state is a state
-    successor.copy_from_slice(state);
+    successor.copy_from_slice(places.state());
     task.apply(operator, successor);
     let rank = Rank {
         cost: next.rank.cost + task.cost(operator).get(),
@@ -67,34 +70,36 @@ fn treat_successor<S: Spread + Drop, F: StateForm + Drop>(
         index: next.index,
         operator,
     };
-    holdings.treat(alloc, bound, successor, rank, parent)
+    holdings.treat(alloc, bound, places, successor, rank, parent)
 }
 
-/// Treats the successors of a state by these operators, in their order; `successor` is a buffer. Returns the number of
-/// successors that were put into outboxes. Fails only if allocation fails.
+/// Treats the successors, by these operators in their order, of the state whose places these are; `successor` is a
+/// buffer. Returns the number of successors that were put into outboxes. Fails only if allocation fails.
 pub(crate) fn treat_successors<S: Spread + Drop, F: StateForm + Drop>(
     alloc: Global,
     holdings: &mut Holdings<'_, S, F>,
     bound: Dist,
     next: OpenEntry,
-    state: &[u32],
+    places: &mut Places<'_>,
     operators: &[usize],
     successor: &mut [u32],
 ) -> Result<usize, AllocError>
-    requires state { IsState (ranges holdings.old.space.task) state.now }
-    requires buffer { length successor.old ≡ length state.now }
-    requires apply { All (λ o. applies_at holdings.old.space.task o state.now ≡ true) operators.now }
+    requires state { IsState (ranges holdings.old.space.task) places.old.state }
+    requires places { places.old ≡ places_in holdings.old.space places.old.state }
+    requires buffer { length successor.old ≡ length places.old.state }
+    requires apply { All (λ o. applies_at holdings.old.space.task o places.old.state ≡ true) operators.now }
     requires small { All (IsSmallStep holdings.old.space.task next.rank) operators.now }
-    ensures treated { OnOk result (under holdings.new bound ≡ treat_all (space_of S.owner holdings.old) holdings.old.worker (under holdings.old bound) (filter_map (successor_by holdings.old.space.task holdings.old.worker next.index (fresh state.now next.rank None)) operators.now)) }
+    ensures treated { OnOk result (under holdings.new bound ≡ treat_all (space_of S.owner holdings.old) holdings.old.worker (under holdings.old bound) (filter_map (successor_by holdings.old.space.task holdings.old.worker next.index (fresh places.old.state next.rank None)) operators.now)) }
     ensures posted { IfOk result (λ posted. waiting holdings.new.outboxes ≡ waiting holdings.old.outboxes + posted) }
     ensures owners { length holdings.new.outboxes ≡ length holdings.old.outboxes }
     ensures space { holdings.new.space ≡ holdings.old.space }
     ensures worker { holdings.new.worker ≡ holdings.old.worker }
     ensures expansions { holdings.new.expansions ≡ holdings.old.expansions }
+    ensures places { places.new ≡ places.old }
 {
     let mut posted = 0;
     for &operator in operators {
-        if treat_successor(alloc, holdings, bound, next, state, operator, successor)? {
+        if treat_successor(alloc, holdings, bound, next, places, operator, successor)? {
             posted += 1;
         }
     }

@@ -99,6 +99,10 @@ impl<const WORDS: usize> StateForm for Bits<WORDS> {
             && *self == self.without_other_bits(layout)
     }
 
+    fn holds_state(&self, layout: &Layout) -> bool {
+        self.has_values_in_range(layout)
+    }
+
     fn repack(&mut self, layout: &Layout, state: &[u32]) {
         self.words = words_of(layout, state);
     }

@@ -34,6 +34,12 @@ pub trait StateForm: Eq + Hash {
     fn is_form(&self, layout: &Layout) -> bool
         ensures { IsTrue result ↔ IsForm layout.now self.now };
 
+    /// Whether the values are a state with the layout's ranges, in a form that states have. It need not be a form of that
+    /// state: what stands in no value plays no part.
+    fn holds_state(&self, layout: &Layout) -> bool
+        requires { Fits layout.now }
+        ensures { IsTrue result ↔ IsState layout.now (values layout.now self.now) };
+
     /// Makes this the form of another state. Allocates nothing.
     fn repack(&mut self, layout: &Layout, state: &[u32])
         requires form { IsForm layout.now self.old }
@@ -43,7 +49,8 @@ pub trait StateForm: Eq + Hash {
 
     /// Writes the values of the state into `state`. Allocates nothing.
     fn unpack(&self, layout: &Layout, state: &mut [u32])
-        requires form { IsForm layout.now self.now }
+        requires fits { Fits layout.now }
+        requires values { IsState layout.now (values layout.now self.now) }
         requires len { length state.old ≡ length layout.now }
         ensures { state.new ≡ values layout.now self.now };
 

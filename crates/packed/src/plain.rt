@@ -49,6 +49,10 @@ impl StateForm for Plain {
         layout.is_state(self.values.as_slice())
     }
 
+    fn holds_state(&self, layout: &Layout) -> bool {
+        layout.is_state(self.values.as_slice())
+    }
+
     fn repack(&mut self, layout: &Layout, state: &[u32]) {
         let _ = layout;
         self.values.as_mut_slice().copy_from_slice(state);

@@ -13,3 +13,4 @@ pub mod RowWords
 pub mod RowLists
 pub mod Blocks
 pub mod Limits
+pub mod PlaceLaws

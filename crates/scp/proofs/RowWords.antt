@@ -5,7 +5,9 @@ use Rattle.std.proofs.lemmas.List.{map-append}
 use Rattle.std.proofs.lemmas.Grind.{common_steps}
 use Rattle.cost.specs.Distances.{larger, greatest}
 use Rattle.cost.proofs.DistanceLaws.{greatest-push}
-use Rattle.scp.specs.Rows.{distance_below, lanes}
+use Rattle.std.proofs.Common.{length, take, get_or}
+use Rattle.std.proofs.lemmas.List.Sums.{sum_by_more}
+use Rattle.scp.specs.Rows.{PatternRows, word_at, lane_sum, distance_below, lanes}
 
 -- ---- the greatest word
 
@@ -47,3 +49,11 @@ module _ (most : ℕ) (some : 0 < most) (words : List ℕ) where
 -- a sum of limited sums is limited
 pub limited_more : (most a b s : ℕ) → s ≡ min a most → min (s + b) most ≡ min (a + b) most
 limited_more most a b s e = omega arith
+
+-- the row of one more pattern
+pub sum_more : (most : ℕ) (state : List ℕ) (patterns : List PatternRows) (place : ℕ) (p : PatternRows) → place < length patterns → p ≡ get_or patterns place p → (lane old new : ℕ)
+    → old ≡ min (lane_sum state lane (take place patterns)) most → new ≡ min (old + word_at state lane p) most
+    → new ≡ min (lane_sum state lane (take (place + 1) patterns)) most
+sum_more most state patterns place p l is lane old new before step =
+    let same : word_at state lane p ≡ word_at state lane (get_or patterns place p) = ap (word_at state lane) is in
+    omega (arith, before, step, same, sum_by_more (word_at state lane) patterns place p l)

@@ -3,3 +3,4 @@ pub mod ColumnTables
 pub mod TableProps
 pub mod Rows
 pub mod Flats
+pub mod Places

@@ -6,10 +6,11 @@ ghost use Rattle.fdr.specs.Tasks.{ranges, IsState};
 ghost use Rattle.abstraction.specs.Abstractions.{value_at};
 ghost use Rattle.abstraction.specs.Columns.{column_value};
 ghost use Rattle.scp.specs.ColumnTables.{on_projection};
+ghost use Rattle.scp.specs.Places.{AreKept, first_rows};
 ghost use Rattle.scp.specs.Rows.{lane_sum, Gains, AreOf, IsBlockOf, HasWord, value_of, blocks_value};
 
 use crate::column::projection_to;
-use crate::pattern_rows::{PatternRows, sums};
+use crate::pattern_rows::{PatternRows, sums, sums_after};
 use crate::row::Row;
 use crate::table::ColumnTable;
 use abstraction::Projection;
@@ -156,4 +157,37 @@ pub(crate) fn greatest_value<R: Row>(blocks: &[Vec<PatternRows<'_, R>>], state: 
         greatest = greatest.max(sums(block, state).greatest());
     }
     greatest
+}
+
+/// The rows of the first block.
+pub(crate) fn first_block<'b, 'a, R: Row>(
+    blocks: &'b [Vec<PatternRows<'a, R>>],
+) -> &'b [PatternRows<'a, R>]
+    ensures { result.now ≡ first_rows blocks.now }
+{
+    match blocks {
+        [] => &[],
+        [first, ..] => first,
+    }
+}
+
+/// The greatest value of blocks at a state, as `greatest_value` gives it. Of the first block the abstract states are
+/// given for the patterns that are not touched.
+pub(crate) fn greatest_after<R: Row>(
+    blocks: &[Vec<PatternRows<'_, R>>],
+    touched: &[bool],
+    indices: &[usize],
+    state: &[u32],
+) -> Dist
+    requires state { All (λ b. All (λ p. IsState (ranges p.task) state.now) b.items) blocks.now }
+    requires touched { length touched.now ≡ length (first_rows blocks.now) }
+    requires indices { length indices.now ≡ length (first_rows blocks.now) }
+    requires same { AreKept touched.now indices.now state.now (first_rows blocks.now) }
+    ensures { result ≡ blocks_value R.most state.now blocks.now }
+{
+    if blocks.is_empty() {
+        return Dist::ZERO;
+    }
+    let first = sums_after(&blocks[0], touched, indices, state).greatest();
+    first.max(greatest_value(&blocks[1..], state))
 }

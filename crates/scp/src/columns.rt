@@ -10,10 +10,12 @@ ghost use Rattle.pdb_patterns.specs.Patterns.{IsPattern};
 ghost use Rattle.scp.specs.ColumnTables.{on_projection};
 ghost use Rattle.scp.specs.Rows.{AreOf, value_of, blocks_value};
 ghost use Rattle.scp.specs.Flats.{most_in, blocks_in};
+ghost use Rattle.scp.specs.Places.{AreTouches, first_rows};
 ghost use Rattle.scp.specs.Partitions.{AreCostPartitioned, IsMadeFrom, patterns_of};
 
 use crate::column::make_column;
-use crate::flat::{Flat, flat_value, make_flat};
+use crate::flat::{Flat, flat_value, make_flat, touches_in};
+use crate::places::Places;
 use crate::table::ColumnTable;
 use cost::Dist;
 use fdr::FdrTask;
@@ -27,6 +29,7 @@ pub struct Columns<'a> {
     task: &'a FdrTask,
     columns: Vec<Vec<ColumnTable<'a>>>,
     flat: Flat<'a>,
+    touches: Vec<Vec<bool>>,
     ghost of_task: { All (λ column. All (λ t. t.task ≡ task.now) column.items) columns.items },
     ghost few_columns: { length columns.items ≤ 64 },
     ghost none_empty: { All (λ column. column.items ≢ []) columns.items },
@@ -35,6 +38,7 @@ pub struct Columns<'a> {
     ghost flat_of_task: { All (λ b. AreOf task.now b.items) (blocks_in flat) },
     ghost flat_value: { (state : List ℕ) → IsState (ranges task.now) state →
         blocks_value (most_in flat) state (blocks_in flat) ≡ greatest (map (value_of state) columns.items) },
+    ghost touches_are: { AreTouches (length task.now.operators) (first_rows (blocks_in flat)) touches.items },
 }
 
 impl<'a> Model for Columns<'a> {
@@ -92,6 +96,14 @@ impl<'a> Columns<'a> {
         self.task.recall();
         flat_value(&self.flat, state)
     }
+
+    /// Returns the places of the initial state, with which the estimates of successors are computed. Fails only if
+    /// allocation fails.
+    pub fn places(&'a self, alloc: Global) -> Result<Places<'a>, AllocError>
+        ensures { IfOk result (λ p. p ≡ record { task = self.now.task; columns = self.now.columns; state = self.now.task.initial }) }
+    {
+        Places::new(alloc, self, &self.flat, &self.touches)
+    }
 }
 
 /// Makes a column for each of these orders of patterns, as `make_column` does. There must be at most 64 orders, each of
@@ -115,9 +127,11 @@ pub fn make_columns<'a>(
         columns.push(make_column(alloc, task, order)?)?;
     }
     let flat = make_flat(alloc, task, &columns)?;
+    let touches = touches_in(alloc, &flat, task.operator_count())?;
     Ok(Columns {
         task,
         columns,
         flat,
+        touches,
     })
 }

@@ -4,11 +4,12 @@ ghost use Rattle.std.specs.Prelude.{◌≡◌, ℕ, List, ◌≤◌, length, map
 ghost use Rattle.cost.specs.Distances.{greatest};
 ghost use Rattle.fdr.specs.Tasks.{ranges, IsState};
 ghost use Rattle.scp.specs.Rows.{AreOf, value_of, blocks_value};
+ghost use Rattle.scp.specs.Places.{AreIndices, AreKept, AreTouches, first_rows};
 ghost use Rattle.scp.specs.Flats.{most_in, blocks_in};
 
-use crate::block::{greatest_value, make_blocks};
+use crate::block::{first_block, greatest_after, greatest_value, make_blocks};
 use crate::limit::columns_limit;
-use crate::pattern_rows::PatternRows;
+use crate::pattern_rows::{PatternRows, enter, touches};
 use crate::row::{LongRow, MiddleRow, ShortRow};
 use crate::table::ColumnTable;
 use cost::Dist;
@@ -57,5 +58,66 @@ pub(crate) fn flat_value(flat: &Flat<'_>, state: &[u32]) -> Dist
         Flat::Short(blocks) => greatest_value(blocks, state),
         Flat::Middle(blocks) => greatest_value(blocks, state),
         Flat::Long(blocks) => greatest_value(blocks, state),
+    }
+}
+
+/// The number of patterns of the first block.
+pub(crate) fn pattern_count(flat: &Flat<'_>) -> usize
+    ensures { result ≡ length (first_rows (blocks_in flat.now)) }
+{
+    match flat {
+        Flat::Short(blocks) => first_block(blocks).len(),
+        Flat::Middle(blocks) => first_block(blocks).len(),
+        Flat::Long(blocks) => first_block(blocks).len(),
+    }
+}
+
+/// Enters the abstract states of a state, one for each pattern of the first block.
+pub(crate) fn enter_flat(flat: &Flat<'_>, state: &[u32], indices: &mut [usize])
+    requires state { All (λ p. IsState (ranges p.task) state.now) (first_rows (blocks_in flat.now)) }
+    requires len { length indices.old ≡ length (first_rows (blocks_in flat.now)) }
+    ensures len { length indices.new ≡ length (first_rows (blocks_in flat.now)) }
+    ensures each { AreIndices indices.new state.now (first_rows (blocks_in flat.now)) }
+{
+    match flat {
+        Flat::Short(blocks) => enter(first_block(blocks), state, indices),
+        Flat::Middle(blocks) => enter(first_block(blocks), state, indices),
+        Flat::Long(blocks) => enter(first_block(blocks), state, indices),
+    }
+}
+
+/// For each of so many operators, the patterns of the first block that it touches.
+pub(crate) fn touches_in(
+    alloc: Global,
+    flat: &Flat<'_>,
+    count: usize,
+) -> Result<Vec<Vec<bool>>, AllocError>
+    ensures { IfOk result (λ touches. AreTouches count (first_rows (blocks_in flat.now)) touches.items) }
+{
+    match flat {
+        Flat::Short(blocks) => touches(alloc, first_block(blocks), count),
+        Flat::Middle(blocks) => touches(alloc, first_block(blocks), count),
+        Flat::Long(blocks) => touches(alloc, first_block(blocks), count),
+    }
+}
+
+/// The greatest value of the blocks at a state, as `flat_value` gives it. Of the first block the abstract states are
+/// given for the patterns that are not touched.
+pub(crate) fn flat_value_after(
+    flat: &Flat<'_>,
+    touched: &[bool],
+    indices: &[usize],
+    state: &[u32],
+) -> Dist
+    requires state { All (λ b. All (λ p. IsState (ranges p.task) state.now) b.items) (blocks_in flat.now) }
+    requires touched { length touched.now ≡ length (first_rows (blocks_in flat.now)) }
+    requires indices { length indices.now ≡ length (first_rows (blocks_in flat.now)) }
+    requires same { AreKept touched.now indices.now state.now (first_rows (blocks_in flat.now)) }
+    ensures { result ≡ blocks_value (most_in flat.now) state.now (blocks_in flat.now) }
+{
+    match flat {
+        Flat::Short(blocks) => greatest_after(blocks, touched, indices, state),
+        Flat::Middle(blocks) => greatest_after(blocks, touched, indices, state),
+        Flat::Long(blocks) => greatest_after(blocks, touched, indices, state),
     }
 }

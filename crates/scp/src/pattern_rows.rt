@@ -1,9 +1,10 @@
 //! Patterns with the values of the tables of several columns side by side.
 
-ghost use Rattle.std.specs.Prelude.{◌≡◌, ◌≢◌, ℕ, List, ◌+◌, ◌<◌, min, map, length, slice_index, slice_index_or, All, IfOk};
+ghost use Rattle.std.specs.Prelude.{◌≡◌, ◌≢◌, ℕ, List, ◌+◌, ◌<◌, min, map, length, slice_index, slice_index_or, false, All, IfOk};
 ghost use Rattle.cost.specs.Distances.{Infinite};
 ghost use Rattle.fdr.specs.Tasks.{ranges, IsState};
 ghost use Rattle.abstraction.specs.Projections.{size_of, index_of};
+ghost use Rattle.scp.specs.Places.{AreKept, AreIndices, AreTouches, IsTouched, Keeps};
 ghost use Rattle.scp.specs.Rows.{word_of, word_in, word_at, lane_sum, added};
 
 use crate::row::Row;
@@ -95,6 +96,31 @@ impl<'a, R: Row> PatternRows<'a, R> {
         add_values(&mut self.rows, lane, values);
     }
 
+    /// The abstract state of a state.
+    pub(crate) fn index(&self, state: &[u32]) -> usize
+        requires { IsState (ranges self.now.task) state.now }
+        ensures { result ≡ index_of (ranges self.now.task) self.now.pattern state.now }
+    {
+        self.projection.index(state)
+    }
+
+    /// Whether the operator may touch the pattern.
+    pub(crate) fn touches(&self, operator: usize) -> bool
+        ensures { result ≡ false → Keeps self.now operator }
+    {
+        self.projection.touches(operator)
+    }
+
+    /// Adds the row of the state, whose abstract state is given.
+    fn add_known(&self, index: usize, state: &[u32], sums: &mut R)
+        requires state { IsState (ranges self.now.task) state.now }
+        requires index { index ≡ index_of (ranges self.now.task) self.now.pattern state.now }
+        ensures { (lane : ℕ) → slice_index (R.words sums.new) lane ≡ min (slice_index (R.words sums.old) lane + word_at state.now lane self.now) R.most }
+    {
+        let _ = state;
+        sums.add(&self.rows[index]);
+    }
+
     /// Adds the row of the state.
     fn add_to(&self, state: &[u32], sums: &mut R)
         requires { IsState (ranges self.now.task) state.now }
@@ -114,4 +140,71 @@ pub(crate) fn sums<R: Row>(patterns: &[PatternRows<'_, R>], state: &[u32]) -> R
         pattern.add_to(state, &mut sums);
     }
     sums
+}
+
+/// The sums of the rows of a state, as `sums` gives them. Its abstract states are given for the patterns that are not
+/// touched.
+pub(crate) fn sums_after<R: Row>(
+    patterns: &[PatternRows<'_, R>],
+    touched: &[bool],
+    indices: &[usize],
+    state: &[u32],
+) -> R
+    requires state { All (λ p. IsState (ranges p.task) state.now) patterns.now }
+    requires touched { length touched.now ≡ length patterns.now }
+    requires indices { length indices.now ≡ length patterns.now }
+    requires same { AreKept touched.now indices.now state.now patterns.now }
+    ensures { (lane : ℕ) → slice_index (R.words result) lane ≡ min (lane_sum state.now lane patterns.now) R.most }
+{
+    let mut sums = R::zero();
+    for (place, pattern) in patterns.iter().enumerate() {
+        if touched[place] {
+            pattern.add_to(state, &mut sums);
+        } else {
+            pattern.add_known(indices[place], state, &mut sums);
+        }
+    }
+    sums
+}
+
+/// Enters the abstract states of a state, one for each pattern.
+pub(crate) fn enter<R: Row>(patterns: &[PatternRows<'_, R>], state: &[u32], indices: &mut [usize])
+    requires state { All (λ p. IsState (ranges p.task) state.now) patterns.now }
+    requires len { length indices.old ≡ length patterns.now }
+    ensures len { length indices.new ≡ length patterns.now }
+    ensures each { AreIndices indices.new state.now patterns.now }
+{
+    for place in 0..patterns.len() {
+        indices[place] = patterns[place].index(state);
+    }
+}
+
+/// For each pattern, whether the operator touches it.
+fn touched_by<R: Row>(
+    alloc: Global,
+    patterns: &[PatternRows<'_, R>],
+    operator: usize,
+) -> Result<Vec<bool>, AllocError>
+    ensures { IfOk result (λ touched. IsTouched patterns.now operator touched.items) }
+{
+    let mut touched = Vec::with_capacity(alloc, patterns.len())?;
+    for pattern in patterns {
+        touched.push(pattern.touches(operator))?;
+    }
+    Ok(touched)
+}
+
+/// For each of so many operators, the patterns that it touches.
+pub(crate) fn touches<R: Row>(
+    alloc: Global,
+    patterns: &[PatternRows<'_, R>],
+    count: usize,
+) -> Result<Vec<Vec<bool>>, AllocError>
+    ensures { IfOk result (λ touches. AreTouches count patterns.now touches.items) }
+{
+    let mut touches = Vec::with_capacity(alloc, count)?;
+    for operator in 0..count {
+        touches.push(touched_by(alloc, patterns, operator)?)?;
+    }
+    Ok(touches)
 }

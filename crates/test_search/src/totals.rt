@@ -1,6 +1,7 @@
 //! Costs above the greatest total, 2^62, are refused.
 
 ghost use Rattle.std.specs.Prelude.{IfOk};
+ghost use Rattle.fdr.specs.Tasks.{ranges};
 ghost use Rattle.packed_spread.specs.Spreads.{value_owner};
 ghost use Rattle.closed.specs.Tables.{message_of};
 ghost use Rattle.owner.specs.Spaces.{searched};
@@ -10,7 +11,7 @@ use crate::schedules::CYCLE;
 use cost::Dist;
 use fdr::FdrTask;
 use owner::{MAX_TOTAL, Message, Owner, OwnerFault, Parent, Rank, Space};
-use packed::{Plain, StateForm};
+use packed::{Bits, Plain, StateForm};
 use packed_spread::ByValue;
 use sasfile::read_sas;
 use scp::make_columns;
@@ -19,18 +20,19 @@ use std::process::Abort;
 use std::test::Fail;
 
 /// The message with which the second of two owners is handed the state 1, at the greatest cost.
-fn message_at_most_total<'a>(
-    rt: &impl Abort,
+fn message_at_most_total<'a, F: StateForm + Drop, R: Abort>(
+    rt: &R,
     alloc: Global,
     space: &'a Space<'a, ByValue<'a>>,
-) -> Result<Message, Fail>
-    ensures { IfOk result (λ m. IsMessageTo (searched (λ _. value_owner) space.now 2) 1 (message_of m)) }
+) -> Result<Message<F>, Fail>
+    requires { F.Fits (ranges space.now.task) }
+    ensures { IfOk result (λ m. IsMessageTo (searched (λ _. value_owner) space.now 2) 1 (message_of (F.values (ranges space.now.task)) m)) }
 {
     let state = [1];
     assert!(rt; space.layout().is_state(&state), "a state of the task");
     assert_eq!(rt; space.owner_of(&state, 2), 1);
     Ok(Message {
-        state: Plain::pack(alloc, space.layout(), &state)?,
+        state: F::pack(alloc, space.layout(), &state)?,
         rank: Rank {
             cost: MAX_TOTAL,
             steps: 1,
@@ -44,12 +46,14 @@ fn message_at_most_total<'a>(
 }
 
 /// Operator 1 leads on at cost 0, and operator 2 at cost 1, above the greatest total: so the state is not expanded.
-fn refuse_total<'a>(
-    rt: &impl Abort,
+fn refuse_total<'a, F: StateForm + Drop, R: Abort>(
+    rt: &R,
     alloc: Global,
     space: &'a Space<'a, ByValue<'a>>,
-) -> Result<(), Fail> {
-    let mut second: Owner<'a, ByValue<'a>, Plain> = Owner::start(alloc, space, 1, 2)?;
+) -> Result<(), Fail>
+    requires { F.Fits (ranges space.now.task) }
+{
+    let mut second: Owner<'a, ByValue<'a>, F> = Owner::start(alloc, space, 1, 2)?;
     let message = message_at_most_total(rt, alloc, space)?;
     assert!(rt; second.take(message).is_ok(), "memory");
     let open = Dist::fin(MAX_TOTAL).ok_or("a distance")?;
@@ -61,11 +65,13 @@ fn refuse_total<'a>(
 }
 
 /// The same test over the task, without columns.
-fn refuse_total_of<'t>(rt: &impl Abort, alloc: Global, task: &'t FdrTask) -> Result<(), Fail> {
+fn refuse_total_of<'t, R: Abort>(rt: &R, alloc: Global, task: &'t FdrTask) -> Result<(), Fail> {
     let columns = make_columns(alloc, task, &[])?;
     // the type is given so that the borrow checker need not infer how long the space is borrowed
     let space: Space<'t, ByValue<'t>> = Space::new(alloc, task, columns, ByValue::new(task), None)?;
-    refuse_total(rt, alloc, &space)
+    assert!(rt; Bits::<1>::fits(space.layout()), "states of one word");
+    refuse_total::<Bits<1>, R>(rt, alloc, &space)?;
+    refuse_total::<Plain, R>(rt, alloc, &space)
 }
 
 #[test]

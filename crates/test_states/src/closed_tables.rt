@@ -161,16 +161,18 @@ fn gives_states_back(rt: HostRuntime) -> Result<(), Fail> {
 }
 
 /// Messages of these states and ranks.
-fn messages(
-    rt: &impl Abort,
+fn messages<F: StateForm + Drop, R: Abort>(
+    rt: &R,
     alloc: Global,
     layout: &Layout,
     reached: &[([u32; 2], Rank)],
-) -> Result<Vec<Message>, Fail> {
+) -> Result<Vec<Message<F>>, Fail>
+    requires { F.Fits layout.now }
+{
     let mut messages = Vec::new(alloc);
     for (state, rank) in reached {
         assert!(rt; layout.is_state(state), "a state");
-        let state = Plain::pack(alloc, layout, state)?;
+        let state = F::pack(alloc, layout, state)?;
         messages.push(Message {
             state,
             rank: *rank,
@@ -181,10 +183,13 @@ fn messages(
 }
 
 /// Whether the messages are of states of the layout.
-fn are_of(layout: &Layout, messages: &[Message]) -> bool
-    ensures { IsTrue result → All (λ m. IsState layout.now (arrival m).state) messages.now }
+fn are_of<F: StateForm + Drop>(layout: &Layout, messages: &[Message<F>]) -> bool
+    requires { F.Fits layout.now }
+    ensures { IsTrue result → All (λ m. IsState layout.now (arrival (F.values layout.now) m).state) messages.now }
 {
-    messages.iter().all(|message| message.state.is_form(layout))
+    messages
+        .iter()
+        .all(|message| message.state.holds_state(layout))
 }
 
 /// Whether the messages were taken. Checks their outcomes, and that a failure leaves the table as it was.
@@ -192,10 +197,10 @@ fn takes<F: StateForm + Drop>(
     rt: &impl Abort,
     alloc: Global,
     table: &mut ClosedTable<F>,
-    messages: &[Message],
+    messages: &[Message<F>],
     expected: &[Outcome],
 ) -> bool
-    requires { All (λ m. IsState table.old.ranges (arrival m).state) messages.now }
+    requires { All (λ m. IsState table.old.ranges (arrival (F.values table.old.ranges) m).state) messages.now }
 {
     let len = table.len();
     match table.improve_all(alloc, messages) {
@@ -245,7 +250,7 @@ fn takes_messages_one_after_the_other_in<F: StateForm + Drop, R: Abort>(
         Outcome::Better(0),
         Outcome::Kept,
     ];
-    let messages = messages(rt, alloc, layout, &reached)?;
+    let messages: Vec<Message<F>> = messages(rt, alloc, layout, &reached)?;
     assert!(rt; are_of(layout, &messages), "states");
     if takes(rt, alloc, &mut table, &messages, &expected) {
         keeps(rt, &table, 0, rank(1, 5), 6, false);

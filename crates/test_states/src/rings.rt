@@ -13,7 +13,7 @@ use std::test::Fail;
 use test_tasks::states;
 
 /// The message of the one state of a variable with one value, at this cost.
-fn message(rt: &impl Abort, alloc: Global, cost: u64) -> Result<Message, Fail>
+fn message(rt: &impl Abort, alloc: Global, cost: u64) -> Result<Message<Plain>, Fail>
     requires { cost ≤ 2 ^ 62 }
     ensures { IfOk result HasSmallRank }
 {
@@ -32,14 +32,14 @@ fn message(rt: &impl Abort, alloc: Global, cost: u64) -> Result<Message, Fail>
 }
 
 /// The cost of the oldest message, which is taken, if there is one.
-fn taken(receiver: &mut In) -> Option<u64>
+fn taken(receiver: &mut In<Plain>) -> Option<u64>
     ensures { SameIn receiver.old receiver.new }
 {
     receiver.pop().map(|message| message.rank.cost)
 }
 
 /// Whether the message went into the ring.
-fn is_sent(sender: &mut Out, message: Message) -> bool
+fn is_sent(sender: &mut Out<Plain>, message: Message<Plain>) -> bool
     requires { HasSmallRank message }
     ensures { SameOut sender.old sender.new }
 {
@@ -47,7 +47,11 @@ fn is_sent(sender: &mut Out, message: Message) -> bool
 }
 
 /// A ring with room for one message takes one, and returns a second one.
-fn takes_one(rt: &impl Abort, alloc: Global, sender: &mut Out) -> Result<Message, Fail>
+fn takes_one(
+    rt: &impl Abort,
+    alloc: Global,
+    sender: &mut Out<Plain>,
+) -> Result<Message<Plain>, Fail>
     ensures ring { SameOut sender.old sender.new }
     ensures back { IfOk result HasSmallRank }
 {
@@ -74,7 +78,12 @@ fn a_ring_of_one(rt: HostRuntime) -> Result<(), Fail> {
 }
 
 /// Sends a message of this cost to the last of the workers.
-fn send_last(rt: &impl Abort, alloc: Global, outs: &mut Vec<Out>, cost: u64) -> Result<(), Fail>
+fn send_last(
+    rt: &impl Abort,
+    alloc: Global,
+    outs: &mut Vec<Out<Plain>>,
+    cost: u64,
+) -> Result<(), Fail>
     requires { cost ≤ 2 ^ 62 }
 {
     let sender = outs.last_mut().ok_or("a worker")?;
@@ -83,7 +92,7 @@ fn send_last(rt: &impl Abort, alloc: Global, outs: &mut Vec<Out>, cost: u64) -> 
 }
 
 /// The cost of the message that is taken from the first worker, if there is one.
-fn from_first(ins: &mut Vec<In>) -> Option<u64> {
+fn from_first(ins: &mut Vec<In<Plain>>) -> Option<u64> {
     taken(ins.first_mut()?)
 }
 

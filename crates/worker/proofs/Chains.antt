@@ -15,45 +15,45 @@ pub one_more : {W : Type 0} (R : ℕ → W → W → Type 0) (k : ℕ) (a b c : 
 one_more R k a b c before step = subst (λ n. chained R n a c) (sym (add-one k)) (b, before, step)
 
 -- what receiving leaves as it is
-pub record KeepsReceiving {S : Type 0} (a b : WorkerOf S) (count : ℕ) : Type 0 where
+pub record KeepsReceiving {S F : Type 0} (a b : WorkerOf S F) (count : ℕ) : Type 0 where
   pub misfits : b.misfits ≡ a.misfits
   pub ins : length b.ins ≡ length a.ins
   pub uncounted : b.uncounted ≡ a.uncounted
   pub taken : b.taken ≤ a.taken + count
 
 -- what sending leaves as it is
-pub record KeepsSending {S : Type 0} (a b : WorkerOf S) : Type 0 where
+pub record KeepsSending {S F : Type 0} (a b : WorkerOf S F) : Type 0 where
   pub outs : length b.outs ≡ length a.outs
   pub uncounted : b.uncounted ≡ a.uncounted
 
-module _ {S : Type 0} (owner : S → List ℕ → ℕ → ℕ) where
-  pub was_received : (from : ℕ) (a b : WorkerOf S) (r : Received) → (r ≡ SetAside → ⊥) → HasReceived owner from a b r → ReceivesFrom owner from a b
+module _ {S F : Type 0} (owner : S → List ℕ → ℕ → ℕ) (values : List ℕ → F → List ℕ) where
+  pub was_received : (from : ℕ) (a b : WorkerOf S F) (r : Received) → (r ≡ SetAside → ⊥) → HasReceived owner values from a b r → ReceivesFrom owner values from a b
   was_received from a b Taken other has = inl has
   was_received from a b Nothing other has = inr has
   was_received from a b SetAside other has = absurd (other refl)
 
-  receive_keeps : (from : ℕ) (a b : WorkerOf S) → ReceivesFrom owner from a b → KeepsReceiving a b 1
+  receive_keeps : (from : ℕ) (a b : WorkerOf S F) → ReceivesFrom owner values from a b → KeepsReceiving a b 1
   receive_keeps from a b has = ⊎_elim
-      (λ (t : HasTaken owner from a b). record {
-        misfits = ap (λ (w : WorkerOf S). w.misfits) t.worker;
+      (λ (t : HasTaken owner values from a b). record {
+        misfits = ap (λ (w : WorkerOf S F). w.misfits) t.worker;
         ins = t.popped.ends.len;
-        uncounted = ap (λ (w : WorkerOf S). w.uncounted) t.worker;
-        taken = let e : b.taken ≡ suc a.taken = ap (λ (w : WorkerOf S). w.taken) t.worker in omega (arith, e);
+        uncounted = ap (λ (w : WorkerOf S F). w.uncounted) t.worker;
+        taken = let e : b.taken ≡ suc a.taken = ap (λ (w : WorkerOf S F). w.taken) t.worker in omega (arith, e);
       })
-      (λ (t : HasNothingTaken from a b). record {
-        misfits = ap (λ (w : WorkerOf S). w.misfits) t.worker;
+      (λ (t : HasNothingTaken values from a b). record {
+        misfits = ap (λ (w : WorkerOf S F). w.misfits) t.worker;
         ins = t.ends.len;
-        uncounted = ap (λ (w : WorkerOf S). w.uncounted) t.worker;
-        taken = let e : b.taken ≡ a.taken = ap (λ (w : WorkerOf S). w.taken) t.worker in omega (arith, e);
+        uncounted = ap (λ (w : WorkerOf S F). w.uncounted) t.worker;
+        taken = let e : b.taken ≡ a.taken = ap (λ (w : WorkerOf S F). w.taken) t.worker in omega (arith, e);
       })
       has
 
-  pub receives_keep : (k : ℕ) (a b : WorkerOf S) → chained (ReceivesFrom owner) k a b → KeepsReceiving a b k
+  pub receives_keep : (k : ℕ) (a b : WorkerOf S F) → chained (ReceivesFrom owner values) k a b → KeepsReceiving a b k
   receives_keep zero a b same = record {
-    misfits = ap (λ (w : WorkerOf S). w.misfits) same;
-    ins = ap (λ (w : WorkerOf S). length w.ins) same;
-    uncounted = ap (λ (w : WorkerOf S). w.uncounted) same;
-    taken = let e : b.taken ≡ a.taken = ap (λ (w : WorkerOf S). w.taken) same in omega (arith, e);
+    misfits = ap (λ (w : WorkerOf S F). w.misfits) same;
+    ins = ap (λ (w : WorkerOf S F). length w.ins) same;
+    uncounted = ap (λ (w : WorkerOf S F). w.uncounted) same;
+    taken = let e : b.taken ≡ a.taken = ap (λ (w : WorkerOf S F). w.taken) same in omega (arith, e);
   }
   receives_keep (suc k) a b (m, before, step) =
       let p : KeepsReceiving a m k = receives_keep k a m before in
@@ -66,30 +66,30 @@ module _ {S : Type 0} (owner : S → List ℕ → ℕ → ℕ) where
       }
 
   -- memory ran out after messages were taken
-  pub ran_out_uncounted : (k : ℕ) (a b c : WorkerOf S) → chained (ReceivesFrom owner) k a b → c ≡ record b { ins = c.ins; spent = true }
+  pub ran_out_uncounted : (k : ℕ) (a b c : WorkerOf S F) → chained (ReceivesFrom owner values) k a b → c ≡ record b { ins = c.ins; spent = true }
       → (c.spent ≡ true) × (c.uncounted ≡ a.uncounted)
   ran_out_uncounted k a b c before out =
-      (ap (λ (w : WorkerOf S). w.spent) out, ap (λ (w : WorkerOf S). w.uncounted) out ∙ (receives_keep k a b before).uncounted)
+      (ap (λ (w : WorkerOf S F). w.spent) out, ap (λ (w : WorkerOf S F). w.uncounted) out ∙ (receives_keep k a b before).uncounted)
 
-  pub stopped_uncounted : (a b : WorkerOf S) → HasStopped owner a b → b.uncounted ≡ a.uncounted
+  pub stopped_uncounted : (a b : WorkerOf S F) → HasStopped owner values a b → b.uncounted ≡ a.uncounted
   stopped_uncounted a b s =
-      ap (λ (w : WorkerOf S). w.uncounted) s.aside.worker ∙ (receives_keep s.from a s.received s.receives).uncounted
+      ap (λ (w : WorkerOf S F). w.uncounted) s.aside.worker ∙ (receives_keep s.from a s.received s.receives).uncounted
 
-module _ {S : Type 0} where
-  pub was_sent : (to : ℕ) (a b : WorkerOf S) (r : Bool) → SendsOrNot to a b r → SendsTo to a b
+module _ {S F : Type 0} (values : List ℕ → F → List ℕ) where
+  pub was_sent : (to : ℕ) (a b : WorkerOf S F) (r : Bool) → SendsOrNot values to a b r → SendsTo values to a b
   was_sent to a b true has = inl has
   was_sent to a b false has = inr has
 
-  send_keeps : (to : ℕ) (a b : WorkerOf S) → SendsTo to a b → KeepsSending a b
+  send_keeps : (to : ℕ) (a b : WorkerOf S F) → SendsTo values to a b → KeepsSending a b
   send_keeps to a b has = ⊎_elim
-      (λ (t : HasSent to a b). record { outs = t.ends.len; uncounted = ap (λ (w : WorkerOf S). w.uncounted) t.worker })
-      (λ (t : HasNotSent to a b). record { outs = t.ends.len; uncounted = ap (λ (w : WorkerOf S). w.uncounted) t.worker })
+      (λ (t : HasSent values to a b). record { outs = t.ends.len; uncounted = ap (λ (w : WorkerOf S F). w.uncounted) t.worker })
+      (λ (t : HasNotSent values to a b). record { outs = t.ends.len; uncounted = ap (λ (w : WorkerOf S F). w.uncounted) t.worker })
       has
 
-  pub sends_keep : (k : ℕ) (a b : WorkerOf S) → chained SendsTo k a b → KeepsSending a b
+  pub sends_keep : (k : ℕ) (a b : WorkerOf S F) → chained (SendsTo values) k a b → KeepsSending a b
   sends_keep zero a b same = record {
-    outs = ap (λ (w : WorkerOf S). length w.outs) same;
-    uncounted = ap (λ (w : WorkerOf S). w.uncounted) same;
+    outs = ap (λ (w : WorkerOf S F). length w.outs) same;
+    uncounted = ap (λ (w : WorkerOf S F). w.uncounted) same;
   }
   sends_keep (suc k) a b (m, before, step) =
       let p : KeepsSending a m = sends_keep k a m before in
@@ -97,41 +97,41 @@ module _ {S : Type 0} where
       record { outs = q.outs ∙ p.outs; uncounted = q.uncounted ∙ p.uncounted }
 
 -- ---- a turn
-module _ {S : Type 0} (owner : S → List ℕ → ℕ → ℕ) where
-  pub as_turn : (old new : WorkerOf S) (u v : View) (t : Turn) → (t ≡ Misfit → ⊥) → HasTurned owner old new u v → IsTurn owner old new u v t
+module _ {S F : Type 0} (owner : S → List ℕ → ℕ → ℕ) (values : List ℕ → F → List ℕ) where
+  pub as_turn : (old new : WorkerOf S F) (u v : View) (t : Turn) → (t ≡ Misfit → ⊥) → HasTurned owner values old new u v → IsTurn owner values old new u v t
   as_turn old new u v Next other turned = turned
   as_turn old new u v Last other turned = turned
   as_turn old new u v Misfit other turned = absurd (other refl)
 
   -- once the messages in outboxes are added, none is uncounted
-  pub counted_uncounted : (expanded added offered sent new : WorkerOf S) (u v x y : View) → HasAdded expanded added u v
-      → HasOffered added offered v x → chained SendsTo (length offered.outs) offered sent → HasCounted owner sent new x y → new.uncounted ≡ 0
+  pub counted_uncounted : (expanded added offered sent new : WorkerOf S F) (u v x y : View) → HasAdded expanded added u v
+      → HasOffered added offered v x → chained (SendsTo values) (length offered.outs) offered sent → HasCounted owner sent new x y → new.uncounted ≡ 0
   counted_uncounted expanded added offered sent new u v x y adds offers sends counts =
-      ap (λ (w : WorkerOf S). w.uncounted) counts.worker
-      ∙ ((sends_keep (length offered.outs) offered sent sends).uncounted
-      ∙ (ap (λ (w : WorkerOf S). w.uncounted) offers.worker ∙ ap (λ (w : WorkerOf S). w.uncounted) adds.worker))
+      ap (λ (w : WorkerOf S F). w.uncounted) counts.worker
+      ∙ ((sends_keep values (length offered.outs) offered sent sends).uncounted
+      ∙ (ap (λ (w : WorkerOf S F). w.uncounted) offers.worker ∙ ap (λ (w : WorkerOf S F). w.uncounted) adds.worker))
 
   -- the owner refused to expand
-  pub refused_uncounted : (old new : WorkerOf S) (fault : OwnerFault) → IsExpandRefusal owner old new fault → new.uncounted ≡ old.uncounted
-  refused_uncounted old new OutOfMemory e = ap (λ (w : WorkerOf S). w.uncounted) e
-  refused_uncounted old new LimitReached e = ap (λ (w : WorkerOf S). w.uncounted) e.1
-  refused_uncounted old new TotalTooLarge e = ap (λ (w : WorkerOf S). w.uncounted) e.1
+  pub refused_uncounted : (old new : WorkerOf S F) (fault : OwnerFault) → IsExpandRefusal owner old new fault → new.uncounted ≡ old.uncounted
+  refused_uncounted old new OutOfMemory e = ap (λ (w : WorkerOf S F). w.uncounted) e
+  refused_uncounted old new LimitReached e = ap (λ (w : WorkerOf S F). w.uncounted) e.1
+  refused_uncounted old new TotalTooLarge e = ap (λ (w : WorkerOf S F). w.uncounted) e.1
 
   -- nothing was done after the bound was read
-  refused_after : (old received looked new : WorkerOf S) (u v : View) (fault : OwnerFault)
-      → chained (ReceivesFrom owner) (length old.ins) old received → HasLooked received looked u v
-      → IsRefusal owner looked.bound looked.owner new.owner fault → new ≡ looked → HasRefused owner fault old new u v
+  refused_after : (old received looked new : WorkerOf S F) (u v : View) (fault : OwnerFault)
+      → chained (ReceivesFrom owner values) (length old.ins) old received → HasLooked received looked u v
+      → IsRefusal owner looked.bound looked.owner new.owner fault → new ≡ looked → HasRefused owner values fault old new u v
   refused_after old received looked new u v fault receives looks refusal same = record {
     received = received;
     receives = receives;
-    looks = subst (λ (w : WorkerOf S). HasLooked received w u v) (sym same) looks;
-    refusal = subst (λ (w : WorkerOf S). IsRefusal owner w.bound w.owner new.owner fault) (sym same) refusal;
+    looks = subst (λ (w : WorkerOf S F). HasLooked received w u v) (sym same) looks;
+    refusal = subst (λ (w : WorkerOf S F). IsRefusal owner w.bound w.owner new.owner fault) (sym same) refusal;
   }
 
-  pub refused_turn : (old received looked new : WorkerOf S) (u v : View) (fault : OwnerFault)
-      → chained (ReceivesFrom owner) (length old.ins) old received → HasLooked received looked u v
-      → IsExpandRefusal owner looked new fault → IsTurnRefusal owner old new u v fault
-  refused_turn old received looked new u v OutOfMemory receives looks e = ap (λ (w : WorkerOf S). w.spent) e
+  pub refused_turn : (old received looked new : WorkerOf S F) (u v : View) (fault : OwnerFault)
+      → chained (ReceivesFrom owner values) (length old.ins) old received → HasLooked received looked u v
+      → IsExpandRefusal owner looked new fault → IsTurnRefusal owner values old new u v fault
+  refused_turn old received looked new u v OutOfMemory receives looks e = ap (λ (w : WorkerOf S F). w.spent) e
   refused_turn old received looked new u v LimitReached receives looks e =
       refused_after old received looked new u v LimitReached receives looks e.0 e.1
   refused_turn old received looked new u v TotalTooLarge receives looks e =

@@ -51,68 +51,68 @@ list_same qs k v = ⊎_elim
     (λ (ne : v ≡ k → ⊥). put_there (list_at qs) k (list_at qs k) v ne)
     (same_or_not v k)
 
-pub sent_at : (os : List Out) (k : ℕ) (d : Out) → k < length os → sent_to os k ≡ map message_of (sent (get_or os k d))
-sent_at [] k d lt = absurd (omega arith)
-sent_at (o ∷ os) zero d lt = refl
-sent_at (o ∷ os) (suc k) d lt = sent_at os k d (omega arith)
+pub sent_at : {F : Type 0} (values : F → List ℕ) (os : List (Out F)) (k : ℕ) (d : Out F) → k < length os → sent_to values os k ≡ map (message_of values) (sent (get_or os k d))
+sent_at values [] k d lt = absurd (omega arith)
+sent_at values (o ∷ os) zero d lt = refl
+sent_at values (o ∷ os) (suc k) d lt = sent_at values os k d (omega arith)
 
-pub received_at : (is : List In) (k : ℕ) (d : In) → k < length is → received_from is k ≡ map message_of (received (get_or is k d))
-received_at [] k d lt = absurd (omega arith)
-received_at (i ∷ is) zero d lt = refl
-received_at (i ∷ is) (suc k) d lt = received_at is k d (omega arith)
+pub received_at : {F : Type 0} (values : F → List ℕ) (is : List (In F)) (k : ℕ) (d : In F) → k < length is → received_from values is k ≡ map (message_of values) (received (get_or is k d))
+received_at values [] k d lt = absurd (omega arith)
+received_at values (i ∷ is) zero d lt = refl
+received_at values (i ∷ is) (suc k) d lt = received_at values is k d (omega arith)
 
-pub known_at : (is : List In) (k : ℕ) (d : In) → k < length is → known_from is k ≡ map message_of (known (get_or is k d))
-known_at [] k d lt = absurd (omega arith)
-known_at (i ∷ is) zero d lt = refl
-known_at (i ∷ is) (suc k) d lt = known_at is k d (omega arith)
+pub known_at : {F : Type 0} (values : F → List ℕ) (is : List (In F)) (k : ℕ) (d : In F) → k < length is → known_from values is k ≡ map (message_of values) (known (get_or is k d))
+known_at values [] k d lt = absurd (omega arith)
+known_at values (i ∷ is) zero d lt = refl
+known_at values (i ∷ is) (suc k) d lt = known_at values is k d (omega arith)
 
-box_out : Out → List Message
-box_out o = map message_of (sent o)
+box_out : {F : Type 0} → (F → List ℕ) → Out F → List Message
+box_out values o = map (message_of values) (sent o)
 
-box_in : In → List Message
-box_in i = map message_of (received i)
+box_in : {F : Type 0} → (F → List ℕ) → In F → List Message
+box_in values i = map (message_of values) (received i)
 
 -- an end that sends has sent these messages more
-pub sent_changed : (os : List Out) (k : ℕ) (o p : Out) (ms : List MessageOf) (v : ℕ) → k < length os → o ≡ get_or os k o → sent p ≡ sent o ++ ms
-    → sent_to (slice_set os k p) v ≡ put (sent_to os) k (sent_to os k ++ map message_of ms) v
+pub sent_changed : {F : Type 0} (values : F → List ℕ) (os : List (Out F)) (k : ℕ) (o p : Out F) (ms : List (MessageOf F)) (v : ℕ) → k < length os → o ≡ get_or os k o → sent p ≡ sent o ++ ms
+    → sent_to values (slice_set os k p) v ≡ put (sent_to values os) k (sent_to values os k ++ map (message_of values) ms) v
 unfolding box_out
-sent_changed os k o p ms v lt at is =
-    let here : sent_to os k ≡ map message_of (sent o) = sent_at os k o lt ∙ ap (λ (x : Out). map message_of (sent x)) (sym at) in
-    let more : map message_of (sent p) ≡ sent_to os k ++ map message_of ms =
-    ap (map message_of) is ∙ (map-append message_of (sent o) ms ∙ ap (λ l. l ++ map message_of ms) (sym here)) in
-    ap (λ qs. list_at qs v) (map-set box_out os k p)
-    ∙ (list_set (map box_out os) k (map message_of (sent p)) v (subst (λ n. k < n) (sym (length-map os box_out)) lt)
-    ∙ ap (λ q. put (sent_to os) k q v) more)
+sent_changed values os k o p ms v lt at is =
+    let here : sent_to values os k ≡ map (message_of values) (sent o) = sent_at values os k o lt ∙ ap (λ (x : Out _). map (message_of values) (sent x)) (sym at) in
+    let more : map (message_of values) (sent p) ≡ sent_to values os k ++ map (message_of values) ms =
+    ap (map (message_of values)) is ∙ (map-append (message_of values) (sent o) ms ∙ ap (λ l. l ++ map (message_of values) ms) (sym here)) in
+    ap (λ qs. list_at qs v) (map-set (box_out values) os k p)
+    ∙ (list_set (map (box_out values) os) k (map (message_of values) (sent p)) v (subst (λ n. k < n) (sym (length-map os (box_out values))) lt)
+    ∙ ap (λ q. put (sent_to values os) k q v) more)
 
-pub sent_kept : (os : List Out) (k : ℕ) (o p : Out) (v : ℕ) → k < length os → o ≡ get_or os k o → sent p ≡ sent o
-    → sent_to (slice_set os k p) v ≡ sent_to os v
+pub sent_kept : {F : Type 0} (values : F → List ℕ) (os : List (Out F)) (k : ℕ) (o p : Out F) (v : ℕ) → k < length os → o ≡ get_or os k o → sent p ≡ sent o
+    → sent_to values (slice_set os k p) v ≡ sent_to values os v
 unfolding box_out
-sent_kept os k o p v lt at is =
-    let here : sent_to os k ≡ map message_of (sent o) = sent_at os k o lt ∙ ap (λ (x : Out). map message_of (sent x)) (sym at) in
-    ap (λ qs. list_at qs v) (map-set box_out os k p)
-    ∙ (list_set (map box_out os) k (map message_of (sent p)) v (subst (λ n. k < n) (sym (length-map os box_out)) lt)
-    ∙ (ap (λ q. put (sent_to os) k q v) (ap (map message_of) is ∙ sym here) ∙ list_same (map box_out os) k v))
+sent_kept values os k o p v lt at is =
+    let here : sent_to values os k ≡ map (message_of values) (sent o) = sent_at values os k o lt ∙ ap (λ (x : Out _). map (message_of values) (sent x)) (sym at) in
+    ap (λ qs. list_at qs v) (map-set (box_out values) os k p)
+    ∙ (list_set (map (box_out values) os) k (map (message_of values) (sent p)) v (subst (λ n. k < n) (sym (length-map os (box_out values))) lt)
+    ∙ (ap (λ q. put (sent_to values os) k q v) (ap (map (message_of values)) is ∙ sym here) ∙ list_same (map (box_out values) os) k v))
 
 -- an end that takes
-pub received_changed : (is : List In) (k : ℕ) (i j : In) (ms : List MessageOf) (v : ℕ) → k < length is → i ≡ get_or is k i
-    → received j ≡ received i ++ ms → received_from (slice_set is k j) v ≡ put (received_from is) k (received_from is k ++ map message_of ms) v
+pub received_changed : {F : Type 0} (values : F → List ℕ) (is : List (In F)) (k : ℕ) (i j : In F) (ms : List (MessageOf F)) (v : ℕ) → k < length is → i ≡ get_or is k i
+    → received j ≡ received i ++ ms → received_from values (slice_set is k j) v ≡ put (received_from values is) k (received_from values is k ++ map (message_of values) ms) v
 unfolding box_in
-received_changed is k i j ms v lt at e =
-    let here : received_from is k ≡ map message_of (received i) = received_at is k i lt ∙ ap (λ (x : In). map message_of (received x)) (sym at) in
-    let more : map message_of (received j) ≡ received_from is k ++ map message_of ms =
-    ap (map message_of) e ∙ (map-append message_of (received i) ms ∙ ap (λ l. l ++ map message_of ms) (sym here)) in
-    ap (λ qs. list_at qs v) (map-set box_in is k j)
-    ∙ (list_set (map box_in is) k (map message_of (received j)) v (subst (λ n. k < n) (sym (length-map is box_in)) lt)
-    ∙ ap (λ q. put (received_from is) k q v) more)
+received_changed values is k i j ms v lt at e =
+    let here : received_from values is k ≡ map (message_of values) (received i) = received_at values is k i lt ∙ ap (λ (x : In _). map (message_of values) (received x)) (sym at) in
+    let more : map (message_of values) (received j) ≡ received_from values is k ++ map (message_of values) ms =
+    ap (map (message_of values)) e ∙ (map-append (message_of values) (received i) ms ∙ ap (λ l. l ++ map (message_of values) ms) (sym here)) in
+    ap (λ qs. list_at qs v) (map-set (box_in values) is k j)
+    ∙ (list_set (map (box_in values) is) k (map (message_of values) (received j)) v (subst (λ n. k < n) (sym (length-map is (box_in values))) lt)
+    ∙ ap (λ q. put (received_from values is) k q v) more)
 
-pub received_kept : (is : List In) (k : ℕ) (i j : In) (v : ℕ) → k < length is → i ≡ get_or is k i → received j ≡ received i
-    → received_from (slice_set is k j) v ≡ received_from is v
+pub received_kept : {F : Type 0} (values : F → List ℕ) (is : List (In F)) (k : ℕ) (i j : In F) (v : ℕ) → k < length is → i ≡ get_or is k i → received j ≡ received i
+    → received_from values (slice_set is k j) v ≡ received_from values is v
 unfolding box_in
-received_kept is k i j v lt at e =
-    let here : received_from is k ≡ map message_of (received i) = received_at is k i lt ∙ ap (λ (x : In). map message_of (received x)) (sym at) in
-    ap (λ qs. list_at qs v) (map-set box_in is k j)
-    ∙ (list_set (map box_in is) k (map message_of (received j)) v (subst (λ n. k < n) (sym (length-map is box_in)) lt)
-    ∙ (ap (λ q. put (received_from is) k q v) (ap (map message_of) e ∙ sym here) ∙ list_same (map box_in is) k v))
+received_kept values is k i j v lt at e =
+    let here : received_from values is k ≡ map (message_of values) (received i) = received_at values is k i lt ∙ ap (λ (x : In _). map (message_of values) (received x)) (sym at) in
+    ap (λ qs. list_at qs v) (map-set (box_in values) is k j)
+    ∙ (list_set (map (box_in values) is) k (map (message_of values) (received j)) v (subst (λ n. k < n) (sym (length-map is (box_in values))) lt)
+    ∙ (ap (λ q. put (received_from values is) k q v) (ap (map (message_of values)) e ∙ sym here) ∙ list_same (map (box_in values) is) k v))
 
 -- ---- what a call gives
 set_at : {X : Type 0} (xs : List X) (k : ℕ) (y d : X) → k < length xs → get_or (slice_set xs k y) k d ≡ y
@@ -121,25 +121,25 @@ set_at (x ∷ xs) zero y d lt = refl
 set_at (x ∷ xs) (suc k) y d lt = set_at xs k y d (omega arith)
 
 -- at most one message goes of those that were known
-pub known_fewer : (is : List In) (k : ℕ) (i j : In) → k < length is → i ≡ get_or is k i → length (known i) ≤ length (known j) + 1
-    → length (known_from is k) ≤ suc (length (known_from (slice_set is k j) k))
-known_fewer is k i j lt at le =
-    let before : length (known_from is k) ≡ length (known i) = ap length (known_at is k i lt)
-    ∙ (length-map (known (get_or is k i)) message_of ∙ ap (λ (x : In). length (known x)) (sym at)) in
-    let after : length (known_from (slice_set is k j) k) ≡ length (known j) =
-    ap length (known_at (slice_set is k j) k j (subst (λ n. k < n) (sym (length-set is k j)) lt))
-    ∙ (length-map (known (get_or (slice_set is k j) k j)) message_of ∙ ap (λ (x : In). length (known x)) (set_at is k j j lt)) in
+pub known_fewer : {F : Type 0} (values : F → List ℕ) (is : List (In F)) (k : ℕ) (i j : In F) → k < length is → i ≡ get_or is k i → length (known i) ≤ length (known j) + 1
+    → length (known_from values is k) ≤ suc (length (known_from values (slice_set is k j) k))
+known_fewer values is k i j lt at le =
+    let before : length (known_from values is k) ≡ length (known i) = ap length (known_at values is k i lt)
+    ∙ (length-map (known (get_or is k i)) (message_of values) ∙ ap (λ (x : In _). length (known x)) (sym at)) in
+    let after : length (known_from values (slice_set is k j) k) ≡ length (known j) =
+    ap length (known_at values (slice_set is k j) k j (subst (λ n. k < n) (sym (length-set is k j)) lt))
+    ∙ (length-map (known (get_or (slice_set is k j) k j)) (message_of values) ∙ ap (λ (x : In _). length (known x)) (set_at is k j j lt)) in
     omega arith
 
-pub taken_some : (r : Option MessageOf) (is : List In) (k : ℕ) (i j : In) → k < length is → i ≡ get_or is k i
+pub taken_some : {F : Type 0} (r : Option (MessageOf F)) (is : List (In F)) (k : ℕ) (i j : In F) → k < length is → i ≡ get_or is k i
     → IfSome r (λ m. received j ≡ received i ++ m ∷ [])
-    → IfSome r (λ m. (v : ℕ) → received_from (slice_set is k j) v ≡ put (received_from is) k (received_from is k ++ message_of m ∷ []) v)
+    → IfSome r (λ m. (values : F → List ℕ) (v : ℕ) → received_from values (slice_set is k j) v ≡ put (received_from values is) k (received_from values is k ++ message_of values m ∷ []) v)
 taken_some None is k i j lt at e = tt
-taken_some (Some m) is k i j lt at e = λ v. received_changed is k i j (m ∷ []) v lt at e
+taken_some (Some m) is k i j lt at e = λ values v. received_changed values is k i j (m ∷ []) v lt at e
 
-pub taken_none : (r : Option MessageOf) (is : List In) (k : ℕ) (i j : In) → k < length is → i ≡ get_or is k i
-    → IfNone r (received j ≡ received i) → IfNone r ((v : ℕ) → received_from (slice_set is k j) v ≡ received_from is v)
-taken_none None is k i j lt at e = λ v. received_kept is k i j v lt at e
+pub taken_none : {F : Type 0} (r : Option (MessageOf F)) (is : List (In F)) (k : ℕ) (i j : In F) → k < length is → i ≡ get_or is k i
+    → IfNone r (received j ≡ received i) → IfNone r ((values : F → List ℕ) (v : ℕ) → received_from values (slice_set is k j) v ≡ received_from values is v)
+taken_none None is k i j lt at e = λ values v. received_kept values is k i j v lt at e
 taken_none (Some m) is k i j lt at e = tt
 
 empty_if : {X : Type 0} (xs : List X) → (0 < length xs → ⊥) → xs ≡ []
@@ -147,13 +147,13 @@ empty_if [] none = refl
 empty_if (x ∷ xs) none = absurd (none (omega arith))
 
 -- a link that was found empty was not known to hold a message
-pub none_known : (r : Option MessageOf) (is : List In) (k : ℕ) (i : In) → k < length is → i ≡ get_or is k i
-    → (0 < length (known i) → IsSome r) → IfNone r ((x : In) → slice_get is k ≡ Some x → known x ≡ [])
-none_known None is k i lt at has = λ x there.
+pub none_known : {F : Type 0} (r : Option (MessageOf F)) (is : List (In F)) (k : ℕ) (i : In F) → k < length is → i ≡ get_or is k i
+    → (0 < length (known i) → IsSome r) → IfNone r ((x : In _) → slice_get is k ≡ Some x → known x ≡ [])
+none_known {F = F} None is k i lt at has = λ x there.
     let same : i ≡ x = some_in i x (sym (slice_get-get_or is k i lt ∙ ap Some (sym at)) ∙ there) in
-    subst (λ (y : In). known y ≡ []) same (empty_if (known i) (λ p. true≢false (sym (has p))))
+    subst (λ (y : In _). known y ≡ []) same (empty_if (known i) (λ p. true≢false (sym (has p))))
   where
-    some_in : (a b : In) → Some a ≡ Some b → a ≡ b
+    some_in : (a b : In F) → Some a ≡ Some b → a ≡ b
     some_in a b e = cc
 none_known (Some m) is k i lt at has = tt
 
@@ -167,32 +167,33 @@ set_there (z ∷ xs) zero y x lt e = cc
 set_there (z ∷ xs) (suc k) y x lt e = set_there xs k y x (omega arith) e
 
 -- both ends of a link are looked at
-pub matched_up : (os : List Out) (to : ℕ) (o p : Out) (is : List In) (from : ℕ) (i j : In) (n : ℕ) → to < length os → from < length is
+pub matched_up : {F : Type 0} (os : List (Out F)) (to : ℕ) (o p : Out F) (is : List (In F)) (from : ℕ) (i j : In F) (n : ℕ) → to < length os → from < length is
     → o ≡ get_or os to o → i ≡ get_or is from i → AreEnds p j → sent p ≡ sent o → received j ≡ received i
     → received j ++ known j ≡ sent p → n ≡ length (known j) → IsMatchedUp to from os (slice_set os to p) is (slice_set is from j) n
-matched_up os to o p is from i j n to_lt from_lt o_at i_at ends same_sent same_received left count =
+matched_up {F = F} os to o p is from i j n to_lt from_lt o_at i_at ends same_sent same_received left count =
     let in_lt : from < length (slice_set is from j) = subst (λ m. from < m) (sym (length-set is from j)) from_lt in
     let out_lt : to < length (slice_set os to p) = subst (λ m. to < m) (sym (length-set os to p)) to_lt in
-    let r : received_from (slice_set is from j) from ≡ map message_of (received j) =
-    received_at (slice_set is from j) from j in_lt ∙ ap (λ (x : In). map message_of (received x)) (set_at is from j j from_lt) in
-    let k : known_from (slice_set is from j) from ≡ map message_of (known j) =
-    known_at (slice_set is from j) from j in_lt ∙ ap (λ (x : In). map message_of (known x)) (set_at is from j j from_lt) in
-    let s : sent_to (slice_set os to p) to ≡ map message_of (sent p) =
-    sent_at (slice_set os to p) to p out_lt ∙ ap (λ (x : Out). map message_of (sent x)) (set_at os to p p to_lt) in
+    let r : (values : F → List ℕ) → received_from values (slice_set is from j) from ≡ map (message_of values) (received j) = λ values.
+    received_at values (slice_set is from j) from j in_lt ∙ ap (λ (x : In F). map (message_of values) (received x)) (set_at is from j j from_lt) in
+    let k : (values : F → List ℕ) → known_from values (slice_set is from j) from ≡ map (message_of values) (known j) = λ values.
+    known_at values (slice_set is from j) from j in_lt ∙ ap (λ (x : In F). map (message_of values) (known x)) (set_at is from j j from_lt) in
+    let s : (values : F → List ℕ) → sent_to values (slice_set os to p) to ≡ map (message_of values) (sent p) = λ values.
+    sent_at values (slice_set os to p) to p out_lt ∙ ap (λ (x : Out F). map (message_of values) (sent x)) (set_at os to p p to_lt) in
     record {
       sender = p;
       receiver = j;
       outs_after = refl;
       ins_after = refl;
       ends = ends;
-      sent_same = λ v. sent_kept os to o p v to_lt o_at same_sent;
-      received_same = λ u. received_kept is from i j u from_lt i_at same_received;
-      all = (λ x. r x ++ k x) ∙ (sym (map-append message_of (received j) (known j)) ∙ (ap (map message_of) left ∙ sym s));
-      counted = count ∙ sym (ap length k ∙ length-map (known j) message_of);
+      sent_same = λ values v. sent_kept values os to o p v to_lt o_at same_sent;
+      received_same = λ values u. received_kept values is from i j u from_lt i_at same_received;
+      all = λ values. (λ x. r values x ++ k values x)
+          ∙ (sym (map-append (message_of values) (received j) (known j)) ∙ (ap (map (message_of values)) left ∙ sym (s values)));
+      counted = λ values. count ∙ sym (ap length (k values) ∙ length-map (known j) (message_of values));
     }
 
 -- ---- the same ends, after two calls
-pub outs_through : (a b c : List Out) → AreSameOuts a b → AreSameOuts b c → AreSameOuts a c
+pub outs_through : {F : Type 0} (a b c : List (Out F)) → AreSameOuts a b → AreSameOuts b c → AreSameOuts a c
 outs_through a b c ab bc = record {
   len = bc.len ∙ ab.len;
   each = λ v o p at_a at_c.
@@ -203,19 +204,19 @@ outs_through a b c ab bc = record {
       ((r.0.0 ∙ q.0.0, r.0.1 ∙ q.0.1, r.0.2 ∙ q.0.2, r.0.3 ∙ q.0.3), r.1 ∙ q.1);
 }
 
-pub ins_same : (a : List In) → AreSameIns a a
-ins_same a = record { len = refl; each = λ v i j at at'. subst (λ x. SameIn i x) (some_once i j (sym at ∙ at')) ((refl, refl, refl, refl), refl) }
+pub ins_same : {F : Type 0} (a : List (In F)) → AreSameIns a a
+ins_same {F = F} a = record { len = refl; each = λ v i j at at'. subst (λ x. SameIn i x) (some_once i j (sym at ∙ at')) ((refl, refl, refl, refl), refl) }
   where
-    some_once : (i j : In) → Some i ≡ Some j → i ≡ j
+    some_once : (i j : In F) → Some i ≡ Some j → i ≡ j
     some_once i j e = cc
 
-pub outs_same : (a : List Out) → AreSameOuts a a
-outs_same a = record { len = refl; each = λ v o p at at'. subst (λ x. SameOut o x) (some_once o p (sym at ∙ at')) ((refl, refl, refl, refl), refl) }
+pub outs_same : {F : Type 0} (a : List (Out F)) → AreSameOuts a a
+outs_same {F = F} a = record { len = refl; each = λ v o p at at'. subst (λ x. SameOut o x) (some_once o p (sym at ∙ at')) ((refl, refl, refl, refl), refl) }
   where
-    some_once : (o p : Out) → Some o ≡ Some p → o ≡ p
+    some_once : (o p : Out F) → Some o ≡ Some p → o ≡ p
     some_once o p e = cc
 
-pub ins_through : (a b c : List In) → AreSameIns a b → AreSameIns b c → AreSameIns a c
+pub ins_through : {F : Type 0} (a b c : List (In F)) → AreSameIns a b → AreSameIns b c → AreSameIns a c
 ins_through a b c ab bc = record {
   len = bc.len ∙ ab.len;
   each = λ v o p at_a at_c.

@@ -2,7 +2,7 @@
 use Rattle.std.proofs.Common.{◌≡◌, ℕ, suc, ◌+◌, ◌<◌, ◌≤◌, Bool, true, false, ◌&&◌, ◌||◌, not, List, [], ◌∷◌, ◌++◌, length, Option, Some, refl, sym, ap, ◌∙◌, zero-add}
 use Rattle.std.specs.Prelude.{slice_get, slice_set}
 use Rattle.cost.specs.Distances.{Distance, Infinite, ◌≤ᵈ◌, lesser}
-use Rattle.owner_theory.specs.Owners.{Message, list_at, put, took, fits}
+use Rattle.owner_theory.specs.Owners.{Message, Packet, list_at, put, took, fits}
 use Rattle.owner_theory.specs.Worlds.{idle}
 use Rattle.board.specs.declared.views.View.{View}
 use Rattle.board.specs.Rule.{with_seen, with_offered}
@@ -11,77 +11,82 @@ use Rattle.links.specs.declared.ends.In.{In}
 use Rattle.links.specs.Ends.{room, known}
 use Rattle.owner.specs.declared.fault.OwnerFault.TheVariants.{TotalTooLarge, LimitReached}
 use Rattle.owner.specs.Owned.{OwnerOf, space_of, under, IsExpansion, IsRefusal}
-use Rattle.worker.specs.Workers.{WorkerOf, sent_to, received_from, known_from, AreSameOuts, AreSameIns}
+use Rattle.worker.specs.Workers.{WorkerOf, values_in, sent_to, received_from, known_from, AreSameOuts, AreSameIns}
 use Rattle.worker.specs.Turns.{HasLooked, HasOffered, HasExpanded, IsExpandRefusal, posted_by, HasSent, HasNotSent, HasTaken, HasNothingTaken, HasSetAside, wakes, comes_to_rest}
 use Rattle.worker.proofs.Rows.{outs_through}
 
-module _ {S : Type 0} where
+module _ {S F : Type 0} where
   -- ---- looking and offering
-  pub looks : (w : WorkerOf S) (b s : Distance) (u v : View) → s ≡ lesser w.seen b → v ≡ with_seen u b
+  pub looks : (w : WorkerOf S F) (b s : Distance) (u v : View) → s ≡ lesser w.seen b → v ≡ with_seen u b
       → (b ≤ᵈ u.seen) × (b ≤ᵈ u.offered) → HasLooked w (record w { bound = b; seen = s }) u v
   looks w b s u v least view falls = record {
     view = view;
     falls = falls;
-    worker = ap (λ x. let after : WorkerOf S = record w { bound = b; seen = x } in after) least;
+    worker = ap (λ x. let after : WorkerOf S F = record w { bound = b; seen = x } in after) least;
   }
 
-  pub offers : (w : WorkerOf S) (d : Distance) (u v : View) → d ≡ lesser w.offered w.owner.best
+  pub offers : (w : WorkerOf S F) (d : Distance) (u v : View) → d ≡ lesser w.offered w.owner.best
       → v ≡ with_offered u (lesser u.offered w.owner.best) → HasOffered w (record w { offered = d }) u v
   offers w d u v least view = record {
     view = view;
-    worker = ap (λ x. let after : WorkerOf S = record w { offered = x } in after) least;
+    worker = ap (λ x. let after : WorkerOf S F = record w { offered = x } in after) least;
   }
 
   -- ---- expanding
-  pub expands : (owner : S → List ℕ → ℕ → ℕ) (w : WorkerOf S) (p : OwnerOf S) (posted : Option ℕ) (n : ℕ) → w.uncounted ≡ 0
-      → n ≡ posted_by posted → IsExpansion owner w.bound w.owner p posted → HasExpanded owner w (record w { owner = p; uncounted = n }) posted
-  expands owner w p posted n none count expansion = record {
+  pub expands : (owner : S → List ℕ → ℕ → ℕ) (w : WorkerOf S F) (p : OwnerOf S) (misfits : List Packet) (posted : Option ℕ) (n : ℕ) → misfits ≡ w.misfits
+      → w.uncounted ≡ 0 → n ≡ posted_by posted → IsExpansion owner w.bound w.owner p posted
+      → HasExpanded owner w (record w { owner = p; misfits = misfits; uncounted = n }) posted
+  expands owner w p misfits posted n same none count expansion = record {
     expansion = expansion;
-    worker = ap (λ x. let after : WorkerOf S = record w { owner = p; uncounted = x } in after)
-        (count ∙ (sym (zero-add (posted_by posted)) ∙ ap (λ x. x + posted_by posted) (sym none)));
+    worker = λ j. record w {
+      owner = p;
+      misfits = same j;
+      uncounted = (count ∙ (sym (zero-add (posted_by posted)) ∙ ap (λ x. x + posted_by posted) (sym none))) j;
+    };
   }
 
-  pub refused_at_limit : (owner : S → List ℕ → ℕ → ℕ) (w : WorkerOf S) (p : OwnerOf S) → IsRefusal owner w.bound w.owner p LimitReached
-      → IsExpandRefusal owner w (record w { owner = p }) LimitReached
-  refused_at_limit owner w p refusal = (refusal, ap (λ o. let after : WorkerOf S = record w { owner = o } in after) refusal.2)
+  pub refused_at_limit : (owner : S → List ℕ → ℕ → ℕ) (w : WorkerOf S F) (p : OwnerOf S) (misfits : List Packet) → misfits ≡ w.misfits
+      → IsRefusal owner w.bound w.owner p LimitReached → IsExpandRefusal owner w (record w { owner = p; misfits = misfits }) LimitReached
+  refused_at_limit owner w p misfits same refusal = (refusal, λ j. record w { owner = refusal.2 j; misfits = same j })
 
-  pub refused_total : (owner : S → List ℕ → ℕ → ℕ) (w : WorkerOf S) (p : OwnerOf S) → IsRefusal owner w.bound w.owner p TotalTooLarge
-      → IsExpandRefusal owner w (record w { owner = p }) TotalTooLarge
-  refused_total owner w p refusal = (refusal, ap (λ o. let after : WorkerOf S = record w { owner = o } in after) refusal.5)
+  pub refused_total : (owner : S → List ℕ → ℕ → ℕ) (w : WorkerOf S F) (p : OwnerOf S) (misfits : List Packet) → misfits ≡ w.misfits
+      → IsRefusal owner w.bound w.owner p TotalTooLarge → IsExpandRefusal owner w (record w { owner = p; misfits = misfits }) TotalTooLarge
+  refused_total owner w p misfits same refusal = (refusal, λ j. record w { owner = refusal.5 j; misfits = same j })
 
+module _ {S F : Type 0} (values : List ℕ → F → List ℕ) where
   -- ---- sending
-  pub sends : (w : WorkerOf S) (p : OwnerOf S) (mid outs : List Out) (to : ℕ) (m : Message)
+  pub sends : (w : WorkerOf S F) (p : OwnerOf S) (misfits : List Packet) (mid outs : List (Out F)) (to : ℕ) (m : Message) → misfits ≡ w.misfits
       → list_at w.owner.outboxes to ≡ m ∷ list_at p.outboxes to
       → p ≡ record w.owner { outboxes = slice_set w.owner.outboxes to (list_at p.outboxes to) }
-      → AreSameOuts w.outs mid → ((v : ℕ) → sent_to mid v ≡ sent_to w.outs v) → AreSameOuts mid outs
-      → ((v : ℕ) → sent_to outs v ≡ put (sent_to mid) to (sent_to mid to ++ m ∷ []) v)
-      → HasSent to w (record w { owner = p; outs = outs })
-  sends w p mid outs to m first others same kept same_again sent = record {
+      → AreSameOuts w.outs mid → ((v : ℕ) → sent_to (values_in values w) mid v ≡ sent_to (values_in values w) w.outs v) → AreSameOuts mid outs
+      → ((v : ℕ) → sent_to (values_in values w) outs v ≡ put (sent_to (values_in values w) mid) to (sent_to (values_in values w) mid to ++ m ∷ []) v)
+      → HasSent values to w (record w { owner = p; misfits = misfits; outs = outs })
+  sends w p misfits mid outs to m same_values first others same kept same_again sent = record {
     message = m;
     outbox = first;
     link = λ v. sent v ∙ (λ j. put (λ u. kept u j) to (kept to j ++ m ∷ []) v);
     ends = outs_through w.outs mid outs same same_again;
-    worker = ap (λ o. let after : WorkerOf S = record w { owner = o; outs = outs } in after) others;
+    worker = λ j. record w { owner = others j; misfits = same_values j; outs = outs };
   }
 
-  pub sends_none : (w : WorkerOf S) (p : OwnerOf S) (outs : List Out) (to : ℕ) → p ≡ w.owner
-      → ((o : Out) → slice_get w.outs to ≡ Some o → 0 < room o → list_at w.owner.outboxes to ≡ []) → AreSameOuts w.outs outs
-      → ((v : ℕ) → sent_to outs v ≡ sent_to w.outs v) → HasNotSent to w (record w { owner = p; outs = outs })
-  sends_none w p outs to same_owner why same kept = record {
+  pub sends_none : (w : WorkerOf S F) (p : OwnerOf S) (misfits : List Packet) (outs : List (Out F)) (to : ℕ) → misfits ≡ w.misfits → p ≡ w.owner
+      → ((o : Out F) → slice_get w.outs to ≡ Some o → 0 < room o → list_at w.owner.outboxes to ≡ []) → AreSameOuts w.outs outs
+      → ((v : ℕ) → sent_to (values_in values w) outs v ≡ sent_to (values_in values w) w.outs v) → HasNotSent values to w (record w { owner = p; misfits = misfits; outs = outs })
+  sends_none w p misfits outs to same_values same_owner why same kept = record {
     why = why;
     link = kept;
     ends = same;
-    worker = ap (λ o. let after : WorkerOf S = record w { owner = o; outs = outs } in after) same_owner;
+    worker = λ j. record w { owner = same_owner j; misfits = same_values j; outs = outs };
   }
 
   -- ---- receiving
-  pub takes_one : (owner : S → List ℕ → ℕ → ℕ) (w : WorkerOf S) (p : OwnerOf S) (ins : List In) (from n : ℕ) (m : Message)
+  pub takes_one : (owner : S → List ℕ → ℕ → ℕ) (w : WorkerOf S F) (p : OwnerOf S) (misfits : List Packet) (ins : List (In F)) (from n : ℕ) (m : Message) → misfits ≡ w.misfits
       → ((bound : Distance) → under p bound ≡ took (space_of owner w.owner) (under w.owner bound) m) → p.space ≡ w.owner.space
       → p.worker ≡ w.owner.worker → p.expansions ≡ w.owner.expansions → n ≡ suc w.taken → AreSameIns w.ins ins
-      → length (known_from w.ins from) ≤ suc (length (known_from ins from))
-      → ((u : ℕ) → received_from ins u ≡ put (received_from w.ins) from (received_from w.ins from ++ m ∷ []) u)
-      → HasTaken owner from w (record w { owner = p; ins = ins; taken = n })
-  takes_one owner w p ins from n m taken same_space same_number same_expansions count same fewer received = record {
+      → length (known_from (values_in values w) w.ins from) ≤ suc (length (known_from (values_in values w) ins from))
+      → ((u : ℕ) → received_from (values_in values w) ins u ≡ put (received_from (values_in values w) w.ins) from (received_from (values_in values w) w.ins from ++ m ∷ []) u)
+      → HasTaken owner values from w (record w { owner = p; misfits = misfits; ins = ins; taken = n })
+  takes_one owner w p misfits ins from n m same_values taken same_space same_number same_expansions count same fewer received = record {
     message = m;
     popped = record { link = received; fewer = fewer; ends = same };
     took = taken;
@@ -93,18 +98,18 @@ module _ {S : Type 0} where
       best = p.best;
       expansions = same_expansions j;
     };
-    worker = ap (λ x. let after : WorkerOf S = record w { owner = p; ins = ins; taken = x } in after) count;
+    worker = λ j. record w { owner = p; misfits = same_values j; ins = ins; taken = count j };
   }
 
-  pub takes_nothing : (w : WorkerOf S) (ins : List In) (from : ℕ) → ((i : In) → slice_get w.ins from ≡ Some i → known i ≡ [])
-      → AreSameIns w.ins ins → ((u : ℕ) → received_from ins u ≡ received_from w.ins u) → HasNothingTaken from w (record w { ins = ins })
+  pub takes_nothing : (w : WorkerOf S F) (ins : List (In F)) (from : ℕ) → ((i : In F) → slice_get w.ins from ≡ Some i → known i ≡ [])
+      → AreSameIns w.ins ins → ((u : ℕ) → received_from (values_in values w) ins u ≡ received_from (values_in values w) w.ins u) → HasNothingTaken values from w (record w { ins = ins })
   takes_nothing w ins from why same kept = record { why = why; link = kept; ends = same; worker = refl }
 
-  pub sets_aside : (owner : S → List ℕ → ℕ → ℕ) (w : WorkerOf S) (ins : List In) (from : ℕ) (m : Message)
+  pub sets_aside : (owner : S → List ℕ → ℕ → ℕ) (w : WorkerOf S F) (ins : List (In F)) (from : ℕ) (m : Message)
       → fits (space_of owner w.owner) w.owner.worker m ≡ false → AreSameIns w.ins ins
-      → length (known_from w.ins from) ≤ suc (length (known_from ins from))
-      → ((u : ℕ) → received_from ins u ≡ put (received_from w.ins) from (received_from w.ins from ++ m ∷ []) u)
-      → HasSetAside owner from w (record w { ins = ins; misfits = record { sender = from; message = m } ∷ [] })
+      → length (known_from (values_in values w) w.ins from) ≤ suc (length (known_from (values_in values w) ins from))
+      → ((u : ℕ) → received_from (values_in values w) ins u ≡ put (received_from (values_in values w) w.ins) from (received_from (values_in values w) w.ins from ++ m ∷ []) u)
+      → HasSetAside owner values from w (record w { ins = ins; misfits = record { sender = from; message = m } ∷ [] })
   sets_aside owner w ins from m unfit same fewer received = record {
     message = m;
     popped = record { link = received; fewer = fewer; ends = same };
@@ -114,6 +119,6 @@ module _ {S : Type 0} where
 
 -- ---- counting
 -- a worker that counts among the units comes to rest if its owner is idle
-pub rests_if_idle : {S : Type 0} (owner : S → List ℕ → ℕ → ℕ) (w : WorkerOf S) (is_idle : Bool) → (not w.resting || wakes w) ≡ true
+pub rests_if_idle : {S F : Type 0} (owner : S → List ℕ → ℕ → ℕ) (w : WorkerOf S F) (is_idle : Bool) → (not w.resting || wakes w) ≡ true
     → is_idle ≡ idle (space_of owner w.owner) (under w.owner w.bound) → is_idle ≡ comes_to_rest owner w
 rests_if_idle owner w is_idle counts is = is ∙ ap (λ (b : Bool). b && idle (space_of owner w.owner) (under w.owner w.bound)) (sym counts)

@@ -15,7 +15,7 @@ use Rattle.worker.specs.declared.outcome.Received.{Received}
 use Rattle.worker.specs.declared.outcome.Received.TheVariants.{Taken, Nothing, SetAside}
 use Rattle.worker.specs.declared.outcome.Turn.{Turn}
 use Rattle.worker.specs.declared.outcome.Turn.TheVariants.{Next, Last, Misfit}
-use Rattle.worker.specs.Workers.{WorkerOf, sent_to, received_from, known_from, AreSameOuts, AreSameIns}
+use Rattle.worker.specs.Workers.{WorkerOf, values_in, sent_to, received_from, known_from, AreSameOuts, AreSameIns}
 
 -- R 0, R 1, .. R (n - 1) in this order, each from where the last one ended
 abbrev pub chained : {W : Type 0} → (ℕ → W → W → Type 0) → ℕ → W → W → Type 0
@@ -25,13 +25,13 @@ chained {W} R (suc k) a b = (m : W) × chained R k a m × R k m b
 -- ---- single steps
 
 -- the bound is read, and the seat has read it; it is at most what the seat had read and offered
-pub record HasLooked {S : Type 0} (old new : WorkerOf S) (before after : View) : Type 0 where
+pub record HasLooked {S F : Type 0} (old new : WorkerOf S F) (before after : View) : Type 0 where
   pub view : after ≡ with_seen before new.bound
   pub falls : (new.bound ≤ᵈ before.seen) × (new.bound ≤ᵈ before.offered)
   pub worker : new ≡ record old { bound = new.bound; seen = lesser old.seen new.bound }
 
 -- the least cost at which the owner has taken a goal state is offered
-pub record HasOffered {S : Type 0} (old new : WorkerOf S) (before after : View) : Type 0 where
+pub record HasOffered {S F : Type 0} (old new : WorkerOf S F) (before after : View) : Type 0 where
   pub view : after ≡ with_offered before (lesser before.offered old.owner.best)
   pub worker : new ≡ record old { offered = lesser old.offered old.owner.best }
 
@@ -40,26 +40,26 @@ posted_by None = 0
 posted_by (Some posted) = posted
 
 -- the next node below the bound read last is expanded, and the messages are yet to be added to the units; or there is none
-pub record HasExpanded {S : Type 0} (owner : S → List ℕ → ℕ → ℕ) (old new : WorkerOf S) (posted : Option ℕ) : Type 0 where
+pub record HasExpanded {S F : Type 0} (owner : S → List ℕ → ℕ → ℕ) (old new : WorkerOf S F) (posted : Option ℕ) : Type 0 where
   pub expansion : IsExpansion owner old.bound old.owner new.owner posted
   pub worker : new ≡ record old { owner = new.owner; uncounted = old.uncounted + posted_by posted }
 
 -- why it is not expanded; the worker is as it was, unless memory ran out
-abbrev pub IsExpandRefusal : {S : Type 0} → (S → List ℕ → ℕ → ℕ) → WorkerOf S → WorkerOf S → OwnerFault → Type 0
+abbrev pub IsExpandRefusal : {S F : Type 0} → (S → List ℕ → ℕ → ℕ) → WorkerOf S F → WorkerOf S F → OwnerFault → Type 0
 IsExpandRefusal owner old new OutOfMemory = new ≡ record old { owner = new.owner; spent = true }
 IsExpandRefusal owner old new LimitReached = IsRefusal owner old.bound old.owner new.owner LimitReached × (new ≡ old)
 IsExpandRefusal owner old new TotalTooLarge = IsRefusal owner old.bound old.owner new.owner TotalTooLarge × (new ≡ old)
 
 -- the messages in outboxes that are not yet added to the units are added
-pub record HasAdded {S : Type 0} (old new : WorkerOf S) (before after : View) : Type 0 where
+pub record HasAdded {S F : Type 0} (old new : WorkerOf S F) (before after : View) : Type 0 where
   pub view : after ≡ with_share before (before.share +ℤ pos old.uncounted)
   pub worker : new ≡ record old { uncounted = 0 }
 
 -- the oldest message for that worker is sent
-pub record HasSent {S : Type 0} (to : ℕ) (old new : WorkerOf S) : Type 0 where
+pub record HasSent {S F : Type 0} (values : List ℕ → F → List ℕ) (to : ℕ) (old new : WorkerOf S F) : Type 0 where
   pub message : Message
   pub outbox : list_at old.owner.outboxes to ≡ message ∷ list_at new.owner.outboxes to
-  pub link : (v : ℕ) → sent_to new.outs v ≡ put (sent_to old.outs) to (sent_to old.outs to ++ message ∷ []) v
+  pub link : (v : ℕ) → sent_to (values_in values old) new.outs v ≡ put (sent_to (values_in values old) old.outs) to (sent_to (values_in values old) old.outs to ++ message ∷ []) v
   pub ends : AreSameOuts old.outs new.outs
   pub worker : new ≡ record old {
     owner = record old.owner { outboxes = slice_set old.owner.outboxes to (list_at new.owner.outboxes to) };
@@ -67,66 +67,66 @@ pub record HasSent {S : Type 0} (to : ℕ) (old new : WorkerOf S) : Type 0 where
   }
 
 -- nothing is sent to that worker: there is no message for it, or the link was not known to have room
-pub record HasNotSent {S : Type 0} (to : ℕ) (old new : WorkerOf S) : Type 0 where
-  pub why : (o : Out) → slice_get old.outs to ≡ Some o → 0 < room o → list_at old.owner.outboxes to ≡ []
-  pub link : (v : ℕ) → sent_to new.outs v ≡ sent_to old.outs v
+pub record HasNotSent {S F : Type 0} (values : List ℕ → F → List ℕ) (to : ℕ) (old new : WorkerOf S F) : Type 0 where
+  pub why : (o : Out F) → slice_get old.outs to ≡ Some o → 0 < room o → list_at old.owner.outboxes to ≡ []
+  pub link : (v : ℕ) → sent_to (values_in values old) new.outs v ≡ sent_to (values_in values old) old.outs v
   pub ends : AreSameOuts old.outs new.outs
   pub worker : new ≡ record old { outs = new.outs }
 
-abbrev pub SendsOrNot : {S : Type 0} → ℕ → WorkerOf S → WorkerOf S → Bool → Type 0
-SendsOrNot to old new true = HasSent to old new
-SendsOrNot to old new false = HasNotSent to old new
+abbrev pub SendsOrNot : {S F : Type 0} → (List ℕ → F → List ℕ) → ℕ → WorkerOf S F → WorkerOf S F → Bool → Type 0
+SendsOrNot values to old new true = HasSent values to old new
+SendsOrNot values to old new false = HasNotSent values to old new
 
 -- the oldest message from that worker was taken from the link, and of those that were known to be in its ring no other
-pub record HasPopped {S : Type 0} (from : ℕ) (message : Message) (old new : WorkerOf S) : Type 0 where
-  pub link : (u : ℕ) → received_from new.ins u ≡ put (received_from old.ins) from (received_from old.ins from ++ message ∷ []) u
-  pub fewer : length (known_from old.ins from) ≤ suc (length (known_from new.ins from))
+pub record HasPopped {S F : Type 0} (values : List ℕ → F → List ℕ) (from : ℕ) (message : Message) (old new : WorkerOf S F) : Type 0 where
+  pub link : (u : ℕ) → received_from (values_in values old) new.ins u ≡ put (received_from (values_in values old) old.ins) from (received_from (values_in values old) old.ins from ++ message ∷ []) u
+  pub fewer : length (known_from (values_in values old) old.ins from) ≤ suc (length (known_from (values_in values old) new.ins from))
   pub ends : AreSameIns old.ins new.ins
 
 -- the oldest message from that worker is taken by the owner, and is yet to be subtracted from the units
-pub record HasTaken {S : Type 0} (owner : S → List ℕ → ℕ → ℕ) (from : ℕ) (old new : WorkerOf S) : Type 0 where
+pub record HasTaken {S F : Type 0} (owner : S → List ℕ → ℕ → ℕ) (values : List ℕ → F → List ℕ) (from : ℕ) (old new : WorkerOf S F) : Type 0 where
   pub message : Message
-  pub popped : HasPopped from message old new
+  pub popped : HasPopped values from message old new
   pub took : (bound : Distance) → under new.owner bound ≡ took (space_of owner old.owner) (under old.owner bound) message
   pub others : new.owner ≡ record old.owner { nodes = new.owner.nodes; best = new.owner.best }
   pub worker : new ≡ record old { owner = new.owner; ins = new.ins; taken = suc old.taken }
 
 -- the link was not known to hold a message, and nothing is taken
-pub record HasNothingTaken {S : Type 0} (from : ℕ) (old new : WorkerOf S) : Type 0 where
-  pub why : (i : In) → slice_get old.ins from ≡ Some i → known i ≡ []
-  pub link : (u : ℕ) → received_from new.ins u ≡ received_from old.ins u
+pub record HasNothingTaken {S F : Type 0} (values : List ℕ → F → List ℕ) (from : ℕ) (old new : WorkerOf S F) : Type 0 where
+  pub why : (i : In F) → slice_get old.ins from ≡ Some i → known i ≡ []
+  pub link : (u : ℕ) → received_from (values_in values old) new.ins u ≡ received_from (values_in values old) old.ins u
   pub ends : AreSameIns old.ins new.ins
   pub worker : new ≡ record old { ins = new.ins }
 
 -- the oldest message from that worker does not fit this owner and is set aside
-pub record HasSetAside {S : Type 0} (owner : S → List ℕ → ℕ → ℕ) (from : ℕ) (old new : WorkerOf S) : Type 0 where
+pub record HasSetAside {S F : Type 0} (owner : S → List ℕ → ℕ → ℕ) (values : List ℕ → F → List ℕ) (from : ℕ) (old new : WorkerOf S F) : Type 0 where
   pub message : Message
-  pub popped : HasPopped from message old new
+  pub popped : HasPopped values from message old new
   pub unfit : fits (space_of owner old.owner) old.owner.worker message ≡ false
   pub worker : new ≡ record old { ins = new.ins; misfits = record { sender = from; message = message } ∷ [] }
 
 -- what came of receiving from that worker
-abbrev pub HasReceived : {S : Type 0} → (S → List ℕ → ℕ → ℕ) → ℕ → WorkerOf S → WorkerOf S → Received → Type 0
-HasReceived owner from old new Taken = HasTaken owner from old new
-HasReceived owner from old new Nothing = HasNothingTaken from old new
-HasReceived owner from old new SetAside = HasSetAside owner from old new
+abbrev pub HasReceived : {S F : Type 0} → (S → List ℕ → ℕ → ℕ) → (List ℕ → F → List ℕ) → ℕ → WorkerOf S F → WorkerOf S F → Received → Type 0
+HasReceived owner values from old new Taken = HasTaken owner values from old new
+HasReceived owner values from old new Nothing = HasNothingTaken values from old new
+HasReceived owner values from old new SetAside = HasSetAside owner values from old new
 
 -- ---- a turn
 
 -- at most one message is taken from the link
-abbrev pub ReceivesFrom : {S : Type 0} → (S → List ℕ → ℕ → ℕ) → ℕ → WorkerOf S → WorkerOf S → Type 0
-ReceivesFrom owner from old new = HasTaken owner from old new ⊎ HasNothingTaken from old new
+abbrev pub ReceivesFrom : {S F : Type 0} → (S → List ℕ → ℕ → ℕ) → (List ℕ → F → List ℕ) → ℕ → WorkerOf S F → WorkerOf S F → Type 0
+ReceivesFrom owner values from old new = HasTaken owner values from old new ⊎ HasNothingTaken values from old new
 
 -- at most one message is sent over the link
-abbrev pub SendsTo : {S : Type 0} → ℕ → WorkerOf S → WorkerOf S → Type 0
-SendsTo to old new = HasSent to old new ⊎ HasNotSent to old new
+abbrev pub SendsTo : {S F : Type 0} → (List ℕ → F → List ℕ) → ℕ → WorkerOf S F → WorkerOf S F → Type 0
+SendsTo values to old new = HasSent values to old new ⊎ HasNotSent values to old new
 
 -- the worker was resting and has taken a message, so it counts among the units again
-abbrev pub wakes : {S : Type 0} → WorkerOf S → Bool
+abbrev pub wakes : {S F : Type 0} → WorkerOf S F → Bool
 wakes w = w.resting && not (w.taken == 0)
 
 -- the worker comes to rest: it counts among the units, and has nothing to expand below its bound and nothing to hand out
-abbrev pub comes_to_rest : {S : Type 0} → (S → List ℕ → ℕ → ℕ) → WorkerOf S → Bool
+abbrev pub comes_to_rest : {S F : Type 0} → (S → List ℕ → ℕ → ℕ) → WorkerOf S F → Bool
 comes_to_rest owner w = (not w.resting || wakes w) && idle (space_of owner w.owner) (under w.owner w.bound)
 
 abbrev pub one_if : Bool → ℕ
@@ -134,60 +134,60 @@ one_if true = 1
 one_if false = 0
 
 -- the messages that were taken are subtracted from the units, and the worker counts among them exactly where it is not resting
-pub record HasCounted {S : Type 0} (owner : S → List ℕ → ℕ → ℕ) (old new : WorkerOf S) (before after : View) : Type 0 where
+pub record HasCounted {S F : Type 0} (owner : S → List ℕ → ℕ → ℕ) (old new : WorkerOf S F) (before after : View) : Type 0 where
   pub view : after ≡ with_share before
       (((before.share +ℤ pos (one_if (wakes old))) -ℤ pos old.taken) -ℤ pos (one_if (comes_to_rest owner old)))
   pub worker : new ≡ record old { taken = 0; resting = (old.resting && not (wakes old)) || comes_to_rest owner old }
 
 -- one turn, in this order: at most one message is taken from each link, the bound is read, at most one node is expanded, its messages
 -- are added to the units, the best goal is offered, at most one message is sent over each link, and the rest is counted
-pub record HasTurned {S : Type 0} (owner : S → List ℕ → ℕ → ℕ) (old new : WorkerOf S) (before after : View) : Type 0 where
-  pub received : WorkerOf S
-  pub receives : chained (ReceivesFrom owner) (length old.ins) old received
-  pub looked : WorkerOf S
+pub record HasTurned {S F : Type 0} (owner : S → List ℕ → ℕ → ℕ) (values : List ℕ → F → List ℕ) (old new : WorkerOf S F) (before after : View) : Type 0 where
+  pub received : WorkerOf S F
+  pub receives : chained (ReceivesFrom owner values) (length old.ins) old received
+  pub looked : WorkerOf S F
   pub view_looked : View
   pub looks : HasLooked received looked before view_looked
-  pub expanded : WorkerOf S
+  pub expanded : WorkerOf S F
   pub posted : Option ℕ
   pub expands : HasExpanded owner looked expanded posted
-  pub added : WorkerOf S
+  pub added : WorkerOf S F
   pub view_added : View
   pub adds : HasAdded expanded added view_looked view_added
-  pub offered : WorkerOf S
+  pub offered : WorkerOf S F
   pub view_offered : View
   pub offers : HasOffered added offered view_added view_offered
-  pub sent : WorkerOf S
-  pub sends : chained SendsTo (length offered.outs) offered sent
+  pub sent : WorkerOf S F
+  pub sends : chained (SendsTo values) (length offered.outs) offered sent
   pub counts : HasCounted owner sent new view_offered after
 
 -- a turn that ends with a message that does not fit: the links before it were received from, and nothing else is done
-pub record HasStopped {S : Type 0} (owner : S → List ℕ → ℕ → ℕ) (old new : WorkerOf S) : Type 0 where
+pub record HasStopped {S F : Type 0} (owner : S → List ℕ → ℕ → ℕ) (values : List ℕ → F → List ℕ) (old new : WorkerOf S F) : Type 0 where
   pub from : ℕ
   pub within : from < length old.ins
-  pub received : WorkerOf S
-  pub receives : chained (ReceivesFrom owner) from old received
-  pub aside : HasSetAside owner from received new
+  pub received : WorkerOf S F
+  pub receives : chained (ReceivesFrom owner values) from old received
+  pub aside : HasSetAside owner values from received new
 
 -- what came of receiving from each link: no message was set aside, or one was, and nothing was received from the links after it
-abbrev pub HasReceivedEach : {S : Type 0} → (S → List ℕ → ℕ → ℕ) → WorkerOf S → WorkerOf S → Bool → Type 0
-HasReceivedEach owner old new true = chained (ReceivesFrom owner) (length old.ins) old new
-HasReceivedEach owner old new false = HasStopped owner old new
+abbrev pub HasReceivedEach : {S F : Type 0} → (S → List ℕ → ℕ → ℕ) → (List ℕ → F → List ℕ) → WorkerOf S F → WorkerOf S F → Bool → Type 0
+HasReceivedEach owner values old new true = chained (ReceivesFrom owner values) (length old.ins) old new
+HasReceivedEach owner values old new false = HasStopped owner values old new
 
 -- a turn that the owner refused when it was asked to expand: nothing was done after the bound was read
-pub record HasRefused {S : Type 0} (owner : S → List ℕ → ℕ → ℕ) (fault : OwnerFault) (old new : WorkerOf S) (before after : View) : Type 0 where
-  pub received : WorkerOf S
-  pub receives : chained (ReceivesFrom owner) (length old.ins) old received
+pub record HasRefused {S F : Type 0} (owner : S → List ℕ → ℕ → ℕ) (values : List ℕ → F → List ℕ) (fault : OwnerFault) (old new : WorkerOf S F) (before after : View) : Type 0 where
+  pub received : WorkerOf S F
+  pub receives : chained (ReceivesFrom owner values) (length old.ins) old received
   pub looks : HasLooked received new before after
   pub refusal : IsRefusal owner new.bound new.owner new.owner fault
 
 -- why a turn is refused; only want of memory leaves a worker that is spent
-abbrev pub IsTurnRefusal : {S : Type 0} → (S → List ℕ → ℕ → ℕ) → WorkerOf S → WorkerOf S → View → View → OwnerFault → Type 0
-IsTurnRefusal owner old new before after OutOfMemory = new.spent ≡ true
-IsTurnRefusal owner old new before after LimitReached = HasRefused owner LimitReached old new before after
-IsTurnRefusal owner old new before after TotalTooLarge = HasRefused owner TotalTooLarge old new before after
+abbrev pub IsTurnRefusal : {S F : Type 0} → (S → List ℕ → ℕ → ℕ) → (List ℕ → F → List ℕ) → WorkerOf S F → WorkerOf S F → View → View → OwnerFault → Type 0
+IsTurnRefusal owner values old new before after OutOfMemory = new.spent ≡ true
+IsTurnRefusal owner values old new before after LimitReached = HasRefused owner values LimitReached old new before after
+IsTurnRefusal owner values old new before after TotalTooLarge = HasRefused owner values TotalTooLarge old new before after
 
 -- what came of a turn; a round is over for the worker where the board says so
-abbrev pub IsTurn : {S : Type 0} → (S → List ℕ → ℕ → ℕ) → WorkerOf S → WorkerOf S → View → View → Turn → Type 0
-IsTurn owner old new before after Next = HasTurned owner old new before after
-IsTurn owner old new before after Last = HasTurned owner old new before after
-IsTurn owner old new before after Misfit = HasStopped owner old new × (after ≡ before)
+abbrev pub IsTurn : {S F : Type 0} → (S → List ℕ → ℕ → ℕ) → (List ℕ → F → List ℕ) → WorkerOf S F → WorkerOf S F → View → View → Turn → Type 0
+IsTurn owner values old new before after Next = HasTurned owner values old new before after
+IsTurn owner values old new before after Last = HasTurned owner values old new before after
+IsTurn owner values old new before after Misfit = HasStopped owner values old new × (after ≡ before)

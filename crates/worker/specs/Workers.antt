@@ -1,5 +1,6 @@
 -- A worker as it is stored, and what it keeps: a run of its owner, what went over its links, what it has seen and offered.
 use Rattle.std.specs.Prelude.{◌≡◌, ℕ, Bool, false, List, [], ◌∷◌, map, length, slice_get, Option, Some, None}
+use Rattle.fdr.specs.Tasks.{ranges}
 use Rattle.cost.specs.Distances.{Distance, Infinite}
 use Rattle.owner_theory.specs.Owners.{Log, Message, Packet, list_at}
 use Rattle.owner_theory.specs.Threads.{IsWorker}
@@ -16,10 +17,10 @@ use Rattle.links.specs.Ends.{sent, received, known, SameOut, SameIn}
 -- messages that were taken from a link and do not fit this owner; whether memory ran out half way, so that the owner may be at
 -- the end of no run; whether it is not counted among the units, because it had nothing to do; how many messages stand in its
 -- outboxes that are not yet added to the units; and how many messages it has taken that are not yet subtracted from them
-pub record WorkerOf (S : Type 0) : Type 0 where
+pub record WorkerOf (S F : Type 0) : Type 0 where
   pub owner : OwnerOf S
-  pub outs : List Out
-  pub ins : List In
+  pub outs : List (Out F)
+  pub ins : List (In F)
   pub bound : Distance
   pub seen : Distance
   pub offered : Distance
@@ -29,45 +30,49 @@ pub record WorkerOf (S : Type 0) : Type 0 where
   pub uncounted : ℕ
   pub taken : ℕ
 
-abbrev pub misfits_of : Option PacketOf → List Packet
-misfits_of None = []
-misfits_of (Some p) = packet_of p ∷ []
+-- the values of a form of a state, where a form has these by the ranges of a task's variables
+abbrev pub values_in : {S F : Type 0} → (List ℕ → F → List ℕ) → WorkerOf S F → F → List ℕ
+values_in values w = values (ranges w.owner.space.task)
 
--- what was sent to a worker, and what was received from one
-abbrev pub sent_to : List Out → ℕ → List Message
-sent_to outs v = list_at (map (λ o. map message_of (sent o)) outs) v
+abbrev pub misfits_of : {F : Type 0} → (F → List ℕ) → Option (PacketOf F) → List Packet
+misfits_of values None = []
+misfits_of values (Some p) = packet_of values p ∷ []
 
-abbrev pub received_from : List In → ℕ → List Message
-received_from ins u = list_at (map (λ i. map message_of (received i)) ins) u
+-- what was sent to a worker, and what was received from one, where a form of a state has these values
+abbrev pub sent_to : {F : Type 0} → (F → List ℕ) → List (Out F) → ℕ → List Message
+sent_to values outs v = list_at (map (λ o. map (message_of values) (sent o)) outs) v
+
+abbrev pub received_from : {F : Type 0} → (F → List ℕ) → List (In F) → ℕ → List Message
+received_from values ins u = list_at (map (λ i. map (message_of values) (received i)) ins) u
 
 -- the messages that are known to be in the ring from a worker
-abbrev pub known_from : List In → ℕ → List Message
-known_from ins u = list_at (map (λ i. map message_of (known i)) ins) u
+abbrev pub known_from : {F : Type 0} → (F → List ℕ) → List (In F) → ℕ → List Message
+known_from values ins u = list_at (map (λ i. map (message_of values) (known i)) ins) u
 
 -- the log is of a run of the owner, and tells what went over the links and what was seen and offered
-pub record IsWorking {S : Type 0} (owner : S → List ℕ → ℕ → ℕ) (w : WorkerOf S) (log : Log) : Type 0 where
-  pub works : IsWorker (space_of owner w.owner) w.owner.worker log (sent_to w.outs) (received_from w.ins) [] w.misfits
+pub record IsWorking {S F : Type 0} (owner : S → List ℕ → ℕ → ℕ) (values : List ℕ → F → List ℕ) (w : WorkerOf S F) (log : Log) : Type 0 where
+  pub works : IsWorker (space_of owner w.owner) w.owner.worker log (sent_to (values_in values w) w.outs) (received_from (values_in values w) w.ins) [] w.misfits
   pub owner_is : log.owner ≡ under w.owner w.bound
   pub seen_is : log.seen ≡ w.seen
   pub offered_is : log.offered ≡ w.offered
 
 -- there is a link to each worker and from each, and there is such a log, unless memory ran out
-pub record IsKept {S : Type 0} (owner : S → List ℕ → ℕ → ℕ) (w : WorkerOf S) : Type 0 where
+pub record IsKept {S F : Type 0} (owner : S → List ℕ → ℕ → ℕ) (values : List ℕ → F → List ℕ) (w : WorkerOf S F) : Type 0 where
   pub outs : length w.outs ≡ length w.owner.outboxes
   pub ins : length w.ins ≡ length w.owner.outboxes
-  pub working : w.spent ≡ false → ∥ ((log : Log) × IsWorking owner w log) ∥₁
+  pub working : w.spent ≡ false → ∥ ((log : Log) × IsWorking owner values w log) ∥₁
 
 -- the same ends, one for one
-pub record AreSameOuts (old new : List Out) : Type 0 where
+pub record AreSameOuts {F : Type 0} (old new : List (Out F)) : Type 0 where
   pub len : length new ≡ length old
-  pub each : (v : ℕ) (o p : Out) → slice_get old v ≡ Some o → slice_get new v ≡ Some p → SameOut o p
+  pub each : (v : ℕ) (o p : Out F) → slice_get old v ≡ Some o → slice_get new v ≡ Some p → SameOut o p
 
-pub record AreSameIns (old new : List In) : Type 0 where
+pub record AreSameIns {F : Type 0} (old new : List (In F)) : Type 0 where
   pub len : length new ≡ length old
-  pub each : (v : ℕ) (i j : In) → slice_get old v ≡ Some i → slice_get new v ≡ Some j → SameIn i j
+  pub each : (v : ℕ) (i j : In F) → slice_get old v ≡ Some i → slice_get new v ≡ Some j → SameIn i j
 
 -- the worker of that number of so many, at the start
-pub record IsFirstWorker {S : Type 0} (searched_space : SpaceOf S) (v workers : ℕ) (senders : List Out) (receivers : List In) (w : WorkerOf S) : Type 0 where
+pub record IsFirstWorker {S F : Type 0} (searched_space : SpaceOf S) (v workers : ℕ) (senders : List (Out F)) (receivers : List (In F)) (w : WorkerOf S F) : Type 0 where
   pub space : w.owner.space ≡ searched_space
   pub number : w.owner.worker ≡ v
   pub owners : length w.owner.outboxes ≡ workers

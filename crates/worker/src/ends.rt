@@ -1,6 +1,6 @@
 //! Rows of ends of links.
 
-ghost use Rattle.std.specs.Prelude.{◌≡◌, ℕ, suc, ◌<◌, ◌≤◌, ◌++◌, ◌∷◌, [], false, length, slice_get, Some, IsTrue, IfSome, IfNone};
+ghost use Rattle.std.specs.Prelude.{◌≡◌, ℕ, List, suc, ◌<◌, ◌≤◌, ◌++◌, ◌∷◌, [], false, length, slice_get, Some, IsTrue, IfSome, IfNone};
 ghost use Rattle.owner_theory.specs.Owners.{put};
 ghost use Rattle.closed.specs.Tables.{message_of};
 ghost use Rattle.links.specs.declared.ends.Out.{Out as OutOf};
@@ -10,39 +10,40 @@ ghost use Rattle.links.specs.Ranks.{HasSmallRank};
 ghost use Rattle.worker.specs.Workers.{sent_to, received_from, known_from, AreSameOuts, AreSameIns};
 
 use links::{In, Message, Out};
+use packed::StateForm;
 
 /// Whether there certainly is room for a message to that worker. Allocates nothing.
-pub(crate) fn has_room(outs: &mut Vec<Out>, to: usize) -> bool
+pub(crate) fn has_room<F: StateForm + Drop>(outs: &mut Vec<Out<F>>, to: usize) -> bool
     requires { to < length outs.old.items }
     ensures same { AreSameOuts outs.old.items outs.new.items }
-    ensures sent { (v : ℕ) → sent_to outs.new.items v ≡ sent_to outs.old.items v }
-    ensures room { IsTrue result → (o : OutOf) → slice_get outs.new.items to ≡ Some o → 0 < room o }
-    ensures full { result ≡ false → (o : OutOf) → slice_get outs.old.items to ≡ Some o → room o ≡ 0 }
+    ensures sent { (values : F → List ℕ) (v : ℕ) → sent_to values outs.new.items v ≡ sent_to values outs.old.items v }
+    ensures room { IsTrue result → (o : OutOf F) → slice_get outs.new.items to ≡ Some o → 0 < room o }
+    ensures full { result ≡ false → (o : OutOf F) → slice_get outs.old.items to ≡ Some o → room o ≡ 0 }
 {
     outs[to].has_room()
 }
 
 /// Sends a message to that worker, for which there is room. Allocates nothing.
-pub(crate) fn push(outs: &mut Vec<Out>, to: usize, message: Message)
+pub(crate) fn push<F: StateForm + Drop>(outs: &mut Vec<Out<F>>, to: usize, message: Message<F>)
     requires within { to < length outs.old.items }
     requires small { HasSmallRank message }
-    requires room { (o : OutOf) → slice_get outs.old.items to ≡ Some o → 0 < room o }
+    requires room { (o : OutOf F) → slice_get outs.old.items to ≡ Some o → 0 < room o }
     ensures same { AreSameOuts outs.old.items outs.new.items }
-    ensures sent { (v : ℕ) → sent_to outs.new.items v ≡ put (sent_to outs.old.items) to (sent_to outs.old.items to ++ message_of message ∷ []) v }
+    ensures sent { (values : F → List ℕ) (v : ℕ) → sent_to values outs.new.items v ≡ put (sent_to values outs.old.items) to (sent_to values outs.old.items to ++ message_of values message ∷ []) v }
 {
     let pushed = outs[to].push(message);
     let _ = pushed; // there is room
 }
 
 /// Takes the oldest message from that worker, if the link is found to hold one. Allocates nothing.
-pub(crate) fn pop(ins: &mut Vec<In>, from: usize) -> Option<Message>
+pub(crate) fn pop<F: StateForm + Drop>(ins: &mut Vec<In<F>>, from: usize) -> Option<Message<F>>
     requires { from < length ins.old.items }
     ensures same { AreSameIns ins.old.items ins.new.items }
-    ensures some { IfSome result (λ m. (v : ℕ) → received_from ins.new.items v ≡ put (received_from ins.old.items) from (received_from ins.old.items from ++ message_of m ∷ []) v) }
+    ensures some { IfSome result (λ m. (values : F → List ℕ) (v : ℕ) → received_from values ins.new.items v ≡ put (received_from values ins.old.items) from (received_from values ins.old.items from ++ message_of values m ∷ []) v) }
     ensures small { IfSome result HasSmallRank }
-    ensures none { IfNone result ((v : ℕ) → received_from ins.new.items v ≡ received_from ins.old.items v) }
-    ensures fewer { length (known_from ins.old.items from) ≤ suc (length (known_from ins.new.items from)) }
-    ensures unknown { IfNone result ((i : InOf) → slice_get ins.old.items from ≡ Some i → known i ≡ []) }
+    ensures none { IfNone result ((values : F → List ℕ) (v : ℕ) → received_from values ins.new.items v ≡ received_from values ins.old.items v) }
+    ensures fewer { (values : F → List ℕ) → length (known_from values ins.old.items from) ≤ suc (length (known_from values ins.new.items from)) }
+    ensures unknown { IfNone result ((i : InOf F) → slice_get ins.old.items from ≡ Some i → known i ≡ []) }
 {
     ins[from].pop()
 }

@@ -12,22 +12,23 @@ use packed::StateForm;
 use packed_spread::Spread;
 
 /// Whether the message is of a state of the task that this one of so many owners has; the buffer is for use within.
-pub(crate) fn is_for<S: Spread + Drop>(
+pub(crate) fn is_for<S: Spread + Drop, F: StateForm + Drop>(
     space: &Space<'_, S>,
     number: usize,
     owners: usize,
-    message: &Message,
+    message: &Message<F>,
     state: &mut Vec<u32>,
 ) -> bool
     requires owners { 0 < owners }
+    requires fits { F.Fits (ranges space.now.task) }
     requires buffer { length state.old.items ≡ length space.now.task.value_names }
-    ensures state { IsTrue result → IsState (ranges space.now.task) message.now.state.values.items }
-    ensures owner { IsTrue result → S.owner space.now.spread message.now.state.values.items owners ≡ number }
-    ensures not { result ≡ false → fits (searched S.owner space.now owners) number (message_of message.now) ≡ false }
+    ensures state { IsTrue result → IsState (ranges space.now.task) (F.values (ranges space.now.task) message.now.state) }
+    ensures owner { IsTrue result → S.owner space.now.spread (F.values (ranges space.now.task) message.now.state) owners ≡ number }
+    ensures not { result ≡ false → fits (searched S.owner space.now owners) number (message_of (F.values (ranges space.now.task)) message.now) ≡ false }
     ensures buffer { length state.new.items ≡ length state.old.items }
 {
     let layout = space.layout();
-    if !message.state.is_form(layout) {
+    if !message.state.holds_state(layout) {
         return false;
     }
     message.state.unpack(layout, state);

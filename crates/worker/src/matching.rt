@@ -9,7 +9,12 @@ use packed::StateForm;
 use packed_spread::Spread;
 
 /// The number of messages in the ring of a link, from both of its ends in their rows. Allocates nothing.
-fn match_in_rows(outs: &mut Vec<Out>, to: usize, ins: &mut Vec<In>, from: usize) -> usize
+fn match_in_rows<F: StateForm + Drop>(
+    outs: &mut Vec<Out<F>>,
+    to: usize,
+    ins: &mut Vec<In<F>>,
+    from: usize,
+) -> usize
     requires to { to < length outs.old.items }
     requires from { from < length ins.old.items }
     requires linked { AreLinked outs.old.items to ins.old.items from }

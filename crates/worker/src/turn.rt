@@ -32,7 +32,7 @@ impl<'a, S: Spread + Drop, F: StateForm + Drop> Worker<'a, S, F> {
     fn receive_each(&mut self) -> Result<bool, AllocError>
         requires none_aside { self.old.misfits ≡ [] }
         requires none_taken { self.old.taken ≡ 0 }
-        ensures received { IfOk result (HasReceivedEach S.owner self.old self.new) }
+        ensures received { IfOk result (HasReceivedEach S.owner F.values self.old self.new) }
         ensures spent { IfErr result (λ _. (self.new.spent ≡ true) × (self.new.uncounted ≡ self.old.uncounted)) }
     {
         for from in 0..self.workers() {
@@ -46,7 +46,7 @@ impl<'a, S: Spread + Drop, F: StateForm + Drop> Worker<'a, S, F> {
     /// Sends at most one message over each link. Allocates nothing.
     fn send_each(&mut self)
         requires { self.old.uncounted ≡ 0 }
-        ensures { chained SendsTo (length self.old.outs) self.old self.new }
+        ensures { chained (SendsTo F.values) (length self.old.outs) self.old self.new }
     {
         for to in 0..self.workers() {
             let _sent = self.send(to);
@@ -65,8 +65,8 @@ impl<'a, S: Spread + Drop, F: StateForm + Drop> Worker<'a, S, F> {
         requires none_uncounted { self.old.uncounted ≡ 0 }
         requires none_taken { self.old.taken ≡ 0 }
         ensures seat { IsSeatOf board.now seat.new }
-        ensures turned { IfOk result (IsTurn S.owner self.old self.new (view seat.old) (view seat.new)) }
-        ensures refused { IfErr result (IsTurnRefusal S.owner self.old self.new (view seat.old) (view seat.new)) }
+        ensures turned { IfOk result (IsTurn S.owner F.values self.old self.new (view seat.old) (view seat.new)) }
+        ensures refused { IfErr result (IsTurnRefusal S.owner F.values self.old self.new (view seat.old) (view seat.new)) }
         ensures none_uncounted { self.new.uncounted ≡ 0 }
     {
         if !self.receive_each()? {

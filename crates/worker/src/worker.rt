@@ -3,7 +3,7 @@
 ghost use Rattle.std.specs.Prelude.{◌≡◌, ℕ, ◌+◌, ◌^◌, ◌<◌, [], true, length, IfOk, IfErr};
 ghost use Rattle.fdr.specs.Tasks.{ranges};
 ghost use Rattle.board.specs.Seats.{IsSeatOf, view};
-ghost use Rattle.worker.specs.Workers.{sent_to, received_from, misfits_of, IsFirstWorker, IsKept};
+ghost use Rattle.worker.specs.Workers.{sent_to, received_from, values_in, misfits_of, IsFirstWorker, IsKept};
 ghost use Rattle.worker.specs.Turns.{HasLooked, HasOffered, HasExpanded, IsExpandRefusal, posted_by, SendsOrNot, HasReceived};
 
 use crate::ends::{has_room, pop, push};
@@ -24,8 +24,8 @@ use std::marker::Model;
 #[derive(Drop)]
 pub struct Worker<'a, S: Spread + Drop, F: StateForm + Drop> {
     pub(crate) owner: Owner<'a, S, F>,
-    pub(crate) outs: Vec<Out>,
-    pub(crate) ins: Vec<In>,
+    pub(crate) outs: Vec<Out<F>>,
+    pub(crate) ins: Vec<In<F>>,
     /// The bound that was read last.
     pub(crate) bound: Dist,
     /// The least bound that was read.
@@ -33,7 +33,7 @@ pub struct Worker<'a, S: Spread + Drop, F: StateForm + Drop> {
     /// The least cost that was offered.
     offered: Dist,
     /// A message that was taken from a link and is not for this owner.
-    misfit: Option<Packet>,
+    misfit: Option<Packet<F>>,
     /// The owner's number.
     pub(crate) number: usize,
     /// A buffer for the values of a state.
@@ -50,9 +50,10 @@ pub struct Worker<'a, S: Spread + Drop, F: StateForm + Drop> {
 
 impl<'a, S: Spread + Drop, F: StateForm + Drop> Model for Worker<'a, S, F> {
     ghost use Rattle.std.specs.Prelude.{◌≡◌, length};
+    ghost use Rattle.fdr.specs.Tasks.{ranges};
     ghost use Rattle.worker.specs.Workers.{WorkerOf, IsKept, misfits_of};
 
-    ghost Value = { WorkerOf S };
+    ghost Value = { WorkerOf S F };
 
     ghost view = { λ w. record {
       owner = w.owner;
@@ -61,21 +62,21 @@ impl<'a, S: Spread + Drop, F: StateForm + Drop> Model for Worker<'a, S, F> {
       bound = w.bound;
       seen = w.seen;
       offered = w.offered;
-      misfits = misfits_of w.misfit;
+      misfits = misfits_of (F.values (ranges w.owner.space.task)) w.misfit;
       spent = w.spent;
       resting = w.resting;
       uncounted = w.uncounted;
       taken = w.taken;
     } };
 
-    ghost invariant = { λ w. (w.number ≡ w.owner.worker) × (length w.state.items ≡ length w.owner.space.task.value_names) × IsKept S.owner (record {
+    ghost invariant = { λ w. (w.number ≡ w.owner.worker) × (length w.state.items ≡ length w.owner.space.task.value_names) × IsKept S.owner F.values (record {
       owner = w.owner;
       outs = w.outs.items;
       ins = w.ins.items;
       bound = w.bound;
       seen = w.seen;
       offered = w.offered;
-      misfits = misfits_of w.misfit;
+      misfits = misfits_of (F.values (ranges w.owner.space.task)) w.misfit;
       spent = w.spent;
       resting = w.resting;
       uncounted = w.uncounted;
@@ -99,11 +100,11 @@ pub struct Parts<'a, S: Spread + Drop, F: StateForm + Drop> {
     /// The owner.
     pub owner: Owner<'a, S, F>,
     /// The sending ends of its links, by receiver.
-    pub outs: Vec<Out>,
+    pub outs: Vec<Out<F>>,
     /// The receiving ends of its links, by sender.
-    pub ins: Vec<In>,
+    pub ins: Vec<In<F>>,
     /// A message that was taken from a link and is not for the owner.
-    pub misfit: Option<Packet>,
+    pub misfit: Option<Packet<F>>,
 }
 
 impl<'a, S: Spread + Drop, F: StateForm + Drop> Worker<'a, S, F> {
@@ -115,13 +116,13 @@ impl<'a, S: Spread + Drop, F: StateForm + Drop> Worker<'a, S, F> {
         space: &'a Space<'a, S>,
         number: usize,
         workers: usize,
-        outs: Vec<Out>,
-        ins: Vec<In>,
+        outs: Vec<Out<F>>,
+        ins: Vec<In<F>>,
     ) -> Result<Worker<'a, S, F>, AllocError>
         requires number { number < workers }
         requires fits { F.Fits (ranges space.now.task) }
-        requires outs { (length outs.items ≡ workers) × ((v : ℕ) → sent_to outs.items v ≡ []) }
-        requires ins { (length ins.items ≡ workers) × ((v : ℕ) → received_from ins.items v ≡ []) }
+        requires outs { (length outs.items ≡ workers) × ((v : ℕ) → sent_to (F.values (ranges space.now.task)) outs.items v ≡ []) }
+        requires ins { (length ins.items ≡ workers) × ((v : ℕ) → received_from (F.values (ranges space.now.task)) ins.items v ≡ []) }
         ensures { IfOk result (IsFirstWorker space.now number workers outs.items ins.items) }
     {
         Ok(Worker {
@@ -167,7 +168,7 @@ impl<'a, S: Spread + Drop, F: StateForm + Drop> Worker<'a, S, F> {
     pub fn send(&mut self, to: usize) -> bool
         requires within { to < length self.old.outs }
         requires none_uncounted { self.old.uncounted ≡ 0 }
-        ensures { SendsOrNot to self.old self.new result }
+        ensures { SendsOrNot F.values to self.old self.new result }
     {
         if !has_room(&mut self.outs, to) {
             return false;
@@ -185,7 +186,7 @@ impl<'a, S: Spread + Drop, F: StateForm + Drop> Worker<'a, S, F> {
         requires within { from < length self.old.ins }
         requires none_aside { self.old.misfits ≡ [] }
         requires countable { self.old.taken + 1 < 2 ^ 64 }
-        ensures received { IfOk result (HasReceived S.owner from self.old self.new) }
+        ensures received { IfOk result (HasReceived S.owner F.values from self.old self.new) }
         ensures spent { IfErr result (λ _. self.new ≡ record self.old { ins = self.new.ins; spent = true }) }
     {
         self.owner.recall();
@@ -267,7 +268,7 @@ impl<'a, S: Spread + Drop, F: StateForm + Drop> Worker<'a, S, F> {
     /// What holds of every worker, the type's invariant stated as a contract: it has a link to each worker and from each, and,
     /// unless memory ran out, its owner is at the end of a run that tells what went over its links, and what was seen and offered.
     pub fn recall(&self)
-        ensures { IsKept S.owner self.now }
+        ensures { IsKept S.owner F.values self.now }
     {
         let _ = &self.owner; // what is told of a worker is known where a field of it is read
     }
@@ -277,7 +278,7 @@ impl<'a, S: Spread + Drop, F: StateForm + Drop> Worker<'a, S, F> {
         ensures owner { result.owner ≡ self.entry.owner }
         ensures outs { result.outs.items ≡ self.entry.outs }
         ensures ins { result.ins.items ≡ self.entry.ins }
-        ensures misfit { misfits_of result.misfit ≡ self.entry.misfits }
+        ensures misfit { misfits_of (values_in F.values self.entry) result.misfit ≡ self.entry.misfits }
     {
         let Worker {
             owner,

@@ -1,16 +1,17 @@
 use Rattle.std.proofs.Common.{◌∙◌, ◌<◌, length, arith}
+use Rattle.fdr.specs.Tasks.{ranges}
 use Rattle.owner_theory.specs.Owners.{list_at}
 use Rattle.owner.specs.Owned.{space_of, least_open}
 use Rattle.extract.specs.Pending.{least_message}
 use Rattle.extract.proofs.Places.{list_at_read}
 use Rattle.extract.proofs.Leasts.{least_step_over}
-use Rattle.extract.proofs.Pending.{small_messages, least_in_memory}
+use Rattle.extract.proofs.Pending.{read_there, small_messages, least_in_memory}
 use Rattle.extract.proofs.settled.least_of_owner.Goals as goal
 
 pub least_of_messages-requires-clause-small : goal.least_of_messages-requires-clause-small
 least_of_messages-requires-clause-small g c =
-    small_messages g.S.Spread.owner c.args.owner.now c.loop-to.to c.space.result.now c.outbox.result.now.items c.space.ensures
-    c.outbox.ensures (c.recall.ensures.messages c.loop-to.to (omega arith))
+    small_messages g.S.Spread.owner (g.F.StateForm.values (ranges c.space.result.now.task)) c.args.owner.now c.loop-to.to c.space.result.now c.outbox.result.now.items c.space.ensures
+    (read_there g.F.StateForm.values c.args.owner.now c.loop-to.to c.space.result.now c.outbox.result.now.items c.space.ensures c.outbox.ensures) (c.recall.ensures.messages c.loop-to.to (omega arith))
 
 pub loop-to-preserved : goal.loop-to-preserved
 loop-to-preserved g c =
@@ -20,5 +21,5 @@ loop-to-preserved g c =
     c.args.owner.now.outboxes c.loop-to.to (list_at c.args.owner.now.outboxes c.loop-to.to) c.loop-to.least c.least_of_messages.result
     below (list_at_read c.args.owner.now.outboxes c.loop-to.to below)
     (c.least_of_messages.ensures
-    ∙ least_in_memory c.args.owner.now c.loop-to.to c.space.result.now c.outbox.result.now.items c.space.ensures c.outbox.ensures)
+    ∙ least_in_memory (g.F.StateForm.values (ranges c.space.result.now.task)) c.args.owner.now c.loop-to.to c.space.result.now c.outbox.result.now.items c.space.ensures (read_there g.F.StateForm.values c.args.owner.now c.loop-to.to c.space.result.now c.outbox.result.now.items c.space.ensures c.outbox.ensures))
     c.loop-to.invariant

@@ -1,6 +1,7 @@
 use Rattle.std.proofs.Common.{◌∙◌, length, map, sym, ap}
 use Rattle.std.proofs.lemmas.List.{take_all}
 use Rattle.cost.specs.Distances.{lesser, least}
+use Rattle.fdr.specs.Tasks.{ranges}
 use Rattle.closed.specs.Tables.{message_of}
 use Rattle.extract.specs.Pending.{f_at, least_held}
 use Rattle.extract.proofs.Places.{at_read}
@@ -27,13 +28,13 @@ loop-owner-preserved g c =
 
 pub least_of_packets-requires-clause-small : goal.least_of_packets-requires-clause-small
 least_of_packets-requires-clause-small g c =
-    small_packets c.args.space.now c.args.left.now c.loop-queue.queue-index c.queue-item.result c.loop-queue-test.true c.queue-item.is
+    small_packets (g.F.StateForm.values (ranges c.args.space.now.task)) c.args.space.now c.args.left.now c.loop-queue.queue-index c.queue-item.result c.loop-queue-test.true c.queue-item.is
     c.requires.form.left
 
 pub loop-queue-preserved : goal.loop-queue-preserved
 loop-queue-preserved g c =
     c.min-least-in-loop-queue.ensures
-    ∙ least_step_over (λ q. least (map (λ p. f_at c.args.space.now (message_of p.message)) q.items))
+    ∙ least_step_over (λ q. least (map (λ p. f_at c.args.space.now (message_of (g.F.StateForm.values (ranges c.args.space.now.task)) p.message)) q.items))
     (least (map (least_held g.S.Spread.owner) c.args.owners.now)) c.args.left.now c.loop-queue.queue-index c.queue-item.result
     c.loop-queue.least c.least_of_packets.result c.loop-queue-test.true c.queue-item.is c.least_of_packets.ensures
     c.loop-queue.invariant
@@ -43,5 +44,5 @@ returns g c =
     let all = take_all c.loop-queue.queue-index c.args.left.now c.loop-queue-test.false in
     c.loop-queue.invariant
     ∙ ap (λ queues. lesser (least (map (least_held g.S.Spread.owner) c.args.owners.now))
-    (least (map (λ q. least (map (λ p. f_at c.args.space.now (message_of p.message)) q.items)) queues))) all
-    ∙ ap (lesser (least (map (least_held g.S.Spread.owner) c.args.owners.now))) (sym (least_underway c.args.space.now c.args.left.now))
+    (least (map (λ q. least (map (λ p. f_at c.args.space.now (message_of (g.F.StateForm.values (ranges c.args.space.now.task)) p.message)) q.items)) queues))) all
+    ∙ ap (lesser (least (map (least_held g.S.Spread.owner) c.args.owners.now))) (sym (least_underway (g.F.StateForm.values (ranges c.args.space.now.task)) c.args.space.now c.args.left.now))

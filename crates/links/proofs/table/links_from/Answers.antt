@@ -6,7 +6,7 @@ use Rattle.links.proofs.Rows.{fresh_pushed}
 use Rattle.links.proofs.table.links_from.Goals as goal
 
 pub loop-preserved : goal.loop-preserved
-loop-preserved c =
+loop-preserved g c =
     let more = fresh_pushed c.args.capacity c.loop.counter c.loop.outs.items c.loop.ins.items c.in_ok-sender.sender c.in_ok-sender.receiver (search rules) (search rules) c.loop.invariant.2 c.in_ok-sender.ensures in
-    let P : List Out × List In → Type 0 = λ z. AreFresh c.args.capacity z.0 z.1 in
+    let P : List (Out g.row.F.Denot) × List (In g.row.F.Denot) → Type 0 = λ z. AreFresh c.args.capacity z.0 z.1 in
     (search rules, search rules, subst P (λ i. (sym c.in_ok-push.ensures.items i, sym c.in_ok-push-2.ensures.items i)) more)

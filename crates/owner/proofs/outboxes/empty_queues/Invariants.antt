@@ -3,4 +3,4 @@ use Rattle.owner.specs.Outboxes.{boxes_of}
 use Rattle.owner.proofs.outboxes.empty_queues.Given as goal
 
 abbrev pub invariant-loop : goal.invariant-loop
-invariant-loop l = boxes_of l.queues.items ≡ replicate l.counter []
+invariant-loop g l = boxes_of l.queues.items ≡ replicate l.counter []

@@ -10,7 +10,7 @@ abbrev pub invariant-loop-operator : goal.invariant-loop-operator
 invariant-loop-operator g l =
     let space = space_of g.S.Spread.owner l.fn.holdings in
     let me = l.fn.holdings.worker in
-    let by = successor_by l.fn.holdings.space.task me l.next.index (fresh l.state l.next.rank None) in
+    let by = successor_by l.fn.holdings.space.task me l.next.index (fresh l.fn.places.state l.next.rank None) in
     record {
       left : treat_all space me (under l.holdings l.bound) (filter_map by (drop l.operator-index l.operators))
           ≡ treat_all space me (under l.fn.holdings l.bound) (filter_map by l.operators);
@@ -20,4 +20,5 @@ invariant-loop-operator g l =
       space : l.holdings.space ≡ l.fn.holdings.space;
       worker : l.holdings.worker ≡ l.fn.holdings.worker;
       expansions : l.holdings.expansions ≡ l.fn.holdings.expansions;
+      places : l.places ≡ l.fn.places;
     }

@@ -2,17 +2,17 @@ use Rattle.worker.proofs.Rows.{taken_some, taken_none, none_known, known_fewer}
 use Rattle.worker.proofs.ends.pop.Goals as goal
 
 pub returns-clause-some : goal.returns-clause-some
-returns-clause-some c =
+returns-clause-some g c =
     taken_some c.pop.result c.args.ins.now.items c.args.from c.index_mut.result.now c.pop.new.self c.requires c.index_mut.ensures.value c.pop.ensures.some
 
 pub returns-clause-none : goal.returns-clause-none
-returns-clause-none c =
+returns-clause-none g c =
     taken_none c.pop.result c.args.ins.now.items c.args.from c.index_mut.result.now c.pop.new.self c.requires c.index_mut.ensures.value c.pop.ensures.none
 
 pub returns-clause-unknown : goal.returns-clause-unknown
-returns-clause-unknown c =
+returns-clause-unknown g c =
     none_known c.pop.result c.args.ins.now.items c.args.from c.index_mut.result.now c.requires c.index_mut.ensures.value c.pop.ensures.known
 
 pub returns-clause-fewer : goal.returns-clause-fewer
-returns-clause-fewer c =
-    known_fewer c.args.ins.now.items c.args.from c.index_mut.result.now c.pop.new.self c.requires c.index_mut.ensures.value c.pop.ensures.fewer
+returns-clause-fewer g c = λ values.
+    known_fewer values c.args.ins.now.items c.args.from c.index_mut.result.now c.pop.new.self c.requires c.index_mut.ensures.value c.pop.ensures.fewer

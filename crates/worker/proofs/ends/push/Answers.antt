@@ -6,8 +6,8 @@ use Rattle.worker.proofs.Rows.{sent_changed, was_ok}
 use Rattle.worker.proofs.ends.push.Goals as goal
 
 pub returns-clause-sent : goal.returns-clause-sent
-returns-clause-sent c = λ v.
-    sent_changed c.args.outs.now.items c.args.to c.index_mut.result.now c.push-pushed.new.self (c.args.message ∷ []) v c.requires.within
+returns-clause-sent g c = λ values v.
+    sent_changed values c.args.outs.now.items c.args.to c.index_mut.result.now c.push-pushed.new.self (c.args.message ∷ []) v c.requires.within
     c.index_mut.ensures.value
     (was_ok c.push-pushed.result _
     (c.push-pushed.ensures.succeeds (c.requires.room c.index_mut.result.now

@@ -5,10 +5,10 @@ use Rattle.closed.proofs.table.ClosedTable.reach_all.Given as goal
 
 abbrev pub invariant-loop-message : goal.invariant-loop-message
 invariant-loop-message g l = record {
-  nodes : fold reached l.self.nodes (map arrival (drop l.message-index l.messages))
-      ≡ fold reached l.initial.self.nodes (map arrival l.messages);
-  outcomes : l.outcomes.items ++ outcomes_of l.self.nodes (map arrival (drop l.message-index l.messages))
-      ≡ outcomes_of l.initial.self.nodes (map arrival l.messages);
+  nodes : fold reached l.self.nodes (map (arrival (g.F.StateForm.values l.initial.self.ranges)) (drop l.message-index l.messages))
+      ≡ fold reached l.initial.self.nodes (map (arrival (g.F.StateForm.values l.initial.self.ranges)) l.messages);
+  outcomes : l.outcomes.items ++ outcomes_of l.self.nodes (map (arrival (g.F.StateForm.values l.initial.self.ranges)) (drop l.message-index l.messages))
+      ≡ outcomes_of l.initial.self.nodes (map (arrival (g.F.StateForm.values l.initial.self.ranges)) l.messages);
   ranges : l.self.ranges ≡ l.initial.self.ranges;
   no_fewer : length l.initial.self.nodes ≤ length l.self.nodes;
   taken_back : taken_back l.replaced.items (take (length l.initial.self.nodes) l.self.nodes) ≡ l.initial.self.nodes;

@@ -4,17 +4,31 @@ use Rattle.fdr.specs.Tasks.{FiniteDomainTask, is_goal_state}
 use Rattle.owner_theory.specs.Owners.{took}
 use Rattle.owner.specs.Spaces.{SpaceOf}
 use Rattle.owner.specs.Owned.{OwnerOf, space_of, under, IsMessageTo}
-use Rattle.owner.specs.Queues.{message_at}
-use Rattle.owner.proofs.Owning.{taken_kept, taken_is}
+use Rattle.owner.specs.Queues.{ReachedOf, message_at}
+use Rattle.owner.specs.Held.{IsOwner}
+use Rattle.owner.proofs.Owning.{boxes_in, taken_kept, taken_is}
 use Rattle.owner.proofs.holdings.Holdings.take.Goals as goal
+
+pub invariant_of-self : goal.invariant_of-self
+invariant_of-self g c =
+    subst (λ (r : ReachedOf g.row.S.Denot). IsOwner g.S.Spread.owner (record {
+      space = r.space;
+      worker = c.self.inside.worker;
+      nodes = r.nodes;
+      outboxes = boxes_in g.F.StateForm.values c.self.inside.outboxes r.space;
+      best = c.self.inside.best;
+      expansions = c.self.inside.expansions;
+    }))
+    (sym c.in_err-reach.ensures.unchanged) c.self.invariant
 
 pub invariant_of-self-2 : goal.invariant_of-self-2
 invariant_of-self-2 g c =
-    taken_kept g.S.Spread.owner _ c.reach.new.self.space c.reach.new.self.nodes c.best_with-self-inside.result c.args.state.now c.args.rank c.args.parent
+    taken_kept g.S.Spread.owner _ c.reach.new.self.space c.reach.new.self.nodes
+    (boxes_in g.F.StateForm.values c.self.inside.outboxes c.reach.new.self.space) c.best_with-self-inside.result c.args.state.now c.args.rank c.args.parent
     c.self.invariant
     (subst (λ (o : OwnerOf g.row.S.Denot). IsMessageTo (space_of g.S.Spread.owner o) o.worker (message_at c.args.state.now c.args.rank c.args.parent))
     (sym c.self.view_is) c.requires)
-    c.in_ok-reach.ensures.space c.in_ok-reach.ensures.nodes
+    c.in_ok-reach.ensures.space c.in_ok-reach.ensures.nodes (ap (boxes_in g.F.StateForm.values c.self.inside.outboxes) c.in_ok-reach.ensures.space)
 
 pub returns-clause-taken : goal.returns-clause-taken
 returns-clause-taken g c = λ bound.
@@ -22,14 +36,15 @@ returns-clause-taken g c = λ bound.
       space = c.self.inside.reached.space;
       worker = c.self.inside.worker;
       nodes = c.self.inside.reached.nodes;
-      outboxes = c.self.inside.outboxes;
+      outboxes = boxes_in g.F.StateForm.values c.self.inside.outboxes c.self.inside.reached.space;
       best = c.self.inside.best;
       expansions = c.self.inside.expansions;
     } in
     let task = c.task.ensures ∙ ap (λ (s : SpaceOf g.row.S.Denot). s.task) (c.space.ensures ∙ c.in_ok-reach.ensures.space) in
     let best = c.best_with-self-inside.ensures
     ∙ ap (λ (t : FiniteDomainTask). cond (is_goal_state t c.args.state.now) (lesser o.best (Finite c.args.rank.cost)) o.best) task in
-    taken_is g.S.Spread.owner o c.reach.new.self.space c.reach.new.self.nodes c.best_with-self-inside.result bound c.args.state.now c.args.rank
-    c.args.parent c.in_ok-reach.ensures.nodes best
+    taken_is g.S.Spread.owner o c.reach.new.self.space c.reach.new.self.nodes
+    (boxes_in g.F.StateForm.values c.self.inside.outboxes c.reach.new.self.space) c.best_with-self-inside.result bound c.args.state.now c.args.rank
+    c.args.parent c.in_ok-reach.ensures.nodes (ap (boxes_in g.F.StateForm.values c.self.inside.outboxes) c.in_ok-reach.ensures.space) best
     ∙ ap (λ (x : OwnerOf g.row.S.Denot). took (space_of g.S.Spread.owner x) (under x bound) (message_at c.args.state.now c.args.rank c.args.parent))
     c.self.view_is

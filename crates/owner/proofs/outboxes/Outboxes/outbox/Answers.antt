@@ -3,7 +3,7 @@ use Rattle.owner.proofs.Boxing.{box_of, box_at, boxes_length}
 use Rattle.owner.proofs.outboxes.Outboxes.outbox.Goals as goal
 
 pub returns : goal.returns
-returns c =
+returns g c =
     let qs = c.self.inside.queues.items in
     let within = subst (λ bs. c.args.to < length bs) (sym c.self.view_is) c.requires in
     rw (← c.self.view_is)

@@ -6,7 +6,8 @@ use Rattle.owner_theory.specs.Worlds.{no_open}
 use Rattle.owner.specs.declared.fault.OwnerFault.TheVariants.{TotalTooLarge}
 use Rattle.owner.specs.Spaces.{SpaceOf}
 use Rattle.owner.specs.Owned.{OwnerOf, space_of, under, IsRefusal, Expands}
-use Rattle.owner.specs.Held.{IsSmallStep}
+use Rattle.scp.specs.Places.{PlacesOf}
+use Rattle.owner.specs.Held.{IsSmallStep, places_in}
 use Rattle.owner.proofs.Choosing.{is_next, no_open_some}
 use Rattle.owner.proofs.Outcomes.{get_at}
 use Rattle.owner.proofs.Expanding.{is_large, least_index, least_cost, least_steps, least_state, all_apply, all_small, large_successor, expands}
@@ -34,11 +35,11 @@ read_state-requires-clause-index g c =
 
 pub has_large_successor-requires-clause-cost : goal.has_large_successor-requires-clause-cost
 has_large_successor-requires-clause-cost g c =
-    least_cost g.S.Spread.owner c.self.inside.holdings c.in-Some.next c.in-Some.ensures.some.0 c.recall.ensures
+    least_cost g.S.Spread.owner c.self.inside.holdings c.in-Some.next c.in-Some.ensures.some.0 c.recall.ensures.owner
 
 pub has_large_successor-requires-clause-steps : goal.has_large_successor-requires-clause-steps
 has_large_successor-requires-clause-steps g c =
-    least_steps g.S.Spread.owner c.self.inside.holdings c.in-Some.next c.in-Some.ensures.some.0 c.recall.ensures
+    least_steps g.S.Spread.owner c.self.inside.holdings c.in-Some.next c.in-Some.ensures.some.0 c.recall.ensures.owner
 
 pub returns-then-has_large_successor-clause-refused : goal.returns-then-has_large_successor-clause-refused
 returns-then-has_large_successor-clause-refused g c =
@@ -60,14 +61,29 @@ returns-then-has_large_successor-clause-refused g c =
       refl,
     )
 
+pub enter-requires : goal.enter-requires
+enter-requires g c =
+    let h = c.self.inside.holdings in
+    let e = c.in-Some.next in
+    let l = c.in-Some.ensures.some.0 in
+    let s = c.deref-3.ensures.value ∙ c.read_state.ensures.state l.node (get_at h.nodes e.index l.node l.there) in
+    subst (λ (p : PlacesOf). IsState (ranges p.task) c.deref-3.result.now) (sym c.self.invariant.2)
+    (least_state g.S.Spread.owner h e l c.deref-3.result.now c.recall.ensures s)
+
 pub treat_successors-requires-clause-state : goal.treat_successors-requires-clause-state
 treat_successors-requires-clause-state g c =
     let h = c.self.inside.holdings in
     let e = c.in-Some.next in
     let l = c.in-Some.ensures.some.0 in
     let s = c.deref-3.ensures.value ∙ c.read_state.ensures.state l.node (get_at h.nodes e.index l.node l.there) in
-    subst (λ (x : OwnerOf g.row.S.Denot). IsState (ranges x.space.task) c.deref-3.result.now) (sym (c.expand_next.ensures.nodes e l.node l l.there))
-    (least_state g.S.Spread.owner h e l c.deref-3.result.now c.recall.ensures s)
+    subst (λ (p : PlacesOf). IsState (ranges c.expand_next.new.self.space.task) p.state) (sym c.enter.ensures)
+    (subst (λ (x : OwnerOf g.row.S.Denot). IsState (ranges x.space.task) c.deref-3.result.now) (sym (c.expand_next.ensures.nodes e l.node l l.there))
+    (least_state g.S.Spread.owner h e l c.deref-3.result.now c.recall.ensures.owner s))
+
+pub treat_successors-requires-clause-places : goal.treat_successors-requires-clause-places
+treat_successors-requires-clause-places g c =
+    c.enter.ensures ∙ (ap (λ (p : PlacesOf). record p { state = c.deref-3.result.now }) c.self.invariant.2
+    ∙ (λ j. places_in ((sym c.expand_next.ensures.space) j) (((sym c.enter.ensures) j).state)))
 
 pub treat_successors-requires-clause-apply : goal.treat_successors-requires-clause-apply
 treat_successors-requires-clause-apply g c =
@@ -76,9 +92,10 @@ treat_successors-requires-clause-apply g c =
     let l = c.in-Some.ensures.some.0 in
     let found = c.deref-4.ensures.value ∙ (c.in_ok-applicable.ensures.found
     ∙ (λ j. applicable_operators ((c.space-space.ensures j).task) ((c.deref.ensures.value ∙ sym c.deref-3.ensures.value) j))) in
-    subst (λ (x : OwnerOf g.row.S.Denot). All (λ o. applies_at x.space.task o c.deref-3.result.now ≡ true) c.deref-4.result.now)
+    subst (λ (p : PlacesOf). All (λ o. applies_at c.expand_next.new.self.space.task o p.state ≡ true) c.deref-4.result.now) (sym c.enter.ensures)
+    (subst (λ (x : OwnerOf g.row.S.Denot). All (λ o. applies_at x.space.task o c.deref-3.result.now ≡ true) c.deref-4.result.now)
     (sym (c.expand_next.ensures.nodes e l.node l l.there))
-    (all_apply h.space.task c.deref-3.result.now c.deref-4.result.now found)
+    (all_apply h.space.task c.deref-3.result.now c.deref-4.result.now found))
 
 pub treat_successors-requires-clause-small : goal.treat_successors-requires-clause-small
 treat_successors-requires-clause-small g c =
@@ -97,14 +114,15 @@ returns-clause-expanded g c =
     let h = c.self.inside.holdings in
     let e = c.in-Some.next in
     let l = c.in-Some.ensures.some.0 in
-    let s = c.deref-3.ensures.value ∙ c.read_state.ensures.state l.node (get_at h.nodes e.index l.node l.there) in
+    let entered = ap (λ (p : PlacesOf). p.state) c.enter.ensures in
+    let s = entered ∙ (c.deref-3.ensures.value ∙ c.read_state.ensures.state l.node (get_at h.nodes e.index l.node l.there)) in
     let task = c.task.ensures ∙ ap (λ (x : SpaceOf g.row.S.Denot). x.task) c.space-space.ensures in
     let found = c.deref-4.ensures.value ∙ (c.in_ok-applicable.ensures.found
-    ∙ (λ j. applicable_operators ((c.space-space.ensures j).task) ((c.deref.ensures.value ∙ sym c.deref-3.ensures.value) j))) in
+    ∙ (λ j. applicable_operators ((c.space-space.ensures j).task) ((c.deref.ensures.value ∙ sym (entered ∙ c.deref-3.ensures.value)) j))) in
     let none = sym (c.if-has_large_successor.ensures
     ∙ (λ j. list_any (is_large (task j) e.rank) ((c.deref-2.ensures.value ∙ sym c.deref-4.ensures.value) j))) in
     subst (λ (x : OwnerOf g.row.S.Denot). Expands g.S.Spread.owner c.args.bound x c.in_ok-posted.posted c.treat_successors.new.holdings) c.self.view_is
-    (expands g.S.Spread.owner h e l c.args.bound c.deref-3.result.now c.deref-4.result.now c.in_ok-posted.posted c.expand_next.new.self
+    (expands g.S.Spread.owner h e l c.args.bound c.enter.new.self.state c.deref-4.result.now c.in_ok-posted.posted c.expand_next.new.self
     c.treat_successors.new.holdings c.in-Some.ensures.some.1 (λ p. true≢false (sym (c.if-is_at_limit.ensures.1 p))) s found none
     (c.expand_next.ensures.nodes e l.node l l.there) c.in_ok-posted.ensures.treated c.in_ok-posted.ensures.posted
     c.treat_successors.ensures.space c.treat_successors.ensures.worker c.treat_successors.ensures.expansions)

@@ -1,20 +1,25 @@
-use Rattle.std.proofs.Common.{◌∙◌}
+use Rattle.std.proofs.Common.{◌≡◌, ap, ◌∙◌}
+use Rattle.fdr.specs.Tasks.{ranges}
 use Rattle.owner_theory.specs.Owners.{took}
-use Rattle.owner.specs.Owned.{space_of, under}
+use Rattle.closed.specs.Tables.{message_of}
+use Rattle.owner.specs.Spaces.{SpaceOf}
+use Rattle.owner.specs.Owned.{OwnerOf, space_of, under}
 use Rattle.owner.specs.Queues.{message_at}
 use Rattle.owner.proofs.owner.Owner.take.Goals as goal
-use Rattle.owner.proofs.owner.Owner.take.Goals.{in-Ok+in-Heap-1, in-Ok+in-Inline-1, in-Err}
+use Rattle.owner.proofs.owner.Owner.take.Goals.{in-Ok, in-Err}
 
--- a message that is taken is let go, whether its values lie in it or elsewhere
 pub returns-clause-taken : goal.returns-clause-taken
 returns-clause-taken g c =
-    let state = c.deref.ensures.value ∙ c.unpack.ensures in
+    let h = c.self.inside.holdings in
+    let state : c.deref.result.now ≡ g.F.StateForm.values (ranges h.space.task) c.args.message.state =
+    c.deref.ensures.value ∙ (c.unpack.ensures
+    ∙ ap (λ rs. g.F.StateForm.values rs c.args.message.state)
+    (c.layout.ensures ∙ ap (λ (s : SpaceOf g.row.S.Denot). ranges s.task) c.space.ensures)) in
     elim c.match-take.branch [
-      | in-Ok+in-Heap-1 w ↦ rw w.result-is (λ bound.
-          w.in-Ok.ensures.taken bound ∙ (λ j. took (space_of g.S.Spread.owner (c.self.view_is j)) (under (c.self.view_is j) bound)
-          (message_at (state j) c.args.message.rank c.args.message.parent)))
-      | in-Ok+in-Inline-1 w ↦ rw w.result-is (λ bound.
-          w.in-Ok.ensures.taken bound ∙ (λ j. took (space_of g.S.Spread.owner (c.self.view_is j)) (under (c.self.view_is j) bound)
-          (message_at (state j) c.args.message.rank c.args.message.parent)))
+      | in-Ok w ↦ rw w.result-is (λ bound.
+          w.in-Ok.ensures.taken bound
+          ∙ (ap (λ st. took (space_of g.S.Spread.owner h) (under h bound) (message_at st c.args.message.rank c.args.message.parent)) state
+          ∙ ap (λ (o : OwnerOf g.row.S.Denot). took (space_of g.S.Spread.owner o) (under o bound)
+          (message_of (g.F.StateForm.values (ranges o.space.task)) c.args.message)) c.self.view_is))
       | in-Err w ↦ rw w.result-is tt
     ]

@@ -9,7 +9,7 @@ use Rattle.packed.proofs.bits.BitsStateForm.unpack.Goals.{After-value}
 -- the value that is written
 value_is : (g : _) (c : After-value g) → c.value.result ≡ get_or (spec.values_in c.args.self.now.words c.args.layout.now) c.loop-variable.variable 0
 value_is g c =
-    let at = field_of g.row.WORDS c.args.layout.now c.fields-field-items.result.now c.loop-variable.variable c.requires.form.fits c.fields-field-items.ensures.limits c.fields-field-items.ensures.fields c.loop-variable-test.true in
+    let at = field_of g.row.WORDS c.args.layout.now c.fields-field-items.result.now c.loop-variable.variable c.requires.fits c.fields-field-items.ensures.limits c.fields-field-items.ensures.fields c.loop-variable-test.true in
     c.value.ensures ∙ sym (value_at g.row.WORDS c.args.self.now.words c.args.layout.now c.loop-variable.variable _ at)
 
 within : (g : _) (c : After-value g) → c.loop-variable.variable < length c.args.layout.now
@@ -18,7 +18,7 @@ within g c = omega (arith, c.loop-variable-test.true, ap length c.fields-field-i
 pub value-requires : goal.value-requires
 value-requires g c = (
   search rules,
-  (field_of g.row.WORDS c.args.layout.now _ c.loop-variable.variable c.requires.form.fits c.fields-field-items.ensures.limits c.fields-field-items.ensures.fields c.loop-variable-test.true).placed,
+  (field_of g.row.WORDS c.args.layout.now _ c.loop-variable.variable c.requires.fits c.fields-field-items.ensures.limits c.fields-field-items.ensures.fields c.loop-variable-test.true).placed,
 )
 
 pub overflow_cast-state : goal.overflow_cast-state
@@ -26,7 +26,7 @@ overflow_cast-state g c =
     omega (
       arith,
       value_is g c,
-      c.requires.form.state.in_range c.loop-variable.variable (within g c),
+      c.requires.values.in_range c.loop-variable.variable (within g c),
       c.fields-field-items.ensures.limits.values c.loop-variable.variable 0 (within g c),
     )
 

@@ -11,7 +11,7 @@ pub invariant_of-self : goal.invariant_of-self
 invariant_of-self g c = (
   c.self.invariant.0,
   c.self.invariant.1,
-  offered g.S.Spread.owner _ c.min-self-inside.result
+  offered g.S.Spread.owner g.F.StateForm.values _ c.min-self-inside.result
       (c.min-self-inside.ensures ∙ (ord_min-is_lesser c.self.inside.offered c.best_goal-best.result ∙ ap (lesser c.self.inside.offered) c.best_goal-best.ensures))
       c.self.invariant.2,
 )

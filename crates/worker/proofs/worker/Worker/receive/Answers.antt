@@ -1,7 +1,10 @@
-use Rattle.std.proofs.Common.{◌≡◌, ◌∙◌, ap, sym, length, arith, add-one}
+use Rattle.std.proofs.Common.{◌≡◌, ◌∙◌, true, false, ap, sym, subst, length, arith, add-one}
+use Rattle.fdr.specs.Tasks.{ranges}
+use Rattle.owner_theory.specs.Owners.{fits}
 use Rattle.closed.specs.Tables.{message_of}
 use Rattle.owner.specs.Spaces.{SpaceOf}
-use Rattle.worker.specs.Workers.{WorkerOf}
+use Rattle.owner.specs.Owned.{space_of}
+use Rattle.worker.specs.Workers.{WorkerOf, misfits_of}
 use Rattle.worker.proofs.Fits.{unfit_as_read, fits_as_read}
 use Rattle.worker.proofs.Steps.{sets_aside, takes_one}
 use Rattle.worker.proofs.Working.{counted, nothing_received, set_aside, received_one}
@@ -11,7 +14,7 @@ pub invariant_of-self : goal.invariant_of-self
 invariant_of-self g c = (
   c.self.invariant.0,
   c.self.invariant.1,
-  nothing_received g.S.Spread.owner _ c.pop.new.ins.items c.in_default.ensures.same.len c.in_default.ensures.none c.self.invariant.2,
+  nothing_received g.S.Spread.owner g.F.StateForm.values _ c.pop.new.ins.items c.in_default.ensures.same.len (c.in_default.ensures.none _) c.self.invariant.2,
 )
 
 pub invariant_of-self-then-not-is_for : goal.invariant_of-self-then-not-is_for
@@ -19,41 +22,55 @@ invariant_of-self-then-not-is_for g c =
     let many : c.len-owners.result ≡ length c.self.inside.owner.outboxes = omega (arith, c.len-owners.ensures, c.self.inside.outs.ok.0, c.self.invariant.2.outs) in (
       c.self.invariant.0,
       c.is_for.ensures.buffer ∙ c.self.invariant.1,
-      set_aside g.S.Spread.owner _ c.pop.new.ins.items c.args.from (message_of c.in-Some.message) c.self.invariant.2
-          (ap (λ (w : WorkerOf g.row.S.Denot). w.misfits) c.self.view_is ∙ c.requires.none_aside)
-          (unfit_as_read g.S.Spread.owner c.self.inside.owner c.space.result.now c.len-owners.result c.self.inside.number (message_of c.in-Some.message)
-          c.space.ensures many
-          c.self.invariant.0 (c.is_for.ensures.not c.if-not-is_for.true))
-          c.in-Some.ensures.same.len c.in-Some.ensures.some,
+      set_aside g.S.Spread.owner g.F.StateForm.values _ c.pop.new.ins.items c.args.from (message_of (g.F.StateForm.values (ranges c.self.inside.owner.space.task)) c.in-Some.message) c.self.invariant.2
+          (ap (λ (w : WorkerOf g.row.S.Denot g.row.F.Denot). w.misfits) c.self.view_is ∙ c.requires.none_aside)
+          (subst (λ (s : SpaceOf g.row.S.Denot). fits (space_of g.S.Spread.owner c.self.inside.owner) c.self.inside.owner.worker
+          (message_of (g.F.StateForm.values (ranges s.task)) c.in-Some.message) ≡ false) c.space.ensures
+          (unfit_as_read g.S.Spread.owner c.self.inside.owner c.space.result.now c.len-owners.result c.self.inside.number
+          (message_of (g.F.StateForm.values (ranges c.space.result.now.task)) c.in-Some.message) c.space.ensures many
+          c.self.invariant.0 (c.is_for.ensures.not c.if-not-is_for.true)))
+          c.in-Some.ensures.same.len (c.in-Some.ensures.some _),
     )
 
 pub returns-then-not-is_for-clause-received : goal.returns-then-not-is_for-clause-received
 returns-then-not-is_for-clause-received g c =
     let many : c.len-owners.result ≡ length c.self.inside.owner.outboxes = omega (arith, c.len-owners.ensures, c.self.inside.outs.ok.0, c.self.invariant.2.outs) in
     rw (← c.self.view_is)
-    (sets_aside g.S.Spread.owner _ c.pop.new.ins.items c.args.from (message_of c.in-Some.message)
-    (unfit_as_read g.S.Spread.owner c.self.inside.owner c.space.result.now c.len-owners.result c.self.inside.number (message_of c.in-Some.message)
-    c.space.ensures many
-    c.self.invariant.0 (c.is_for.ensures.not c.if-not-is_for.true))
-    c.in-Some.ensures.same c.pop.ensures.fewer c.in-Some.ensures.some)
+    (sets_aside g.F.StateForm.values g.S.Spread.owner _ c.pop.new.ins.items c.args.from (message_of (g.F.StateForm.values (ranges c.self.inside.owner.space.task)) c.in-Some.message)
+    (subst (λ (s : SpaceOf g.row.S.Denot). fits (space_of g.S.Spread.owner c.self.inside.owner) c.self.inside.owner.worker
+    (message_of (g.F.StateForm.values (ranges s.task)) c.in-Some.message) ≡ false) c.space.ensures
+    (unfit_as_read g.S.Spread.owner c.self.inside.owner c.space.result.now c.len-owners.result c.self.inside.number
+    (message_of (g.F.StateForm.values (ranges c.space.result.now.task)) c.in-Some.message) c.space.ensures many
+    c.self.invariant.0 (c.is_for.ensures.not c.if-not-is_for.true)))
+    c.in-Some.ensures.same (c.pop.ensures.fewer _) (c.in-Some.ensures.some _))
 
 pub invariant_of-self-2 : goal.invariant_of-self-2
 invariant_of-self-2 g c =
     let many : c.len-owners.result ≡ length c.self.inside.owner.outboxes = omega (arith, c.len-owners.ensures, c.self.inside.outs.ok.0, c.self.invariant.2.outs) in (
       c.self.invariant.0 ∙ sym c.in_default-take.ensures.worker,
       c.is_for.ensures.buffer ∙ (c.self.invariant.1 ∙ sym (ap (λ (s : SpaceOf g.row.S.Denot). length s.task.value_names) c.in_default-take.ensures.space)),
-      counted g.S.Spread.owner _ _ _ _
-          (received_one g.S.Spread.owner _ c.take.new.self c.pop.new.ins.items c.args.from (message_of c.in-Some.message) c.self.invariant.2
-          (fits_as_read g.S.Spread.owner c.self.inside.owner c.space.result.now c.len-owners.result c.self.inside.number (message_of c.in-Some.message)
-          c.space.ensures many
-          c.self.invariant.0 (c.is_for.ensures.state c.if-not-is_for.false) (c.is_for.ensures.owner c.if-not-is_for.false))
+      counted g.S.Spread.owner g.F.StateForm.values _ _ _ _
+          (received_one g.S.Spread.owner g.F.StateForm.values _ c.take.new.self _ c.pop.new.ins.items c.args.from
+          (message_of (g.F.StateForm.values (ranges c.self.inside.owner.space.task)) c.in-Some.message)
+          (ap (λ (s : SpaceOf g.row.S.Denot). misfits_of (g.F.StateForm.values (ranges s.task)) c.self.inside.misfit) c.in_default-take.ensures.space) c.self.invariant.2
+          (subst (λ (s : SpaceOf g.row.S.Denot). fits (space_of g.S.Spread.owner c.self.inside.owner) c.self.inside.owner.worker
+          (message_of (g.F.StateForm.values (ranges s.task)) c.in-Some.message) ≡ true) c.space.ensures
+          (fits_as_read g.S.Spread.owner c.self.inside.owner c.space.result.now c.len-owners.result c.self.inside.number
+          (message_of (g.F.StateForm.values (ranges c.space.result.now.task)) c.in-Some.message) c.space.ensures many
+          c.self.invariant.0 (c.is_for.ensures.state c.if-not-is_for.false) (c.is_for.ensures.owner c.if-not-is_for.false)))
           c.in_default-take.ensures.taken c.in_default-take.ensures.space c.in_default-take.ensures.worker c.in-Some.ensures.same.len
-          c.in-Some.ensures.some),
+          (c.in-Some.ensures.some _)),
     )
 
 pub returns-clause-received : goal.returns-clause-received
 returns-clause-received g c =
     rw (← c.self.view_is)
-    (takes_one g.S.Spread.owner _ c.take.new.self c.pop.new.ins.items c.args.from _ (message_of c.in-Some.message)
+    (takes_one g.F.StateForm.values g.S.Spread.owner _ c.take.new.self _ c.pop.new.ins.items c.args.from _
+    (message_of (g.F.StateForm.values (ranges c.self.inside.owner.space.task)) c.in-Some.message)
+    (ap (λ (s : SpaceOf g.row.S.Denot). misfits_of (g.F.StateForm.values (ranges s.task)) c.self.inside.misfit) c.in_default-take.ensures.space)
     c.in_default-take.ensures.taken c.in_default-take.ensures.space c.in_default-take.ensures.worker c.in_default-take.ensures.expansions
-    (add-one c.self.inside.taken) c.in-Some.ensures.same c.pop.ensures.fewer c.in-Some.ensures.some)
+    (add-one c.self.inside.taken) c.in-Some.ensures.same (c.pop.ensures.fewer _) (c.in-Some.ensures.some _))
+
+pub is_for-requires-clause-fits : goal.is_for-requires-clause-fits
+is_for-requires-clause-fits g c =
+    subst (λ (s : SpaceOf g.row.S.Denot). g.F.StateForm.Fits (ranges s.task)) (sym c.space.ensures) c.recall.ensures.fits

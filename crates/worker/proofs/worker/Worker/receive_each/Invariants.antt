@@ -2,4 +2,4 @@ use Rattle.worker.specs.Turns.{chained, ReceivesFrom}
 use Rattle.worker.proofs.worker.Worker.receive_each.Given as goal
 
 abbrev pub invariant-loop-from : goal.invariant-loop-from
-invariant-loop-from g l = chained (ReceivesFrom g.S.Spread.owner) l.from l.fn.self l.self
+invariant-loop-from g l = chained (ReceivesFrom g.S.Spread.owner g.F.StateForm.values) l.from l.fn.self l.self

@@ -2,4 +2,4 @@ use Rattle.worker.specs.Turns.{chained, SendsTo}
 use Rattle.worker.proofs.worker.Worker.send_each.Given as goal
 
 abbrev pub invariant-loop-to : goal.invariant-loop-to
-invariant-loop-to g l = chained SendsTo l.to l.fn.self l.self
+invariant-loop-to g l = chained (SendsTo g.F.StateForm.values) l.to l.fn.self l.self

@@ -9,42 +9,42 @@ use Rattle.worker.proofs.worker.Worker.turn.Goals as goal
 
 pub returns-then-not-branch-clause-none_uncounted : goal.returns-then-not-branch-clause-none_uncounted
 returns-then-not-branch-clause-none_uncounted g c =
-    stopped_uncounted g.S.Spread.owner _ _
-    (subst (λ (all : Bool). HasReceivedEach g.S.Spread.owner c.args.self.now c.receive_each.new.self all) c.if-not-branch.true
+    stopped_uncounted g.S.Spread.owner g.F.StateForm.values _ _
+    (subst (λ (all : Bool). HasReceivedEach g.S.Spread.owner g.F.StateForm.values c.args.self.now c.receive_each.new.self all) c.if-not-branch.true
     c.in_ok-receive_each.ensures.received)
     ∙ c.requires.none_uncounted
 
 pub expand-requires : goal.expand-requires
 expand-requires g c =
-    ap (λ (w : WorkerOf g.row.S.Denot). w.uncounted) c.look.ensures.looked.worker
-    ∙ ((receives_keep g.S.Spread.owner _ _ _
-    (subst (λ (all : Bool). HasReceivedEach g.S.Spread.owner c.args.self.now c.receive_each.new.self all) c.if-not-branch.false
+    ap (λ (w : WorkerOf g.row.S.Denot g.row.F.Denot). w.uncounted) c.look.ensures.looked.worker
+    ∙ ((receives_keep g.S.Spread.owner g.F.StateForm.values _ _ _
+    (subst (λ (all : Bool). HasReceivedEach g.S.Spread.owner g.F.StateForm.values c.args.self.now c.receive_each.new.self all) c.if-not-branch.false
     c.in_ok-receive_each.ensures.received)).uncounted
     ∙ c.requires.none_uncounted)
 
 pub returns-in_err-_posted-clause-refused : goal.returns-in_err-_posted-clause-refused
 returns-in_err-_posted-clause-refused g c =
     let p = err_from_is_err_and c.from_residual-in_err-_posted.result c.from_residual-in_err-_posted.ensures.1 in
-    rw (p.1, p.2) (refused_turn g.S.Spread.owner c.args.self.now c.receive_each.new.self c.look.new.self c.expand.new.self _ _ c.in_err-_posted.field-0.0
-    (subst (λ (all : Bool). HasReceivedEach g.S.Spread.owner c.args.self.now c.receive_each.new.self all) c.if-not-branch.false
+    rw (p.1, p.2) (refused_turn g.S.Spread.owner g.F.StateForm.values c.args.self.now c.receive_each.new.self c.look.new.self c.expand.new.self _ _ c.in_err-_posted.field-0.0
+    (subst (λ (all : Bool). HasReceivedEach g.S.Spread.owner g.F.StateForm.values c.args.self.now c.receive_each.new.self all) c.if-not-branch.false
     c.in_ok-receive_each.ensures.received)
     c.look.ensures.looked c.in_err-_posted.ensures.refused)
 
 pub returns-in_err-_posted-clause-none_uncounted : goal.returns-in_err-_posted-clause-none_uncounted
 returns-in_err-_posted-clause-none_uncounted g c =
-    refused_uncounted g.S.Spread.owner c.look.new.self c.expand.new.self c.in_err-_posted.field-0.0 c.in_err-_posted.ensures.refused
-    ∙ (ap (λ (w : WorkerOf g.row.S.Denot). w.uncounted) c.look.ensures.looked.worker
-    ∙ ((receives_keep g.S.Spread.owner _ _ _
-    (subst (λ (all : Bool). HasReceivedEach g.S.Spread.owner c.args.self.now c.receive_each.new.self all) c.if-not-branch.false
+    refused_uncounted g.S.Spread.owner g.F.StateForm.values c.look.new.self c.expand.new.self c.in_err-_posted.field-0.0 c.in_err-_posted.ensures.refused
+    ∙ (ap (λ (w : WorkerOf g.row.S.Denot g.row.F.Denot). w.uncounted) c.look.ensures.looked.worker
+    ∙ ((receives_keep g.S.Spread.owner g.F.StateForm.values _ _ _
+    (subst (λ (all : Bool). HasReceivedEach g.S.Spread.owner g.F.StateForm.values c.args.self.now c.receive_each.new.self all) c.if-not-branch.false
     c.in_ok-receive_each.ensures.received)).uncounted
     ∙ c.requires.none_uncounted))
 
 pub returns-clause-turned : goal.returns-clause-turned
 returns-clause-turned g c =
-    as_turn g.S.Spread.owner _ _ _ _ c.next_turn.result c.next_turn.ensures.turn
+    as_turn g.S.Spread.owner g.F.StateForm.values _ _ _ _ c.next_turn.result c.next_turn.ensures.turn
     (record {
       received = c.receive_each.new.self;
-      receives = subst (λ (all : Bool). HasReceivedEach g.S.Spread.owner c.args.self.now c.receive_each.new.self all) c.if-not-branch.false
+      receives = subst (λ (all : Bool). HasReceivedEach g.S.Spread.owner g.F.StateForm.values c.args.self.now c.receive_each.new.self all) c.if-not-branch.false
           c.in_ok-receive_each.ensures.received;
       looked = c.look.new.self;
       view_looked = view c.look.new.seat;
@@ -66,5 +66,5 @@ returns-clause-turned g c =
 
 pub returns-clause-none_uncounted : goal.returns-clause-none_uncounted
 returns-clause-none_uncounted g c =
-    counted_uncounted g.S.Spread.owner _ _ _ _ _ _ _ _ _ c.add_posted.ensures.added c.offer.ensures.offered c.send_each.ensures
+    counted_uncounted g.S.Spread.owner g.F.StateForm.values _ _ _ _ _ _ _ _ _ c.add_posted.ensures.added c.offer.ensures.offered c.send_each.ensures
     c.count_taken.ensures.counted

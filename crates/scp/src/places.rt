@@ -1,0 +1,119 @@
+//! The places of a state in the tables of columns.
+
+ghost use Rattle.std.specs.Prelude.{◌≡◌, ℕ, List, ◌^◌, true, length, Some, All, IfOk};
+ghost use Rattle.cost.specs.Distances.{IsWithin};
+ghost use Rattle.fdr.specs.Tasks.{ranges, step, IsState};
+ghost use Rattle.checker_clauses.specs.Clauses.{heuristic_of};
+ghost use Rattle.scp.specs.Flats.{most_in, blocks_in};
+ghost use Rattle.scp.specs.Places.{AreIndices, AreTouches, first_rows};
+ghost use Rattle.scp.specs.Rows.{AreOf, blocks_value};
+
+use crate::columns::Columns;
+use crate::flat::{Flat, enter_flat, flat_value_after, pattern_count};
+use cost::Dist;
+use std::alloc::{AllocError, Global};
+use std::marker::Model;
+
+/// The places of a state in the tables of columns, with which the heuristic of a successor is computed from what its
+/// operator changes. It serves for one state after the other. In contracts its value is the task, the tables and the
+/// state.
+#[derive(Drop)]
+pub struct Places<'a> {
+    columns: &'a Columns<'a>,
+    flat: &'a Flat<'a>,
+    touches: &'a [Vec<bool>],
+    state: Vec<u32>,
+    /// The abstract states of the state, one for each pattern, once they are entered.
+    indices: Vec<usize>,
+    are_entered: bool,
+    ghost flat_of_task: { All (λ b. AreOf columns.now.task b.items) (blocks_in flat.now) },
+    ghost flat_value: { (s : List ℕ) → IsState (ranges columns.now.task) s →
+        blocks_value (most_in flat.now) s (blocks_in flat.now) ≡ heuristic_of columns.now.task columns.now.columns s },
+    ghost touches_are: { AreTouches (length columns.now.task.operators) (first_rows (blocks_in flat.now)) touches.now },
+}
+
+impl<'a> Model for Places<'a> {
+    ghost use Rattle.scp.specs.Flats.{blocks_in};
+    ghost use Rattle.scp.specs.Places.{PlacesOf, AreEntered, first_rows};
+
+    ghost Value = { PlacesOf };
+
+    ghost view = { λ p. record { task = p.columns.now.task; columns = p.columns.now.columns; state = p.state.items } };
+
+    ghost invariant = { λ p. AreEntered p.columns.now.task (first_rows (blocks_in p.flat.now)) p.state.items p.indices.items p.are_entered };
+}
+
+/// Enters the abstract states of a state, one for each pattern of the first block, unless they are entered.
+fn enter_once(flat: &Flat<'_>, state: &[u32], indices: &mut [usize], are_entered: bool)
+    requires state { All (λ p. IsState (ranges p.task) state.now) (first_rows (blocks_in flat.now)) }
+    requires len { length indices.old ≡ length (first_rows (blocks_in flat.now)) }
+    requires entered { are_entered ≡ true → AreIndices indices.old state.now (first_rows (blocks_in flat.now)) }
+    ensures len { length indices.new ≡ length (first_rows (blocks_in flat.now)) }
+    ensures each { AreIndices indices.new state.now (first_rows (blocks_in flat.now)) }
+{
+    if !are_entered {
+        enter_flat(flat, state, indices);
+    }
+}
+
+impl<'a> Places<'a> {
+    /// The places of the initial state. Fails only if allocation fails.
+    pub(crate) fn new(
+        alloc: Global,
+        columns: &'a Columns<'a>,
+        flat: &'a Flat<'a>,
+        touches: &'a [Vec<bool>],
+    ) -> Result<Places<'a>, AllocError>
+        requires of_task { All (λ b. AreOf columns.now.task b.items) (blocks_in flat.now) }
+        requires value { (s : List ℕ) → IsState (ranges columns.now.task) s →
+            blocks_value (most_in flat.now) s (blocks_in flat.now) ≡ heuristic_of columns.now.task columns.now.columns s }
+        requires touches { AreTouches (length columns.now.task.operators) (first_rows (blocks_in flat.now)) touches.now }
+        ensures { IfOk result (λ p. p ≡ record { task = columns.now.task; columns = columns.now.columns; state = columns.now.task.initial }) }
+    {
+        let task = columns.task();
+        let state = Vec::from_slice(alloc, task.initial())?;
+        let indices = vec![in alloc; 0; pattern_count(flat)]?;
+        Ok(Places {
+            columns,
+            flat,
+            touches,
+            state,
+            indices,
+            are_entered: false,
+        })
+    }
+
+    /// Returns the state.
+    pub fn state(&self) -> &[u32]
+        ensures { result.now ≡ self.now.state }
+    {
+        &self.state
+    }
+
+    /// Enters a state in place of the one before. No memory is allocated.
+    pub fn enter(&mut self, state: &[u32])
+        requires { IsState (ranges self.old.task) state.now }
+        ensures { self.new ≡ record self.old { state = state.now } }
+    {
+        self.state.copy_from_slice(state);
+        self.are_entered = false;
+    }
+
+    /// Returns the estimate of the columns for the successor of the state by the operator, as `Columns::h` gives it. The
+    /// abstract states of the state are computed at the first call after `enter`, and later ones compute anew only those of
+    /// patterns that the operator touches. No memory is allocated.
+    pub fn h_after(&mut self, operator: usize, successor: &[u32]) -> Dist
+        requires { step self.old.task self.old.state operator ≡ Some successor.now }
+        ensures value { result ≡ heuristic_of self.old.task self.old.columns successor.now }
+        ensures small { IsWithin (2 ^ 61) result }
+        ensures same { self.new ≡ self.old }
+    {
+        let columns = self.columns;
+        let touches = self.touches;
+        columns.recall();
+        columns.task().recall(); // a successor of a state is a state
+        enter_once(self.flat, &self.state, &mut self.indices, self.are_entered);
+        self.are_entered = true;
+        flat_value_after(self.flat, &touches[operator], &self.indices, successor)
+    }
+}
