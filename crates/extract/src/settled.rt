@@ -160,12 +160,13 @@ pub(crate) fn lower_bound<'a, S: Spread + Drop, F: StateForm + Drop>(
     alloc: Global,
     space: &Space<'a, S>,
     owners: &[Owner<'a, S, F>],
-    left: &[VecDeque<Packet>],
+    left: &[VecDeque<Packet<F>>],
 ) -> Result<Dist, AllocError>
-    requires { IsForm (record { space = space.now; owners = owners.now; left = all_packets left.now }) }
-    ensures { IfOk result (λ bound. bound ≡ lower_bound S.owner (record { space = space.now; owners = owners.now; left = all_packets left.now })) }
+    requires { IsForm (record { space = space.now; owners = owners.now; left = all_packets (F.values (ranges space.now.task)) left.now }) }
+    ensures { IfOk result (λ bound. bound ≡ lower_bound S.owner (record { space = space.now; owners = owners.now; left = all_packets (F.values (ranges space.now.task)) left.now })) }
 {
     let mut state = vec![in alloc; 0u32; space.task().variable_count()]?;
+    owners[0].recall(); // states of the task have the form
     let pending = least_pending(space, owners, left, &mut state);
     Ok(stated(best_goal(owners).min(pending)))
 }
