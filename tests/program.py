@@ -8,6 +8,7 @@ import unittest
 
 # The seconds after which a run is ended, and fails.
 SECONDS_OF_A_RUN = 60
+EXAMPLES = os.path.join(os.path.dirname(os.path.dirname(os.path.abspath(__file__))), "examples")
 
 
 @dataclasses.dataclass(frozen=True)
@@ -45,6 +46,12 @@ def written(folder, given):
         if given.get(name) != text:
             found[name] = text
     return found
+
+
+def example(task, name):
+    """The text of a file of an example task."""
+    with open(os.path.join(EXAMPLES, task, name), encoding="ascii") as file:
+        return file.read()
 
 
 def validated(domain, problem, plan=""):
