@@ -7,7 +7,6 @@ SMALL_TASKS = ("blocks", "door", "drive", "grip", "gripper", "lamp", "noop", "ro
 
 STOPPED = 5
 
-
 ROAD, R1 = example("road", "domain.pddl"), example("road", "problem.pddl")
 DRIVE, D1 = example("drive", "domain.pddl"), example("drive", "problem.pddl")
 
