@@ -2,6 +2,7 @@
 
 import dataclasses
 import os
+import resource
 import subprocess
 import tempfile
 import unittest
@@ -25,15 +26,17 @@ def as_bytes(text):
     return text.encode() if isinstance(text, str) else text
 
 
-def run(*words, files=None):
-    """The outcome of the program with these words, in a folder that has these files: texts or bytes by their names."""
+def run(*words, files=None, memory=None):
+    """The outcome of the program with these words, in a folder that has these files: texts or bytes by their names. Its addresses take at most
+    `memory` bytes, if these are given."""
     given = {name: as_bytes(text) for name, text in (files or {}).items()}
     with tempfile.TemporaryDirectory(prefix="optplan-test-") as folder:
         for name, text in given.items():
             with open(os.path.join(folder, name), "wb") as file:
                 file.write(text)
+        cap = memory and (lambda: resource.setrlimit(resource.RLIMIT_AS, (memory, memory)))
         ended = subprocess.run([os.environ["OPTPLAN"], *words], cwd=folder, stdin=subprocess.DEVNULL, stdout=subprocess.PIPE,
-                               stderr=subprocess.PIPE, timeout=SECONDS_OF_A_RUN, check=False)
+                               stderr=subprocess.PIPE, timeout=SECONDS_OF_A_RUN, check=False, preexec_fn=cap)
         return Outcome(ended.stdout, ended.stderr, ended.returncode, written(folder, given))
 
 
