@@ -1,5 +1,5 @@
 use Rattle.std.proofs.Common.{◌≡◌, length, ap, sym, ◌∙◌}
-use Rattle.std.proofs.lemmas.List.{with_items_is}
+use Rattle.std.proofs.lemmas.List.{take_all, with_items_is}
 use Rattle.owner.specs.Owned.{space_of}
 use Rattle.cert.specs.Expanded.{listed}
 use Rattle.cert.proofs.ExpandedLists.{one_owner_more}
@@ -22,3 +22,6 @@ loop-owner-preserved g c =
           one_kept_more c.args.owners.now i o c.loop-owner-test.true c.owner-item.is (space_of g.S.Spread.owner c.owner-item.result) c.owner-item.result.worker c.recall.ensures.nodes
           c.loop-owner.invariant.cheap;
     }
+
+pub returns-clause-cheap : goal.returns-clause-cheap
+returns-clause-cheap g c = rw (take_all c.loop-owner.owner-index c.args.owners.now c.loop-owner-test.false) at c.loop-owner.invariant.cheap
