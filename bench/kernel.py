@@ -4,9 +4,10 @@
     kernel.py MEASURE_SEARCH BASELINE FILE..
 
 MEASURE_SEARCH is the program that `rt run` in crates/bench_search has built. BASELINE is a planner that takes the words `blind FILE` or
-`pdb FILE`, makes the same tables, and prints lines `expanded N`, `states N`, `seconds_search S` and `peak_memory_kb N`. Each FILE is an output.sas.
-Each task is searched blind and with tables of at most 100,000 abstract states, by one owner. BASELINE searches until it has a plan;
-MEASURE_SEARCH expands as many nodes as that, with no bound that ends its search. Runs of both alternate. A line for each search has
+`pdb FILE`, makes the same tables, ends after the seconds of `--time` at the latest, and prints lines `expanded N`, `states N`, `seconds_search S` and
+`peak_memory_kb N`. Each FILE is an output.sas. Each task is searched blind and with tables of at most 100,000 abstract states, by one owner. BASELINE
+searches until it has a plan, or for five seconds; MEASURE_SEARCH expands as many nodes as that, with no bound that ends its search. Runs of
+both alternate. A line for each search has
 
     task        the file's name
     tables      whether there are tables
@@ -15,10 +16,10 @@ MEASURE_SEARCH expands as many nodes as that, with no bound that ends its search
     baseline    nodes that BASELINE expands in a second, in thousands
     ratio       ours divided by baseline
     bytes       resident memory at most, beyond that of a run with one expansion, divided by the states that are kept
-    baseline    memory of BASELINE at most, beyond that of its own run for one state, divided by its states
+    baseline    memory of BASELINE at most, with all that it keeps beside states, divided by its states
 
-and the last lines the medians of the ratios and of the bytes. A search of fewer than 20,000 expansions is left out, and one that BASELINE does not
-end within a minute. Figures are only printed; the status is 1 where a program fails.
+and the last lines the medians of the ratios and of the bytes. A search is left out that has fewer than 20,000 expansions, or takes less than 0.05
+seconds more than a run with one expansion. Figures are only printed; the status is 1 where a program fails, or takes more than a minute.
 """
 
 import os
@@ -30,7 +31,9 @@ import time
 
 RUNS = 3
 TABLE = 100_000
+SECONDS = "5"
 FEWEST = 20_000
+LEAST_SECONDS = 0.05
 CAP = 60
 RESIDENT_UNIT = 1 if sys.platform == "darwin" else 1024
 
@@ -53,9 +56,8 @@ class Baseline:
     """The fastest of some runs of the other planner on a task."""
 
     def __init__(self, program, file, with_tables):
-        self.words = [program, "pdb" if with_tables else "blind", file, "--quiet"]
+        self.words = [program, "pdb" if with_tables else "blind", file, "--quiet", "--time", SECONDS]
         self.seconds, self.expanded, self.states, self.peak = float("inf"), 0, 0, 0
-        self.first = int(self.told([*self.words, "--states", "1"]).get("peak_memory_kb", 0)) * 1024
 
     def told(self, words):
         """What a run prints, by its first words, and nothing where it did not end."""
@@ -75,7 +77,7 @@ class Baseline:
         return self.expanded / max(self.seconds, 1e-4)
 
     def bytes(self):
-        return (self.peak - self.first) / self.states
+        return self.peak / self.states
 
 
 class Ours:
@@ -104,7 +106,9 @@ def measure(program, baseline, file, with_tables):
     for _ in range(RUNS):
         if not (other.run() and one.run() and all_steps.run()):
             return False
-    rate = all_steps.steps / max(all_steps.seconds - one.seconds, 1e-4)
+    if all_steps.seconds - one.seconds < LEAST_SECONDS:
+        return None
+    rate = all_steps.steps / (all_steps.seconds - one.seconds)
     size = (all_steps.peak - one.peak) / max(all_steps.kept, 1)
     name = os.path.splitext(os.path.basename(file))[0]
     print(f"{name:<20} {'yes' if with_tables else 'no':>6} {other.expanded:>9,} {rate / 1e3:>8,.0f} {other.rate() / 1e3:>8,.0f} "
