@@ -154,7 +154,6 @@ pub fn make_columns<'a, R: Threads + Sync>(
     ensures task { IfOk result (λ c. c.task ≡ task.now) }
     ensures made { IfOk result (λ c. AllZip (IsMadeFrom task.now) (map patterns_of orders.now) c.columns) }
 {
-    task.recall();
     let columns = columns_from(rt, alloc, task, orders)?;
     let flat = make_flat(alloc, task, &columns)?;
     let touches = touches_in(alloc, &flat, task.operator_count())?;
