@@ -1,3 +1,4 @@
 pub mod Bounds
 pub mod DigitLaws
+pub mod FactLaws
 pub mod PatternLaws

@@ -17,6 +17,7 @@ use sasfile::read_sas;
 use scp::{Columns, choose_columns, make_columns};
 use std::alloc::{AllocError, Global};
 use std::process::ExitCode;
+use std::thread::Threads;
 
 /// The greatest number of owners.
 const MAX_OWNERS: usize = 64;
@@ -34,22 +35,32 @@ struct Amounts {
 }
 
 /// Columns with tables of at most `table` abstract states, and no column if that is 0. Fails only if allocation fails.
-fn columns_of<'a>(alloc: Global, task: &'a FdrTask, table: usize) -> Result<Columns<'a>, AllocError>
+fn columns_of<'a, R: Threads + Sync>(
+    rt: &R,
+    alloc: Global,
+    task: &'a FdrTask,
+    table: usize,
+) -> Result<Columns<'a>, AllocError>
     requires { table ≤ 2 ^ 24 }
     ensures { IfOk result (λ columns. columns.task ≡ task.now) }
 {
     if table == 0 {
-        return make_columns(alloc, task, &[]);
+        return make_columns(rt, alloc, task, &[]);
     }
-    choose_columns(alloc, task, table)
+    choose_columns(rt, alloc, task, table)
 }
 
 /// The line for the search of a task.
-fn searched<'a>(alloc: Global, task: &'a FdrTask, amounts: Amounts) -> Result<String, OwnerFault>
+fn searched<'a, R: Threads + Sync>(
+    rt: &R,
+    alloc: Global,
+    task: &'a FdrTask,
+    amounts: Amounts,
+) -> Result<String, OwnerFault>
     requires table { amounts.table ≤ 2 ^ 24 }
     requires owners { 1 ≤ amounts.owners }
 {
-    let columns = columns_of(alloc, task, amounts.table)?;
+    let columns = columns_of(rt, alloc, task, amounts.table)?;
     let spread = Zobrist::new(alloc, task)?;
     let space: Space<'a, Zobrist<'a>> = Space::new(alloc, task, columns, spread, None)?;
     if amounts.owners == 1 {
@@ -60,14 +71,19 @@ fn searched<'a>(alloc: Global, task: &'a FdrTask, amounts: Amounts) -> Result<St
 }
 
 /// The line that the program prints. `None` if the text spells no task, or an amount is out of range.
-fn answer(alloc: Global, text: &[u8], amounts: Amounts) -> Result<Option<String>, OwnerFault> {
+fn answer<R: Threads + Sync>(
+    rt: &R,
+    alloc: Global,
+    text: &[u8],
+    amounts: Amounts,
+) -> Result<Option<String>, OwnerFault> {
     let Ok(task) = read_sas(alloc, text) else {
         return Ok(None);
     };
     if amounts.owners < 1 || amounts.owners > MAX_OWNERS || amounts.table > MAX_TABLE {
         return Ok(None);
     }
-    Ok(Some(searched(alloc, &task, amounts)?))
+    Ok(Some(searched(rt, alloc, &task, amounts)?))
 }
 
 /// The three amounts of the command line.
@@ -83,7 +99,12 @@ fn amounts_of(owners: &str, steps: &str, table: &str) -> Option<Amounts> {
 }
 
 /// Prints the answer for a file and three numbers, and returns whether it did.
-fn put_answer<D: Device>(alloc: Global, device: &mut D, words: &[String]) -> bool {
+fn put_answer<D: Device, R: Threads + Sync>(
+    rt: &R,
+    alloc: Global,
+    device: &mut D,
+    words: &[String],
+) -> bool {
     let [_, task, owners, steps, table] = words else {
         return false;
     };
@@ -93,7 +114,7 @@ fn put_answer<D: Device>(alloc: Global, device: &mut D, words: &[String]) -> boo
     let Ok(text) = device.read(alloc, task.as_str()) else {
         return false;
     };
-    match answer(alloc, &text, amounts) {
+    match answer(rt, alloc, &text, amounts) {
         Ok(Some(line)) => device.out(line.as_bytes()).is_ok(),
         _ => false,
     }
@@ -108,7 +129,7 @@ fn main(rt: HostRuntime) -> ExitCode {
         Err(_) => return ExitCode::from(6),
     };
     let mut device = ProcessDevice::new(&rt);
-    if put_answer(rt.alloc(), &mut device, &words) {
+    if put_answer(&rt, rt.alloc(), &mut device, &words) {
         ExitCode::from(0)
     } else {
         ExitCode::from(1)

@@ -14,6 +14,7 @@ use sasfile::read_sas;
 use scp::{Columns, choose_columns};
 use std::alloc::{AllocError, Global};
 use std::process::ExitCode;
+use std::thread::Threads;
 
 /// The greatest of `times` lower bounds, of one state after the other and then again from the first.
 fn greatest_bound(columns: &Columns<'_>, states: &[Vec<u32>], times: usize) -> Dist
@@ -37,7 +38,8 @@ fn table_count(columns: &Columns<'_>) -> usize {
 }
 
 /// The line that the program prints. `None` if the text spells no task, or the limit is out of range.
-fn answer(
+fn answer<R: Threads + Sync>(
+    rt: &R,
     alloc: Global,
     text: &[u8],
     limit: usize,
@@ -49,7 +51,7 @@ fn answer(
     if limit < 1 || limit > 16_777_216 {
         return Ok(None);
     }
-    let columns = choose_columns(alloc, &task, limit)?;
+    let columns = choose_columns(rt, alloc, &task, limit)?;
     let states = draw_states(alloc, &task)?;
     let tables = table_count(&columns);
     let initial = columns.h(task.initial());
@@ -61,7 +63,12 @@ fn answer(
 }
 
 /// Prints the answer for a file and two numbers, and returns whether it did.
-fn put_answer<D: Device>(alloc: Global, device: &mut D, words: &[String]) -> bool {
+fn put_answer<D: Device, R: Threads + Sync>(
+    rt: &R,
+    alloc: Global,
+    device: &mut D,
+    words: &[String],
+) -> bool {
     let [_, task, limit, times] = words else {
         return false;
     };
@@ -71,7 +78,7 @@ fn put_answer<D: Device>(alloc: Global, device: &mut D, words: &[String]) -> boo
     let Ok(text) = device.read(alloc, task.as_str()) else {
         return false;
     };
-    match answer(alloc, &text, limit, times) {
+    match answer(rt, alloc, &text, limit, times) {
         Ok(Some(line)) => device.out(line.as_bytes()).is_ok(),
         _ => false,
     }
@@ -86,7 +93,7 @@ fn main(rt: HostRuntime) -> ExitCode {
         Err(_) => return ExitCode::from(6),
     };
     let mut device = ProcessDevice::new(&rt);
-    if put_answer(rt.alloc(), &mut device, &words) {
+    if put_answer(&rt, rt.alloc(), &mut device, &words) {
         ExitCode::from(0)
     } else {
         ExitCode::from(1)

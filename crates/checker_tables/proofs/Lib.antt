@@ -1,6 +1,5 @@
 pub mod ReachLaws
 pub mod MoveLaws
-pub mod FactLaws
 pub mod PatternMoves
 pub mod FormLaws
 pub mod BoundLaws

@@ -13,13 +13,14 @@ use Rattle.abstraction.specs.declared.digit.Digit.{Digit}
 use Rattle.abstraction.specs.Digits.{digits_from, IsDigitBelow}
 use Rattle.abstraction.specs.Projections.{Projection, AllExist, size_of, agrees, value_after, index_after}
 use Rattle.abstraction.specs.ProjectionLaws.{quotient, remainder, positive, index_after_below}
+use Rattle.abstraction.specs.Facts.{value_in}
 use Rattle.abstraction.proofs.DigitLaws.{Rising, rising_from, size_positive}
 use Rattle.abstraction.proofs.PatternLaws.{ranges_positive, size_more, length-digits_from, digit_from, found_below}
 use Rattle.checker_tables.specs.declared.moves.FreeDigit.{FreeDigit}
 use Rattle.checker_tables.specs.declared.moves.Moves.{Moves}
-use Rattle.checker_tables.specs.Moves.{value_in, Reaches, Leads, IsExtended, AreMoves}
+use Rattle.checker_tables.specs.Moves.{Reaches, Leads, IsExtended, AreMoves}
 use Rattle.checker_tables.proofs.ReachLaws.{start_reached}
-use Rattle.checker_tables.proofs.FactLaws.{value_fits, conditions_met, effect_gives, facts_told, agree_on_none}
+use Rattle.abstraction.proofs.FactLaws.{value_fits, conditions_met, effect_gives, facts_told, agree_on_none}
 
 module _ (ranges : List ℕ) (precondition effect : List Fact) where
   -- no digit: one transition, from 0 to 0

@@ -1,16 +1,12 @@
 -- The pairs of abstract states between which an operator leads, told by the digits that it leaves free.
-use Rattle.std.specs.Prelude.{◌≡◌, ℕ, ◌+◌, ◌*◌, ◌<◌, ◌≤◌, ◌↔◌, Bool, true, false, List, [], ◌∷◌, Option, All, IfSome, option_map, unwrap_or, nat_eq}
-use Rattle.std.specs.List.{list_all, find}
+use Rattle.std.specs.Prelude.{◌≡◌, ℕ, ◌+◌, ◌*◌, ◌<◌, ◌≤◌, ◌↔◌, Bool, true, false, List, [], ◌∷◌, Option, All, IfSome, unwrap_or}
+use Rattle.std.specs.List.{list_all}
 use Rattle.fdr.specs.declared.fact.Fact.{Fact}
 use Rattle.abstraction.specs.declared.digit.Digit.{Digit}
 use Rattle.abstraction.specs.Abstractions.{Abstraction}
 use Rattle.abstraction.specs.Projections.{size_of, agrees, index_after}
 use Rattle.checker_tables.specs.declared.moves.FreeDigit.{FreeDigit}
 use Rattle.checker_tables.specs.declared.moves.Moves.{Moves}
-
--- the value of the first fact on the variable, if there is one
-abbrev pub value_in : List Fact → ℕ → Option ℕ
-value_in facts v = option_map (λ f. f.value) (find (λ f. nat_eq f.variable v) facts)
 
 -- values at the free digits lead from this source and target to these
 abbrev pub Reaches : List FreeDigit → ℕ → ℕ → ℕ → ℕ → Type 0

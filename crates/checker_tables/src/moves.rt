@@ -4,6 +4,7 @@ ghost use Rattle.std.specs.Prelude.{◌≡◌, ℕ, ◌+◌, ◌*◌, ◌^◌, �
 ghost use Rattle.fdr.specs.Tasks.{ranges, IsTask, IsAssignment};
 ghost use Rattle.abstraction.specs.Digits.{IsDigitBelow};
 ghost use Rattle.checker_tables.specs.Moves.{Reaches, Leads, IsExtended, AreMoves, IsGathered};
+ghost use Rattle.abstraction.specs.Facts as fact;
 ghost use Rattle.checker_tables.specs.Moves as spec;
 
 use abstraction::{Digit, Projection};
@@ -54,7 +55,7 @@ pub(crate) struct Moves {
 
 /// The value of the first fact on the variable, if there is one.
 fn value_in(facts: &[Fact], variable: usize) -> Option<u32>
-    ensures { result ≡ spec.value_in facts.now variable }
+    ensures { result ≡ fact.value_in facts.now variable }
 {
     facts
         .iter()

@@ -135,7 +135,7 @@ fn answer_texts(
 /// Fails with the fault of the texts that comes first, with `GroundLimit` or `TaskTooLarge` if the task or its
 /// translation exceeds a limit, with `TotalTooLarge` if a path would have a cost or a number of actions above 2^62, or if
 /// allocation fails.
-pub fn solve_steps<R: AllocGlobal>(
+pub fn solve_steps<R: AllocGlobal + Threads + Sync>(
     rt: &R,
     domain: &[u8],
     problem: &[u8],
@@ -147,14 +147,14 @@ pub fn solve_steps<R: AllocGlobal>(
 {
     let alloc = rt.alloc();
     let Prepared { translated, kind } = prepare(alloc, domain, problem)?;
-    let found = found_after(alloc, translated.task(), options, steps, kind)?;
+    let found = found_after(rt, alloc, translated.task(), options, steps, kind)?;
     Ok(answer_texts(alloc, &translated, found)?)
 }
 
 /// The answer for the task that the texts spell, after steps drawn from the seed, at most as many as the options allow:
 /// each is the step whose number is the next word of Xoshiro256++ modulo the number of steps that would change something.
 /// The guarantees are those of `solve_steps` for these steps.
-pub fn simulate<R: AllocGlobal>(
+pub fn simulate<R: AllocGlobal + Threads + Sync>(
     rt: &R,
     domain: &[u8],
     problem: &[u8],
@@ -166,7 +166,7 @@ pub fn simulate<R: AllocGlobal>(
 {
     let alloc = rt.alloc();
     let Prepared { translated, kind } = prepare(alloc, domain, problem)?;
-    let found = found_by_seed(alloc, translated.task(), options, seed, kind)?;
+    let found = found_by_seed(rt, alloc, translated.task(), options, seed, kind)?;
     Ok(answer_texts(alloc, &translated, found)?)
 }
 

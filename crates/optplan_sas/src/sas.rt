@@ -130,7 +130,7 @@ fn answer_texts(alloc: Global, task: &FdrTask, found: Found) -> Result<SasAnswer
 ///
 /// Fails with the first fault of the text, with `TotalTooLarge` if a path would have a cost or a number of operators
 /// above 2^62, or if allocation fails.
-pub fn solve_sas_steps<R: AllocGlobal>(
+pub fn solve_sas_steps<R: AllocGlobal + Threads + Sync>(
     rt: &R,
     sas: &[u8],
     options: &Options,
@@ -141,14 +141,14 @@ pub fn solve_sas_steps<R: AllocGlobal>(
 {
     let alloc = rt.alloc();
     let task = read_task(alloc, sas)?;
-    let found = found_after(alloc, &task, options, steps, CertificateKind::Sas)?;
+    let found = found_after(rt, alloc, &task, options, steps, CertificateKind::Sas)?;
     Ok(answer_texts(alloc, &task, found)?)
 }
 
 /// The answer for the task that the text spells, after steps drawn from the seed, at most as many as the options allow:
 /// each is the step whose number is the next word of Xoshiro256++ modulo the number of steps that would change something.
 /// The guarantees are those of `solve_sas_steps` for these steps.
-pub fn simulate_sas<R: AllocGlobal>(
+pub fn simulate_sas<R: AllocGlobal + Threads + Sync>(
     rt: &R,
     sas: &[u8],
     options: &Options,
@@ -159,7 +159,7 @@ pub fn simulate_sas<R: AllocGlobal>(
 {
     let alloc = rt.alloc();
     let task = read_task(alloc, sas)?;
-    let found = found_by_seed(alloc, &task, options, seed, CertificateKind::Sas)?;
+    let found = found_by_seed(rt, alloc, &task, options, seed, CertificateKind::Sas)?;
     Ok(answer_texts(alloc, &task, found)?)
 }
 

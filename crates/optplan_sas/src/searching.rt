@@ -25,14 +25,15 @@ use std::time::Clock;
 
 /// The search space for a task: columns of tables of the size that the options allow, and a spread of the states by a
 /// hash. Fails only if allocation fails.
-fn space_for<'a>(
+fn space_for<'a, R: Threads + Sync>(
+    rt: &R,
     alloc: Global,
     task: &'a FdrTask,
     options: &Options,
 ) -> Result<Space<'a, Zobrist<'a>>, AllocError>
     ensures { IfOk result (IsSpaceFor task.now options.now) }
 {
-    let columns = choose_columns(alloc, task, options.table())?;
+    let columns = choose_columns(rt, alloc, task, options.table())?;
     let spread = Zobrist::new(alloc, task)?;
     Space::new(alloc, task, columns, spread, options.limit())
 }
@@ -169,7 +170,8 @@ fn by_threads_in_smallest_form<'a, R: Threads + Wait + Clock + Sync, G: Gate + S
 /// than its limit allows.
 ///
 /// Fails with `TotalTooLarge` if a path would have a cost or a number of operators above 2^62, or if allocation fails.
-pub fn found_after<'a>(
+pub fn found_after<'a, R: Threads + Sync>(
+    rt: &R,
     alloc: Global,
     task: &'a FdrTask,
     options: &Options,
@@ -179,7 +181,7 @@ pub fn found_after<'a>(
     ensures found { IfOk result (IsFinding task.now (kind_of kind) (EndsAfter options.now steps.now task.now)) }
     ensures refused { IfErr result (IsRefusedAfter options.now steps.now task.now) }
 {
-    let space: Space<'a, Zobrist<'a>> = space_for(alloc, task, options)?;
+    let space: Space<'a, Zobrist<'a>> = space_for(rt, alloc, task, options)?;
     after_steps_in_smallest_form(alloc, &space, options, steps, kind)
 }
 
@@ -188,7 +190,8 @@ pub fn found_after<'a>(
 /// that asks an owner for more nodes than its limit allows.
 ///
 /// Fails with `TotalTooLarge` if a path would have a cost or a number of operators above 2^62, or if allocation fails.
-pub fn found_by_seed<'a>(
+pub fn found_by_seed<'a, R: Threads + Sync>(
+    rt: &R,
     alloc: Global,
     task: &'a FdrTask,
     options: &Options,
@@ -198,7 +201,7 @@ pub fn found_by_seed<'a>(
     ensures found { IfOk result (IsFinding task.now (kind_of kind) (EndsBySeed options.now seed task.now)) }
     ensures refused { IfErr result (IsRefusedBySeed options.now seed task.now) }
 {
-    let space: Space<'a, Zobrist<'a>> = space_for(alloc, task, options)?;
+    let space: Space<'a, Zobrist<'a>> = space_for(rt, alloc, task, options)?;
     by_seed_in_smallest_form(alloc, &space, options, seed, kind)
 }
 
@@ -218,6 +221,6 @@ pub fn found_by_threads<'a, R: Threads + Wait + Clock + Sync, G: Gate + Sync>(
     ensures found { IfOk result (IsFinding task.now (kind_of kind) (EndsByThreads options.now (G.may_stop gate.now) task.now)) }
     ensures refused { IfErr result (IsRefusedByThreads options.now (G.may_stop gate.now) task.now) }
 {
-    let space: Space<'a, Zobrist<'a>> = space_for(alloc, task, options)?;
+    let space: Space<'a, Zobrist<'a>> = space_for(rt, alloc, task, options)?;
     by_threads_in_smallest_form(rt, alloc, &space, options, kind, gate)
 }

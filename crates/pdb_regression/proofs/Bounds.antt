@@ -1,15 +1,14 @@
 -- The numbers from which changes lead are below the product of the ranges.
-use Rattle.std.proofs.Common.{◌≡◌, ℕ, zero, suc, ◌+◌, ◌*◌, ◌/◌, ◌%◌, ◌^◌, ◌<◌, ◌≤◌, List, [], ◌∷◌, length, drop, get_or, refl, sym, ap, arith, subst, add-one, drop-cons}
-use Rattle.std.specs.Prelude.{◌↔◌, Contains, All}
-use Rattle.std.proofs.lemmas.List.Elements.{All-head, All-tail, All-drop, Contains-get_or}
+use Rattle.std.proofs.Common.{◌≡◌, ℕ, zero, suc, ◌+◌, ◌*◌, ◌/◌, ◌%◌, ◌^◌, ◌<◌, ◌≤◌, List, [], ◌∷◌, length, drop, get_or, refl, arith, add-one, drop-cons}
+use Rattle.std.specs.Prelude.{All}
+use Rattle.std.proofs.lemmas.List.Elements.{All-head, All-tail}
 use Rattle.std.proofs.Math.Nat.{mod-add-div}
 use Rattle.std.proofs.lemmas.Nat.{mod_below, mul-add-lt, mul-le}
 use Rattle.pdb_regression.specs.declared.change.DigitChange.{DigitChange}
 use Rattle.pdb_regression.specs.declared.change.Change.{Change}
 use Rattle.pdb_regression.specs.declared.change.Change.TheVariants.{Kept, Required, Moved, Assigned}
-use Rattle.pdb_regression.specs.Changes.{LeadsAt, LeadsBy, FitsIn, IsFit, put_at, taken_at, size_by}
+use Rattle.pdb_regression.specs.Changes.{LeadsBy, FitsIn, IsFit, put_at, taken_at, size_by}
 use Rattle.pdb_regression.specs.Rules.{put_by, taken_by}
-use Rattle.abstraction.specs.Digits.{value_of}
 
 pub leads_below : (cs : List DigitChange) (i j : ℕ) → All IsFit cs → LeadsBy cs i j → i < size_by cs
 leads_below [] i j all h = omega arith

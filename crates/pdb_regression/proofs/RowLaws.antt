@@ -1,22 +1,23 @@
 -- The changes by an operator fit the pattern's digits.
-use Rattle.std.proofs.Common.{◌≡◌, ℕ, ◌+◌, ◌*◌, ◌^◌, ◌<◌, ◌≤◌, Bool, true, false, List, [], ◌∷◌, ◌++◌, length, map, drop, get_or, refl, sym, ap, ◌∙◌, arith, cond, eqb, Option, Some, None, subst, add-one, drop-cons, append_assoc, inl, inr}
+use Rattle.std.proofs.Common.{◌≡◌, ℕ, ◌+◌, ◌*◌, ◌^◌, ◌<◌, ◌≤◌, Bool, true, false, List, [], ◌∷◌, ◌++◌, length, map, drop, get_or, refl, sym, ap, ◌∙◌, arith, cond, eqb, Option, Some, None, subst, add-one, drop-cons, append_assoc}
 use Rattle.std.specs.Prelude.{All, IfSome, slice_index}
 use Rattle.std.specs.List.{list_any}
 use Rattle.std.proofs.lemmas.List.{drop_all}
 use Rattle.std.proofs.lemmas.List.Elements.{All-head, All-tail, All-cons, All-nil}
 use Rattle.std.proofs.lemmas.Nat.{mul-le}
-use Rattle.std.proofs.lemmas.Bool.{false≢true, cond_both}
+use Rattle.std.proofs.lemmas.Bool.{false≢true}
 use Rattle.fdr.specs.declared.fact.Fact.{Fact}
 use Rattle.fdr.specs.Tasks.{FiniteDomainTask, Operator, ranges, IsTask, IsOperator, names_variable}
 use Rattle.abstraction.specs.declared.digit.Digit.{Digit}
 use Rattle.abstraction.specs.Projections.{Projection, size_of, AllExist, touches_pattern}
 use Rattle.abstraction.specs.Digits.{IsDigitBelow, digits_from}
+use Rattle.abstraction.specs.Facts.{value_in}
+use Rattle.abstraction.proofs.FactLaws.{value_fits}
 use Rattle.pdb_regression.specs.declared.change.Change.{Change}
 use Rattle.pdb_regression.specs.declared.change.Change.TheVariants.{Kept, Required, Moved, Assigned}
 use Rattle.pdb_regression.specs.declared.change.DigitChange.{DigitChange}
-use Rattle.pdb_regression.specs.Changes.{value_in, change_by, change_of, changes_of, asked, FitsIn, IsFit, size_by}
+use Rattle.pdb_regression.specs.Changes.{change_by, change_of, changes_of, asked, FitsIn, IsFit, size_by}
 use Rattle.pdb_regression.specs.Tables.{changes_in, IsChain, IsRow, IsAlong}
-use Rattle.pdb_regression.proofs.ChangeLaws.{value_fits}
 
 pub digits_long : (rs : List ℕ) (w : ℕ) (ps : List ℕ) → length (digits_from rs w ps) ≡ length ps
 digits_long rs w [] = refl

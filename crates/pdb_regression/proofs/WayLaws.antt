@@ -1,24 +1,23 @@
 -- The changes by operators tell the ways into the abstract states of a projection.
-use Rattle.std.proofs.Common.{◌≡◌, ℕ, ◌+◌, ◌*◌, ◌/◌, ◌%◌, ◌<◌, Bool, true, false, List, [], ◌∷◌, length, map, get_or, refl, sym, ap, ◌∙◌, cond, Option, Some, None, subst, eq-eqb}
-use Rattle.std.specs.Prelude.{◌↔◌, All, Contains, IfSome, slice_get, option_map, option_and_then}
+use Rattle.std.proofs.Common.{◌≡◌, ℕ, ◌/◌, ◌%◌, ◌<◌, Bool, true, false, List, [], ◌∷◌, map, refl, sym, ap, ◌∙◌, Option, Some, None, subst, eq-eqb}
+use Rattle.std.specs.Prelude.{◌↔◌, IfSome, slice_get, option_map, option_and_then}
 use Rattle.std.specs.List.{list_all}
 use Rattle.std.specs.Option.{option_map_or}
-use Rattle.std.proofs.lemmas.List.Elements.{All-head, All-tail, All-map}
 use Rattle.std.proofs.lemmas.Option.{slice_get-map}
-use Rattle.std.proofs.lemmas.Nat.{mod_below}
-use Rattle.std.proofs.lemmas.Bool.{eqb-true, and_parts, and_from, false≢true}
+use Rattle.std.proofs.lemmas.Bool.{and_from}
 use Rattle.fdr.specs.Tasks.{Operator, ranges, IsOperator}
 use Rattle.abstraction.specs.Projections.{Projection, size_of, transition_of, touches_pattern, projection}
-use Rattle.abstraction.specs.ProjectionLaws.{projection_abstracts, quotient, remainder}
+use Rattle.abstraction.specs.ProjectionLaws.{projection_abstracts}
 use Rattle.abstraction.specs.Digits.{value_of, digits_from}
 use Rattle.abstraction.specs.Steps.{found, at_some}
 use Rattle.pdb_walks.specs.Entrances.{LeadsTo}
 use Rattle.pdb_regression.specs.declared.change.Change.{Change}
 use Rattle.pdb_regression.specs.declared.change.Change.TheVariants.{Kept, Required, Moved, Assigned}
 use Rattle.pdb_regression.specs.declared.change.DigitChange.{DigitChange}
-use Rattle.pdb_regression.specs.Changes.{changes_of, LeadsAt, LeadsBy, enters_at, enters_digit, FitsIn, IsFit}
+use Rattle.pdb_regression.specs.Changes.{changes_of, LeadsAt, LeadsBy, enters_at, enters_digit}
 use Rattle.pdb_regression.specs.Tables.{changes_in}
-use Rattle.pdb_regression.proofs.ChangeLaws.{transition_told, rising_from}
+use Rattle.abstraction.proofs.DigitLaws.{rising_from}
+use Rattle.pdb_regression.proofs.ChangeLaws.{transition_told}
 use Rattle.pdb_regression.proofs.Bounds.{leads_below}
 use Rattle.pdb_regression.proofs.RowLaws.{not_empty, row_fits, size_told}
 

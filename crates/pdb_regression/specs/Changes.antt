@@ -1,17 +1,12 @@
 -- The changes that an operator makes to the values of a pattern's variables, digit by digit.
-use Rattle.std.specs.Prelude.{◌≡◌, ℕ, ◌*◌, ◌/◌, ◌%◌, ◌^◌, ◌<◌, Bool, true, false, ◌==◌, if◌then◌else◌, List, [], ◌∷◌, Option, Some, None}
-use Rattle.fdr.specs.declared.fact.Fact.{Fact}
+use Rattle.std.specs.Prelude.{◌≡◌, ℕ, ◌*◌, ◌/◌, ◌%◌, ◌^◌, ◌<◌, Bool, true, false, ◌==◌, List, [], ◌∷◌, Option, Some, None}
 use Rattle.fdr.specs.Tasks.{Operator}
 use Rattle.abstraction.specs.declared.digit.Digit.{Digit}
 use Rattle.abstraction.specs.Digits.{value_of, IsDigitBelow}
+use Rattle.abstraction.specs.Facts.{value_in}
 use Rattle.pdb_regression.specs.declared.change.Change.{Change}
 use Rattle.pdb_regression.specs.declared.change.Change.TheVariants.{Kept, Required, Moved, Assigned}
 use Rattle.pdb_regression.specs.declared.change.DigitChange.{DigitChange}
-
--- the value of the first fact on the variable, if there is one
-abbrev pub value_in : List Fact → ℕ → Option ℕ
-value_in [] v = None
-value_in (f ∷ fs) v = if f.variable == v then Some f.value else value_in fs v
 
 -- the change of a value by the condition and the effect on it, if there are any
 abbrev pub change_by : Option ℕ → Option ℕ → Change

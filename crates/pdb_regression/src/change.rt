@@ -1,6 +1,7 @@
 //! The change that an operator makes to the value of one variable.
 
 ghost use Rattle.std.specs.Prelude.{◌≡◌, true};
+ghost use Rattle.abstraction.specs.Facts as fact;
 ghost use Rattle.pdb_regression.specs.Changes as spec;
 
 use abstraction::Digit;
@@ -28,14 +29,12 @@ pub(crate) struct DigitChange {
 
 /// The value of the first fact on the variable, if there is one.
 fn value_in(facts: &[Fact], variable: usize) -> Option<u32>
-    ensures { result ≡ spec.value_in facts.now variable }
+    ensures { result ≡ fact.value_in facts.now variable }
 {
-    for fact in facts {
-        if fact.variable == variable {
-            return Some(fact.value);
-        }
-    }
-    None
+    facts
+        .iter()
+        .find(|fact| fact.variable == variable)
+        .map(|fact| fact.value)
 }
 
 /// The change that the operator makes to the value of the variable.

@@ -1,17 +1,19 @@
--- Columns while they are made, one after the other.
-use Rattle.std.proofs.Common.{◌≡◌, ◌≢◌, ℕ, ◌≤◌, List, [], ◌∷◌, ◌++◌, length, map, refl, sym, ap, ◌∙◌, arith, length-append}
+-- Columns that are made each from an order of patterns.
+use Rattle.std.proofs.Common.{◌≢◌, ℕ, ◌≤◌, List, [], ◌∷◌, length, map, refl, sym, ap, ◌∙◌, arith}
 use Rattle.std.specs.Prelude.{All, Vec}
 use Rattle.std.specs.List.{AllZip}
 use Rattle.std.specs.Global.{Global}
-use Rattle.std.proofs.lemmas.List.{map-append}
-use Rattle.std.proofs.lemmas.List.Elements.{All-nil, All-cons, All-append}
-use Rattle.pdb.proofs.Zips.{AllZip-one_more}
+use Rattle.std.proofs.lemmas.List.{length-map}
+use Rattle.std.proofs.lemmas.List.Elements.{All-nil, All-cons, All-head, All-tail}
 use Rattle.fdr.specs.Tasks.{FiniteDomainTask, IsTask}
 use Rattle.abstraction.specs.Columns.{IsColumn}
-use Rattle.scp.specs.ColumnTables.{ColumnTable, on_projection, tables_of}
-use Rattle.scp.specs.Partitions.{IsMadeFrom}
+use Rattle.scp.specs.ColumnTables.{ColumnTable}
+use Rattle.scp.specs.Partitions.{IsColumnFrom, AreColumnsFrom, patterns_of}
 use Rattle.scp.proofs.SameColumns.{AreOf, column_in}
 use Rattle.scp.proofs.MadeColumns.{divides_costs, as_many}
+
+abbrev Order : Type 0
+Order = Vec (Vec ℕ Global) Global
 
 abbrev IsFew : Vec ColumnTable Global → Type 0
 IsFew column = length column.items ≤ 64
@@ -22,27 +24,29 @@ IsSome column = column.items ≢ []
 abbrev Divides : FiniteDomainTask → Vec ColumnTable Global → Type 0
 Divides task column = IsColumn task (column_in column)
 
--- a column for each of the orders
-pub record AreColumnsSoFar (task : FiniteDomainTask) (given : List (List (List ℕ))) (columns : List (Vec ColumnTable Global)) : Type 0 where
-  pub of_task : All (AreOf task) columns
-  pub as_many : length columns ≡ length given
-  pub none_empty : All (λ column. column.items ≢ []) columns
-  pub few : All (λ column. length column.items ≤ 64) columns
-  pub divided : All (λ column. IsColumn task (map on_projection column.items)) columns
-  pub made : AllZip (IsMadeFrom task) given (map tables_of columns)
+some_patterns : (order : List (Vec ℕ Global)) → order ≢ [] → map (λ p. p.items) order ≢ []
+some_patterns [] some e = some refl
+some_patterns (p ∷ ps) some e = cc e
 
-pub no_column : (task : FiniteDomainTask) → AreColumnsSoFar task [] []
-no_column task = record { of_task = All-nil (AreOf task); as_many = refl; none_empty = All-nil IsSome; few = All-nil IsFew; divided = All-nil (Divides task); made = tt }
+module _ (task : FiniteDomainTask) (well : IsTask task) where
+  one_column_more : (order : Order) (column : Vec ColumnTable Global) (given : List (List (List ℕ))) (columns : List (Vec ColumnTable Global))
+      → length order.items ≤ 64 → order.items ≢ [] → IsColumnFrom task order column → AreColumnsFrom task given columns
+      → AreColumnsFrom task (patterns_of order ∷ given) (column ∷ columns)
+  one_column_more order column given columns few some from rest = record {
+    of_task = All-cons (AreOf task) column columns from.of_task rest.of_task;
+    as_many = omega (arith, rest.as_many);
+    none_empty = All-cons IsSome column columns
+        (λ e. some_patterns order.items some (sym from.made.patterns ∙ ap (λ ts. map (λ t. t.pattern) (map (λ (t : ColumnTable). t.table) ts)) e)) rest.none_empty;
+    few = All-cons IsFew column columns (omega (arith, few, as_many task column.items (patterns_of order) from.made, length-map order.items (λ p. p.items))) rest.few;
+    divided = All-cons (Divides task) column columns (divides_costs task well column.items (patterns_of order) from.of_task from.made) rest.divided;
+    made = (from.made, rest.made);
+  }
 
-pub one_column_more : (task : FiniteDomainTask) → IsTask task → (given : List (List (List ℕ))) (columns : List (Vec ColumnTable Global)) → AreColumnsSoFar task given columns
-    → (order : List (List ℕ)) (column : Vec ColumnTable Global) → order ≢ [] → length order ≤ 64 → AreOf task column → IsMadeFrom task order (tables_of column)
-    → AreColumnsSoFar task (given ++ order ∷ []) (columns ++ column ∷ [])
-one_column_more task well given columns so_far order column some few of made = record {
-  of_task = All-append (AreOf task) columns (column ∷ []) so_far.of_task (All-cons (AreOf task) column [] of (All-nil (AreOf task)));
-  as_many = omega (arith, so_far.as_many, length-append columns (column ∷ []), length-append given (order ∷ []));
-  none_empty = All-append IsSome columns (column ∷ []) so_far.none_empty
-      (All-cons IsSome column [] (λ e. some (sym made.patterns ∙ ap (λ ts. map (λ t. t.pattern) (map (λ (t : ColumnTable). t.table) ts)) e)) (All-nil IsSome));
-  few = All-append IsFew columns (column ∷ []) so_far.few (All-cons IsFew column [] (omega (arith, few, as_many task column.items order made)) (All-nil IsFew));
-  divided = All-append (Divides task) columns (column ∷ []) so_far.divided (All-cons (Divides task) column [] (divides_costs task well column.items order of made) (All-nil (Divides task)));
-  made = rw (map-append tables_of columns (column ∷ [])) (AllZip-one_more (IsMadeFrom task) given (map tables_of columns) order (tables_of column) so_far.made made);
-}
+  pub columns_made : (orders : List Order) (columns : List (Vec ColumnTable Global)) → All (λ order. length order.items ≤ 64) orders → All (λ order. order.items ≢ []) orders
+      → AllZip (IsColumnFrom task) orders columns → AreColumnsFrom task (map patterns_of orders) columns
+  columns_made [] [] few some from = record { of_task = All-nil (AreOf task); as_many = refl; none_empty = All-nil IsSome; few = All-nil IsFew; divided = All-nil (Divides task); made = tt }
+  columns_made [] (c ∷ cs) few some from = absurd from
+  columns_made (o ∷ os) [] few some from = absurd from
+  columns_made (o ∷ os) (c ∷ cs) few some from =
+      one_column_more o c (map patterns_of os) cs (All-head (λ order. length order.items ≤ 64) o os few) (All-head (λ order. order.items ≢ []) o os some) from.0
+      (columns_made os cs (All-tail (λ order. length order.items ≤ 64) o os few) (All-tail (λ order. order.items ≢ []) o os some) from.1)

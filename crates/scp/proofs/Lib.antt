@@ -6,6 +6,7 @@ pub mod Forms
 pub mod Tables
 pub mod ColumnsSoFar
 pub mod MadeColumns
+pub mod AllMade
 pub mod ColumnLists
 pub mod ChosenPatterns
 pub mod CostPartitioned

@@ -1,12 +1,15 @@
 -- Columns of tables that are made in turn from the remaining costs of the operators (saturated cost partitioning,
 -- Seipp, Keller and Helmert 2020).
-use Rattle.std.specs.Prelude.{◌≡◌, ℕ, ◌-◌, true, List, [], ◌∷◌, map, All, Vec}
+use Rattle.std.specs.Prelude.{◌≡◌, ◌≢◌, ℕ, ◌-◌, ◌≤◌, true, List, [], ◌∷◌, length, map, All, Vec}
+use Rattle.std.specs.List.{AllZip}
+use Rattle.std.specs.Global.{Global}
 use Rattle.fdr.specs.Tasks.{FiniteDomainTask, cost_of}
 use Rattle.abstraction.specs.Abstractions as abstraction
 use Rattle.abstraction.specs.Columns.{IsColumn}
 use Rattle.cert_value.specs.Certificates.{Table}
 use Rattle.checker_clauses.specs.Clauses.{table_of, has_form}
 use Rattle.cert_text.specs.Lawful.{AreColumns}
+use Rattle.scp.specs.ColumnTables.{ColumnTable, on_projection, tables_of}
 use Rattle.pdb_walks.specs.Walks.{HasDistances, IsSaturated, IsPartition}
 
 -- the column has a table for each of the given patterns, made in turn from the remaining costs
@@ -41,3 +44,17 @@ pub record IsNextTable (task : FiniteDomainTask) (given : List ℕ) (left : ℕ 
 -- the patterns of an order, from their representation in memory
 abbrev pub patterns_of : {Y Z : Type 0} → Vec (Vec ℕ Y) Z → List (List ℕ)
 patterns_of order = map (λ p. p.items) order.items
+
+-- the column is of the task, and has tables made for the patterns of the order
+pub record IsColumnFrom {Y Z : Type 0} (task : FiniteDomainTask) (order : Vec (Vec ℕ Y) Z) (column : Vec ColumnTable Global) : Type 0 where
+  pub of_task : All (λ t. t.task ≡ task) column.items
+  pub made : IsMadeFrom task (patterns_of order) (tables_of column)
+
+-- the columns are of the task, one for each of the orders, of at most 64 tables, and each partitions the costs of the operators
+pub record AreColumnsFrom (task : FiniteDomainTask) (given : List (List (List ℕ))) (columns : List (Vec ColumnTable Global)) : Type 0 where
+  pub of_task : All (λ column. All (λ t. t.task ≡ task) column.items) columns
+  pub as_many : length columns ≡ length given
+  pub none_empty : All (λ column. column.items ≢ []) columns
+  pub few : All (λ column. length column.items ≤ 64) columns
+  pub divided : All (λ column. IsColumn task (map on_projection column.items)) columns
+  pub made : AllZip (IsMadeFrom task) given (map tables_of columns)

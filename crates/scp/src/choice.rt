@@ -7,6 +7,7 @@ use crate::columns::{Columns, make_columns};
 use fdr::FdrTask;
 use pdb_patterns::choose_patterns;
 use std::alloc::{AllocError, Global};
+use std::thread::Threads;
 
 /// The greatest number of columns that `choose_columns` makes.
 pub const MAX_COLUMNS: usize = 8;
@@ -64,8 +65,9 @@ fn orders_of(
 /// Makes the cost-partitioned columns of the task for a search, from the patterns that `choose_patterns` chooses: at
 /// most 64, with at most `limit` abstract states each. The limit must be from 1 to 2^24. There is a column for each of
 /// the first 8 patterns: it starts with that pattern and has all patterns in cyclic order. The contract does not specify
-/// which patterns are chosen. Fails only if allocation fails.
-pub fn choose_columns<'a>(
+/// which patterns are chosen. Threads make columns side by side. Fails only if allocation fails.
+pub fn choose_columns<'a, R: Threads + Sync>(
+    rt: &R,
     alloc: Global,
     task: &'a FdrTask,
     limit: usize,
@@ -76,5 +78,5 @@ pub fn choose_columns<'a>(
 {
     let patterns = choose_patterns(alloc, task, limit)?;
     let orders = orders_of(alloc, task, &patterns)?;
-    make_columns(alloc, task, &orders)
+    make_columns(rt, alloc, task, &orders)
 }

@@ -11,7 +11,7 @@ ghost use Rattle.scp.specs.ColumnTables.{on_projection};
 ghost use Rattle.scp.specs.Rows.{AreOf, value_of, blocks_value};
 ghost use Rattle.scp.specs.Flats.{most_in, blocks_in};
 ghost use Rattle.scp.specs.Places.{AreTouches, first_rows};
-ghost use Rattle.scp.specs.Partitions.{AreCostPartitioned, IsMadeFrom, patterns_of};
+ghost use Rattle.scp.specs.Partitions.{AreColumnsFrom, AreCostPartitioned, IsColumnFrom, IsMadeFrom, patterns_of};
 
 use crate::column::make_column;
 use crate::flat::{Flat, flat_value, make_flat, touches_in};
@@ -19,8 +19,10 @@ use crate::places::Places;
 use crate::table::ColumnTable;
 use cost::Dist;
 use fdr::FdrTask;
+use rayon::prelude::*;
 use std::alloc::{AllocError, Global};
 use std::marker::Model;
+use std::thread::Threads;
 
 /// Columns of tables. The tables of each column partition the costs of the operators. In contracts its value is the
 /// task and the tables.
@@ -106,9 +108,40 @@ impl<'a> Columns<'a> {
     }
 }
 
-/// Makes a column for each of these orders of patterns, as `make_column` does. There must be at most 64 orders, each of
-/// 1 to 64 patterns. Fails only if allocation fails.
-pub fn make_columns<'a>(
+/// A column for each of these orders of patterns, in order. Threads make them side by side. Fails only if allocation
+/// fails.
+fn columns_from<'a, R: Threads + Sync>(
+    rt: &R,
+    alloc: Global,
+    task: &'a FdrTask,
+    orders: &[Vec<Vec<usize>>],
+) -> Result<Vec<Vec<ColumnTable<'a>>>, AllocError>
+    requires patterns { All (λ order. All (λ p. IsPattern task.now (2 ^ 24) p.items) order.items) orders.now }
+    requires some { All (λ order. All (λ p. p.items ≢ []) order.items) orders.now }
+    requires few { All (λ order. length order.items ≤ 64) orders.now }
+    requires none_empty { All (λ order. order.items ≢ []) orders.now }
+    ensures { IfOk result (λ columns. AreColumnsFrom task.now (map patterns_of orders.now) columns.items) }
+{
+    task.recall();
+    orders
+        .par_iter()
+        // a column is heavy work, so each may have a thread of its own
+        .with_min_len(1)
+        .map(
+            |order: &Vec<Vec<usize>>| -> Result<Vec<ColumnTable<'_>>, AllocError>
+                requires patterns { All (λ p. IsPattern task.now (2 ^ 24) p.items) order.now.items }
+                requires some { All (λ p. p.items ≢ []) order.now.items }
+                ensures { IfOk result (IsColumnFrom task.entry.now order.now) }
+            { make_column(alloc, task, order) },
+        )
+        .collect::<Result<Vec<Vec<ColumnTable<'a>>>, AllocError>>(rt, alloc)?
+}
+
+/// Makes a column for each of these orders of patterns, as `make_column` does. Threads make columns side by side; which
+/// tables they have does not depend on that. There must be at most 64 orders, each of 1 to 64 patterns. Fails only if
+/// allocation fails.
+pub fn make_columns<'a, R: Threads + Sync>(
+    rt: &R,
     alloc: Global,
     task: &'a FdrTask,
     orders: &[Vec<Vec<usize>>],
@@ -121,11 +154,7 @@ pub fn make_columns<'a>(
     ensures task { IfOk result (λ c. c.task ≡ task.now) }
     ensures made { IfOk result (λ c. AllZip (IsMadeFrom task.now) (map patterns_of orders.now) c.columns) }
 {
-    task.recall();
-    let mut columns = Vec::with_capacity(alloc, orders.len())?;
-    for order in orders {
-        columns.push(make_column(alloc, task, order)?)?;
-    }
+    let columns = columns_from(rt, alloc, task, orders)?;
     let flat = make_flat(alloc, task, &columns)?;
     let touches = touches_in(alloc, &flat, task.operator_count())?;
     Ok(Columns {

@@ -19,7 +19,7 @@ const TOO_FEW: &[WorldStep] = &[Expand(0)];
 const ENOUGH: &[WorldStep] = &[Expand(0), Expand(0)];
 
 /// What is answered for the road's texts: a plan's text, or that there is none, or that it is not known.
-fn answer<R: AllocGlobal>(rt: &R, steps: &[WorldStep]) -> Result<String, Fail> {
+fn answer<R: AllocGlobal + Threads + Sync>(rt: &R, steps: &[WorldStep]) -> Result<String, Fail> {
     let options = Options::new().with_workers(1);
     let (domain, problem) = (ROAD_DOMAIN.as_bytes(), ROAD_PROBLEM.as_bytes());
     match solve_steps(rt, domain, problem, &options, steps)? {
@@ -30,7 +30,7 @@ fn answer<R: AllocGlobal>(rt: &R, steps: &[WorldStep]) -> Result<String, Fail> {
 }
 
 /// The certificate of the plan that is found for the road's texts.
-fn certificate<R: AllocGlobal>(rt: &R) -> Result<Vec<u8>, Fail> {
+fn certificate<R: AllocGlobal + Threads + Sync>(rt: &R) -> Result<Vec<u8>, Fail> {
     let options = Options::new().with_workers(1);
     let (domain, problem) = (ROAD_DOMAIN.as_bytes(), ROAD_PROBLEM.as_bytes());
     match solve_steps(rt, domain, problem, &options, ENOUGH)? {

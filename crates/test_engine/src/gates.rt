@@ -134,7 +134,7 @@ fn ends<'t, R: Threads + Wait + Clock + Sync, G: Gate + Sync>(
     requires { 0 < workers }
 {
     // the type is given so that the borrow checker need not infer how long the space is borrowed
-    let space: Space<'t, ByValue<'t>> = space_for(alloc, task, None)?;
+    let space: Space<'t, ByValue<'t>> = space_for(rt, alloc, task, None)?;
     let end: Result<Searched<'_, ByValue<'t>, Plain>, EngineFault> = search(
         rt, alloc, &space, workers, 64, gate,
     );

@@ -26,12 +26,13 @@ const CYCLE: &[(u32, u32, u64)] = &[(0, 1, 0), (1, 0, 0), (1, 2, 1)];
 const DETOUR: &[(u32, u32, u64)] = &[(0, 1, 9), (0, 2, 2), (2, 1, 2), (0, 3, 13), (1, 3, 5)];
 
 /// The space of the task without columns, with the owner of a state by its values.
-pub(crate) fn space_for<'a>(
+pub(crate) fn space_for<'a, R: Threads + Sync>(
+    rt: &R,
     alloc: Global,
     task: &'a FdrTask,
     limit: Option<u64>,
 ) -> Result<Space<'a, ByValue<'a>>, AllocError> {
-    let columns = make_columns(alloc, task, &[])?;
+    let columns = make_columns(rt, alloc, task, &[])?;
     Space::new(alloc, task, columns, ByValue::new(task), limit)
 }
 
@@ -154,7 +155,7 @@ fn agrees_on<'t, R: Threads + Wait + Clock + Sync + Abort>(
     wanted: SearchAnswer,
 ) -> Result<(), Fail> {
     // the type is given so that the borrow checker need not infer how long the space is borrowed
-    let space: Space<'t, ByValue<'t>> = space_for(alloc, task, None)?;
+    let space: Space<'t, ByValue<'t>> = space_for(rt, alloc, task, None)?;
     agrees(rt, alloc, &space, wanted)
 }
 
@@ -190,7 +191,7 @@ fn stops_on<'t, R: Threads + Wait + Clock + Sync + Abort>(
     limit: u64,
 ) -> Result<(), Fail> {
     // the type is given so that the borrow checker need not infer how long the space is borrowed
-    let space: Space<'t, ByValue<'t>> = space_for(alloc, task, Some(limit))?;
+    let space: Space<'t, ByValue<'t>> = space_for(rt, alloc, task, Some(limit))?;
     for workers in [1, 2, 4] {
         stops(rt, alloc, &space, workers, limit)?;
     }
@@ -258,7 +259,7 @@ fn finds_plans<'t, R: Threads + Wait + Clock + Sync + Abort>(
     task: &'t FdrTask,
     cost: usize,
 ) -> Result<(), Fail> {
-    let columns = make_columns(alloc, task, &[])?;
+    let columns = make_columns(rt, alloc, task, &[])?;
     // the type is given so that the borrow checker need not infer how long the space is borrowed
     let space: Space<'t, Zobrist<'t>> = Space::new(
         alloc,

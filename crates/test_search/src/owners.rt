@@ -11,6 +11,7 @@ use scp::make_columns;
 use std::alloc::{AllocError, Global};
 use std::process::Abort;
 use std::test::Fail;
+use std::thread::Threads;
 use test_tasks::walk;
 
 /// From 0 to 1 and to 2, from 1 to 2, and from 2 and 4 to 3, which is the goal.
@@ -22,12 +23,13 @@ fn dist(value: u64) -> Dist {
 }
 
 /// The space of the task without columns.
-fn space_for<'a>(
+fn space_for<'a, R: Threads + Sync>(
+    rt: &R,
     alloc: Global,
     task: &'a FdrTask,
     limit: Option<u64>,
 ) -> Result<Space<'a, ByValue<'a>>, AllocError> {
-    let columns = make_columns(alloc, task, &[])?;
+    let columns = make_columns(rt, alloc, task, &[])?;
     Space::new(alloc, task, columns, ByValue::new(task), limit)
 }
 
@@ -92,9 +94,13 @@ fn expand_alone<'a, S: Spread + Drop>(
 }
 
 /// The same test over the task.
-fn expand_alone_of<'t>(rt: &impl Abort, alloc: Global, task: &'t FdrTask) -> Result<(), Fail> {
+fn expand_alone_of<'t, R: Threads + Sync + Abort>(
+    rt: &R,
+    alloc: Global,
+    task: &'t FdrTask,
+) -> Result<(), Fail> {
     // the type is given so that the borrow checker need not infer how long the space is borrowed
-    let space: Space<'t, ByValue<'t>> = space_for(alloc, task, None)?;
+    let space: Space<'t, ByValue<'t>> = space_for(rt, alloc, task, None)?;
     expand_alone(rt, alloc, &space)
 }
 
@@ -122,9 +128,13 @@ fn expand_below<'a, S: Spread + Drop>(
 }
 
 /// The same test over the task.
-fn expand_below_of<'t>(rt: &impl Abort, alloc: Global, task: &'t FdrTask) -> Result<(), Fail> {
+fn expand_below_of<'t, R: Threads + Sync + Abort>(
+    rt: &R,
+    alloc: Global,
+    task: &'t FdrTask,
+) -> Result<(), Fail> {
     // the type is given so that the borrow checker need not infer how long the space is borrowed
-    let space: Space<'t, ByValue<'t>> = space_for(alloc, task, Some(2))?;
+    let space: Space<'t, ByValue<'t>> = space_for(rt, alloc, task, Some(2))?;
     expand_below(rt, alloc, &space)
 }
 
@@ -182,9 +192,13 @@ fn hand_over<'a, S: Spread + Drop>(
 }
 
 /// The same test over the task.
-fn hand_over_of<'t>(rt: &impl Abort, alloc: Global, task: &'t FdrTask) -> Result<(), Fail> {
+fn hand_over_of<'t, R: Threads + Sync + Abort>(
+    rt: &R,
+    alloc: Global,
+    task: &'t FdrTask,
+) -> Result<(), Fail> {
     // the type is given so that the borrow checker need not infer how long the space is borrowed
-    let space: Space<'t, ByValue<'t>> = space_for(alloc, task, None)?;
+    let space: Space<'t, ByValue<'t>> = space_for(rt, alloc, task, None)?;
     hand_over(rt, alloc, &space)
 }
 

@@ -15,6 +15,7 @@ use scp::make_columns;
 use std::alloc::{AllocError, Global};
 use std::process::Abort;
 use std::test::Fail;
+use std::thread::Threads;
 
 /// One variable of three values, from 0 to 2. Operators 0: 0 to 1 at cost 0; 1: 1 to 0 at cost 0; 2: 1 to 2 at cost 1.
 pub(crate) const CYCLE: &str = "begin_version
@@ -252,8 +253,12 @@ fn has_certificate<S: Spread + Drop, F: StateForm + Drop>(
 }
 
 /// The space of the task without columns.
-fn space_for<'t>(alloc: Global, task: &'t FdrTask) -> Result<Space<'t, ByValue<'t>>, AllocError> {
-    let columns = make_columns(alloc, task, &[])?;
+fn space_for<'t, R: Threads + Sync>(
+    rt: &R,
+    alloc: Global,
+    task: &'t FdrTask,
+) -> Result<Space<'t, ByValue<'t>>, AllocError> {
+    let columns = make_columns(rt, alloc, task, &[])?;
     Space::new(alloc, task, columns, ByValue::new(task), None)
 }
 
@@ -273,8 +278,8 @@ fn run_to_the_end<'a, S: Spread + Drop>(
 
 /// Two owners of the task's states do the steps, after which no work is left: they are settled at the cost, with this
 /// plan and this text of a certificate.
-fn settle<'t>(
-    rt: &impl Abort,
+fn settle<'t, R: Threads + Sync + Abort>(
+    rt: &R,
     alloc: Global,
     task: &'t FdrTask,
     steps: &[WorldStep],
@@ -283,15 +288,15 @@ fn settle<'t>(
     text: &str,
 ) -> Result<(), Fail> {
     // the type is given so that the borrow checker need not infer how long the space is borrowed
-    let space: Space<'t, ByValue<'t>> = space_for(alloc, task)?;
+    let space: Space<'t, ByValue<'t>> = space_for(rt, alloc, task)?;
     let joined = run_to_the_end(rt, alloc, &space, steps, cost)?;
     has_plan(rt, alloc, &joined, plan)?;
     has_certificate(rt, alloc, &joined, text)
 }
 
 /// The same for the task of a text.
-fn settle_text(
-    rt: &impl Abort,
+fn settle_text<R: Threads + Sync + Abort>(
+    rt: &R,
     alloc: Global,
     sas: &str,
     steps: &[WorldStep],

@@ -18,6 +18,7 @@ use scp::make_columns;
 use std::alloc::Global;
 use std::process::Abort;
 use std::test::Fail;
+use std::thread::Threads;
 
 /// The message with which the second of two owners is handed the state 1, at the greatest cost.
 fn message_at_most_total<'a, F: StateForm + Drop, R: Abort>(
@@ -65,8 +66,12 @@ fn refuse_total<'a, F: StateForm + Drop, R: Abort>(
 }
 
 /// The same test over the task, without columns.
-fn refuse_total_of<'t, R: Abort>(rt: &R, alloc: Global, task: &'t FdrTask) -> Result<(), Fail> {
-    let columns = make_columns(alloc, task, &[])?;
+fn refuse_total_of<'t, R: Threads + Sync + Abort>(
+    rt: &R,
+    alloc: Global,
+    task: &'t FdrTask,
+) -> Result<(), Fail> {
+    let columns = make_columns(rt, alloc, task, &[])?;
     // the type is given so that the borrow checker need not infer how long the space is borrowed
     let space: Space<'t, ByValue<'t>> = Space::new(alloc, task, columns, ByValue::new(task), None)?;
     assert!(rt; Bits::<1>::fits(space.layout()), "states of one word");

@@ -9,14 +9,19 @@ use scp::make_columns;
 use std::alloc::{AllocError, Global};
 use std::process::Abort;
 use std::test::Fail;
+use std::thread::Threads;
 use test_tasks::walk;
 
 /// From 0 to 1 and back at no cost, and from 1 to 2, which is the goal.
 const STEPS: &[(u32, u32, u64)] = &[(0, 1, 0), (1, 0, 0), (1, 2, 1)];
 
 /// The space of the task without columns.
-fn space_for<'a>(alloc: Global, task: &'a FdrTask) -> Result<Space<'a, ByValue<'a>>, AllocError> {
-    let columns = make_columns(alloc, task, &[])?;
+fn space_for<'a, R: Threads + Sync>(
+    rt: &R,
+    alloc: Global,
+    task: &'a FdrTask,
+) -> Result<Space<'a, ByValue<'a>>, AllocError> {
+    let columns = make_columns(rt, alloc, task, &[])?;
     Space::new(alloc, task, columns, ByValue::new(task), None)
 }
 
@@ -68,9 +73,13 @@ fn first_steps<'a, S: Spread + Drop>(
 }
 
 /// The same test over the task.
-fn first_steps_of<'t>(rt: &impl Abort, alloc: Global, task: &'t FdrTask) -> Result<(), Fail> {
+fn first_steps_of<'t, R: Threads + Sync + Abort>(
+    rt: &R,
+    alloc: Global,
+    task: &'t FdrTask,
+) -> Result<(), Fail> {
     // the type is given so that the borrow checker need not infer how long the space is borrowed
-    let space: Space<'t, ByValue<'t>> = space_for(alloc, task)?;
+    let space: Space<'t, ByValue<'t>> = space_for(rt, alloc, task)?;
     first_steps(rt, alloc, &space)
 }
 

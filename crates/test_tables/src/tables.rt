@@ -106,7 +106,7 @@ fn columns_and_bounds_are_those_by_hand(rt: HostRuntime) -> Result<(), Fail> {
     for row in ROWS {
         let task = task_of(alloc, row.task)?.expect(&rt, "a task");
         assert!(rt; 1 <= row.limit && row.limit <= 16_777_216);
-        let columns = choose_columns(alloc, &task, row.limit)?;
+        let columns = choose_columns(&rt, alloc, &task, row.limit)?;
         let text = columns_text(alloc, &columns)?;
         assert_eq!(rt; text.as_str(), row.columns);
         let bound = columns.h(task.initial());

@@ -1,4 +1,4 @@
-use Rattle.std.proofs.Common.{◌≡◌, ◌∷◌, ◌^◌, ◌≤◌, ◌-◌, List, length, get_or, take, drop, ap, subst, arith}
+use Rattle.std.proofs.Common.{◌≡◌, ◌∷◌, ◌^◌, ◌≤◌, ◌-◌, List, length, get_or, take, drop, subst, arith}
 use Rattle.std.specs.Prelude.{All}
 use Rattle.pdb_regression.specs.declared.change.DigitChange.{DigitChange}
 use Rattle.pdb_regression.specs.Changes.{IsFit, size_by}

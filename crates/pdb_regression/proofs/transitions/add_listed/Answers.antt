@@ -1,10 +1,10 @@
-use Rattle.std.proofs.Common.{rules, ◌≡◌, ℕ, ◌+◌, ◌<◌, List, Option, Some, None, length, map, take, get_or, refl, sym, ap, subst, inl, inr, ⊎_elim, arith}
-use Rattle.std.specs.Prelude.{◌↔◌, ◌⊎◌, All, Contains, IsSomeAnd, slice_get}
+use Rattle.std.proofs.Common.{◌≡◌, ℕ, ◌<◌, List, map, get_or, refl, subst, arith}
+use Rattle.std.specs.Prelude.{◌↔◌, ◌⊎◌, Contains}
 use Rattle.std.proofs.lemmas.List.{take_all}
 use Rattle.abstraction.specs.Digits.{value_of}
 use Rattle.pdb_walks.specs.declared.backward.Transition.{Transition}
 use Rattle.pdb_regression.specs.declared.change.DigitChange.{DigitChange}
-use Rattle.pdb_regression.specs.Changes.{LeadsBy, size_by}
+use Rattle.pdb_regression.specs.Changes.{size_by}
 use Rattle.pdb_regression.specs.Tables.{LeadsIn}
 use Rattle.pdb_regression.proofs.TransitionLaws.{all_at}
 use Rattle.pdb_regression.proofs.TableLaws.{listed_more, listed_rule, listed_none}

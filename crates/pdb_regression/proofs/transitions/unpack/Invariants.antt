@@ -1,4 +1,4 @@
-use Rattle.std.proofs.Common.{◌≡◌, ◌++◌, ◌<◌, ◌^◌, drop}
+use Rattle.std.proofs.Common.{◌≡◌, ◌++◌, drop}
 use Rattle.pdb_regression.specs.Rules.{unpacked}
 use Rattle.pdb_regression.proofs.transitions.unpack.Given as goal
 

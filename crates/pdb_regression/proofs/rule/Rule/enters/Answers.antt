@@ -1,7 +1,6 @@
-use Rattle.std.proofs.Common.{◌≡◌, ◌<◌, ◌+◌, List, length, get_or, ap, sym, subst, arith, ◌∙◌}
+use Rattle.std.proofs.Common.{◌≡◌, ◌<◌, ◌+◌, List, length, ap, sym, subst, arith, ◌∙◌}
 use Rattle.std.specs.Prelude.{All}
 use Rattle.pdb_regression.specs.declared.rule.Ask.{Ask}
-use Rattle.pdb_regression.specs.declared.change.DigitChange.{DigitChange}
 use Rattle.pdb_regression.specs.Rules.{asks_from}
 use Rattle.pdb_regression.proofs.RuleLaws.{asks_below}
 use Rattle.pdb_regression.proofs.rule.Rule.enters.Goals as goal

@@ -1,4 +1,4 @@
-use Rattle.std.proofs.Common.{length, ap, sym, ◌∙◌, arith}
+use Rattle.std.proofs.Common.{length, ap, ◌∙◌, arith}
 use Rattle.pdb_regression.specs.Tables.{digits_of}
 use Rattle.pdb_regression.proofs.Elements.{written}
 use Rattle.pdb_regression.proofs.RowLaws.{projection_digits}

@@ -8,7 +8,7 @@ use Rattle.fdr.specs.declared.fact.Fact.{Fact}
 use Rattle.fdr.specs.Tasks.{IsInRange, are_distinct, names_variable}
 use Rattle.abstraction.specs.Projections.{agrees, value_after}
 use Rattle.abstraction.proofs.DigitLaws.{Rising}
-use Rattle.checker_tables.specs.Moves.{value_in}
+use Rattle.abstraction.specs.Facts.{value_in}
 
 -- the fact holds of the variable's value, or is on another variable
 abbrev pub agrees_at : ℕ → ℕ → Fact → Bool
