@@ -41,7 +41,7 @@ fn add_column(
 }
 
 /// The places of all tables, by column and then by number. Fails only if allocation fails.
-pub(crate) fn places_of(
+pub(crate) fn table_places(
     alloc: Global,
     columns: &[Vec<PatternTable>],
 ) -> Result<Vec<TablePlace>, AllocError>

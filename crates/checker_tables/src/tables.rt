@@ -8,7 +8,7 @@ ghost use Rattle.checker_tables.specs.TableFaults.{IsFirstFault};
 ghost use Rattle.checker_tables.specs.TablePlaces.{IsFaultOf, says_table};
 
 use crate::fault::TableFault;
-use crate::places::{TablePlace, places_of, table_at, weights_of};
+use crate::places::{TablePlace, table_at, table_places, weights_of};
 use crate::projected::ProjectedTable;
 use crate::shares::ShareSums;
 use crate::transitions::{first_fall, first_goal, spenders};
@@ -82,8 +82,8 @@ fn first_in_piece(
 
 /// Returns the first violation of the clause C4, by column and then by table, or `None` if there is none. Of one table
 /// its form comes first, then its abstract goals, and then its transitions, by abstract state and then by operator.
-/// Only operators that touch the abstraction are tested. Many or large tables are cut in pieces, which as many threads as there are
-/// processors test side by side; the violation does not depend on how many there are.
+/// Only operators that touch the abstraction are tested. Where the tables have many values together, as many threads as there are
+/// processors test them side by side; the violation does not depend on how many there are.
 ///
 /// Fails only if allocation fails.
 pub fn first_table_violation<R: Threads + Sync>(
@@ -95,7 +95,7 @@ pub fn first_table_violation<R: Threads + Sync>(
     ensures { IfOk result (λ found. IsFoundIn task.now certificate.now 4 found) }
 {
     let columns = certificate.columns();
-    let places = places_of(alloc, columns)?;
+    let places = table_places(alloc, columns)?;
     let places = places.as_slice();
     let weights = weights_of(alloc, columns, places, task.operator_count())?;
     first_in_weighed_pieces(
