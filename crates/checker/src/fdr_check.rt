@@ -16,7 +16,8 @@ use std::alloc::{AllocError, Global};
 use std::thread::Threads;
 
 /// The first violation of the clauses on tables, C3 and C4. Fails only if allocation fails.
-fn table_violation(
+fn table_violation<R: Threads + Sync>(
+    rt: &R,
     alloc: Global,
     task: &FdrTask,
     certificate: &Certificate,
@@ -26,7 +27,7 @@ fn table_violation(
     if let Some(shares) = first_share_violation(alloc, task, certificate)? {
         return Ok(Some(shares));
     }
-    first_table_violation(alloc, task, certificate)
+    first_table_violation(rt, alloc, task, certificate)
 }
 
 /// The first violation of the clauses C6 to C8, where all earlier ones are met. Fails only if allocation fails.
@@ -78,7 +79,7 @@ fn first_violation<R: Threads + Sync>(
 ) -> Result<Option<Violation>, AllocError>
     ensures { IfOk result (IsFoundBelow task.now certificate.now 9) }
 {
-    if let Some(table) = table_violation(alloc, task, certificate)? {
+    if let Some(table) = table_violation(rt, alloc, task, certificate)? {
         return Ok(Some(table));
     }
     closed_violation(rt, alloc, task, certificate)
@@ -87,8 +88,8 @@ fn first_violation<R: Threads + Sync>(
 /// Returns the verdict on a certificate for a task, whatever kind of task the certificate is for: `Accepted` with its
 /// bound if it meets the clauses C3 to C8, and else `Rejected` with its first violation. After `Accepted` every plan
 /// costs at least the bound, whoever wrote the certificate, and there is no plan if the bound is infinite. The verdict does not depend
-/// on how many threads search a long closed list. Fails only if allocation fails, or if there are 2^32 closed states or more, as no text
-/// has.
+/// on how many threads test the tables and search a long closed list. Fails only if allocation fails, or if there are 2^32 closed
+/// states or more, as no text has.
 pub fn check_fdr<R: AllocGlobal + Threads + Sync>(
     rt: &R,
     task: &FdrTask,

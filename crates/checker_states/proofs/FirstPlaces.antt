@@ -10,7 +10,8 @@ use Rattle.checker_clauses.specs.declared.violation.Violation.{Violation}
 use Rattle.checker_clauses.specs.declared.violation.Violation.TheVariants.{Shares, TableForm, GoalValue, Fall, ClosedState, Start, ClosedGoal, Successor}
 use Rattle.checker_clauses.specs.Clauses.{is_state, is_behind, is_covered, is_dear_if_goal, covers_successor, comes_before}
 use Rattle.checker_clauses.specs.Violations.{Violates, clause_of, place_of, IsMet, IsFoundIn}
-use Rattle.checker_states.specs.Places.{passes_state, passes_goal, passes_successor, PassesBelow, PassesEach}
+use Rattle.checker_pieces.specs.Pieces.{IsFirstIn}
+use Rattle.checker_states.specs.Places.{passes_state, passes_goal, passes_successor, PassesBelow, PassesEach, says_state, says_goal, says_successor}
 use Rattle.checker_clauses.proofs.ClauseLaws.{not_false, is_state_tells}
 
 -- a test that passes does not fail
@@ -164,3 +165,18 @@ module _ (task : FiniteDomainTask) (c : CertificateValue) where
       go None h = tt
       go (Some e) h =
           is_state_tells (ranges task) e.state (and_parts (is_state (ranges task) e.state) (is_behind c.closed i e.state) (not_false (is_state (ranges task) e.state && is_behind c.closed i e.state) h)).0
+
+-- C5 by the test of each closed state
+pub states_found : (task : FiniteDomainTask) (c : CertificateValue) (v : Option Violation) → IsFirstIn (says_state task c) 0 (length c.closed) v → IsFoundIn task c 5 v
+states_found task c None none = no_state_fails task c (λ i l. none i (omega arith) l)
+states_found task c (Some v) is = rw is.3.0 (state_fails task c is.0 is.3.1 (λ j l. is.4 j (omega arith) l))
+
+-- C7 by the test of each closed state
+pub goals_found : (task : FiniteDomainTask) (c : CertificateValue) (v : Option Violation) → IsFirstIn (says_goal task c) 0 (length c.closed) v → IsFoundIn task c 7 v
+goals_found task c None none = no_goal_fails task c (λ i l. none i (omega arith) l)
+goals_found task c (Some v) is = rw is.3.0 (goal_fails task c is.0 is.3.1 (λ j l. is.4 j (omega arith) l))
+
+-- C8 by the test of each closed state
+pub successors_found : (task : FiniteDomainTask) (c : CertificateValue) (v : Option Violation) → IsFirstIn (says_successor task c) 0 (length c.closed) v → IsFoundIn task c 8 v
+successors_found task c None none = no_successor_fails task c (λ i l. none i (omega arith) l)
+successors_found task c (Some v) is = rw is.3.1 (successor_fails task c is.0 is.3.0 is.3.2.0 (λ j l. is.4 j (omega arith) l) is.3.2.1)

@@ -6,4 +6,3 @@ pub mod FirstPlaces
 pub mod Saturation
 pub mod Successors
 pub mod Searches
-pub mod PieceLaws

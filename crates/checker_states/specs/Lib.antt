@@ -4,4 +4,3 @@ pub mod Lists
 pub mod Indexes
 pub mod Places
 pub mod Coverings
-pub mod Pieces

@@ -3,6 +3,8 @@ use Rattle.std.specs.Prelude.{◌≡◌, ℕ, ◌<◌, Bool, true, false, ◌&&�
 use Rattle.std.specs.Option.{option_map_or}
 use Rattle.fdr.specs.Tasks.{FiniteDomainTask, ranges}
 use Rattle.cert_value.specs.Certificates.{Entry, CertificateValue}
+use Rattle.checker_clauses.specs.declared.violation.Violation.{Violation}
+use Rattle.checker_clauses.specs.declared.violation.Violation.TheVariants.{ClosedState, ClosedGoal, Successor}
 use Rattle.checker_clauses.specs.Clauses.{is_state, is_behind, is_dear_if_goal, covers_successor}
 
 -- whether the state is one of the task, and lexicographically greater than the one before it
@@ -34,3 +36,18 @@ PassesEach test n = (i : ℕ) → i < n → PassesAll (test i)
 abbrev pub IsFirstFailing : (ℕ → Bool) → Option ℕ → Type 0
 IsFirstFailing test None = PassesAll test
 IsFirstFailing test (Some i) = (test i ≡ false) × PassesBelow test i
+
+-- what the clause C5 says of the closed state at a place
+abbrev pub says_state : FiniteDomainTask → CertificateValue → ℕ → Option Violation → Type 0
+says_state task c i None = passes_state task c.closed i ≡ true
+says_state task c i (Some v) = (v ≡ ClosedState i) × (passes_state task c.closed i ≡ false)
+
+-- what the clause C7 says of the closed state at a place
+abbrev pub says_goal : FiniteDomainTask → CertificateValue → ℕ → Option Violation → Type 0
+says_goal task c i None = passes_goal task c i ≡ true
+says_goal task c i (Some v) = (v ≡ ClosedGoal i) × (passes_goal task c i ≡ false)
+
+-- what the clause C8 says of the closed state at a place: all its successors are covered, or the first that is not
+abbrev pub says_successor : FiniteDomainTask → CertificateValue → ℕ → Option Violation → Type 0
+says_successor task c i None = PassesAll (passes_successor task c i)
+says_successor task c i (Some v) = (o : ℕ) × (v ≡ Successor i o) × IsFirstFailing (passes_successor task c i) (Some o)

@@ -6,14 +6,14 @@ ghost use Rattle.cost.specs.Distances.{IsWithin};
 ghost use Rattle.fdr.specs.Tasks.{ranges, IsTask, IsState};
 ghost use Rattle.checker_clauses.specs.Clauses.{is_covered};
 ghost use Rattle.checker_clauses.specs.Violations.{IsMet, IsFoundIn};
-ghost use Rattle.checker_states.specs.Places.{passes_successor, IsFirstFailing};
-ghost use Rattle.checker_states.specs.Pieces.{IsFirstIn, says_successor};
+ghost use Rattle.checker_pieces.specs.Pieces.{IsFirstIn};
+ghost use Rattle.checker_states.specs.Places.{passes_successor, IsFirstFailing, says_successor};
 
 use crate::goals::reaches;
 use crate::index::ClosedIndex;
-use crate::pieces::first_in_pieces;
 use cert_value::{Certificate, ClosedList};
 use checker_clauses::Violation;
+use checker_pieces::first_in_pieces;
 use checker_tables::Heuristic;
 use cost::Dist;
 use fdr::FdrTask;

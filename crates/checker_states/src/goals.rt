@@ -4,12 +4,12 @@ ghost use Rattle.std.specs.Prelude.{◌≡◌, ◌<◌, ◌≤◌, All, length, 
 ghost use Rattle.cost.specs.Distances.{Finite, is_at_most};
 ghost use Rattle.fdr.specs.Tasks.{ranges, IsState};
 ghost use Rattle.checker_clauses.specs.Violations.{IsMet, IsFoundIn};
-ghost use Rattle.checker_states.specs.Places.{passes_goal};
-ghost use Rattle.checker_states.specs.Pieces.{IsFirstIn, says_goal};
+ghost use Rattle.checker_pieces.specs.Pieces.{IsFirstIn};
+ghost use Rattle.checker_states.specs.Places.{passes_goal, says_goal};
 
-use crate::pieces::first_in_pieces;
 use cert_value::Certificate;
 use checker_clauses::Violation;
+use checker_pieces::first_in_pieces;
 use cost::Dist;
 use fdr::FdrTask;
 use std::alloc::{AllocError, Global};

@@ -6,7 +6,6 @@ mod coverage;
 mod goals;
 mod hash;
 mod index;
-mod pieces;
 mod slots;
 mod states;
 

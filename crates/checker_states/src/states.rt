@@ -4,12 +4,12 @@ ghost use Rattle.std.specs.Prelude.{◌≡◌, ◌<◌, ◌≤◌, All, length, 
 ghost use Rattle.fdr.specs.Tasks.{ranges};
 ghost use Rattle.checker_clauses.specs.Clauses as spec;
 ghost use Rattle.checker_clauses.specs.Violations.{IsFoundIn};
-ghost use Rattle.checker_states.specs.Places.{passes_state};
-ghost use Rattle.checker_states.specs.Pieces.{IsFirstIn, says_state};
+ghost use Rattle.checker_pieces.specs.Pieces.{IsFirstIn};
+ghost use Rattle.checker_states.specs.Places.{passes_state, says_state};
 
-use crate::pieces::first_in_pieces;
 use cert_value::{Certificate, ClosedList};
 use checker_clauses::Violation;
+use checker_pieces::first_in_pieces;
 use fdr::FdrTask;
 use std::alloc::{AllocError, Global};
 use std::thread::Threads;

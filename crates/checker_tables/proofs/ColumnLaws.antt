@@ -80,19 +80,18 @@ column_forms task c met columns are i column l is j t k =
         ∙ slice_get-map kept.table_of column.items j
         ∙ ap (λ (r : Option PatternTable). option_map kept.table_of r) (slice_get-get_or column.items j t k)
 
--- the column of that number, as it lies in memory
+-- the column of that number among columns as they lie in memory
+pub column_in : (columns : List (Vec PatternTable Global)) (i : ℕ) (column : Vec PatternTable Global) → i < length columns → column ≡ get_or columns i column
+    → slice_get (kept.columns_of columns) i ≡ Some (kept.column_of column)
+column_in columns i column l is =
+    slice_get-map kept.column_of columns i
+    ∙ ap (λ (r : Option (Vec PatternTable Global)). option_map kept.column_of r) (slice_get-get_or columns i column l)
+    ∙ ap (λ (x : Vec PatternTable Global). Some (kept.column_of x)) (sym is)
+
+-- the column of that number of a certificate, as it lies in memory
 pub column_at : (c : CertificateValue) (columns : List (Vec PatternTable Global)) → kept.columns_of columns ≡ c.columns → (i : ℕ) (column : Vec PatternTable Global) → i < length columns → column ≡ get_or columns i column
     → (tables : List PatternTable) → tables ≡ column.items → slice_get c.columns i ≡ Some (map kept.table_of tables)
 column_at c columns are i column l is tables items =
     ap (λ (cs : List (List Table)). slice_get cs i) (sym are)
-    ∙ slice_get-map kept.column_of columns i
-    ∙ ap (λ (r : Option (Vec PatternTable Global)). option_map kept.column_of r) (slice_get-get_or columns i column l)
-    ∙ ap (λ (x : Vec PatternTable Global). Some (kept.column_of x)) (sym is)
+    ∙ column_in columns i column l is
     ∙ ap (λ (ts : List PatternTable). Some (map kept.table_of ts)) (sym items)
-
--- the table of that number, as it lies in memory
-pub table_in : (column : List PatternTable) (j : ℕ) (t : PatternTable) → j < length column → t ≡ get_or column j t → slice_get (map kept.table_of column) j ≡ Some (kept.table_of t)
-table_in column j t l is =
-    slice_get-map kept.table_of column j
-    ∙ ap (λ (r : Option PatternTable). option_map kept.table_of r) (slice_get-get_or column j t l)
-    ∙ ap (λ (x : PatternTable). Some (kept.table_of x)) (sym is)

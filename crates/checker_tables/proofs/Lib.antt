@@ -10,4 +10,5 @@ pub mod PlaceLaws
 pub mod ShareViolations
 pub mod FallLaws
 pub mod OperatorFalls
+pub mod ListingLaws
 pub mod TableViolations

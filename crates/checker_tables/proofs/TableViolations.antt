@@ -1,8 +1,9 @@
--- The first place at which a table fails, in the first such table of the first such column.
+-- The first place at which a table fails, in the first such table in the order of their places.
 use Rattle.std.proofs.Common.{◌≡◌, ℕ, ◌<◌, true, false, List, [], ◌∷◌, length, map, Option, Some, None, refl, sym, ap, ◌∙◌, arith, subst, ⊎_elim}
-use Rattle.std.specs.Prelude.{IsSomeAnd, IfSome, slice_get, slice_index, option_and_then}
+use Rattle.std.specs.Prelude.{IsSomeAnd, IfSome, slice_get, slice_index}
+use Rattle.std.specs.Option.{option_map_or}
 use Rattle.std.proofs.lemmas.Bool.{both_ways, cases_lt}
-use Rattle.std.proofs.lemmas.Option.{slice_get_past}
+use Rattle.std.proofs.lemmas.Option.{slice_get_within}
 use Rattle.fdr.specs.Tasks.{FiniteDomainTask, ranges}
 use Rattle.abstraction.specs.Abstractions as abstraction
 use Rattle.abstraction.specs.Abstractions.{IsAbstractionOf}
@@ -13,12 +14,15 @@ use Rattle.checker_clauses.specs.declared.violation.Violation.{Violation}
 use Rattle.checker_clauses.specs.declared.violation.Violation.TheVariants as violation
 use Rattle.checker_clauses.specs.Clauses.{has_form, share_of, is_goal_at_zero, falls_within_share, comes_before}
 use Rattle.checker_clauses.specs.Violations as violations
-use Rattle.checker_clauses.specs.Violations.{Violates, IsMet, IsFirstOfClause, clause_of, table_at}
+use Rattle.checker_clauses.specs.Violations.{Violates, IsMet, IsFirstOfClause, IsFoundIn, clause_of, table_at}
+use Rattle.checker_pieces.specs.Pieces.{IsFirstIn}
 use Rattle.checker_tables.specs.ShareSums.{IsFirstFailure}
 use Rattle.checker_tables.specs.declared.fault.TableFault.{TableFault}
 use Rattle.checker_tables.specs.declared.fault.TableFault.TheVariants.{Form, Goal, Fall}
-use Rattle.checker_tables.specs.TableFaults.{Fails, IsFirstFault, IsFirstInColumn, IsFirstGoal, IsFirstFall, place_of, violation_at, falls_within, first_fall_at, touching_from, spender_of}
+use Rattle.checker_tables.specs.TableFaults.{Fails, IsFirstFault, IsFirstGoal, IsFirstFall, place_of, violation_at, falls_within, first_fall_at, touching_from, spender_of}
 use Rattle.checker_tables.specs.declared.transitions.Spender.{Spender}
+use Rattle.checker_tables.specs.declared.places.TablePlace.{TablePlace}
+use Rattle.checker_tables.specs.TablePlaces.{IsBefore, IsListed, IsListing, IsFaultOf, says_table}
 use Rattle.checker_tables.proofs.FallLaws.{falls_nowhere, falls_to_itself, first_of_touching}
 use Rattle.checker_tables.proofs.PlaceLaws.{no_earlier}
 
@@ -110,10 +114,6 @@ module _ (p : Projection) (task : FiniteDomainTask) (t : Table) (of_task : p.tas
       first_goal_fault task t formed a here.0 here.1 here.2
 
 module _ (task : FiniteDomainTask) (c : CertificateValue) where
-  -- each table of the column of that number holds
-  abbrev pub IsSoundAt : ℕ → Type 0
-  IsSoundAt i = IfSome (slice_get c.columns i) (λ column. (j : ℕ) → IfSome (slice_get column j) (λ t. IsFirstFault task t None))
-
   fault_of : (i j : ℕ) (f : TableFault) → Violates task c (violation_at i j f) → IsSomeAnd (table_at c.columns i j) (λ t. Fails task t f)
   fault_of i j Form v = v
   fault_of i j (Goal a) v = v
@@ -149,49 +149,91 @@ module _ (task : FiniteDomainTask) (c : CertificateValue) where
   table_refuted f None sound fails = fails
   table_refuted f (Some t) sound fails = sound f fails
 
-  refuted : (j : ℕ) (f : TableFault) (r : Option (List Table)) → IfSome r (λ column. (k : ℕ) → IfSome (slice_get column k) (λ t. IsFirstFault task t None))
-      → IsSomeAnd (option_and_then (λ column. slice_get column j) r) (λ t. Fails task t f) → ⊥
-  refuted j f None sound fails = fails
-  refuted j f (Some column) sound fails = table_refuted f (slice_get column j) (sound j) fails
+  table_of_some : (f : TableFault) (r : Option Table) → IsSomeAnd r (λ t. Fails task t f) → (t : Table) × (r ≡ Some t)
+  table_of_some f None fails = absurd fails
+  table_of_some f (Some t) fails = (t, refl)
 
-  pub sound_met : ((i : ℕ) → i < length c.columns → IsSoundAt i) → IsMet task c 4
-  sound_met sound w e = by_faults (λ v. Violates task c v → ⊥) (λ i j f v. refuted j f (slice_get c.columns i) (at i) (fault_of i j f v)) w e
-    where
-      at : (i : ℕ) → IsSoundAt i
-      at i = ⊎_elim (λ l. sound i l) (λ past. rw (slice_get_past c.columns i past) tt) (cases_lt i (length c.columns))
+  module _ (places : List TablePlace) (listing : IsListing c.columns places) where
+    abbrev Says : ℕ → Option Violation → Type 0
+    Says = says_table task c.columns places
 
-  module _ (i j : ℕ) (f : TableFault) (column : List Table) (before : (k : ℕ) → k < i → IsSoundAt k) (is : slice_get c.columns i ≡ Some column)
-      (found : IsFirstInColumn task column (Some (j, f))) where
-    table_is : table_at c.columns i j ≡ slice_get column j
-    table_is = ap (λ (r : Option (List Table)). option_and_then (λ ts. slice_get ts j) r) is
+    abbrev at : ℕ → ℕ → TablePlace
+    at i j = record { column = i; table = j }
 
-    first_place : (g : TableFault) (r : Option Table) → IsSomeAnd r (λ t. IsFirstFault task t (Some f)) → IsSomeAnd r (λ t. Fails task t g) → comes_before (place_of g) (place_of f) ≡ false
-    first_place g None first fails = absurd fails
-    first_place g (Some t) first fails = first.1 g fails
+    -- a table that fails is listed
+    listed : (i j : ℕ) (f : TableFault) → IsSomeAnd (table_at c.columns i j) (λ t. Fails task t f) → IsListed places (at i j)
+    listed i j f fails = let t = table_of_some f (table_at c.columns i j) fails in listing.complete (at i j) t.0 t.1
 
-    fails_there : (r : Option Table) → IsSomeAnd r (λ t. IsFirstFault task t (Some f)) → IsSomeAnd r (λ t. Fails task t f)
-    fails_there None first = first
-    fails_there (Some t) first = first.0
+    -- a table does not fail where the test of its place passes
+    passed : (k i j : ℕ) (f : TableFault) → slice_get places k ≡ Some (at i j) → Says k None → IsSomeAnd (table_at c.columns i j) (λ t. Fails task t f) → ⊥
+    passed k i j f e says fails = table_refuted f (table_at c.columns i j) (rw e at says) fails
 
-    no_earlier_place : (k m : ℕ) (g : TableFault) → IsSomeAnd (table_at c.columns k m) (λ t. Fails task t g) → comes_before (k ∷ m ∷ place_of g) (i ∷ j ∷ place_of f) ≡ false
-    no_earlier_place k m g fails =
-        no_earlier k i (m ∷ place_of g) (j ∷ place_of f)
-        (λ l. refuted m g (slice_get c.columns k) (before k l) fails)
-        (λ q.
-        let here : IsSomeAnd (slice_get column m) (λ t. Fails task t g) =
-        subst (λ (r : Option Table). IsSomeAnd r (λ t. Fails task t g)) (ap (λ (n : ℕ). table_at c.columns n m) q ∙ ap (λ (r : Option (List Table)). option_and_then (λ ts. slice_get ts m) r) is) fails
-        in
-        no_earlier m j (place_of g) (place_of f)
-        (λ l. table_refuted g (slice_get column m) (found.1 m l) here)
-        (λ p. first_place g (slice_get column j) found.0 (subst (λ (n : ℕ). IsSomeAnd (slice_get column n) (λ t. Fails task t g)) p here)))
+    tables_met : IsFirstIn Says 0 (length places) None → IsMet task c 4
+    tables_met none w e =
+        by_faults (λ v. Violates task c v → ⊥)
+        (λ i j f v.
+        let there = listed i j f (fault_of i j f v) in
+        passed there.0 i j f there.1 (none there.0 (omega arith) (slice_get_within places there.0 (at i j) there.1)) (fault_of i j f v)) w e
 
-    pub first_violation : (clause_of (violation_at i j f) ≡ 4) × IsFirstOfClause task c (violation_at i j f)
-    first_violation = (
-      of_clause i j f,
-      record {
-        there = violates i j f (subst (λ (r : Option Table). IsSomeAnd r (λ t. Fails task t f)) (sym table_is) (fails_there (slice_get column j) found.0));
-        first = λ w e.
-            by_faults (λ v. Violates task c v → comes_before (violations.place_of v) (violations.place_of (violation_at i j f)) ≡ false)
-            (λ k m g v. rw (place_at k m g, place_at i j f) (no_earlier_place k m g (fault_of k m g v))) w (e ∙ of_clause i j f);
-      },
-    )
+    module _ (k i j : ℕ) (f : TableFault) (here : slice_get places k ≡ Some (at i j)) (fault : IsFaultOf task (table_at c.columns i j) (Some f))
+        (before : (m : ℕ) → m < k → Says m None) where
+      first_place : (g : TableFault) (r : Option Table) → IsSomeAnd r (λ t. IsFirstFault task t (Some f)) → IsSomeAnd r (λ t. Fails task t g) → comes_before (place_of g) (place_of f) ≡ false
+      first_place g None first fails = absurd fails
+      first_place g (Some t) first fails = first.1 g fails
+
+      fails_there : (r : Option Table) → IsSomeAnd r (λ t. IsFirstFault task t (Some f)) → IsSomeAnd r (λ t. Fails task t f)
+      fails_there None first = first
+      fails_there (Some t) first = first.0
+
+      abbrev IsNoEarlier : ℕ → ℕ → TableFault → Type 0
+      IsNoEarlier a b g = comes_before (a ∷ b ∷ place_of g) (i ∷ j ∷ place_of f) ≡ false
+
+      -- of a table with a later number
+      behind : (m a b : ℕ) (g : TableFault) → slice_get places m ≡ Some (at a b) → k < m → IsNoEarlier a b g
+      behind m a b g there l =
+          let after : IsBefore (at i j) a b = listing.ordered k m (at i j) (at a b) l here there in
+          no_earlier a i (b ∷ place_of g) (j ∷ place_of f) (λ h. omega (arith, h, after.0))
+          (λ q.
+          let later : j < b = after.1 (sym q) in
+          no_earlier b j (place_of g) (place_of f) (λ h. omega (arith, h, later)) (λ h. absurd (omega (arith, h, later))))
+
+      -- of the table itself
+      within : (a b : ℕ) (g : TableFault) → slice_get places k ≡ Some (at a b) → IsSomeAnd (table_at c.columns a b) (λ t. Fails task t g) → IsNoEarlier a b g
+      within a b g there fails =
+          let same = sym there ∙ here in
+          let column : a ≡ i = ap (λ (r : Option TablePlace). option_map_or (λ p. p.column) r 0) same in
+          let table : b ≡ j = ap (λ (r : Option TablePlace). option_map_or (λ p. p.table) r 0) same in
+          let first : comes_before (place_of g) (place_of f) ≡ false = first_place g (table_at c.columns i j) fault (rw (column, table) at fails) in
+          no_earlier a i (b ∷ place_of g) (j ∷ place_of f) (λ h. omega (arith, h, column)) (λ q. no_earlier b j (place_of g) (place_of f) (λ h. omega (arith, h, table)) (λ r. first))
+
+      no_earlier_place : (a b : ℕ) (g : TableFault) → IsSomeAnd (table_at c.columns a b) (λ t. Fails task t g) → IsNoEarlier a b g
+      no_earlier_place a b g fails = go (listed a b g fails)
+        where
+          go : IsListed places (at a b) → IsNoEarlier a b g
+          go there =
+              ⊎_elim (λ l. absurd (passed there.0 a b g there.1 (before there.0 l) fails))
+              (λ l. ⊎_elim (λ m. behind there.0 a b g there.1 m)
+              (λ m.
+              let same : there.0 ≡ k = omega (arith, l, m) in
+              within a b g (subst (λ (n : ℕ). slice_get places n ≡ Some (at a b)) same there.1) fails) (cases_lt k there.0)) (cases_lt there.0 k)
+
+      table_found : (clause_of (violation_at i j f) ≡ 4) × IsFirstOfClause task c (violation_at i j f)
+      table_found = (
+        of_clause i j f,
+        record {
+          there = violates i j f (fails_there (table_at c.columns i j) fault);
+          first = λ w e.
+              by_faults (λ v. Violates task c v → comes_before (violations.place_of v) (violations.place_of (violation_at i j f)) ≡ false)
+              (λ a b g v. rw (place_at a b g, place_at i j f) (no_earlier_place a b g (fault_of a b g v))) w (e ∙ of_clause i j f);
+        },
+      )
+
+    -- C4 by the test of each table
+    pub tables_found : (v : Option Violation) → IsFirstIn Says 0 (length places) v → IsFoundIn task c 4 v
+    tables_found None none = tables_met none
+    tables_found (Some v) is = go (slice_get places is.0) refl is.3
+      where
+        go : (r : Option TablePlace) → slice_get places is.0 ≡ r → IsSomeAnd r (λ p. (f : TableFault) × (v ≡ violation_at p.column p.table f) × IsFaultOf task (table_at c.columns p.column p.table) (Some f))
+            → IsFoundIn task c 4 (Some v)
+        go None e fault = absurd fault
+        go (Some p) e fault = rw fault.1 (table_found is.0 p.column p.table fault.0 e fault.2 (λ m l. is.4 m (omega arith) l))

@@ -3,3 +3,4 @@ pub mod ProjectedTables
 pub mod Rests
 pub mod ShareSums
 pub mod TableFaults
+pub mod TablePlaces

@@ -1,5 +1,5 @@
 -- Faults of a table of a column.
-use Rattle.std.specs.Prelude.{◌≡◌, ℕ, ◌+◌, ◌<◌, zero, suc, Bool, true, false, if◌then◌else◌, List, [], ◌∷◌, slice_index_or, slice_get, IfSome, IsSomeAnd, Option, Some, None}
+use Rattle.std.specs.Prelude.{◌≡◌, ℕ, ◌+◌, ◌<◌, zero, suc, Bool, true, false, if◌then◌else◌, List, [], ◌∷◌, slice_index_or, Option, Some, None}
 use Rattle.std.specs.Option.{option_map_or}
 use Rattle.cost.specs.Distances.{Distance, Finite, Infinite, ◌+ᵈ◌, is_at_most}
 use Rattle.fdr.specs.Tasks.{FiniteDomainTask, ranges}
@@ -36,13 +36,6 @@ abbrev pub violation_at : ℕ → ℕ → TableFault → Violation
 violation_at i j Form = violation.TableForm i j
 violation_at i j (Goal a) = violation.GoalValue i j a
 violation_at i j (Fall a o) = violation.Fall i j a o
-
--- the first table of a column that has a fault, and its first fault, or none
-abbrev pub IsFirstInColumn : FiniteDomainTask → List Table → Option (ℕ × TableFault) → Type 0
-IsFirstInColumn task column None = (j : ℕ) → IfSome (slice_get column j) (λ t. IsFirstFault task t None)
-IsFirstInColumn task column (Some found) =
-    IsSomeAnd (slice_get column found.0) (λ t. IsFirstFault task t (Some found.1))
-    × ((k : ℕ) → k < found.0 → IfSome (slice_get column k) (λ t. IsFirstFault task t None))
 
 -- ---- abstractions
 

@@ -5,6 +5,7 @@ mod falls;
 mod fault;
 mod heuristic;
 mod moves;
+mod places;
 mod projected;
 mod shares;
 mod tables;

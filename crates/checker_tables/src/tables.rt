@@ -1,18 +1,23 @@
 //! The clause C4: the tables of a column are consistent.
 
-ghost use Rattle.std.specs.Prelude.{map, IfOk};
+ghost use Rattle.std.specs.Prelude.{◌≤◌, length, IfOk};
 ghost use Rattle.cert_value.specs.Views as kept;
-ghost use Rattle.checker_clauses.specs.Violations.{IsFoundIn};
-ghost use Rattle.checker_tables.specs.TableFaults.{IsFirstFault, IsFirstInColumn};
+ghost use Rattle.checker_clauses.specs.Violations.{IsFoundIn, table_at};
+ghost use Rattle.checker_pieces.specs.Pieces.{IsFirstIn};
+ghost use Rattle.checker_tables.specs.TableFaults.{IsFirstFault};
+ghost use Rattle.checker_tables.specs.TablePlaces.{IsFaultOf, says_table};
 
 use crate::fault::TableFault;
+use crate::places::{TablePlace, table_at, table_places, weights_of};
 use crate::projected::ProjectedTable;
 use crate::shares::ShareSums;
 use crate::transitions::{first_fall, first_goal, spenders};
 use cert_value::{Certificate, PatternTable};
 use checker_clauses::Violation;
+use checker_pieces::first_in_weighed_pieces;
 use fdr::FdrTask;
 use std::alloc::{AllocError, Global};
+use std::thread::Threads;
 
 /// The first fault of a table. Fails only if allocation fails.
 fn first_fault(
@@ -39,17 +44,37 @@ fn first_fault(
     }
 }
 
-/// The first table of a column that has a fault, by its number, and its first fault. Fails only if allocation fails.
-fn first_in_column(
+/// The first fault of the table at a place, or `None` if there is no table. Fails only if allocation fails.
+fn fault_at(
     alloc: Global,
     task: &FdrTask,
-    column: &[PatternTable],
-) -> Result<Option<(usize, TableFault)>, AllocError>
-    ensures { IfOk result (IsFirstInColumn task.now (map kept.table_of column.now)) }
+    columns: &[Vec<PatternTable>],
+    place: TablePlace,
+) -> Result<Option<TableFault>, AllocError>
+    ensures { IfOk result (IsFaultOf task.now (table_at (kept.columns_of columns.now) place.column place.table)) }
 {
-    for place in 0..column.len() {
-        if let Some(fault) = first_fault(alloc, task, &column[place])? {
-            return Ok(Some((place, fault)));
+    match table_at(columns, place) {
+        Some(table) => first_fault(alloc, task, table),
+        None => Ok(None),
+    }
+}
+
+/// The first violation of the tables at these places, from the number `start` on and before `end`. Fails only if allocation fails.
+fn first_in_piece(
+    alloc: Global,
+    task: &FdrTask,
+    columns: &[Vec<PatternTable>],
+    places: &[TablePlace],
+    start: usize,
+    end: usize,
+) -> Result<Option<Violation>, AllocError>
+    requires { end ≤ length places.now }
+    ensures { IfOk result (IsFirstIn (says_table task.now (kept.columns_of columns.now) places.now) start end) }
+{
+    for number in start..end {
+        let place = places[number];
+        if let Some(fault) = fault_at(alloc, task, columns, place)? {
+            return Ok(Some(fault.violation(place.column, place.table)));
         }
     }
     Ok(None)
@@ -57,8 +82,12 @@ fn first_in_column(
 
 /// Returns the first violation of the clause C4, by column and then by table, or `None` if there is none. Of one table
 /// its form comes first, then its abstract goals, and then its transitions, by abstract state and then by operator.
-/// Only operators that touch the abstraction are tested. Fails only if allocation fails.
-pub fn first_table_violation(
+/// Only operators that touch the abstraction are tested. Where the tables have many values together, as many threads as there are
+/// processors test them side by side; the violation does not depend on how many there are.
+///
+/// Fails only if allocation fails.
+pub fn first_table_violation<R: Threads + Sync>(
+    rt: &R,
     alloc: Global,
     task: &FdrTask,
     certificate: &Certificate,
@@ -66,10 +95,17 @@ pub fn first_table_violation(
     ensures { IfOk result (λ found. IsFoundIn task.now certificate.now 4 found) }
 {
     let columns = certificate.columns();
-    for place in 0..columns.len() {
-        if let Some((table, fault)) = first_in_column(alloc, task, &columns[place])? {
-            return Ok(Some(fault.violation(place, table)));
-        }
-    }
-    Ok(None)
+    let places = table_places(alloc, columns)?;
+    let places = places.as_slice();
+    let weights = weights_of(alloc, columns, places, task.operator_count())?;
+    first_in_weighed_pieces(
+        rt,
+        alloc,
+        &weights,
+        &|start: usize, end: usize| -> Result<Option<Violation>, AllocError>
+            requires { end ≤ length places.now }
+            ensures { IfOk result (IsFirstIn
+                (says_table task.entry.now (kept.columns_of columns.entry.now) places.entry.now) start end) }
+        { first_in_piece(alloc, task, columns, places, start, end) },
+    )
 }

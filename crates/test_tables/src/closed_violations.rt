@@ -58,7 +58,7 @@ fn first_violation<R: Threads + Sync>(
     task: &FdrTask,
     certificate: &Certificate,
 ) -> Result<Option<Violation>, AllocError> {
-    if let Some(violation) = first_table_violation(alloc, task, certificate)? {
+    if let Some(violation) = first_table_violation(rt, alloc, task, certificate)? {
         return Ok(Some(violation));
     }
     if let Some(violation) = first_closed_violation(rt, alloc, task, certificate)? {

@@ -8,6 +8,7 @@ use fdr::FdrTask;
 use std::alloc::Global;
 use std::process::Abort;
 use std::test::*;
+use std::thread::Threads;
 use test_tasks::{fact, is_state_of, operator, task};
 
 const INF: u64 = u64::MAX;
@@ -64,14 +65,15 @@ fn certificate(alloc: Global, columns: &[&[Given]]) -> Result<Certificate, Fail>
 }
 
 /// The violation that the tests of the two clauses find.
-fn found(
+fn found<R: Threads + Sync>(
+    rt: &R,
     alloc: Global,
     task: &FdrTask,
     columns: &[&[Given]],
 ) -> Result<(Option<Violation>, Option<Violation>), Fail> {
     let certificate = certificate(alloc, columns)?;
     let shares = first_share_violation(alloc, task, &certificate)?;
-    let tables = first_table_violation(alloc, task, &certificate)?;
+    let tables = first_table_violation(rt, alloc, task, &certificate)?;
     Ok((shares, tables))
 }
 
@@ -99,10 +101,10 @@ fn accepts_distances(rt: HostRuntime) -> Result<(), Fail> {
         shares: &[],
         values: &[0],
     };
-    assert_eq!(rt; found(rt.alloc(), &chain, &[])?, (None, None));
-    assert_eq!(rt; found(rt.alloc(), &chain, &[&[]])?, (None, None));
+    assert_eq!(rt; found(&rt, rt.alloc(), &chain, &[])?, (None, None));
+    assert_eq!(rt; found(&rt, rt.alloc(), &chain, &[&[]])?, (None, None));
     let columns: &[&[Given]] = &[&[DISTANCES, idle], &[DISTANCES]];
-    assert_eq!(rt; found(rt.alloc(), &chain, columns)?, (None, None));
+    assert_eq!(rt; found(&rt, rt.alloc(), &chain, columns)?, (None, None));
     Ok(())
 }
 
@@ -121,10 +123,10 @@ fn spent_costs(rt: HostRuntime) -> Result<(), Fail> {
             shares,
             ..DISTANCES
         };
-        let (violation, _) = found(rt.alloc(), &chain, &[&[DISTANCES], &[spending]])?;
+        let (violation, _) = found(&rt, rt.alloc(), &chain, &[&[DISTANCES], &[spending]])?;
         assert_eq!(rt; violation, at_fault.map(|o| Violation::Shares(1, o)));
     }
-    let twice = found(rt.alloc(), &chain, &[&[DISTANCES, DISTANCES]])?;
+    let twice = found(&rt, rt.alloc(), &chain, &[&[DISTANCES, DISTANCES]])?;
     assert_eq!(rt; twice, (Some(Violation::Shares(0, 0)), None));
     Ok(())
 }
@@ -152,28 +154,33 @@ fn faults_of_tables(rt: HostRuntime) -> Result<(), Fail> {
             values,
             ..DISTANCES
         };
-        let (_, at_fault) = found(rt.alloc(), &chain, &[&[DISTANCES, failing], &[failing]])?;
+        let (_, at_fault) = found(
+            &rt,
+            rt.alloc(),
+            &chain,
+            &[&[DISTANCES, failing], &[failing]],
+        )?;
         assert_eq!(rt; at_fault, Some(violation));
     }
     let unpaid = Given {
         shares: &[(0, 1), (1, 0), (1, 1)],
         ..DISTANCES
     };
-    let (_, at_fault) = found(rt.alloc(), &chain, &[&[unpaid]])?;
+    let (_, at_fault) = found(&rt, rt.alloc(), &chain, &[&[unpaid]])?;
     assert_eq!(rt; at_fault, Some(Violation::Fall(0, 0, 1, 1)));
     Ok(())
 }
 
 /// The heuristic of a certificate whose tables are tested.
-fn heuristic<'a>(
-    rt: &impl Abort,
+fn heuristic<'a, R: Abort + Threads + Sync>(
+    rt: &R,
     alloc: Global,
     task: &'a FdrTask,
     certificate: &'a Certificate,
 ) -> Result<Heuristic<'a>, Fail>
     ensures { IfOk result (λ h. h.task ≡ task.now) }
 {
-    match first_table_violation(alloc, task, certificate)? {
+    match first_table_violation(rt, alloc, task, certificate)? {
         None => Ok(Heuristic::new(alloc, task, certificate)?),
         Some(_) => panic!(rt; "a table that fails"),
     }
@@ -187,8 +194,8 @@ fn stuck(alloc: Global) -> Result<FdrTask, Fail> {
 }
 
 /// Whether the columns' heuristic reaches the bound from the state, reached at the cost.
-fn reaches(
-    rt: &impl Abort,
+fn reaches<R: Abort + Threads + Sync>(
+    rt: &R,
     alloc: Global,
     columns: &[&[Given]],
     state: [u32; 2],

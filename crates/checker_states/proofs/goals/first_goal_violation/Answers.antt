@@ -1,7 +1,8 @@
 use Rattle.std.proofs.Common.{length, ◌∙◌, ap, sym}
 use Rattle.std.proofs.lemmas.Result.{IfOk-weaker}
-use Rattle.checker_states.specs.Pieces.{says_goal}
-use Rattle.checker_states.proofs.PieceLaws.{first_among, goals_found}
+use Rattle.checker_pieces.specs.PieceLaws.{first_among}
+use Rattle.checker_states.specs.Places.{says_goal}
+use Rattle.checker_states.proofs.FirstPlaces.{goals_found}
 use Rattle.checker_states.proofs.goals.first_goal_violation.Goals as goal
 
 pub returns : goal.returns

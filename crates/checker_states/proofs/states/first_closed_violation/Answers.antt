@@ -1,7 +1,8 @@
 use Rattle.std.proofs.Common.{length, ◌∙◌, ap, sym}
 use Rattle.std.proofs.lemmas.Result.{IfOk-weaker}
-use Rattle.checker_states.specs.Pieces.{says_state}
-use Rattle.checker_states.proofs.PieceLaws.{first_among, states_found}
+use Rattle.checker_pieces.specs.PieceLaws.{first_among}
+use Rattle.checker_states.specs.Places.{says_state}
+use Rattle.checker_states.proofs.FirstPlaces.{states_found}
 use Rattle.checker_states.proofs.states.first_closed_violation.Goals as goal
 
 pub returns : goal.returns

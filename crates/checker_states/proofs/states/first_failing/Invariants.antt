@@ -1,5 +1,6 @@
 use Rattle.std.proofs.Common.{◌≡◌, length, None}
-use Rattle.checker_states.specs.Pieces.{IsFirstIn, says_state}
+use Rattle.checker_pieces.specs.Pieces.{IsFirstIn}
+use Rattle.checker_states.specs.Places.{says_state}
 use Rattle.checker_states.proofs.states.first_failing.Given as goal
 
 abbrev pub invariant-loop-place : goal.invariant-loop-place

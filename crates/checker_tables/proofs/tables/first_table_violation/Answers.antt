@@ -1,28 +1,21 @@
-use Rattle.std.proofs.Common.{ℕ, List, map, Option, None, sym, ap, subst, arith, length, below_more}
-use Rattle.std.specs.Prelude.{IfSome, slice_get}
-use Rattle.std.proofs.lemmas.List.{length-map}
+use Rattle.std.proofs.Common.{◌≡◌, List, length, ◌∙◌, ap, sym, subst}
+use Rattle.std.proofs.lemmas.Result.{IfOk-weaker}
 use Rattle.cert_value.specs.Certificates.{Table}
-use Rattle.cert_value.specs.Views as kept
-use Rattle.checker_tables.specs.TableFaults.{IsFirstFault}
-use Rattle.checker_tables.proofs.ColumnLaws.{column_at}
-use Rattle.checker_tables.proofs.TableViolations.{sound_met, first_violation}
+use Rattle.checker_pieces.specs.Pieces.{IsFirstIn}
+use Rattle.checker_pieces.specs.PieceLaws.{first_among}
+use Rattle.checker_tables.specs.TablePlaces.{IsListing, says_table}
+use Rattle.checker_tables.proofs.TableViolations.{tables_found}
 use Rattle.checker_tables.proofs.tables.first_table_violation.Goals as goal
 
-pub returns-in-Some : goal.returns-in-Some
-returns-in-Some c =
-    rw c.violation.ensures
-    (first_violation c.args.task.now c.args.certificate.now c.loop-place.place c.in-Some.table c.in-Some.fault (map kept.table_of c.deref.result.now) c.loop-place.invariant
-    (column_at c.args.certificate.now c.columns-columns.result.now c.columns-columns.ensures c.loop-place.place c.index-columns-place.result c.loop-place-test.true c.index-columns-place.is c.deref.result.now c.deref.ensures.value)
-    (rw c.in-Some.is at c.in_ok-table.ensures))
-
-pub loop-place-preserved : goal.loop-place-preserved
-loop-place-preserved c =
-    below_more _ _ c.loop-place.invariant
-    (subst (λ (r : Option (List Table)). IfSome r (λ column. (j : ℕ) → IfSome (slice_get column j) (λ t. IsFirstFault c.args.task.now t None)))
-    (sym (column_at c.args.certificate.now c.columns-columns.result.now c.columns-columns.ensures c.loop-place.place c.index-columns-place.result c.loop-place-test.true c.index-columns-place.is c.deref.result.now c.deref.ensures.value))
-    (rw c.in_default.is at c.in_ok-table.ensures))
-
 pub returns : goal.returns
-returns c =
-    sound_met c.args.task.now c.args.certificate.now
-    (λ k l. c.loop-place.invariant k (omega (arith, l, ap length c.columns-columns.ensures, length-map c.columns-columns.result.now kept.column_of, c.loop-place-test.false)))
+returns g c =
+    let task = c.args.task.now in
+    let places = c.as_slice-places.result.now in
+    let listing : IsListing c.args.certificate.now.columns places =
+    rw (c.as_slice-places.ensures.value, sym c.columns-columns.ensures) c.in_ok-places.ensures
+    in
+    let many : length c.deref.result.now ≡ length places = ap length c.deref.ensures.value ∙ c.in_ok-weights.ensures in
+    IfOk-weaker c.first_in_weighed_pieces.result _ _
+    (λ v h. tables_found task c.args.certificate.now places listing v (rw (sym many)
+    (subst (λ (columns : List (List Table)). IsFirstIn (says_table task columns places) 0 (length c.deref.result.now) v) c.columns-columns.ensures
+    (first_among (says_table task _ places) _ (length c.deref.result.now) (λ start end p is. is) v h)))) c.first_in_weighed_pieces.ensures

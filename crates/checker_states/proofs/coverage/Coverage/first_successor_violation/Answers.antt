@@ -1,8 +1,9 @@
 use Rattle.std.proofs.Common.{length, ◌∙◌, ap, sym}
 use Rattle.std.proofs.lemmas.Result.{IfOk-weaker}
 use Rattle.checker_states.specs.Coverings.{Covering}
-use Rattle.checker_states.specs.Pieces.{says_successor}
-use Rattle.checker_states.proofs.PieceLaws.{first_among, successors_found}
+use Rattle.checker_pieces.specs.PieceLaws.{first_among}
+use Rattle.checker_states.specs.Places.{says_successor}
+use Rattle.checker_states.proofs.FirstPlaces.{successors_found}
 use Rattle.checker_states.proofs.coverage.Coverage.first_successor_violation.Goals as goal
 
 pub returns : goal.returns

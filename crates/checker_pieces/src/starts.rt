@@ -1,0 +1,86 @@
+//! Where pieces of a list of places begin.
+
+ghost use Rattle.std.specs.Prelude.{◌≡◌, ◌<◌, ◌≤◌, length, slice_index_or, IfOk};
+ghost use Rattle.checker_pieces.specs.Pieces.{AreStarts};
+
+use std::alloc::{AllocError, Global};
+use std::num::NonZeroUsize;
+use std::thread;
+use std::thread::Threads;
+
+/// The greatest number of pieces.
+const MAX_PIECES: usize = 64;
+
+/// The least work for which another thread is worth its start, in places of a weight of 1.
+const WORK_OF_A_THREAD: usize = 4096;
+
+/// How many pieces so much work is cut in: one for each processor, but no more than it is worth.
+pub(crate) fn piece_count(rt: &impl Threads, work: usize) -> usize
+    ensures some { 0 < result }
+    ensures few { result ≤ 64 }
+{
+    let processors = thread::available_parallelism(rt).map_or(1, NonZeroUsize::get);
+    processors.min(work / WORK_OF_A_THREAD).clamp(1, MAX_PIECES)
+}
+
+/// Where so many pieces of about the same number of places begin. Fails only if allocation fails.
+pub(crate) fn equal_starts(
+    alloc: Global,
+    len: usize,
+    pieces: usize,
+) -> Result<Vec<usize>, AllocError>
+    requires { 0 < pieces }
+    ensures starts { IfOk result (λ starts. AreStarts len starts.items) }
+    ensures count { IfOk result (λ starts. length starts.items ≡ pieces) }
+{
+    let size = len.div_ceil(pieces);
+    let mut starts = Vec::with_capacity(alloc, pieces)?;
+    for piece in 0..pieces {
+        starts.push(size.saturating_mul(piece).min(len))?;
+    }
+    Ok(starts)
+}
+
+/// The sum of the weights, or the greatest number if it is out of range.
+pub(crate) fn weight_of(weights: &[usize]) -> usize {
+    let mut sum = 0_usize;
+    for weight in weights {
+        sum = sum.saturating_add(*weight);
+    }
+    sum
+}
+
+/// Where at most so many pieces of about the same weight begin, of places with these weights. A piece ends before the place in which
+/// it would pass its share by half the weight of the place. Fails only if allocation fails.
+pub(crate) fn weighed_starts(
+    alloc: Global,
+    weights: &[usize],
+    pieces: usize,
+) -> Result<Vec<usize>, AllocError>
+    requires { 0 < pieces }
+    ensures starts { IfOk result (λ starts. AreStarts (length weights.now) starts.items) }
+    ensures count { IfOk result (λ starts. length starts.items ≤ pieces) }
+{
+    let share = weight_of(weights).div_ceil(pieces);
+    let mut starts = vec![in alloc; 0; 1]?;
+    let mut before = 0_usize;
+    for place in 0..weights.len() {
+        let weight = weights[place];
+        let end = share.saturating_mul(starts.len());
+        if starts.len() < pieces && before.saturating_add(weight / 2) >= end {
+            starts.push(place)?;
+        }
+        before = before.saturating_add(weight);
+    }
+    Ok(starts)
+}
+
+/// Where the piece of that number begins, or where all end if there is none.
+pub(crate) fn start_at(starts: &[usize], piece: usize, len: usize) -> usize
+    ensures { result ≡ slice_index_or starts.now piece len }
+{
+    match starts.get(piece) {
+        Some(start) => *start,
+        None => len,
+    }
+}

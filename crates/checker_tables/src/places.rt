@@ -1,0 +1,73 @@
+//! The tables of a certificate in the order of their places.
+
+ghost use Rattle.std.specs.Prelude.{◌≡◌, ◌+◌, ◌<◌, length, option_map, IfOk, OnOk};
+ghost use Rattle.cert_value.specs.Views as kept;
+ghost use Rattle.checker_clauses.specs.Violations.{table_at};
+ghost use Rattle.checker_tables.specs.TablePlaces.{IsListing, IsListingBefore};
+
+use cert_value::PatternTable;
+use std::alloc::{AllocError, Global};
+
+/// The place of a table. Both numbers count from 0.
+#[derive(Clone, Copy)]
+pub(crate) struct TablePlace {
+    pub(crate) column: usize,
+    /// The number of the table in its column.
+    pub(crate) table: usize,
+}
+
+/// The table at a place, if there is one.
+pub(crate) fn table_at(columns: &[Vec<PatternTable>], place: TablePlace) -> Option<&PatternTable>
+    ensures { option_map (λ t. kept.table_of t.now) result ≡ table_at (kept.columns_of columns.now) place.column place.table }
+{
+    let column = columns.get(place.column)?;
+    column.get(place.table)
+}
+
+/// Adds the places of the tables of a column behind those of the columns before it. Fails only if allocation fails.
+fn add_column(
+    places: &mut Vec<TablePlace>,
+    columns: &[Vec<PatternTable>],
+    column: usize,
+) -> Result<(), AllocError>
+    requires column { column < length columns.now }
+    requires before { IsListingBefore (kept.columns_of columns.now) column 0 places.old.items }
+    ensures { OnOk result (IsListingBefore (kept.columns_of columns.now) (column + 1) 0 places.new.items) }
+{
+    for table in 0..columns[column].len() {
+        places.push(TablePlace { column, table })?;
+    }
+    Ok(())
+}
+
+/// The places of all tables, by column and then by number. Fails only if allocation fails.
+pub(crate) fn table_places(
+    alloc: Global,
+    columns: &[Vec<PatternTable>],
+) -> Result<Vec<TablePlace>, AllocError>
+    ensures { IfOk result (λ places. IsListing (kept.columns_of columns.now) places.items) }
+{
+    let mut places = Vec::new(alloc);
+    for column in 0..columns.len() {
+        add_column(&mut places, columns, column)?;
+    }
+    Ok(places)
+}
+
+/// About how long the tests of the tables at these places take in a task with so many operators: each operator is looked at once, and
+/// each value several times. Fails only if allocation fails.
+pub(crate) fn weights_of(
+    alloc: Global,
+    columns: &[Vec<PatternTable>],
+    places: &[TablePlace],
+    operators: usize,
+) -> Result<Vec<usize>, AllocError>
+    ensures { IfOk result (λ weights. length weights.items ≡ length places.now) }
+{
+    let mut weights = Vec::with_capacity(alloc, places.len())?;
+    for place in places {
+        let values = table_at(columns, *place).map_or(0, |table| table.values.len());
+        weights.push(values.saturating_add(operators))?;
+    }
+    Ok(weights)
+}
