@@ -3,3 +3,4 @@ pub mod IndexLaws
 pub mod TestLaws
 pub mod GroupLaws
 pub mod SpanLaws
+pub mod SetLaws

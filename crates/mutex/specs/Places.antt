@@ -1,5 +1,5 @@
 -- Atoms by their places in a list, and the effects of actions by places.
-use Rattle.std.specs.Prelude.{ℕ, Bool, ◌&&◌, ◌||◌, ◌==◌, not, if◌then◌else◌, List, None, slice_get, position}
+use Rattle.std.specs.Prelude.{◌≡◌, ℕ, Bool, ◌&&◌, ◌||◌, ◌==◌, not, if◌then◌else◌, List, None, slice_get, position}
 use Rattle.std.specs.List.{list_all, list_any, filter_map}
 use Rattle.pddl_task.specs.Atoms.{Atom, Literal, same_atom, contains}
 use Rattle.pddl_task.specs.Planning.{PlanningTask, Action}
@@ -17,6 +17,10 @@ atoms_at atoms places = filter_map (slice_get atoms) places
 -- the number is one of the numbers
 abbrev pub has : List ℕ → ℕ → Bool
 has numbers k = list_any (λ n. n == k) numbers
+
+-- the numbers are the same ones, but for their order and repeats
+abbrev pub AreSameSet : List ℕ → List ℕ → Type 0
+AreSameSet numbers more = (k : ℕ) → has numbers k ≡ has more k
 
 -- the places of those of the atoms that are in the list
 abbrev pub places_of : List Atom → List Atom → List ℕ

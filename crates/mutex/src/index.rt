@@ -3,7 +3,7 @@
 ghost use Rattle.std.specs.Prelude.{◌≡◌, ℕ, ◌<◌, All, length, slice_get, IfOk, IfSome};
 ghost use Rattle.std.specs.List.Sorted.{IsStrictlyIncreasing};
 ghost use Rattle.mutex.specs.Groups.{is_usable, is_full, is_constant, is_excluded};
-ghost use Rattle.mutex.specs.Places.{atoms_at};
+ghost use Rattle.mutex.specs.Places.{atoms_at, AreSameSet};
 
 use crate::tables::Tables;
 use ground_atoms::Atoms;
@@ -84,6 +84,16 @@ impl<'a> ActionIndex<'a> {
         self.tables.is_usable(places)
     }
 
+    /// Whether the atoms at these places are a usable group, as `is_usable` tells, where the places may stand in any
+    /// order and with repeats. Fails only if allocation fails.
+    pub fn is_group(&self, alloc: Global, places: &[usize]) -> Result<bool, AllocError>
+        requires within { All (λ p. p < length self.now.atoms) places.now }
+        ensures { IfOk result (λ is. is ≡ is_usable self.now.task self.now.actions (atoms_at self.now.atoms places.now)) }
+    {
+        let group = in_order(alloc, places)?;
+        Ok(self.is_usable(&group))
+    }
+
     /// Whether the group of the atoms at these places is full: at least one is initially true, and every action that
     /// removes one adds one.
     ///
@@ -112,4 +122,15 @@ impl<'a> ActionIndex<'a> {
     {
         self.tables.is_excluded(place)
     }
+}
+
+/// The numbers in increasing order, without repeats. Fails only if allocation fails.
+fn in_order(alloc: Global, numbers: &[usize]) -> Result<Vec<usize>, AllocError>
+    ensures rising { IfOk result (λ sorted. IsStrictlyIncreasing sorted.items) }
+    ensures same { IfOk result (λ sorted. AreSameSet sorted.items numbers.now) }
+{
+    let mut sorted = Vec::from_slice(alloc, numbers)?;
+    sorted.sort_unstable();
+    sorted.dedup();
+    Ok(sorted)
 }

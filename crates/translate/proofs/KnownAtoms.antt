@@ -1,12 +1,12 @@
 -- Every atom of the least closed set is an atom of the task, where those that the task names are.
-use Rattle.std.proofs.Common.{◌≡◌, ℕ, zero, suc, ◌<◌, Bool, true, false, ◌&&◌, List, [], ◌∷◌, Option, Some, None, refl, ap, arith, inl, inr}
+use Rattle.std.proofs.Common.{◌≡◌, ℕ, ◌<◌, true, false, ◌&&◌, List, [], ◌∷◌, Option, Some, None, refl, ap, arith, inl, inr}
 use Rattle.std.specs.Prelude.{All, length, slice_get, nat_lt, ◌==◌, if◌then◌else◌}
 use Rattle.std.specs.List.{list_all}
 use Rattle.std.specs.Option.{option_map_or}
 use Rattle.std.proofs.lemmas.Bool.{and_parts, and_from, eqb-true, eq-eqb}
 use Rattle.std.proofs.lemmas.Bool.Decides.{nat_tests}
 use Rattle.std.proofs.lemmas.List.Elements.{All-nil, All-cons, All-head, All-tail}
-use Rattle.pddl_task.specs.Atoms.{Atom, State, Literal, contains, has_wanted}
+use Rattle.pddl_task.specs.Atoms.{Atom, State, Literal, contains}
 use Rattle.pddl_task.specs.Planning.{PlanningTask, Action, IsActionOf, IsAtomOf}
 use Rattle.pddl_task.proofs.Lists.{Mem, all_mem, all_from, if_from}
 use Rattle.pddl_task.proofs.AtomLaws.{mem_contains}

@@ -1,5 +1,5 @@
 -- The limits of a task, and those of the variables that it is made of.
-use Rattle.std.proofs.Common.{◌≡◌, ℕ, zero, suc, ◌+◌, ◌<◌, ◌≤◌, Bool, true, false, cond, List, [], ◌∷◌, Option, Some, None, refl, sym, ap, subst, ◌∙◌, arith, true≢false}
+use Rattle.std.proofs.Common.{◌≡◌, ℕ, zero, suc, ◌+◌, ◌<◌, ◌≤◌, Bool, true, false, cond, List, [], ◌∷◌, Option, Some, refl, sym, ap, ◌∙◌, arith, true≢false}
 use Rattle.std.specs.Prelude.{All, length, map, slice_get, nat_lt}
 use Rattle.std.specs.List.{list_any, filter_map, cons_option}
 use Rattle.std.proofs.lemmas.List.{length-map}
@@ -11,7 +11,6 @@ use Rattle.fdr.specs.declared.task.TaskLimit.TheVariants as limit
 use Rattle.pddl_task.specs.Atoms.{Atom, contains}
 use Rattle.pddl_task.specs.Planning.{PlanningTask, Vocabulary, Action}
 use Rattle.ground_theory.specs.Grounding.{actions_over}
-use Rattle.ground_bindings.specs.Search.{max_actions}
 use Rattle.ground.specs.Rounds.{max_atoms}
 use Rattle.mutex.specs.Places.{atoms_at}
 use Rattle.translate_theory.specs.Translations.{Variable, translation, value_names_of, range_of, carried, has_operator}

@@ -1,27 +1,26 @@
 -- What a translation promises of plans, and what is wrong first where it is refused.
-use Rattle.std.proofs.Common.{◌≡◌, ℕ, List, refl, sym, ap, subst, ◌∙◌}
-use Rattle.std.specs.Prelude.{◌↔◌, ◌≤◌, All, Contains, Some, slice_get, length, Result, Ok, Err, IfOk, IfErr}
-use Rattle.std.specs.List.{filter_map, AllZip}
-use Rattle.cost.specs.Distances.{Distance}
-use Rattle.fdr.specs.Tasks.{FiniteDomainTask, IsWithinLimits, IsPlan, plan_cost, EveryPlanCostsAtLeast, HasNoPlan}
+use Rattle.std.proofs.Common.{◌≡◌, ℕ, List, sym, subst}
+use Rattle.std.specs.Prelude.{◌↔◌, ◌≤◌, All, Some, slice_get, length, Result, Ok, Err, IfOk, IfErr}
+use Rattle.std.specs.List.{AllZip}
+use Rattle.fdr.specs.Tasks.{FiniteDomainTask, IsWithinLimits, IsPlan, plan_cost}
 use Rattle.pddl_task.specs.Atoms.{Atom, contains}
-use Rattle.pddl_task.specs.Planning.{PlanningTask, IsPlanningTask, Action, IsActionOf}
-use Rattle.pddl_task.specs.Plans.{IsValidPlan, total_cost, HasNoValidPlan}
-use Rattle.pddl_task.proofs.Lists.{Mem, all_mem}
-use Rattle.ground_theory.specs.Grounding.{AreListedAtoms, AreListedActions, IsLeastClosedSet, actions_over}
+use Rattle.pddl_task.specs.Planning.{PlanningTask, IsPlanningTask, Action}
+use Rattle.pddl_task.specs.Plans.{IsValidPlan, total_cost}
+use Rattle.ground_theory.specs.Grounding.{AreListedAtoms, AreListedActions, actions_over}
 use Rattle.ground_bindings.specs.Search.{max_actions}
 use Rattle.ground.specs.Rounds.{max_atoms}
 use Rattle.ground_theory.proofs.Binding.{over_listed}
-use Rattle.translate_theory.specs.Bounds.{ValidPlansCostAtLeast}
 use Rattle.translate_theory.specs.Translations.{AreVariables, translation, carried}
 use Rattle.translate_theory.proofs.Bounding.{same_plans, bound_forth, bound_back, none_forth, none_back}
 use Rattle.translate_theory.proofs.SamePlans.{plan_listed}
 use Rattle.translate_theory.specs.Variables.{PlacedVariable, IsPlaced, variables_at}
+use Rattle.translate_assembly.specs.Carried.{AreCarriedAt}
+use Rattle.translate_assembly.proofs.OperatorLists.{listed_at}
 use Rattle.translate_vars.specs.Parts.{AreFit}
 use Rattle.translate_vars.specs.Faults.{IsFirstFault}
 use Rattle.translate_vars.specs.declared.fault.TranslateFault.{TranslateFault}
 use Rattle.translate_vars.specs.declared.fault.TranslateFault.TheVariants as fault
-use Rattle.translate.specs.Translated.{TranslatedTask, IsTranslation, HasSamePlans, IsTooLarge, IsUntranslated, actions_of, operator_actions}
+use Rattle.translate.specs.Translated.{TranslatedTask, IsTranslation, HasSamePlans, AreChosenParts, IsTooLarge, IsUntranslated, actions_of}
 use Rattle.translate.proofs.Limits.{fits, within_from}
 
 pub listed_actions : (task : PlanningTask) (atoms : List Atom) (actions : List Action) → actions ≡ actions_over task (contains atoms) → AreListedActions task atoms actions
@@ -32,8 +31,8 @@ module _ (task : PlanningTask) (t : TranslatedTask) (placed : All (IsPlaced (len
     (few : length t.atoms ≤ max_atoms) where
   translation_over : length (actions_of task t) ≤ max_actions → AreVariables task t.atoms (actions_of task t) (variables_at t.atoms t.variables)
       → t.task ≡ translation task (variables_at t.atoms t.variables) (actions_of task t)
-      → operator_actions task t ≡ carried (variables_at t.atoms t.variables) (actions_of task t) → IsWithinLimits t.task → IsTranslation task t
-  translation_over few_actions chosen is are limits =
+      → AreCarriedAt (variables_at t.atoms t.variables) (actions_of task t) t.places → IsWithinLimits t.task → IsTranslation task t
+  translation_over few_actions chosen is at limits =
       record {
         placed = placed;
         fit = record {
@@ -43,18 +42,19 @@ module _ (task : PlanningTask) (t : TranslatedTask) (placed : All (IsPlaced (len
           chosen = chosen;
         };
         task_is = is;
-        actions_are = are;
+        carried_at = at;
+        actions_are = listed_at (actions_of task t) t.places (carried (variables_at t.atoms t.variables) (actions_of task t)) at.count at.same;
       }
 
   pub translation_from : (actions : List Action) → actions ≡ actions_of task t → length actions ≤ max_actions
       → AreVariables task t.atoms actions (variables_at t.atoms t.variables) → t.task ≡ translation task (variables_at t.atoms t.variables) actions
-      → filter_map (slice_get actions) t.places ≡ carried (variables_at t.atoms t.variables) actions → IsWithinLimits t.task → IsTranslation task t
-  translation_from actions same few_actions chosen is are limits =
+      → AreCarriedAt (variables_at t.atoms t.variables) actions t.places → IsWithinLimits t.task → IsTranslation task t
+  translation_from actions same few_actions chosen is at limits =
       translation_over
       (subst (λ (listed_ : List Action). length listed_ ≤ max_actions) same few_actions)
       (subst (λ (listed_ : List Action). AreVariables task t.atoms listed_ (variables_at t.atoms t.variables)) same chosen)
       (subst (λ (listed_ : List Action). t.task ≡ translation task (variables_at t.atoms t.variables) listed_) same is)
-      (subst (λ (listed_ : List Action). filter_map (slice_get listed_) t.places ≡ carried (variables_at t.atoms t.variables) listed_) same are)
+      (subst (λ (listed_ : List Action). AreCarriedAt (variables_at t.atoms t.variables) listed_ t.places) same at)
       limits
 
 module _ (task : PlanningTask) (t : TranslatedTask) (well : IsPlanningTask task) (made : IsTranslation task t) where
@@ -100,18 +100,18 @@ large_is_first task atoms variables (fault.NotGroup k) placed fit h = absurd h
 large_is_first task atoms variables (fault.NotFull k) placed fit h = absurd h
 large_is_first task atoms variables (fault.Misplaced k) placed fit h = absurd h
 
-pub large_is_untranslated : (task : PlanningTask) (atoms : List Atom) (variables : List PlacedVariable) (e : TranslateFault) → IsLeastClosedSet task (contains atoms)
-    → AreVariables task atoms (actions_over task (contains atoms)) (variables_at atoms variables) → IsTooLarge task atoms variables e → IsUntranslated task e
-large_is_untranslated task atoms variables fault.OutOfMemory least chosen h = tt
-large_is_untranslated task atoms variables (fault.Limit l) least chosen h = (atoms, variables_at atoms variables, least, chosen, h)
-large_is_untranslated task atoms variables fault.GroundLimit least chosen h = absurd h
-large_is_untranslated task atoms variables (fault.BadAtom k) least chosen h = absurd h
-large_is_untranslated task atoms variables (fault.Missing p) least chosen h = absurd h
-large_is_untranslated task atoms variables (fault.NotClosed p) least chosen h = absurd h
-large_is_untranslated task atoms variables (fault.Uncovered k) least chosen h = absurd h
-large_is_untranslated task atoms variables (fault.NotGroup k) least chosen h = absurd h
-large_is_untranslated task atoms variables (fault.NotFull k) least chosen h = absurd h
-large_is_untranslated task atoms variables (fault.Misplaced k) least chosen h = absurd h
+pub large_is_untranslated : (task : PlanningTask) (atoms : List Atom) (variables : List PlacedVariable) (e : TranslateFault) → AreChosenParts task atoms variables
+    → IsTooLarge task atoms variables e → IsUntranslated task e
+large_is_untranslated task atoms variables fault.OutOfMemory parts h = tt
+large_is_untranslated task atoms variables (fault.Limit l) parts h = (atoms, variables, parts, h)
+large_is_untranslated task atoms variables fault.GroundLimit parts h = absurd h
+large_is_untranslated task atoms variables (fault.BadAtom k) parts h = absurd h
+large_is_untranslated task atoms variables (fault.Missing p) parts h = absurd h
+large_is_untranslated task atoms variables (fault.NotClosed p) parts h = absurd h
+large_is_untranslated task atoms variables (fault.Uncovered k) parts h = absurd h
+large_is_untranslated task atoms variables (fault.NotGroup k) parts h = absurd h
+large_is_untranslated task atoms variables (fault.NotFull k) parts h = absurd h
+large_is_untranslated task atoms variables (fault.Misplaced k) parts h = absurd h
 
 pub if_ok_map : {X E : Type 0} (P Q : X → Type 0) (r : Result X E) → ((x : X) → P x → Q x) → IfOk r P → IfOk r Q
 if_ok_map P Q (Ok x) f h = f x h

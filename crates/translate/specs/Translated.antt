@@ -2,17 +2,23 @@
 -- the task.
 use Rattle.std.specs.Prelude.{◌≡◌, ◌↔◌, ⊤, ℕ, List, length, Some, slice_get, All, Contains}
 use Rattle.std.specs.List.{filter_map, AllZip}
+use Rattle.std.specs.List.Sorted.{IsNonDecreasingBy}
 use Rattle.cost.specs.Distances.{Distance}
-use Rattle.fdr.specs.declared.task.TaskLimit.{TaskLimit}
 use Rattle.fdr.specs.Tasks.{FiniteDomainTask, IsPlan, plan_cost, IsPastLimit, EveryPlanCostsAtLeast, HasNoPlan}
 use Rattle.pddl_task.specs.Atoms.{Atom, contains}
 use Rattle.pddl_task.specs.Planning.{PlanningTask, Action}
 use Rattle.pddl_task.specs.Plans.{IsValidPlan, total_cost, HasNoValidPlan}
 use Rattle.ground_theory.specs.Grounding.{IsLeastClosedSet, actions_over}
+use Rattle.ground_atoms.specs.Order.{IsAscending}
 use Rattle.ground.specs.Rounds.{IsPastLimits}
+use Rattle.mutex.specs.Places.{Indexed}
+use Rattle.mutex_proposals.specs.Proposals.{IsProposal}
+use Rattle.translate_choice.specs.Choices.{least_place}
+use Rattle.translate_choice.specs.Greedy.{AreChosen}
 use Rattle.translate_theory.specs.Bounds.{ValidPlansCostAtLeast}
-use Rattle.translate_theory.specs.Translations.{Variable, AreVariables, translation, carried}
+use Rattle.translate_theory.specs.Translations.{AreVariables, translation, carried}
 use Rattle.translate_theory.specs.Variables.{PlacedVariable, IsPlaced, variables_at}
+use Rattle.translate_assembly.specs.Carried.{AreCarriedAt}
 use Rattle.translate_vars.specs.Parts.{AreFit}
 use Rattle.translate_vars.specs.declared.fault.TranslateFault.{TranslateFault}
 use Rattle.translate_vars.specs.declared.fault.TranslateFault.TheVariants as fault
@@ -32,11 +38,13 @@ actions_of task t = actions_over task (contains t.atoms)
 abbrev pub operator_actions : PlanningTask → TranslatedTask → List Action
 operator_actions task t = filter_map (slice_get (actions_of task t)) t.places
 
--- the atoms and variables are fit, and the finite-domain task is the translation over them
+-- the atoms and variables are fit, the finite-domain task is the translation over them, and each operator has the place
+-- of its action
 pub record IsTranslation (task : PlanningTask) (t : TranslatedTask) : Type 0 where
   pub placed : All (IsPlaced (length t.atoms)) t.variables
   pub fit : AreFit task t.atoms t.variables
   pub task_is : t.task ≡ translation task (variables_at t.atoms t.variables) (actions_of task t)
+  pub carried_at : AreCarriedAt (variables_at t.atoms t.variables) (actions_of task t) t.places
   pub actions_are : operator_actions task t ≡ carried (variables_at t.atoms t.variables) (actions_of task t)
 
 -- the numbers of the operators of the actions of the plan, in order
@@ -66,15 +74,27 @@ IsTooLarge task atoms variables (fault.NotGroup k) = ⊥
 IsTooLarge task atoms variables (fault.NotFull k) = ⊥
 IsTooLarge task atoms variables (fault.Misplaced k) = ⊥
 
--- there are too many atoms or actions; or there are variables over the least closed set for which the finite-domain
--- task passes a limit
+-- a task, listed atoms, and all actions over them, in order
+abbrev pub indexed : PlanningTask → List Atom → Indexed
+indexed task atoms = record { task = task; atoms = atoms; actions = actions_over task (contains atoms) }
+
+-- the atoms are the least closed set, in order, and the variables are those that are chosen over them by proposed groups
+pub record AreChosenParts (task : PlanningTask) (atoms : List Atom) (variables : List PlacedVariable) : Type 0 where
+  pub least : IsLeastClosedSet task (contains atoms)
+  pub ascending : IsAscending atoms
+  pub groups : List (List ℕ)
+  pub proposed : All (IsProposal (indexed task atoms)) groups
+  pub chosen : AreChosen (indexed task atoms) groups variables
+  pub fit : AreVariables task atoms (actions_over task (contains atoms)) (variables_at atoms variables)
+  pub ordered : IsNonDecreasingBy least_place variables
+
+-- there are too many atoms or actions; or the finite-domain task over the chosen variables passes a limit
 abbrev pub IsUntranslated : PlanningTask → TranslateFault → Type 0
 IsUntranslated task fault.OutOfMemory = ⊤
 IsUntranslated task fault.GroundLimit = IsPastLimits task
 IsUntranslated task (fault.Limit l) =
-    (atoms : List Atom) × (variables : List Variable) × IsLeastClosedSet task (contains atoms)
-    × AreVariables task atoms (actions_over task (contains atoms)) variables
-    × IsPastLimit (translation task variables (actions_over task (contains atoms))) l
+    (atoms : List Atom) × (variables : List PlacedVariable) × AreChosenParts task atoms variables
+    × IsPastLimit (translation task (variables_at atoms variables) (actions_over task (contains atoms))) l
 IsUntranslated task (fault.BadAtom k) = ⊥
 IsUntranslated task (fault.Missing p) = ⊥
 IsUntranslated task (fault.NotClosed p) = ⊥

@@ -1,6 +1,6 @@
 //! Translated tasks.
 
-ghost use Rattle.std.specs.Prelude.{◌≡◌, slice_get};
+ghost use Rattle.std.specs.Prelude.{◌≡◌, ◌↔◌, ◌≤◌, None, length, slice_get};
 
 use fdr::FdrTask;
 use ground_atoms::Atoms;
@@ -18,11 +18,14 @@ pub struct Translated {
 }
 
 impl Model for Translated {
+    ghost use Rattle.std.specs.Prelude.{◌≡◌, length};
     ghost use Rattle.translate.specs.Translated.{TranslatedTask};
 
     ghost Value = { TranslatedTask };
 
     ghost view = { λ t. record { atoms = t.atoms; variables = t.variables.items; task = t.task; places = t.places.items } };
+
+    ghost invariant = { λ t. length t.places.items ≡ length t.task.operators };
 }
 
 impl Translated {
@@ -50,7 +53,8 @@ impl Translated {
     /// Returns the place of the operator's action among the ground actions over the atoms, counted from 0, or `None` if
     /// there is no such operator.
     pub fn action_of(&self, operator: usize) -> Option<usize>
-        ensures { result ≡ slice_get self.now.places operator }
+        ensures place { result ≡ slice_get self.now.places operator }
+        ensures none { result ≡ None ↔ length self.now.task.operators ≤ operator }
     {
         self.places.get(operator).copied()
     }

@@ -4,13 +4,13 @@ ghost use Rattle.std.specs.Prelude.{◌≡◌, ◌≤◌, All, IsTrue, IfOk, IfE
 ghost use Rattle.pddl_task.specs.Atoms.{Literal, contains};
 ghost use Rattle.pddl_task.specs.Planning.{IsPlanningTask, IsActionOf, IsAtomOf, has_small_costs, Action};
 ghost use Rattle.ground_theory.specs.Grounding.{actions_over, AreListedAtoms, AreListedActions, IsLeastClosedSet};
-ghost use Rattle.ground_atoms.specs.Order.{AreDistinct};
+ghost use Rattle.ground_atoms.specs.Order.{AreDistinct, IsAscending};
 ghost use Rattle.ground_bindings.specs.Search.{max_actions};
 ghost use Rattle.ground.specs.Rounds.{max_atoms};
 ghost use Rattle.translate_theory.specs.Translations.{AreVariables};
 ghost use Rattle.translate_theory.specs.Variables.{IsPlaced, variables_at};
 ghost use Rattle.translate_vars.specs.Faults.{IsFirstFault};
-ghost use Rattle.translate.specs.Translated.{IsTranslation, HasSamePlans, IsTooLarge, IsUntranslated};
+ghost use Rattle.translate.specs.Translated.{IsTranslation, HasSamePlans, AreChosenParts, IsTooLarge, IsUntranslated};
 ghost use Rattle.pddl_task.specs.Limits.{max_cost};
 
 use crate::translated::Translated;
@@ -94,6 +94,7 @@ fn grounded(alloc: Global, task: &Task) -> Result<Grounded, TranslateFault>
     ensures actions { IfOk result (λ g. g.actions.items ≡ actions_over task.now (contains g.atoms)) }
     ensures few_actions { IfOk result (λ g. length g.actions.items ≤ max_actions) }
     ensures distinct { IfOk result (λ g. AreDistinct g.atoms) }
+    ensures ascending { IfOk result (λ g. IsAscending g.atoms) }
     ensures fault { IfErr result (IsUntranslated task.now) }
 {
     match ground(alloc, task) {
@@ -107,15 +108,19 @@ fn grounded(alloc: Global, task: &Task) -> Result<Grounded, TranslateFault>
     }
 }
 
-/// Chooses variables over the atoms, by the proposed mutex groups. Fails only if allocation fails.
+/// Chooses variables over the least closed set, by the proposed mutex groups. Fails only if allocation fails.
 fn chosen(
     alloc: Global,
     task: &Task,
     grounded: &Grounded,
 ) -> Result<Vec<ListedVariable>, AllocError>
+    requires least { IsLeastClosedSet task.now (contains grounded.now.atoms) }
+    requires ascending { IsAscending grounded.now.atoms }
+    requires actions { grounded.now.actions.items ≡ actions_over task.now (contains grounded.now.atoms) }
     ensures placed { IfOk result (λ vs. All (IsPlaced (length grounded.now.atoms)) vs.items) }
     ensures fit { IfOk result (λ vs.
         AreVariables task.now grounded.now.atoms grounded.now.actions.items (variables_at grounded.now.atoms vs.items)) }
+    ensures chosen { IfOk result (λ vs. AreChosenParts task.now grounded.now.atoms vs.items) }
 {
     let index = ActionIndex::new(alloc, task, &grounded.atoms, &grounded.actions)?;
     let groups = groups(alloc, &index)?;
@@ -125,8 +130,8 @@ fn chosen(
 /// Translates the task over the atoms of its relaxed reachability, the least closed set, with variables that are chosen
 /// by mutex groups. A task that is returned has the same plans with the same costs as the planning task (Helmert 2009).
 ///
-/// Fails with `GroundLimit` if there are too many atoms or actions, with `Limit` if the finite-domain task would have
-/// too many variables, values of a variable or operators, or if allocation fails.
+/// Fails with `GroundLimit` if there are too many atoms or actions, with `Limit` if the finite-domain task over the
+/// variables that are chosen would have too many variables, values of a variable or operators, or if allocation fails.
 pub fn translate(alloc: Global, task: &Task) -> Result<Translated, TranslateFault>
     requires small { IsTrue (has_small_costs task.now) }
     requires costs { (a : Action) → IsActionOf task.now a → a.cost ≤ max_cost }
@@ -135,6 +140,7 @@ pub fn translate(alloc: Global, task: &Task) -> Result<Translated, TranslateFaul
     requires added { (a : Action) → IsActionOf task.now a → All (IsAtomOf task.now) a.adds }
     ensures translation { IfOk result (IsTranslation task.now) }
     ensures least { IfOk result (λ t. IsLeastClosedSet task.now (contains t.atoms)) }
+    ensures chosen { IfOk result (λ t. AreChosenParts task.now t.atoms t.variables) }
     ensures plans { IsPlanningTask task.now → IfOk result (HasSamePlans task.now) }
     ensures fault { IfErr result (IsUntranslated task.now) }
 {

@@ -1,6 +1,6 @@
 -- What is computed with the slots of a translation's variables is the translation.
 use Rattle.std.proofs.Common.{◌≡◌, ℕ, suc, ◌+◌, Bool, true, false, ◌&&◌, not, cond, List, [], ◌∷◌, length, map, Some, None, String, Vec, refl, ap, ◌∙◌, arith, inl, inr, eqb}
-use Rattle.std.specs.Prelude.{slice_get, count_by, is_some}
+use Rattle.std.specs.Prelude.{slice_get, count_by, filter, is_some}
 use Rattle.std.specs.List.{list_any, filter_map}
 use Rattle.std.proofs.lemmas.Bool.{and_parts, eqb-true, false_from_ne_true, both_ways, not-true, or_left}
 use Rattle.std.proofs.lemmas.List.Sums.{sum_by-cons}
@@ -15,12 +15,13 @@ use Rattle.mutex.specs.Groups.{removes, is_excluded, is_constant}
 use Rattle.translate_theory.specs.Translations.{Variable, IsVariableOf, AreVariables, condition_on, facts, has_operator, operator_of, carried, value_in, value_names_of, translation}
 use Rattle.translate_theory.proofs.Following.{variable_cases, group_initially, adds_one}
 use Rattle.translate_assembly.specs.declared.slot.Slot.{Slot}
+use Rattle.translate_assembly.specs.Carried.{AreCarriedAt}
 use Rattle.translate_assembly.specs.Slots.{Lookup, slot_of, values_of}
 use Rattle.translate_assembly.specs.Operators.{condition_facts, made_operator, places_where}
 use Rattle.translate_assembly.proofs.SlotLaws.{IsLookup, slots_tell}
 use Rattle.translate_assembly.proofs.StateLaws.{values_are}
 use Rattle.translate_assembly.proofs.ActionLaws.{condition_is, operator_is}
-use Rattle.translate_assembly.proofs.OperatorLists.{made_are, filter_same, places_are}
+use Rattle.translate_assembly.proofs.OperatorLists.{made_are, filter_same, places_count, places_rise, places_within, places_same}
 
 -- some element passes if not none do
 counted : {X : Type 0} (p : X → Bool) (xs : List X) (n : ℕ) → count_by p xs ≡ suc n → (x : X) × Mem x xs × (p x ≡ true)
@@ -92,10 +93,20 @@ module _ (task : PlanningTask) (atoms : List Atom) (actions : List Action) (vs :
       go true = refl
       go false = refl
 
-  pub carried_are : filter_map (slice_get actions) (places_where (λ a. is_some (made_operator slots task.vocabulary a)) 0 actions) ≡ carried vs actions
-  carried_are =
-      places_are (λ a. is_some (made_operator slots task.vocabulary a)) actions
-      ∙ filter_same (λ a. is_some (made_operator slots task.vocabulary a)) (has_operator vs) actions some_is
+  abbrev is_made : Action → Bool
+  is_made a = is_some (made_operator slots task.vocabulary a)
+
+  made_same : filter is_made actions ≡ carried vs actions
+  made_same = filter_same is_made (has_operator vs) actions some_is
+
+  pub carried_at : AreCarriedAt vs actions (places_where is_made 0 actions)
+  carried_at =
+      record {
+        count = places_count is_made 0 actions ∙ ap length made_same;
+        rising = places_rise is_made 0 actions;
+        within = places_within is_made (length actions) 0 actions (omega arith);
+        same = λ o p e. places_same is_made actions o p e ∙ ap (λ (l : List Action). slice_get l o) made_same;
+      }
 
   -- the task of these parts
   pub parts_are : {Y Z : Type 0} (metric : Bool) (value_names : List (Vec (String Z) Y)) (initial : List ℕ) (goal : List Fact) (operators : List Operator)

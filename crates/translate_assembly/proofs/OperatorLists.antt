@@ -1,10 +1,10 @@
 -- Lists of operators and of the places of their actions, one action after the other.
 use Rattle.std.proofs.Common.{◌≡◌, ℕ, zero, suc, ◌+◌, ◌<◌, ◌≤◌, Bool, true, false, cond, List, [], ◌∷◌, ◌++◌, length, get_or, take, map, Option, Some, None, refl, sym, ap, ◌∙◌, arith, length-take, inl, inr}
-use Rattle.std.specs.Prelude.{slice_get, filter}
+use Rattle.std.specs.Prelude.{slice_get, filter, All}
 use Rattle.std.specs.List.{filter_map, cons_option}
 use Rattle.std.specs.List.Sorted.{IsStrictlyIncreasing}
 use Rattle.std.proofs.lemmas.List.{take_more}
-use Rattle.std.proofs.lemmas.List.Elements.{filter_map-append}
+use Rattle.std.proofs.lemmas.List.Elements.{filter_map-append, All-nil, All-cons}
 use Rattle.pddl_task.proofs.Lists.{Mem}
 use Rattle.translate_assembly.specs.Operators.{places_where}
 
@@ -65,36 +65,63 @@ module _ {X : Type 0} (test : X → Bool) where
           let q : suc k + 1 ≡ suc (k + 1) = omega arith in rw q w
       go false k l ih low = ih k l
 
-  -- the elements at the places are those that pass
-  places_get : (pre xs : List X) → filter_map (slice_get (pre ++ xs)) (places_where test (length pre) xs) ≡ filter test xs
-  places_get pre [] = refl
-  places_get pre (x ∷ xs) =
-      let more : pre ++ x ∷ xs ≡ (pre ++ x ∷ []) ++ xs = sym (append_one pre) in
-      let long : length pre + 1 ≡ length (pre ++ x ∷ []) = sym (length_one pre) in
-      let ih : filter_map (slice_get (pre ++ x ∷ xs)) (places_where test (length pre + 1) xs) ≡ filter test xs =
-      (λ k. filter_map (slice_get (more k)) (places_where test (long k) xs)) ∙ places_get (pre ++ x ∷ []) xs in
-      go (test x) ih
+  -- as many places as elements that pass
+  pub places_count : (n : ℕ) (xs : List X) → length (places_where test n xs) ≡ length (filter test xs)
+  places_count n [] = refl
+  places_count n (x ∷ xs) = go (test x) (places_count (n + 1) xs)
     where
-      append_one : (ys : List X) → (ys ++ x ∷ []) ++ xs ≡ ys ++ x ∷ xs
-      append_one [] = refl
-      append_one (y ∷ ys) = ap (λ l. y ∷ l) (append_one ys)
-
-      length_one : (ys : List X) → length (ys ++ x ∷ []) ≡ length ys + 1
-      length_one [] = refl
-      length_one (y ∷ ys) = let e = length_one ys in omega (arith, e)
-
-      here : (ys : List X) → slice_get (ys ++ x ∷ xs) (length ys) ≡ Some x
-      here [] = refl
-      here (y ∷ ys) = here ys
-
-      go : (b : Bool) → filter_map (slice_get (pre ++ x ∷ xs)) (places_where test (length pre + 1) xs) ≡ filter test xs
-          → filter_map (slice_get (pre ++ x ∷ xs)) (cond b (length pre ∷ places_where test (length pre + 1) xs) (places_where test (length pre + 1) xs))
-          ≡ cond b (x ∷ filter test xs) (filter test xs)
-      go true ih = rw (here pre, ih) refl
+      go : (b : Bool) → length (places_where test (n + 1) xs) ≡ length (filter test xs)
+          → length (cond b (n ∷ places_where test (n + 1) xs) (places_where test (n + 1) xs)) ≡ length (cond b (x ∷ filter test xs) (filter test xs))
+      go true ih = ap suc ih
       go false ih = ih
 
-  pub places_are : (xs : List X) → filter_map (slice_get xs) (places_where test 0 xs) ≡ filter test xs
-  places_are xs = places_get [] xs
+  pub places_within : (m n : ℕ) (xs : List X) → n + length xs ≤ m → All (λ p. p < m) (places_where test n xs)
+  places_within m n [] l = All-nil (λ p. p < m)
+  places_within m n (x ∷ xs) l = go (test x) (places_within m (n + 1) xs (omega (arith, l)))
+    where
+      go : (b : Bool) → All (λ p. p < m) (places_where test (n + 1) xs) → All (λ p. p < m) (cond b (n ∷ places_where test (n + 1) xs) (places_where test (n + 1) xs))
+      go true ih = All-cons (λ p. p < m) n (places_where test (n + 1) xs) (omega (arith, l)) ih
+      go false ih = ih
+
+  append_one : (pre : List X) (x : X) (xs : List X) → (pre ++ x ∷ []) ++ xs ≡ pre ++ x ∷ xs
+  append_one [] x xs = refl
+  append_one (y ∷ pre) x xs = ap (λ l. y ∷ l) (append_one pre x xs)
+
+  length_one : (pre : List X) (x : X) → length (pre ++ x ∷ []) ≡ length pre + 1
+  length_one [] x = refl
+  length_one (y ∷ pre) x = let e = length_one pre x in omega (arith, e)
+
+  here : (pre : List X) (x : X) (xs : List X) → slice_get (pre ++ x ∷ xs) (length pre) ≡ Some x
+  here [] x xs = refl
+  here (y ∷ pre) x xs = here pre x xs
+
+  -- the elements at the places are those that pass, in their order
+  same_at : (pre xs : List X) (o p : ℕ) → slice_get (places_where test (length pre) xs) o ≡ Some p → slice_get (pre ++ xs) p ≡ slice_get (filter test xs) o
+  same_at pre [] o p e = absurd cc
+  same_at pre (x ∷ xs) o p e =
+      go (test x) o e
+      (λ k f. ap (λ (l : List X). slice_get l p) (sym (append_one pre x xs))
+      ∙ same_at (pre ++ x ∷ []) xs k p (ap (λ (n : ℕ). slice_get (places_where test n xs) k) (length_one pre x) ∙ f))
+    where
+      go : (b : Bool) (o : ℕ) → slice_get (cond b (length pre ∷ places_where test (length pre + 1) xs) (places_where test (length pre + 1) xs)) o ≡ Some p
+          → ((k : ℕ) → slice_get (places_where test (length pre + 1) xs) k ≡ Some p → slice_get (pre ++ x ∷ xs) p ≡ slice_get (filter test xs) k)
+          → slice_get (pre ++ x ∷ xs) p ≡ slice_get (cond b (x ∷ filter test xs) (filter test xs)) o
+      go true zero e rest = let at : p ≡ length pre = cc in rw at (here pre x xs)
+      go true (suc o) e rest = rest o e
+      go false o e rest = rest o e
+
+  pub places_same : (xs : List X) (o p : ℕ) → slice_get (places_where test 0 xs) o ≡ Some p → slice_get xs p ≡ slice_get (filter test xs) o
+  places_same xs o p e = same_at [] xs o p e
+
+-- where each place gives one of the elements, in their order, these are what is listed at the places
+pub listed_at : {X : Type 0} (listed : List X) (places : List ℕ) (xs : List X) → length places ≡ length xs
+    → ((o p : ℕ) → slice_get places o ≡ Some p → slice_get listed p ≡ slice_get xs o) → filter_map (slice_get listed) places ≡ xs
+listed_at listed [] [] count same = refl
+listed_at listed [] (x ∷ xs) count same = absurd (omega (arith, count))
+listed_at listed (p ∷ places) [] count same = absurd (omega (arith, count))
+listed_at {X = X} listed (p ∷ places) (x ∷ xs) count same =
+    ap (λ (o : Option X). cons_option o (filter_map (slice_get listed) places)) (same 0 p refl)
+    ∙ ap (λ (rest : List X). x ∷ rest) (listed_at listed places xs (omega (arith, count)) (λ o q e. same (suc o) q e))
 
 -- what is made of those that pass, where it is made of no others
 pub made_are : {X Y : Type 0} (made : X → Option Y) (test : X → Bool) (of : X → Y) (xs : List X)

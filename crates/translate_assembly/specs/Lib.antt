@@ -2,3 +2,4 @@ pub mod Slots
 pub mod Facts
 pub mod Operators
 pub mod Limits
+pub mod Carried

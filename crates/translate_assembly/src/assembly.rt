@@ -1,13 +1,13 @@
 //! The finite-domain task of a translation.
 
-ghost use Rattle.std.specs.Prelude.{◌≡◌, ◌≤◌, All, IfOk, IfErr, OnOk, length, slice_get};
-ghost use Rattle.std.specs.List.{filter_map, list_any};
-ghost use Rattle.std.specs.List.Sorted.{IsStrictlyIncreasing};
+ghost use Rattle.std.specs.Prelude.{◌≡◌, ◌≤◌, All, IfOk, IfErr, OnOk, length};
+ghost use Rattle.std.specs.List.{list_any};
 ghost use Rattle.fdr.specs.declared.task.TaskLimit.{TaskLimit as Limits};
 ghost use Rattle.fdr.specs.Tasks.{IsPastLimit};
 ghost use Rattle.ground_theory.specs.Grounding.{AreListedAtoms, AreListedActions};
-ghost use Rattle.translate_theory.specs.Translations.{AreVariables, translation, carried};
+ghost use Rattle.translate_theory.specs.Translations.{AreVariables, translation};
 ghost use Rattle.translate_theory.specs.Variables.{IsPlaced, variables_at};
+ghost use Rattle.translate_assembly.specs.Carried.{AreCarriedAt};
 ghost use Rattle.translate_assembly.specs.Limits.{is_long, IsPastLimitAt};
 ghost use Rattle.translate_assembly.specs.declared.assembly.AssemblyFault.TheVariants.{OutOfMemory, Limit};
 ghost use Rattle.pddl_task.specs.Limits.{max_cost};
@@ -58,7 +58,7 @@ impl From<TaskLimit> for AssemblyFault {
 pub struct Assembled {
     /// The finite-domain task.
     pub task: FdrTask,
-    /// For each operator the place of its action, strictly increasing.
+    /// For each operator the place of its action, strictly increasing. There are as many places as operators.
     pub carried: Vec<usize>,
 }
 
@@ -81,9 +81,8 @@ pub fn assemble(
     requires fit { AreVariables task.now atoms.now actions.now (variables_at atoms.now variables.now) }
     requires costs { All (λ a. a.cost ≤ max_cost) actions.now }
     ensures task { IfOk result (λ t. t.task ≡ translation task.now (variables_at atoms.now variables.now) actions.now) }
-    ensures carried { IfOk result (λ t.
-        filter_map (slice_get actions.now) t.carried.items ≡ carried (variables_at atoms.now variables.now) actions.now) }
-    ensures rising { IfOk result (λ t. IsStrictlyIncreasing t.carried.items) }
+    ensures count { IfOk result (λ t. length t.carried.items ≡ length t.task.operators) }
+    ensures carried { IfOk result (λ t. AreCarriedAt (variables_at atoms.now variables.now) actions.now t.carried.items) }
     ensures limit { (l : Limits) → IfErr result (λ e. e ≡ Limit l →
         IsPastLimit (translation task.now (variables_at atoms.now variables.now) actions.now) l) }
 {

@@ -1,10 +1,10 @@
 -- Choices that grow by variables, and what is chosen in the end.
-use Rattle.std.proofs.Common.{◌≡◌, ◌≢◌, ℕ, ◌+◌, ◌<◌, Bool, true, false, ◌||◌, not, cond, List, [], ◌∷◌, length, Some, refl, sym, ap, ◌∙◌, arith, eqb, get_or, ◌⊎◌, inl, inr, subst}
-use Rattle.std.specs.Prelude.{slice_get, slice_index_or, count_by, filter, All, AllPairs}
+use Rattle.std.proofs.Common.{◌≡◌, ◌≢◌, ℕ, zero, suc, ◌+◌, ◌<◌, ◌≤◌, Bool, true, false, ◌||◌, not, cond, List, [], ◌∷◌, ◌++◌, length, Some, refl, sym, ap, ◌∙◌, arith, eqb, get_or, ◌⊎◌, inl, inr}
+use Rattle.std.specs.Prelude.{slice_get, slice_index_or, count_by, filter, nat_lt, All, AllPairs}
 use Rattle.std.specs.List.{list_all}
-use Rattle.std.specs.List.Sorted.{IsPermutation}
-use Rattle.std.proofs.lemmas.Bool.{eq-eqb, not-true, both_ways, or_cases}
-use Rattle.std.proofs.lemmas.List.Elements.{All-push, All-map, All-filter}
+use Rattle.std.specs.List.Sorted.{IsPermutation, IsStrictlyIncreasing}
+use Rattle.std.proofs.lemmas.Bool.{eq-eqb, not-true, both_ways, or_cases, false_from_ne_true, ltb-true, ltb-false}
+use Rattle.std.proofs.lemmas.List.Elements.{All-nil, All-head, All-tail, All-push, All-map, All-filter}
 use Rattle.std.proofs.lemmas.List.Kept.{AllPairs-from_increasing, IsStrictlyIncreasing-filter}
 use Rattle.std.proofs.lemmas.List.Sums.{sum_by_push, sum_by-cons}
 use Rattle.std.proofs.lemmas.List.Sorted.{All-permutation, sum_by-IsPermutation}
@@ -16,24 +16,66 @@ use Rattle.ground_atoms.specs.Order.{AreDistinct}
 use Rattle.mutex.specs.Groups.{is_constant}
 use Rattle.mutex.specs.Places.{Indexed, atoms_at, has}
 use Rattle.mutex.proofs.PlaceLaws.{has_mem}
+use Rattle.mutex.proofs.TestLaws.{group_mem}
 use Rattle.translate_theory.specs.Translations.{Variable, IsVariableOf, AreVariables}
 use Rattle.translate_theory.specs.Variables.{PlacedVariable, IsPlaced, variable_at, variables_at}
 use Rattle.mutex_proposals.specs.Proposals.{is_movable, IsProposal}
 use Rattle.translate_choice.specs.declared.choice.Choice.{Choice}
 use Rattle.translate_choice.specs.Choices.{is_constant_at, IsRest, IsVariableAt, IsNext, IsChoice, AddsVariable, IsDoneBelow}
-use Rattle.translate_choice.proofs.PlacedLaws.{all_of, group_mem, contains_at, distinct_at, constant_is}
+use Rattle.translate_choice.specs.Greedy.{is_in, group_at, left_of}
+use Rattle.translate_choice.proofs.PlacedLaws.{all_of, contains_at, distinct_at, constant_is}
 
 -- what is left of a group
-pub rest_of : (index : Indexed) (taken : List Bool) (group rest : List ℕ) → IsProposal index group → rest ≡ filter (λ p. not (slice_index_or taken p false)) group → IsRest index taken rest
-rest_of index taken group rest proposal e =
-    let left = (λ (p : ℕ). not (slice_index_or taken p false)) in
-    let P : List ℕ → Type 0 = IsRest index taken in
-    subst P (sym e) (record {
-      rising = IsStrictlyIncreasing-filter left group proposal.rising;
-      movable = All-filter left (λ p. is_movable index p ≡ true) group proposal.movable;
+pub rest_of : (index : Indexed) (groups : List (List ℕ)) (taken : List Bool) (number : ℕ) → All (IsProposal index) groups
+    → IsRest index taken (left_of taken (group_at groups number))
+rest_of index groups taken number proposed = go groups number proposed
+  where
+    left : ℕ → Bool
+    left p = not (slice_index_or taken p false)
+
+    of_group : (group : List ℕ) → IsStrictlyIncreasing group → All (λ p. is_movable index p ≡ true) group → IsRest index taken (left_of taken group)
+    of_group group rising movable = record {
+      rising = IsStrictlyIncreasing-filter left group rising;
+      movable = All-filter left (λ p. is_movable index p ≡ true) group movable;
       free = all_of (λ p. slice_index_or taken p false ≡ false) (filter left group) (λ p m.
           not-true (slice_index_or taken p false) (filter_mem left group p m).1);
-    })
+    }
+
+    go : (gs : List (List ℕ)) (n : ℕ) → All (IsProposal index) gs → IsRest index taken (left_of taken (group_at gs n))
+    go [] n h = of_group [] (λ k l. absurd (omega (arith, l))) (All-nil (λ p. is_movable index p ≡ true))
+    go (g ∷ gs) zero h = let p = All-head (IsProposal index) g gs h in of_group g p.rising p.movable
+    go (g ∷ gs) (suc n) h = go gs n (All-tail (IsProposal index) g gs h)
+
+-- the flags after a variable has been added, at every place
+pub flags_after : (count : ℕ) (old new : Choice) (v : PlacedVariable) → length old.taken.items ≡ count → All (λ p. p < count) v.places → AddsVariable old new v
+    → (p : ℕ) → slice_index_or new.taken.items p false ≡ (slice_index_or old.taken.items p false || has v.places p)
+flags_after count old new v size within adds p = go (nat_lt p count) refl
+  where
+    past : (flags : List Bool) (p : ℕ) → length flags ≤ p → slice_index_or flags p false ≡ false
+    past [] p l = refl
+    past (b ∷ flags) zero l = absurd (omega (arith, l))
+    past (b ∷ flags) (suc p) l = past flags p (omega (arith, l))
+
+    go : (b : Bool) → nat_lt p count ≡ b → slice_index_or new.taken.items p false ≡ (slice_index_or old.taken.items p false || has v.places p)
+    go true e = let low = ltb-true p count e in adds.taken p (omega (arith, size, low))
+    go false e =
+        let high = ltb-false p count e in
+        let grown = adds.size in
+        let none : has v.places p ≡ false = false_from_ne_true (has v.places p) (λ h.
+        let l = all_mem (λ q. q < count) v.places p within (has_mem v.places p h) in omega (arith, l, high)) in
+        past new.taken.items p (omega (arith, size, grown, high)) ∙ sym (rw (past old.taken.items p (omega (arith, size, high)), none) refl)
+
+is_in-more : (vs : List PlacedVariable) (v : PlacedVariable) (p : ℕ) → is_in (vs ++ v ∷ []) p ≡ (is_in vs p || has v.places p)
+is_in-more [] v p = or_false (has v.places p)
+  where
+    or_false : (b : Bool) → (b || false) ≡ b
+    or_false true = refl
+    or_false false = refl
+is_in-more (u ∷ vs) v p = ap (λ (b : Bool). has u.places p || b) (is_in-more vs v p) ∙ or_assoc (has u.places p) (is_in vs p) (has v.places p)
+  where
+    or_assoc : (a b c : Bool) → (a || (b || c)) ≡ ((a || b) || c)
+    or_assoc true b c = refl
+    or_assoc false b c = refl
 
 -- one more variable
 pub one_more : (index : Indexed) (old new : Choice) (v : PlacedVariable) → IsChoice index old → IsNext index old.taken.items v → AddsVariable old new v → IsChoice index new
@@ -47,6 +89,10 @@ one_more index old new v choice next adds =
           ∙ sum_by_push (λ (u : PlacedVariable). cond (has u.places p) 1 0) old.variables.items v
           ∙ added p (has v.places p) (slice_index_or old.taken.items p false) refl refl (choice.counted p l)
           ∙ ap (λ b. cond b 1 0) (sym (adds.taken p (rw choice.size l)));
+      told = λ p.
+          flags_after (length index.atoms) old new v choice.size next.placed.within adds p
+          ∙ ap (λ (b : Bool). b || has v.places p) (choice.told p)
+          ∙ sym (ap (λ (vs : List PlacedVariable). is_in vs p) adds.variables ∙ is_in-more old.variables.items v p);
       changing = λ p l e. changed p l (or_cases (slice_index_or old.taken.items p false) (has v.places p) (sym (adds.taken p (rw choice.size l)) ∙ e));
     }
   where

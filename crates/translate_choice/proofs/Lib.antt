@@ -1,2 +1,3 @@
 pub mod PlacedLaws
 pub mod ChoiceLaws
+pub mod GreedyLaws

@@ -1,25 +1,26 @@
 -- The atoms at places, and the variables of such atoms.
-use Rattle.std.proofs.Common.{◌≡◌, ◌≢◌, ℕ, zero, suc, ◌<◌, Bool, true, false, ◌&&◌, ◌||◌, not, List, [], ◌∷◌, length, get_or, Option, Some, None, refl, sym, ap, ◌∙◌, arith, inl, inr}
-use Rattle.std.specs.Prelude.{slice_get, slice_index_or, nat_le, count_by, All, AllPairs}
-use Rattle.std.specs.Bool.{OnTrue}
+use Rattle.std.proofs.Common.{◌≡◌, ◌≢◌, ℕ, zero, suc, ◌<◌, Bool, true, false, ◌&&◌, ◌||◌, not, List, [], ◌∷◌, length, get_or, Option, Some, None, refl, sym, ap, ◌∙◌, arith}
+use Rattle.std.specs.Prelude.{slice_get, slice_index_or, nat_le, nat_lt, count_by, All, AllPairs}
+use Rattle.std.specs.List.Sorted.{IsStrictlyIncreasing}
 use Rattle.std.specs.List.{list_any, cons_option}
 use Rattle.std.specs.Option.{option_map_or}
-use Rattle.std.proofs.lemmas.Bool.{and_parts, not-true, false≢true, false_from_ne_true, both_ways, leb-true}
+use Rattle.std.proofs.lemmas.Bool.{and_parts, not-true, false≢true, false_from_ne_true, both_ways, leb-true, le-leb, ltb-true}
 use Rattle.std.proofs.lemmas.List.Elements.{All-cons, All-nil, All-head, All-tail, Contains-get_or}
-use Rattle.std.proofs.lemmas.List.Kept.{AllPairs-cons}
+use Rattle.std.proofs.lemmas.List.Kept.{AllPairs-cons, AllPairs-from_increasing}
 use Rattle.std.proofs.lemmas.Option.{slice_get_within}
-use Rattle.pddl_task.specs.Atoms.{Atom, contains, wants}
+use Rattle.pddl_task.specs.Atoms.{Atom, contains, wants, at_most_one}
 use Rattle.pddl_task.proofs.Lists.{Mem, bool_same, any_at, all_mem, mem_from_contains}
-use Rattle.pddl_task.proofs.AtomLaws.{one_from, contains_mem, mem_contains}
+use Rattle.pddl_task.proofs.AtomLaws.{one_from, one_of, contains_mem, mem_contains}
 use Rattle.ground_atoms.specs.Order.{AreDistinct}
 use Rattle.mutex.specs.Groups.{is_constant, is_excluded, is_usable, is_full}
 use Rattle.mutex.specs.Places.{Indexed, atoms_at, has, literal_places}
 use Rattle.mutex.proofs.PlaceLaws.{has_mem, mem_has}
 use Rattle.mutex.proofs.TestLaws.{mem_group, group_mem}
-use Rattle.mutex.proofs.IndexLaws.{counted_one, get_of_within, one_place, has_wanted_places}
+use Rattle.mutex.proofs.IndexLaws.{counted_one, one_counted, get_of_within, one_place, has_wanted_places}
 use Rattle.translate_theory.specs.Translations.{Variable, IsGroupVariable, IsVariableOver}
 use Rattle.mutex_proposals.specs.Proposals.{is_movable}
-use Rattle.translate_choice.specs.Choices.{is_constant_at, is_left, AreGoals, IsRest, IsFit, IsNext}
+use Rattle.translate_choice.specs.Choices.{is_constant_at, is_left, AreGoals, IsRest, IsNext}
+use Rattle.translate_choice.specs.Greedy.{is_fit, variable_of}
 
 -- what holds of each member holds of all
 pub all_of : {X : Type 0} (P : X → Type 0) (xs : List X) → ((x : X) → Mem x xs → P x) → All P xs
@@ -81,7 +82,7 @@ module _ (index : Indexed) where
           let parts = and_parts (not (is_constant index.task index.actions x)) (not (is_excluded index.task index.actions x)) h in
           (x, e, not-true (is_constant index.task index.actions x) parts.0, not-true (is_excluded index.task index.actions x) parts.1)
 
-  movable_within : (places : List ℕ) → All (λ p. is_movable index p ≡ true) places → All (λ p. p < length index.atoms) places
+  pub movable_within : (places : List ℕ) → All (λ p. is_movable index p ≡ true) places → All (λ p. p < length index.atoms) places
   movable_within places h k d l = let w = movable_at (get_or places k d) (h k d l) in slice_get_within index.atoms (get_or places k d) w.0 w.1
 
   pub constant_is : (p : ℕ) (x : Atom) → slice_get index.atoms p ≡ Some x → is_constant_at index p ≡ is_constant index.task index.actions x
@@ -105,22 +106,38 @@ module _ (index : Indexed) where
   goals_from flags places distinct e told p x at_p =
       told p (slice_get_within index.atoms p x at_p) ∙ ap (λ (ps : List ℕ). has ps p) e ∙ has_wanted_places index.atoms distinct p x at_p index.task.goal
 
-  -- at most one flag of the places is set, so at most one of their atoms is a goal
-  pub fit_from : (goals : List Bool) (places : List ℕ) → AreGoals index goals → 1 < length places
-      → nat_le (count_by (λ p. slice_index_or goals p false) places) 1 ≡ true
-      → (b : Bool) → b ≡ is_usable index.task index.actions (atoms_at index.atoms places) → OnTrue b (IsFit index places)
-  fit_from goals places told many few false e = tt
-  fit_from goals places told many few true e =
-      record {
-        several = many;
-        one_goal = one_from (wants index.task.goal) (atoms_at index.atoms places) (λ x y mx my wx wy.
-            let p = group_mem index.atoms places x mx in
-            let q = group_mem index.atoms places y my in
-            let one : p.0 ≡ q.0 = counted_one (λ r. slice_index_or goals r false) places (leb-true (count_by (λ r. slice_index_or goals r false) places) 1 few)
-            p.0 q.0 p.1 q.1 (told p.0 x p.2 ∙ wx) (told q.0 y q.2 ∙ wy) in
-            let e = p.2 in let f = q.2 in cc);
-        usable = sym e;
-      }
+  -- at most one flag of the places is set exactly where at most one of their atoms is a goal
+  pub one_goal_is : (goals : List Bool) (places : List ℕ) → AreDistinct index.atoms → AreGoals index goals → IsStrictlyIncreasing places
+      → All (λ p. p < length index.atoms) places
+      → nat_le (count_by (λ p. slice_index_or goals p false) places) 1 ≡ at_most_one (wants index.task.goal) (atoms_at index.atoms places)
+  one_goal_is goals places distinct told rising within =
+      let goal_at = (λ (p : ℕ). slice_index_or goals p false) in
+      let group = atoms_at index.atoms places in
+      bool_same (nat_le (count_by goal_at places) 1) (at_most_one (wants index.task.goal) group)
+      (λ few. one_from (wants index.task.goal) group (λ x y mx my wx wy.
+      let p = group_mem index.atoms places x mx in
+      let q = group_mem index.atoms places y my in
+      let one : p.0 ≡ q.0 = counted_one goal_at places (leb-true (count_by goal_at places) 1 few)
+      p.0 q.0 p.1 q.1 (told p.0 x p.2 ∙ wx) (told q.0 y q.2 ∙ wy) in
+      let e = p.2 in let f = q.2 in cc))
+      (λ h. le-leb (count_by goal_at places) 1
+      (one_counted goal_at places (λ i j l m. AllPairs-from_increasing places rising i j 0 l m) (λ p q mp mq tp tq.
+      let x = get_of_within index.atoms p (all_mem (λ r. r < length index.atoms) places p within mp) in
+      let y = get_of_within index.atoms q (all_mem (λ r. r < length index.atoms) places q within mq) in
+      let same : x.0 ≡ y.0 = one_of (wants index.task.goal) group h x.0 y.0 (mem_group index.atoms places p x.0 mp x.1) (mem_group index.atoms places q y.0 mq y.1)
+      (sym (told p x.0 x.1) ∙ tp) (sym (told q y.0 y.1) ∙ tq) in
+      one_place index.atoms distinct p q y.0 (x.1 ∙ ap Some same) y.1)))
+
+  pub fit_parts : (places : List ℕ) → is_fit index places ≡ true
+      → (1 < length places) × (at_most_one (wants index.task.goal) (atoms_at index.atoms places) ≡ true)
+      × (is_usable index.task index.actions (atoms_at index.atoms places) ≡ true)
+  fit_parts places h =
+      let parts = and_parts _ _ h in
+      let first = and_parts (nat_lt 1 (length places)) (at_most_one (wants index.task.goal) (atoms_at index.atoms places)) parts.0 in
+      (ltb-true 1 (length places) first.0, first.1, parts.1)
+
+  pub fit_several : (places : List ℕ) → is_fit index places ≡ true → 1 < length places
+  fit_several places h = (fit_parts places h).0
 
   -- several atoms are judged as a group
   several_over : (v : Variable) (atoms : List Atom) → 1 < length atoms → IsGroupVariable index.task index.actions v → IsVariableOver index.task index.actions v atoms
@@ -128,20 +145,20 @@ module _ (index : Indexed) where
   several_over v (x ∷ []) l g = absurd (omega arith)
   several_over v (x ∷ y ∷ rest) l g = g
 
-  pub group_next : (taken : List Bool) (places : List ℕ) (full : Bool) → IsRest index taken places → IsFit index places
-      → full ≡ is_full index.task index.actions (atoms_at index.atoms places) → IsNext index taken (record { places = places; has_none = not full })
-  group_next taken places full rest fit e =
+  pub group_next : (taken : List Bool) (places : List ℕ) → IsRest index taken places → is_fit index places ≡ true → IsNext index taken (variable_of index places)
+  group_next taken places rest fit =
       let within = movable_within places rest.movable in
-      let many = fit.several in
+      let parts = fit_parts places fit in
+      let many = parts.0 in
       record {
-        placed = record { some = omega arith; rising = rest.rising; within = within };
-        fit = several_over (record { atoms = atoms_at index.atoms places; has_none = not full }) (atoms_at index.atoms places)
-            (omega (arith, length_at index.atoms places within))
+        placed = record { some = omega (arith, many); rising = rest.rising; within = within };
+        fit = several_over (record { atoms = atoms_at index.atoms places; has_none = (variable_of index places).has_none }) (atoms_at index.atoms places)
+            (omega (arith, length_at index.atoms places within, many))
             (record {
-              usable = fit.usable;
-              kind = rw (← e) (either full);
+              usable = parts.2;
+              kind = either (is_full index.task index.actions (atoms_at index.atoms places));
               positive = none_excluded places rest.movable;
-              one_goal = fit.one_goal;
+              one_goal = parts.1;
             });
         changing = λ k d l. not_constant (get_or places k d) (rest.movable k d l);
         free = rest.free;

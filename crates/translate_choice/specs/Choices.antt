@@ -2,12 +2,13 @@
 use Rattle.std.specs.Prelude.{◌≡◌, ℕ, ◌<◌, Bool, true, false, ◌||◌, ◌&&◌, not, if◌then◌else◌, List, [], ◌∷◌, ◌++◌, length, slice_get, slice_index_or, Some, count_by, All}
 use Rattle.std.specs.List.Sorted.{IsStrictlyIncreasing}
 use Rattle.std.specs.Option.{option_map_or}
-use Rattle.pddl_task.specs.Atoms.{Atom, wants, at_most_one}
-use Rattle.mutex.specs.Groups.{is_constant, is_usable}
-use Rattle.mutex.specs.Places.{Indexed, atoms_at, has}
+use Rattle.pddl_task.specs.Atoms.{Atom, wants}
+use Rattle.mutex.specs.Groups.{is_constant}
+use Rattle.mutex.specs.Places.{Indexed, has}
 use Rattle.translate_theory.specs.Translations.{IsVariableOf}
 use Rattle.translate_theory.specs.Variables.{PlacedVariable, IsPlaced, variable_at}
 use Rattle.mutex_proposals.specs.Proposals.{is_movable}
+use Rattle.translate_choice.specs.Greedy.{is_in, IsSingle}
 use Rattle.translate_choice.specs.declared.choice.Choice.{Choice}
 
 -- the place of the first atom of the variable
@@ -36,12 +37,6 @@ pub record IsRest (index : Indexed) (taken : List Bool) (places : List ℕ) : Ty
   pub movable : All (λ p. is_movable index p ≡ true) places
   pub free : AreFree taken places
 
--- there are several atoms, at most one of them a goal, and they are a usable group
-pub record IsFit (index : Indexed) (places : List ℕ) : Type 0 where
-  pub several : 1 < length places
-  pub one_goal : at_most_one (wants index.task.goal) (atoms_at index.atoms places) ≡ true
-  pub usable : is_usable index.task index.actions (atoms_at index.atoms places) ≡ true
-
 abbrev pub IsVariableAt : Indexed → PlacedVariable → Type 0
 IsVariableAt index v = IsVariableOf index.task index.actions (variable_at index.atoms v)
 
@@ -59,6 +54,7 @@ pub record IsChoice (index : Indexed) (choice : Choice) : Type 0 where
   pub fit : All (IsVariableAt index) choice.variables.items
   pub counted : (p : ℕ) → p < length index.atoms
       → count_by (λ v. has v.places p) choice.variables.items ≡ (if slice_index_or choice.taken.items p false then 1 else 0)
+  pub told : (p : ℕ) → slice_index_or choice.taken.items p false ≡ is_in choice.variables.items p
   pub changing : (p : ℕ) → p < length index.atoms → slice_index_or choice.taken.items p false ≡ true → is_constant_at index p ≡ false
 
 -- the variable has been added, and its places have been taken
@@ -72,3 +68,9 @@ pub record AddsVariable (old new : Choice) (v : PlacedVariable) : Type 0 where
 abbrev pub IsDoneBelow : Indexed → Choice → ℕ → Type 0
 IsDoneBelow index choice end =
     (p : ℕ) → p < end → slice_index_or choice.taken.items p false ≡ false → is_constant_at index p ≡ true
+
+-- some variables of one atom have been added
+pub record AddsSingles (old new : List PlacedVariable) : Type 0 where
+  pub singles : List PlacedVariable
+  pub are : new ≡ old ++ singles
+  pub single : All IsSingle singles

@@ -1,14 +1,16 @@
 //! The choice of variables.
 
-ghost use Rattle.std.specs.Prelude.{◌≡◌, ◌+◌, ◌<◌, All, IfOk, IfSome, OnOk, length};
+ghost use Rattle.std.specs.Prelude.{◌≡◌, ◌+◌, ◌<◌, [], All, IfOk, IfSome, IfNone, OnOk, length};
 ghost use Rattle.translate_theory.specs.Translations.{AreVariables};
 ghost use Rattle.translate_theory.specs.Variables.{IsPlaced, variables_at};
 ghost use Rattle.mutex_proposals.specs.Proposals.{IsProposal};
 ghost use Rattle.mutex.specs.Places.{Indexed};
 ghost use Rattle.std.specs.List.Sorted.{IsNonDecreasingBy};
-ghost use Rattle.translate_choice.specs.Choices.{least_place, IsNext, IsChoice, AddsVariable, is_left, IsDoneBelow};
+ghost use Rattle.translate_choice.specs.Choices.{least_place, IsNext, IsChoice, AddsVariable, AddsSingles, is_left, IsDoneBelow};
+ghost use Rattle.translate_choice.specs.Greedy.{left_of, left_by, AreQueued, IsFound, NoneFits, AreTakenAfter, AreChosen};
 
 use crate::flags::{is_set, set};
+use crate::groups_at::GroupsAt;
 use crate::offers::Offers;
 use crate::queue::Queue;
 use mutex::ActionIndex;
@@ -26,7 +28,8 @@ struct Choice {
 impl Choice {
     /// Makes a choice without variables, over this number of atoms. Fails only if allocation fails.
     fn new(alloc: Global, count: usize) -> Result<Choice, AllocError>
-        ensures { IfOk result (λ choice. (index : Indexed) → length index.atoms ≡ count → IsChoice index choice) }
+        ensures choice { IfOk result (λ choice. (index : Indexed) → length index.atoms ≡ count → IsChoice index choice) }
+        ensures empty { IfOk result (λ choice. choice.variables.items ≡ []) }
     {
         Ok(Choice {
             taken: vec![in alloc; false; count]?,
@@ -44,19 +47,23 @@ impl Choice {
     }
 }
 
-/// The variable of the first group in the queue that is fit. Groups before it are removed. Fails only if allocation
-/// fails.
+/// The variable of the largest group by what is left of it, and of several of the earliest, among those of which it is
+/// fit. Candidates before it are removed from the queue. Fails only if allocation fails.
 fn next_variable(
     alloc: Global,
     offers: &Offers<'_>,
     taken: &[bool],
     queue: &mut Queue,
 ) -> Result<Option<ListedVariable>, AllocError>
-    ensures { IfOk result (λ next. IfSome next (IsNext offers.now.index.now taken.now)) }
+    requires { AreQueued offers.now.index.now offers.now.groups.now taken.now queue.old }
+    ensures found { IfOk result (λ next. IfSome next (IsFound offers.now.index.now offers.now.groups.now taken.now queue.new)) }
+    ensures fit { IfOk result (λ next. IfSome next (IsNext offers.now.index.now taken.now)) }
+    ensures none { IfOk result (λ next. IfNone next (NoneFits offers.now.index.now offers.now.groups.now (left_of taken.now))) }
 {
-    while let Some(group) = queue.pop() {
-        if let Some(variable) = offers.variable(alloc, group, taken)? {
-            return Ok(Some(variable));
+    while let Some(candidate) = queue.pop() {
+        let places = offers.rest(alloc, candidate.group.0, taken)?;
+        if places.len() == candidate.size && offers.is_fit(&places) {
+            return Ok(Some(offers.variable(places)));
         }
     }
     Ok(None)
@@ -64,17 +71,24 @@ fn next_variable(
 
 /// Takes groups as long as one is fit. Fails only if allocation fails.
 fn take_groups(alloc: Global, offers: &Offers<'_>, choice: &mut Choice) -> Result<(), AllocError>
-    requires { IsChoice offers.now.index.now choice.old }
-    ensures { OnOk result (IsChoice offers.now.index.now choice.new) }
+    requires choice { IsChoice offers.now.index.now choice.old }
+    requires empty { choice.old.variables.items ≡ [] }
+    ensures choice { OnOk result (IsChoice offers.now.index.now choice.new) }
+    ensures in_turn { OnOk result (AreTakenAfter offers.now.index.now offers.now.groups.now [] choice.new.variables.items) }
+    ensures none_left { OnOk result (NoneFits offers.now.index.now offers.now.groups.now (left_by choice.new.variables.items)) }
 {
-    let mut queue = Queue::new(alloc, choice.taken.len(), offers.groups())?;
+    let groups_at = GroupsAt::new(alloc, choice.taken.len(), offers.groups())?;
+    let mut queue = offers.queue_all(alloc, &choice.taken)?;
     // Each turn takes at least two atoms, so there are fewer turns than atoms.
     for _turn in 0..choice.taken.len() {
-        let Some(variable) = next_variable(alloc, offers, &choice.taken, &mut queue)? else {
-            return Ok(());
-        };
-        queue.remove(alloc, &variable.places)?;
-        choice.add(variable)?;
+        match next_variable(alloc, offers, &choice.taken, &mut queue)? {
+            Some(variable) => {
+                let groups = groups_at.groups_with(alloc, &variable.places)?;
+                choice.add(variable)?;
+                offers.queue_each(&mut queue, &groups, &choice.taken)?;
+            }
+            None => return Ok(()),
+        }
     }
     Ok(())
 }
@@ -98,6 +112,7 @@ fn take_atom(
     requires choice { IsChoice index.now choice.old }
     ensures choice { OnOk result (IsChoice index.now choice.new) }
     ensures done { OnOk result (IsDoneBelow index.now choice.old place → IsDoneBelow index.now choice.new (place + 1)) }
+    ensures single { OnOk result (AddsSingles choice.old.variables.items choice.new.variables.items) }
 {
     if !is_left(index, &choice.taken, place) {
         return Ok(());
@@ -114,6 +129,7 @@ fn take_atoms(alloc: Global, index: &ActionIndex<'_>, choice: &mut Choice) -> Re
     requires { IsChoice index.now choice.old }
     ensures choice { OnOk result (IsChoice index.now choice.new) }
     ensures done { OnOk result (IsDoneBelow index.now choice.new (length index.now.atoms)) }
+    ensures single { OnOk result (AddsSingles choice.old.variables.items choice.new.variables.items) }
 {
     for place in 0..index.atoms().as_slice().len() {
         take_atom(alloc, index, place, choice)?;
@@ -135,8 +151,7 @@ fn least_place(variable: &ListedVariable) -> usize
 /// unless it has several atoms and they are a full group. Fails only if allocation fails.
 ///
 /// The groups must be those of the index's atoms, none of them constant or excluded, as `mutex_proposals::groups`
-/// returns them. A group is examined again each time that it loses atoms. The contract does not specify which variables
-/// are chosen.
+/// returns them. A group is examined again each time that it loses atoms.
 pub fn choose_variables(
     alloc: Global,
     index: &ActionIndex<'_>,
@@ -147,6 +162,7 @@ pub fn choose_variables(
     ensures fit { IfOk result (λ variables.
         AreVariables index.now.task index.now.atoms index.now.actions (variables_at index.now.atoms variables.items)) }
     ensures ordered { IfOk result (λ variables. IsNonDecreasingBy least_place variables.items) }
+    ensures chosen { IfOk result (λ variables. AreChosen index.now groups.now variables.items) }
 {
     let mut choice = Choice::new(alloc, index.atoms().as_slice().len())?;
     let offers = Offers::new(alloc, index, groups)?;

@@ -3,6 +3,7 @@
 
 mod choice;
 mod flags;
+mod groups_at;
 mod offers;
 mod queue;
 

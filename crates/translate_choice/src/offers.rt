@@ -1,14 +1,17 @@
 //! The proposed groups, and the variables that their remaining atoms make.
 
-ghost use Rattle.std.specs.Prelude.{◌≡◌, ◌<◌, length, true, false, not, filter, slice_index_or, nat_le, count_by, position, None, if◌then◌else◌, All, IfOk, IfSome};
-ghost use Rattle.std.specs.Bool.{OnTrue};
+ghost use Rattle.std.specs.Prelude.{◌≡◌, ◌<◌, ℕ, length, true, false, not, slice_index_or, nat_le, count_by, position, None, if◌then◌else◌, All, IfOk, OnOk};
 ghost use Rattle.std.specs.List.Sorted.{IsStrictlyIncreasing};
 ghost use Rattle.pddl_task.specs.Atoms.{same_atom};
+ghost use Rattle.ground_atoms.specs.Order.{AreDistinct};
 ghost use Rattle.mutex.specs.Places.{literal_places};
 ghost use Rattle.mutex_proposals.specs.Proposals.{IsProposal};
-ghost use Rattle.translate_choice.specs.Choices.{AreGoals, IsRest, IsFit, IsNext};
+ghost use Rattle.mutex.specs.Places.{has};
+ghost use Rattle.translate_choice.specs.Choices.{AreGoals, IsRest};
+ghost use Rattle.translate_choice.specs.Greedy.{is_fit, variable_of, group_at, left_of, AreQueued, IsQueuedIfFit, Keeps};
 
 use crate::flags::{is_set, set_flags};
+use crate::queue::Queue;
 use ground_atoms::Atoms;
 use mutex::ActionIndex;
 use mutex_proposals::{Group, Groups};
@@ -20,10 +23,11 @@ use translate_theory::ListedVariable;
 #[derive(Drop)]
 pub(crate) struct Offers<'a> {
     pub(crate) index: &'a ActionIndex<'a>,
-    groups: &'a [Group],
+    pub(crate) groups: &'a [Group],
     goals: Vec<bool>,
     ghost proposed: { All (IsProposal index.now) groups.now },
     ghost goals_marked: { AreGoals index.now goals.items },
+    ghost distinct: { AreDistinct index.now.atoms },
 }
 
 impl<'a> Offers<'a> {
@@ -33,8 +37,11 @@ impl<'a> Offers<'a> {
         groups: &'a Groups,
     ) -> Result<Offers<'a>, AllocError>
         requires { All (IsProposal index.now) groups.now }
-        ensures { IfOk result (λ offers. offers.index.now ≡ index.now) }
+        ensures index { IfOk result (λ offers. offers.index.now ≡ index.now) }
+        ensures groups { IfOk result (λ offers. offers.groups.now ≡ groups.now) }
     {
+        // reading the list of atoms brings its invariant, that they are distinct, into the proof
+        let _ = index.atoms().as_slice().len();
         Ok(Offers {
             index,
             groups: groups.as_slice(),
@@ -42,18 +49,33 @@ impl<'a> Offers<'a> {
         })
     }
 
-    pub(crate) fn groups(&self) -> &'a [Group] {
+    pub(crate) fn groups(&self) -> &'a [Group]
+        ensures { result.now ≡ self.now.groups.now }
+    {
         self.groups
     }
 
-    /// The places of the group that are not taken. Fails only if allocation fails.
-    fn rest(&self, alloc: Global, group: usize, taken: &[bool]) -> Result<Vec<usize>, AllocError>
-        ensures { IfOk result (λ rest. IsRest self.now.index.now taken.now rest.items) }
+    /// The places of the group with this number, or none if there is no such group.
+    fn places_of(&self, group: usize) -> &[usize]
+        ensures { result.now ≡ group_at self.now.groups.now group }
     {
         match self.groups.get(group) {
-            Some(group) => untaken(alloc, taken, group.places()),
-            None => Ok(Vec::new(alloc)),
+            Some(group) => group.places(),
+            None => &[],
         }
+    }
+
+    /// The places of the group that are not taken. Fails only if allocation fails.
+    pub(crate) fn rest(
+        &self,
+        alloc: Global,
+        group: usize,
+        taken: &[bool],
+    ) -> Result<Vec<usize>, AllocError>
+        ensures places { IfOk result (λ rest. rest.items ≡ left_of taken.now (group_at self.now.groups.now group)) }
+        ensures rest { IfOk result (λ rest. IsRest self.now.index.now taken.now rest.items) }
+    {
+        untaken(alloc, taken, self.places_of(group))
     }
 
     /// Whether at most one of the atoms is a goal.
@@ -68,10 +90,10 @@ impl<'a> Offers<'a> {
     }
 
     /// Whether there are several atoms, at most one of them a goal, and they are a usable group.
-    fn is_fit(&self, places: &[usize]) -> bool
+    pub(crate) fn is_fit(&self, places: &[usize]) -> bool
         requires rising { IsStrictlyIncreasing places.now }
         requires within { All (λ p. p < length self.now.index.now.atoms) places.now }
-        ensures { OnTrue result (IsFit self.now.index.now places.now) }
+        ensures { result ≡ is_fit self.now.index.now places.now }
     {
         if places.len() < 2 || !self.has_one_goal(places) {
             return false;
@@ -79,34 +101,77 @@ impl<'a> Offers<'a> {
         self.index.is_usable(places)
     }
 
-    /// Returns the variable of the atoms of the group that are not taken, if they are fit. Fails only if allocation
-    /// fails.
-    pub(crate) fn variable(
-        &self,
-        alloc: Global,
-        group: usize,
-        taken: &[bool],
-    ) -> Result<Option<ListedVariable>, AllocError>
-        ensures { IfOk result (λ offered. IfSome offered (IsNext self.now.index.now taken.now)) }
+    /// Returns the variable of the atoms at these places.
+    pub(crate) fn variable(&self, places: Vec<usize>) -> ListedVariable
+        requires rising { IsStrictlyIncreasing places.items }
+        requires within { All (λ p. p < length self.now.index.now.atoms) places.items }
+        ensures { result ≡ variable_of self.now.index.now places.items }
     {
-        let places = self.rest(alloc, group, taken)?;
-        if !self.is_fit(&places) {
-            return Ok(None);
-        }
         let has_none = !self.index.is_full(&places);
-        Ok(Some(ListedVariable { places, has_none }))
+        ListedVariable { places, has_none }
+    }
+
+    /// Queues the group with the number of its atoms that are not taken, unless they are fewer than two. Fails only if
+    /// allocation fails.
+    fn queue_one(&self, queue: &mut Queue, group: usize, taken: &[bool]) -> Result<(), AllocError>
+        ensures keeps { OnOk result (Keeps queue.old queue.new) }
+        ensures queued { OnOk result (IsQueuedIfFit self.now.index.now self.now.groups.now taken.now queue.new group) }
+    {
+        let size = left_count(taken, self.places_of(group));
+        if size > 1 {
+            queue.push(size, group)?;
+        }
+        Ok(())
+    }
+
+    /// Queues these groups. Fails only if allocation fails.
+    pub(crate) fn queue_each(
+        &self,
+        queue: &mut Queue,
+        groups: &[usize],
+        taken: &[bool],
+    ) -> Result<(), AllocError>
+        ensures keeps { OnOk result (Keeps queue.old queue.new) }
+        ensures queued { OnOk result ((g : ℕ) → has groups.now g ≡ true →
+            IsQueuedIfFit self.now.index.now self.now.groups.now taken.now queue.new g) }
+    {
+        for group in groups {
+            self.queue_one(queue, *group, taken)?;
+        }
+        Ok(())
+    }
+
+    /// The queue of all groups. Fails only if allocation fails.
+    pub(crate) fn queue_all(&self, alloc: Global, taken: &[bool]) -> Result<Queue, AllocError>
+        ensures { IfOk result (AreQueued self.now.index.now self.now.groups.now taken.now) }
+    {
+        let mut queue = Queue::new(alloc);
+        for group in 0..self.groups.len() {
+            self.queue_one(&mut queue, group, taken)?;
+        }
+        Ok(queue)
     }
 }
 
 /// Those of the places that are not taken. Fails only if allocation fails.
 fn untaken(alloc: Global, taken: &[bool], places: &[usize]) -> Result<Vec<usize>, AllocError>
-    ensures { IfOk result (λ rest. rest.items ≡ filter (λ p. not (slice_index_or taken.now p false)) places.now) }
+    ensures { IfOk result (λ rest. rest.items ≡ left_of taken.now places.now) }
 {
     places
         .iter()
         .copied()
         .filter(|place| !is_set(taken, *place))
         .collect(alloc)
+}
+
+/// How many of the places are not taken.
+fn left_count(taken: &[bool], places: &[usize]) -> usize
+    ensures { result ≡ count_by (λ p. not (slice_index_or taken.now p false)) places.now }
+{
+    places
+        .iter()
+        .filter(|place| !is_set(taken, **place))
+        .count()
 }
 
 /// The place of the literal's atom, if the literal is positive and the atom is listed.

@@ -1,8 +1,3 @@
-use Rattle.std.proofs.Common.{subst}
-use Rattle.pddl_task.specs.Planning.{Action}
-use Rattle.std.specs.Prelude.{List}
-use Rattle.translate_theory.specs.Translations.{AreVariables}
-use Rattle.translate_theory.specs.Variables.{variables_at}
 use Rattle.translate.proofs.KnownAtoms.{least_known}
 use Rattle.translate.proofs.Promises.{same_plans_are, large_is_untranslated, if_ok_map, if_err_map}
 use Rattle.translate.proofs.translating.translate.Goals as goal
@@ -21,7 +16,5 @@ returns-clause-plans c = λ well. if_ok_map _ _ c.translated.result (λ t made. 
 pub returns-clause-fault : goal.returns-clause-fault
 returns-clause-fault c =
     if_err_map _ _ c.translated.result
-    (λ e h. large_is_untranslated c.args.task.now c.in_ok-grounded.grounded.atoms c.in_ok-variables.variables.items e c.in_ok-grounded.ensures.least
-    (subst (λ (listed : List Action). AreVariables c.args.task.now c.in_ok-grounded.grounded.atoms listed (variables_at c.in_ok-grounded.grounded.atoms c.in_ok-variables.variables.items))
-    c.in_ok-grounded.ensures.actions c.in_ok-variables.ensures.fit) h)
+    (λ e h. large_is_untranslated c.args.task.now c.in_ok-grounded.grounded.atoms c.in_ok-variables.variables.items e c.in_ok-variables.ensures.chosen h)
     c.translated.ensures.large

@@ -1,12 +1,8 @@
-use Rattle.std.proofs.Common.{◌≡◌, ◌≤◌, List, subst, ◌∙◌}
-use Rattle.std.specs.Prelude.{slice_get}
-use Rattle.std.specs.List.{filter_map}
-use Rattle.pddl_task.specs.Planning.{IsActionOf, Action}
-use Rattle.pddl_task.specs.Atoms.{contains}
-use Rattle.ground_theory.specs.Grounding.{AreListedActions, actions_over}
-use Rattle.translate_theory.specs.Translations.{translation, carried}
+use Rattle.std.proofs.Common.{◌≡◌, List, subst, ◌∙◌}
+use Rattle.pddl_task.specs.Planning.{Action}
+use Rattle.translate_theory.specs.Translations.{translation}
 use Rattle.translate_theory.specs.Variables.{PlacedVariable, variables_at}
-use Rattle.translate.proofs.Limits.{within_from}
+use Rattle.translate_assembly.specs.Carried.{AreCarriedAt}
 use Rattle.translate.proofs.Promises.{listed_actions, translation_from}
 use Rattle.translate.proofs.translating.translated.Goals as goal
 
@@ -26,6 +22,6 @@ returns-in-Ok-clause-translation c =
     translation_from c.args.task.now _ c.requires.placed c.requires.listed c.requires.few_atoms c.args.parts.actions.items c.requires.over c.requires.few_actions c.requires.fit
     (subst (λ (vs : List PlacedVariable). c.in-Ok.made.task ≡ translation c.args.task.now (variables_at c.args.parts.atoms vs) c.args.parts.actions.items) c.deref-2.ensures.value
     (subst (λ (listed : List Action). c.in-Ok.made.task ≡ translation c.args.task.now (variables_at c.args.parts.atoms c.deref-2.result.now) listed) c.deref.ensures.value c.in-Ok.ensures.task))
-    (subst (λ (vs : List PlacedVariable). filter_map (slice_get c.args.parts.actions.items) c.in-Ok.made.carried.items ≡ carried (variables_at c.args.parts.atoms vs) c.args.parts.actions.items) c.deref-2.ensures.value
-    (subst (λ (listed : List Action). filter_map (slice_get listed) c.in-Ok.made.carried.items ≡ carried (variables_at c.args.parts.atoms c.deref-2.result.now) listed) c.deref.ensures.value c.in-Ok.ensures.carried))
+    (subst (λ (vs : List PlacedVariable). AreCarriedAt (variables_at c.args.parts.atoms vs) c.args.parts.actions.items c.in-Ok.made.carried.items) c.deref-2.ensures.value
+    (subst (λ (listed : List Action). AreCarriedAt (variables_at c.args.parts.atoms c.deref-2.result.now) listed c.in-Ok.made.carried.items) c.deref.ensures.value c.in-Ok.ensures.carried))
     c.recall.ensures.limits

@@ -1,15 +1,13 @@
-use Rattle.std.proofs.Common.{◌≡◌, ◌∙◌, ap, List, ℕ}
-use Rattle.std.specs.Prelude.{is_some}
-use Rattle.fdr.specs.Tasks.{IsPastLimit, task_of}
+use Rattle.std.proofs.Common.{◌≡◌, ◌∙◌, ap, sym, length, List, ℕ}
+use Rattle.std.proofs.lemmas.List.{length-map}
+use Rattle.fdr.specs.Tasks.{FiniteDomainTask, IsPastLimit, task_of}
 use Rattle.pddl_task.specs.Planning.{PlanningTask}
-use Rattle.translate_theory.specs.Translations.{translation}
+use Rattle.translate_theory.specs.Translations.{translation, carried, operator_of}
 use Rattle.translate_theory.proofs.Ranges.{translation_is_task}
 use Rattle.translate_theory.specs.Variables.{variables_at}
 use Rattle.translate_assembly.specs.Slots.{slot_of, values_of}
-use Rattle.translate_assembly.specs.Operators.{made_operator}
 use Rattle.translate_assembly.proofs.StateLaws.{lengths_are, past_limit, fault_tells}
-use Rattle.translate_assembly.proofs.OperatorLists.{places_rise}
-use Rattle.translate_assembly.proofs.AssemblyLaws.{parts_are, carried_are}
+use Rattle.translate_assembly.proofs.AssemblyLaws.{parts_are, carried_at}
 use Rattle.translate_assembly.proofs.assembly.assemble.Goals as goal
 
 pub returns-in_err-check_limits-clause-limit : goal.returns-in_err-check_limits-clause-limit
@@ -72,13 +70,16 @@ returns-clause-task c =
     (h.initial ∙ ap (λ (l : List ℕ). values_of (slot_of vs) l task.initial) (lengths_are atoms variables c.requires.placed)) h.goal h.operators in
     c.in_ok-task.ensures.task ∙ whole
 
+pub returns-clause-count : goal.returns-clause-count
+returns-clause-count c =
+    let vs = variables_at c.args.atoms.now c.args.variables.now in
+    let at = carried_at c.args.task.now c.args.atoms.now c.args.actions.now vs c.requires.complete c.requires.fit in
+    let as_many : length c.in_ok-parts.parts.carried.items ≡ length (carried vs c.args.actions.now) = ap length c.in_ok-parts.ensures.carried ∙ at.count in
+    as_many
+    ∙ sym (length-map (carried vs c.args.actions.now) (operator_of c.args.task.now.vocabulary vs))
+    ∙ ap (λ (t : FiniteDomainTask). length t.operators) (sym (returns-clause-task c))
+
 pub returns-clause-carried : goal.returns-clause-carried
 returns-clause-carried c =
     let vs = variables_at c.args.atoms.now c.args.variables.now in
-    rw c.in_ok-parts.ensures.carried (carried_are c.args.task.now c.args.atoms.now c.args.actions.now vs c.requires.complete c.requires.fit)
-
-pub returns-clause-rising : goal.returns-clause-rising
-returns-clause-rising c =
-    let vs = variables_at c.args.atoms.now c.args.variables.now in
-    rw c.in_ok-parts.ensures.carried
-    (places_rise (λ a. is_some (made_operator (slot_of vs) c.args.task.now.vocabulary a)) 0 c.args.actions.now)
+    rw c.in_ok-parts.ensures.carried (carried_at c.args.task.now c.args.atoms.now c.args.actions.now vs c.requires.complete c.requires.fit)
