@@ -68,7 +68,7 @@ enter-requires g c =
     let l = c.in-Some.ensures.some.0 in
     let s = c.deref-3.ensures.value ∙ c.read_state.ensures.state l.node (get_at h.nodes e.index l.node l.there) in
     subst (λ (p : PlacesOf). IsState (ranges p.task) c.deref-3.result.now) (sym c.self.invariant.2)
-    (least_state g.S.Spread.owner h e l c.deref-3.result.now c.recall.ensures s)
+    (least_state g.S.Spread.owner h e l c.deref-3.result.now c.recall.ensures.owner s)
 
 pub treat_successors-requires-clause-state : goal.treat_successors-requires-clause-state
 treat_successors-requires-clause-state g c =
