@@ -1,9 +1,9 @@
 """The merge gate: proves every crate and its tests of the last commit from nothing, runs every program, the tests of `tests/` on both
 builds of optplan, and must-fail edits.
 
-What the toolchain's gate proved of the very same files on this machine it does not prove again. An edit changes its answer only where its
-crate, or something below it, changed. So `.ci/refused.txt` records for which state of a crate all its edits were refused, and the gate
-tries those of the crates whose state is not recorded.
+A toolchain that keeps what it proved of the very same files may take that again; one that keeps nothing proves all in each run. An edit
+changes its answer only where its crate, something below it, or the toolchain changed. So `.ci/refused.txt` records for which state of a
+crate all its edits were refused, and the gate tries those of the crates whose state is not recorded.
 """
 
 import contextlib
@@ -76,10 +76,9 @@ def keep_crates(repository, names):
             shutil.rmtree(repository.folder(name), ignore_errors=True)
 
 
-def run_toolchain(copy, tell, on_crate=None, names=()):
-    """Runs the toolchain's gate in a copy, or over crates of it and what they stand on alone, and hands on each line that it prints.
-    Gives its status and the seconds of its provers."""
-    gate = subprocess.Popen(["rt", "ci", *names], cwd=copy, stdin=subprocess.DEVNULL, stdout=subprocess.PIPE, stderr=subprocess.STDOUT,
+def run_toolchain(copy, tell, on_crate=None):
+    """Runs the toolchain's gate in a copy, and hands on each line that it prints. Gives its status and the seconds of its provers."""
+    gate = subprocess.Popen(["rt", "ci"], cwd=copy, stdin=subprocess.DEVNULL, stdout=subprocess.PIPE, stderr=subprocess.STDOUT,
                             text=True, errors="replace", start_new_session=True)
     seconds = ProverSeconds(gate.pid, on_crate)
     try:
@@ -114,9 +113,9 @@ def keep_edits(repository, tried):
             shutil.rmtree(f"{repository.folder(name)}/must-fail")
 
 
-def try_crates(repository, record, tried, names=()):
-    """Runs the toolchain's gate with the edits of `tried` alone, over all crates or over some alone, and records the crates all of whose
-    edits were refused. Gives the status, and how much passed and failed."""
+def try_crates(repository, record, tried):
+    """Runs the toolchain's gate over a repository with the edits of `tried` alone, and records the crates all of whose edits were refused.
+    Gives the status, and how much passed and failed."""
     keep_edits(repository, tried)
     lines, started, free = [], time.time(), free_bytes()
 
@@ -125,7 +124,7 @@ def try_crates(repository, record, tried, names=()):
         if not COUNTS.fullmatch(line.strip()):
             sys.stdout.write(line)
 
-    status, seconds = run_toolchain(repository.top, tell, names=names)
+    status, seconds = run_toolchain(repository.top, tell)
     refused, weak = sorted_edits(repository.top, lines)
     print("\n".join(seconds.table()))
     say(f"{(time.time() - started) / 60:.1f} minutes on {len(os.sched_getaffinity(0))} processors; of {free / GIB:.1f} GiB of free disk "
@@ -166,6 +165,7 @@ def gate(tries_all):
         for it in unfit:
             say(f"must-fail {it}")
         names = repository.with_edits()
+        record.keep(names)
         tried = missing_edits(repository, record, names, tries_all)
         edits, missing = count_of_edits(repository, names), count_of_edits(repository, tried)
         say(f"of {edits} must-fail edits {edits - missing} are recorded as refused, and {missing}, of {len(tried)} crates, are tried now")
@@ -201,7 +201,9 @@ def edits_alone(names):
         say(f"{count_of_edits(whole, tried)} edits, of {len(tried)} crates, are not recorded")
         for group in in_groups(whole, tried):
             with last_commit() as room:
-                status = try_crates(Repository(room), record, group, group)[0] or status
+                cut = Repository(room)
+                keep_crates(cut, cut.closure(group))
+                status = try_crates(Repository(room), record, group)[0] or status
         missing = missing_edits(whole, record, tried, False)
     say(f"not all refused: {' '.join(missing) or 'none'}")
     return status or int(bool(missing))

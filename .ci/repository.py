@@ -11,6 +11,8 @@ PARTS = ("src", "specs", "proofs")
 # The proof of one function: no other function's proof and no crate above can cite it.
 PROOFS_OF_ONE_FUNCTION = ("Answers.antt", "Invariants.antt", "Proof.antt")
 COMMENTS = {".rt": b"//", ".antt": b"--"}
+# A crate, a toolchain and a state.
+LINE_OF_RECORD = re.compile(r"(\w+) ([\w.-]+) ([0-9a-f]+)\n?")
 
 
 class Repository:
@@ -121,10 +123,15 @@ def toolchain():
     return subprocess.run(["rt", "version"], check=True, stdout=subprocess.PIPE).stdout
 
 
-class Record:
-    """The file that tells for which states of crates the prover refused every edit: a line a crate, its name and the state."""
+def toolchain_name():
+    return toolchain().split()[0].decode()
 
-    HEAD = ("# Where the prover refused each must-fail edit of a crate: the crate, and the state of all on which that depends.\n"
+
+class Record:
+    """The file that tells for which states of crates the prover refused every edit: a line for a crate and a toolchain, with the crate's name,
+    the first word of the toolchain's identity, and the state."""
+
+    HEAD = ("# Where the prover refused each must-fail edit of a crate: the crate, the toolchain, and the state of all on which that depends.\n"
             "# Written by .ci/run alone.\n")
 
     def __init__(self, path):
@@ -132,15 +139,22 @@ class Record:
         self.states = {}
         if os.path.isfile(path):
             with open(path, encoding="utf-8") as file:
-                self.states = dict(it.split() for it in file if re.fullmatch(r"\w+ [0-9a-f]+\n?", it))
+                self.states = {(it[1], it[2]): it[3] for it in map(LINE_OF_RECORD.fullmatch, file) if it}
 
     def holds(self, repository, name):
-        return self.states.get(name) == repository.state(name)
+        return self.states.get((name, toolchain_name())) == repository.state(name)
 
     def add(self, repository, names):
-        """Records crates beside what the file says by then, and writes it. What it says of crates that are there no more is dropped."""
-        self.states = Record(self.path).states | {it: repository.state(it) for it in names}
-        kept = sorted(it for it in self.states.items() if it[0] in repository.uses)
+        """Records crates beside what the file says by then, and writes it."""
+        self.states = Record(self.path).states | {(it, toolchain_name()): repository.state(it) for it in names}
+        self.write()
+
+    def keep(self, names):
+        """Drops what the file says of crates other than these."""
+        self.states = {it: state for it, state in Record(self.path).states.items() if it[0] in names}
+        self.write()
+
+    def write(self):
         with open(f"{self.path}.new", "w", encoding="utf-8") as file:
-            file.write(self.HEAD + "".join(f"{name} {state}\n" for name, state in kept))
+            file.write(self.HEAD + "".join(f"{name} {by} {state}\n" for (name, by), state in sorted(self.states.items())))
         os.replace(f"{self.path}.new", self.path)

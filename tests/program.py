@@ -2,12 +2,14 @@
 
 import dataclasses
 import os
+import resource
 import subprocess
 import tempfile
 import unittest
 
 # The seconds after which a run is ended, and fails.
 SECONDS_OF_A_RUN = 60
+EXAMPLES = os.path.join(os.path.dirname(os.path.dirname(os.path.abspath(__file__))), "examples")
 
 
 @dataclasses.dataclass(frozen=True)
@@ -24,15 +26,17 @@ def as_bytes(text):
     return text.encode() if isinstance(text, str) else text
 
 
-def run(*words, files=None):
-    """The outcome of the program with these words, in a folder that has these files: texts or bytes by their names."""
+def run(*words, files=None, memory=None):
+    """The outcome of the program with these words, in a folder that has these files: texts or bytes by their names. Its addresses take at most
+    `memory` bytes, if these are given."""
     given = {name: as_bytes(text) for name, text in (files or {}).items()}
     with tempfile.TemporaryDirectory(prefix="optplan-test-") as folder:
         for name, text in given.items():
             with open(os.path.join(folder, name), "wb") as file:
                 file.write(text)
+        cap = memory and (lambda: resource.setrlimit(resource.RLIMIT_AS, (memory, memory)))
         ended = subprocess.run([os.environ["OPTPLAN"], *words], cwd=folder, stdin=subprocess.DEVNULL, stdout=subprocess.PIPE,
-                               stderr=subprocess.PIPE, timeout=SECONDS_OF_A_RUN, check=False)
+                               stderr=subprocess.PIPE, timeout=SECONDS_OF_A_RUN, check=False, preexec_fn=cap)
         return Outcome(ended.stdout, ended.stderr, ended.returncode, written(folder, given))
 
 
@@ -45,6 +49,12 @@ def written(folder, given):
         if given.get(name) != text:
             found[name] = text
     return found
+
+
+def example(task, name):
+    """The text of a file of an example task."""
+    with open(os.path.join(EXAMPLES, task, name), encoding="ascii") as file:
+        return file.read()
 
 
 def validated(domain, problem, plan=""):

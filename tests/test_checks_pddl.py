@@ -1,7 +1,7 @@
 """Checks of certificates for planning tasks, and translations, worked out by hand. In the texts of certificates and translations a `|`
 stands for a line feed."""
 
-from program import Outcome, ProgramTest, checked, translated
+from program import Outcome, ProgramTest, checked, example, translated, validated
 from texts import DOOR_DOMAIN, DRIVE_DOMAIN, DRIVE_PROBLEM, GRIP_DOMAIN, GRIP_PROBLEM, ROAD_DOMAIN, ROAD_PROBLEM, ROAD_PROBLEM_AT_ITS_GOAL
 
 
@@ -21,6 +21,43 @@ class PlanningTest(ProgramTest):
         """Fails, with the problem, unless this is the task's translation."""
         with self.subTest(problem=problem):
             self.assertEqual(translated(domain, problem), Outcome(out=with_line_feeds(text).encode()))
+
+
+class Lamp(PlanningTest):
+    """Somebody at a, where a lamp is lit, with a road to b: at b without that lamp lit takes two steps. The places are a group, the road is a
+    constant atom, and the lamp a negative goal."""
+
+    HEAD = "optplan-cert 1|pddl|bound {}|atoms 4|at a|at b|lit a|road a b"
+    VARIABLES = "vars 2|0 2 0 1|1 1 2"
+    CLOSED = "columns 0|closed 3|0 0 0|1 0 1|1 1 0|end"
+    TABLES = "columns 1|column 2|table 1 0|shares 1 0 1|values 2 1 0|table 1 1|shares 1 1 1|values 2 1 0|closed 0|end"
+
+    # The bound, what stands behind the atoms, and the answer.
+    ROWS = [
+        (2, f"{VARIABLES}|{CLOSED}", "accepted 2"),
+        (3, f"{VARIABLES}|{CLOSED}", "rejected C8 state 1 op 0"),
+        (2, f"{VARIABLES}|{TABLES}", "accepted 2"),
+        (3, f"{VARIABLES}|{TABLES}", "rejected C6"),
+        # The lamp has no value for none; the places have one, which does no harm; the lamp is with them, and is a negative goal; the
+        # road is in a variable.
+        (2, f"vars 2|0 2 0 1|0 1 2|{CLOSED}", "rejected C2 var 1"),
+        (2, f"vars 2|1 2 0 1|1 1 2|{CLOSED}", "accepted 2"),
+        (2, "vars 1|1 3 0 1 2|columns 0|closed 1|0 0|end", "rejected C2 var 0"),
+        (2, f"vars 3|0 2 0 1|1 1 2|1 1 3|{CLOSED}", "rejected C2 var 2"),
+        # Without the state after the first step by road.
+        (2, f"{VARIABLES}|columns 0|closed 2|0 0 0|1 0 1|end", "rejected C8 state 0 op 0"),
+    ]
+
+    def test_certificates(self):
+        domain, problem = example("lamp", "domain.pddl"), example("lamp", "problem.pddl")
+        for bound, rest, answer in self.ROWS:
+            self.answers(domain, problem, f"{self.HEAD.format(bound)}|{rest}", answer)
+
+    def test_certificates_in_files(self):
+        domain, problem = example("lamp", "domain.pddl"), example("lamp", "problem.pddl")
+        for name in ("closed.cert", "tables.cert"):
+            self.is_answered(checked(domain, problem, example("lamp", name)), "accepted 2", name=name)
+        self.is_answered(validated(domain, problem, example("lamp", "plan.txt")), "valid 2")
 
 
 class Road(PlanningTest):

@@ -1,21 +1,11 @@
 """Searches that are stopped by `--limit` or `--steps`: the bound, the best plan so far, and the certificate of the bound."""
 
-import os
-
-from program import Outcome, ProgramTest, checked, checked_sas, run
-
-EXAMPLES = os.path.join(os.path.dirname(os.path.dirname(os.path.abspath(__file__))), "examples")
+from program import Outcome, ProgramTest, checked, checked_sas, example, run
 
 # Examples that are solved, or shown to have no plan, after few states.
-SMALL_TASKS = ("blocks", "door", "drive", "grip", "gripper", "noop", "road")
+SMALL_TASKS = ("blocks", "door", "drive", "grip", "gripper", "lamp", "noop", "road")
 
 STOPPED = 5
-
-
-def example(*place):
-    with open(os.path.join(EXAMPLES, *place), encoding="ascii") as file:
-        return file.read()
-
 
 ROAD, R1 = example("road", "domain.pddl"), example("road", "problem.pddl")
 DRIVE, D1 = example("drive", "domain.pddl"), example("drive", "problem.pddl")

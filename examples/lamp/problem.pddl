@@ -1,0 +1,5 @@
+(define (problem one-lamp)
+ (:domain lamp)
+ (:objects a b)
+ (:init (at a) (road a b) (lit a))
+ (:goal (and (at b) (not (lit a)))))

@@ -1,0 +1,105 @@
+#!/usr/bin/env python3
+"""Damages the examples in every way of `damages.py`, and compares what the program answers with a second reading.
+
+    sweep.py OPTPLAN
+
+For a finite-domain task and a certificate that is a second reading and a second check, to the byte (`second_reading.py`). A certificate for a planning task is
+read a second time, and judged by the program alone. A domain, a problem or a plan whose tokens are still the same has the same verdict; of any other the
+program says a verdict or a fault that is named, at a place within the text. The last line says how many texts were tried, and how many were answered
+wrongly; each of these is printed, and the status is then 1. Takes some minutes.
+"""
+
+import os
+import re
+import sys
+
+from damages import damaged_bytes, damaged_lines, tokens
+from program import checked, checked_sas, example, validated, wanted
+from second_reading import certificate_fault, check_sas
+
+FINITE_DOMAIN = (("road", "closed.cert"), ("road", "table.cert"))
+PLANNING = ("blocks", "door", "drive", "grip", "gripper", "lamp", "logistics", "noop", "road")
+VERDICT = re.compile(rb"(valid \d+|invalid [^\n]*)\n")
+CLAUSE = re.compile(rb"(accepted (\d+|unsolvable)|rejected C[1-8]( [^\n]*)?)\n")
+FAULT = re.compile(rb"optplan: F(\d+) [A-Za-z]+( [^\n ]+)?( (domain|problem|plan|cert)( (\d+))?)?\n")
+
+
+class Sweep:
+    """Counts the texts that were tried, every `step`-th damage of all, and holds those that were answered wrongly with what was said."""
+
+    def __init__(self, step=1):
+        self.step, self.tried, self.wrong = step, 0, []
+
+    def damages(self, text):
+        yield from damaged_bytes(text, self.step)
+        yield from damaged_lines(text, self.step, self.step // 2)
+
+    def expect(self, is_right, text, outcome):
+        self.tried += 1
+        if not is_right:
+            self.wrong.append((text, outcome))
+
+    def damage_finite_domain(self, name, certificate):
+        """Damages a task, and a certificate for it."""
+        sas, cert = example(name, "task.sas").encode(), example(name, certificate).encode()
+        for given in [(it, cert) for it in self.damages(sas)] + [(sas, it) for it in self.damages(cert)]:
+            outcome = checked_sas(*given)
+            self.expect(outcome == wanted(check_sas(*given)), given, outcome)
+        return self
+
+    def damage_planning_certificate(self, name, certificate):
+        """Damages a certificate for a planning task."""
+        domain, problem = example(name, "domain.pddl"), example(name, "problem.pddl")
+        for cert in self.damages(example(name, certificate).encode()):
+            outcome, fault = checked(domain, problem, cert), certificate_fault(cert)
+            is_other_kind = fault is None and cert.split(b"\n")[1] == b"sas"
+            if fault or is_other_kind:
+                self.expect(outcome == wanted(fault or "F51 Expected cert 2"), cert, outcome)
+            else:
+                self.expect(outcome.err == b"" and CLAUSE.fullmatch(outcome.out) and outcome.status in (0, 3), cert, outcome)
+        return self
+
+    def damage_planning(self, name):
+        """Damages a domain, a problem and a plan."""
+        texts = [example(name, it).encode() for it in ("domain.pddl", "problem.pddl", "plan.txt")]
+        first = validated(*texts)
+        for place, text in enumerate(texts):
+            same = tokens(text)
+            for damaged in self.damages(text):
+                given = [*texts[:place], damaged, *texts[place + 1:]]
+                outcome = validated(*given)
+                self.expect(outcome == first if tokens(damaged) == same else is_answer(outcome, given), given, outcome)
+        return self
+
+
+def is_answer(outcome, texts):
+    """Whether an outcome is a verdict, or a fault with its place in one of a domain, a problem and a plan."""
+    if outcome.status in (0, 3):
+        return bool(VERDICT.fullmatch(outcome.out)) and outcome.err == b"" and outcome.out.startswith(b"valid") == (outcome.status == 0)
+    found = FAULT.fullmatch(outcome.err)
+    if outcome.status != 1 or outcome.out != b"" or not found:
+        return False
+    sizes = dict(zip((b"domain", b"problem", b"plan"), map(len, texts)))
+    return found[6] is None or int(found[6]) < sizes[found[4]]
+
+
+def main(arguments):
+    if len(arguments) != 1:
+        print("usage: sweep.py OPTPLAN", file=sys.stderr)
+        return 2
+    os.environ["OPTPLAN"] = os.path.abspath(arguments[0])
+    sweep = Sweep()
+    for names in FINITE_DOMAIN:
+        sweep.damage_finite_domain(*names)
+    for name, certificate in (("road", "planning.cert"), ("lamp", "closed.cert"), ("lamp", "tables.cert")):
+        sweep.damage_planning_certificate(name, certificate)
+    for name in PLANNING:
+        sweep.damage_planning(name)
+    for text, outcome in sweep.wrong:
+        print(f"{text!r}\n    {outcome}")
+    print(f"{sweep.tried} damaged texts, {len(sweep.wrong)} answered wrongly")
+    return int(bool(sweep.wrong))
+
+
+if __name__ == "__main__":
+    sys.exit(main(sys.argv[1:]))

@@ -1,0 +1,31 @@
+"""Damaged texts: each is refused by a named fault with its place, or judged as it then reads. A share of all damages; `sweep.py` tries all."""
+
+import unittest
+
+from sweep import PLANNING, FINITE_DOMAIN, Sweep
+
+# One of so many damages.
+SHARE = 41
+
+
+class DamagedTest(unittest.TestCase):
+    """The program's answers for damaged texts are those of the second reading."""
+
+    def is_clean(self, sweep):
+        self.assertEqual(sweep.wrong, [])
+        self.assertGreater(sweep.tried, 0)
+
+    def test_finite_domain_tasks(self):
+        for names in FINITE_DOMAIN:
+            with self.subTest(names=names):
+                self.is_clean(Sweep(SHARE).damage_finite_domain(*names))
+
+    def test_planning_tasks(self):
+        for name in PLANNING:
+            with self.subTest(name=name):
+                self.is_clean(Sweep(SHARE).damage_planning(name))
+
+    def test_certificates_of_planning_tasks(self):
+        for name, certificate in (("road", "planning.cert"), ("lamp", "closed.cert"), ("lamp", "tables.cert")):
+            with self.subTest(certificate=certificate):
+                self.is_clean(Sweep(SHARE).damage_planning_certificate(name, certificate))
