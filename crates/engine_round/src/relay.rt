@@ -30,7 +30,9 @@ fn send_each<'a, S: Spread + Drop, F: StateForm + Drop>(worker: &mut Worker<'a, 
 
 /// Takes at most one message from each link, until one is set aside. Returns whether one was taken, or set aside. Fails only if
 /// allocation fails, after which the worker must not be used again.
-fn receive_each<'a, S: Spread + Drop, F: StateForm + Drop>(worker: &mut Worker<'a, S, F>) -> Result<Received, AllocError>
+fn receive_each<'a, S: Spread + Drop, F: StateForm + Drop>(
+    worker: &mut Worker<'a, S, F>,
+) -> Result<Received, AllocError>
     requires none_aside { worker.old.misfits ≡ [] }
     requires none_taken { worker.old.taken ≡ 0 }
     ensures received { IfOk result (HasReceivedAll S.owner F.values worker.old worker.new) }

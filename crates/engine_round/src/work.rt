@@ -63,8 +63,9 @@ fn take_turn<'a, S: Spread + Drop, F: StateForm + Drop, G: Gate>(
     worker.turn(board, seat).map_err(TurnFault::Owner)
 }
 
-/// Takes turns until nothing is counted as left to do, or the round is ended, and relays messages between them. A message that is not for the worker, a fault and the
-/// gate, which is asked before each turn of this worker, end the round for all workers. `number` is the worker's.
+/// Takes turns until nothing is counted as left to do, or the round is ended, and relays messages between them. A message that is not
+/// for the worker, a fault and the gate, which is asked before each turn of this worker, end the round for all workers. `number` is the
+/// worker's.
 pub(crate) fn work<'a, R: Wait + Clock, S: Spread + Drop, F: StateForm + Drop, G: Gate>(
     rt: &R,
     board: &Board,

@@ -22,8 +22,8 @@ pub returns-in-SetAside-clause-relayed : goal.returns-in-SetAside-clause-relayed
 returns-in-SetAside-clause-relayed g c = record {
   seat = c.loop.seat;
   worker = c.send_each-sent.new.worker;
-  before = sent_at_work c.args.board.now c.args.seat.now c.args.worker.now c.loop.seat c.loop.worker _ c.loop.invariant c.send_each-sent.ensures;
-  stopped = subst (λ (r : Received). HasReceivedAll g.S.Spread.owner g.F.StateForm.values c.send_each-sent.new.worker c.receive_each.new.worker r) c.in-SetAside.is
+  before = sent_at_work g.F.StateForm.values c.args.board.now c.args.seat.now c.args.worker.now c.loop.seat c.loop.worker _ c.loop.invariant c.send_each-sent.ensures;
+  stopped = subst (λ (r : Received). HasReceivedAll {F = g.row.F.Denot} g.S.Spread.owner g.F.StateForm.values c.send_each-sent.new.worker c.receive_each.new.worker r) c.in-SetAside.is
       c.in_ok-received.ensures.received;
   unseen = refl;
 }
@@ -31,7 +31,7 @@ returns-in-SetAside-clause-relayed g c = record {
 pub returns-in-SetAside-clause-none_uncounted : goal.returns-in-SetAside-clause-none_uncounted
 returns-in-SetAside-clause-none_uncounted g c =
     stopped_uncounted g.S.Spread.owner g.F.StateForm.values c.send_each-sent.new.worker c.receive_each.new.worker
-    (subst (λ (r : Received). HasReceivedAll g.S.Spread.owner g.F.StateForm.values c.send_each-sent.new.worker c.receive_each.new.worker r) c.in-SetAside.is
+    (subst (λ (r : Received). HasReceivedAll {F = g.row.F.Denot} g.S.Spread.owner g.F.StateForm.values c.send_each-sent.new.worker c.receive_each.new.worker r) c.in-SetAside.is
     c.in_ok-received.ensures.received)
     ∙ ((sends_keep g.F.StateForm.values _ _ _ c.send_each-sent.ensures).uncounted ∙ c.loop.invariant.uncounted)
 
