@@ -29,25 +29,26 @@ unsettled space owners (Some bound) settled none = absurd (cc)
 
 -- ---- a team that is drained
 module _ {S : Type 0} (owner : S → List ℕ → ℕ → ℕ) (space : SpaceOf S) (n : ℕ) where
-  pub drained_ready : (old new : TeamOf S) → IsTeamIn space n old → IsDrained owner old new → IsReadyIn space n new
-  drained_ready old new is drained = record {
+  pub drained_ready : {F : Type 0} (values : List ℕ → F → List ℕ) (old new : TeamOf S F) → IsTeamIn space n old → IsDrained owner values old new
+      → IsReadyIn space n new
+  drained_ready {F = F} values old new is drained = record {
     is_in = record { space = drained.space ∙ is.space; count = drained.count ∙ is.count };
-    none_aside = all_at (λ (w : WorkerOf S). w.misfits ≡ []) new.workers drained.none_aside;
+    none_aside = all_at (λ (w : WorkerOf S F). w.misfits ≡ []) new.workers drained.none_aside;
   }
 
-  pub first_ready : (capacity : ℕ) (t : TeamOf S) → IsFirstTeam space n capacity t → IsReadyIn space n t
-  first_ready capacity t first = record {
+  pub first_ready : {F : Type 0} (capacity : ℕ) (t : TeamOf S F) → IsFirstTeam space n capacity t → IsReadyIn space n t
+  first_ready {F = F} capacity t first = record {
     is_in = record { space = first.space; count = first.count };
-    none_aside = all_at (λ (w : WorkerOf S). w.misfits ≡ []) t.workers (λ v w at. (first.each v w at).misfits);
+    none_aside = all_at (λ (w : WorkerOf S F). w.misfits ≡ []) t.workers (λ v w at. (first.each v w at).misfits);
   }
 
   -- a round may be played between
-  pub through : {F : Type 0} (may_stop : MayStop) (t : TeamOf S) (o : Outcome S F) → IsTeamIn space n t
+  pub through : {F : Type 0} (may_stop : MayStop) (t : TeamOf S F) (o : Outcome S F) → IsTeamIn space n t
       → IsOutcome owner may_stop t.space (length t.workers) o → IsOutcome owner may_stop space n o
   through may_stop t o is out =
       subst (λ (s : SpaceOf S). IsOutcome owner may_stop s n o) is.space (subst (λ (k : ℕ). IsOutcome owner may_stop t.space k o) is.count out)
 
-  pub fault_through : (may_stop : MayStop) (t : TeamOf S) (f : EngineFault) → IsTeamIn space n t
+  pub fault_through : {F : Type 0} (may_stop : MayStop) (t : TeamOf S F) (f : EngineFault) → IsTeamIn space n t
       → IsSearchFault owner may_stop t.space (length t.workers) f → IsSearchFault owner may_stop space n f
   fault_through may_stop t f is out =
       subst (λ (s : SpaceOf S). IsSearchFault owner may_stop s n f) is.space
@@ -66,7 +67,7 @@ module _ {S : Type 0} (owner : S → List ℕ → ℕ → ℕ) (space : SpaceOf 
   fault_under may_stop (Gate worker turn) out = absurd out.1
 
   -- ---- a team whose owners are taken
-  module _ (t : TeamOf S) (is : IsTeamIn space n t) (e : EndOf S) (space_is : e.space ≡ t.space) (owners_are : e.owners ≡ map (λ w. w.owner) t.workers)
+  module _ {F : Type 0} (t : TeamOf S F) (is : IsTeamIn space n t) (e : EndOf S) (space_is : e.space ≡ t.space) (owners_are : e.owners ≡ map (λ w. w.owner) t.workers)
       (none_left : e.left ≡ [])
     where
       e_is : e ≡ end_of t
@@ -75,7 +76,7 @@ module _ {S : Type 0} (owner : S → List ℕ → ℕ → ℕ) (space : SpaceOf 
       pub end_in : IsEndIn space n e
       end_in = record {
         space = space_is ∙ is.space;
-        count = ap length owners_are ∙ (length-map t.workers (λ (w : WorkerOf S). w.owner) ∙ is.count);
+        count = ap length owners_are ∙ (length-map t.workers (λ (w : WorkerOf S F). w.owner) ∙ is.count);
         left = none_left;
       }
 
@@ -85,23 +86,23 @@ module _ {S : Type 0} (owner : S → List ℕ → ℕ → ℕ) (space : SpaceOf 
       answer_at answer settled =
           subst (λ (x : EndOf S). IsSettledAnswer (space_at owner x) x.owners x.left answer) (sym e_is)
           (subst (λ (k : ℕ). IsSettledAnswer (searched owner t.space k) (map (λ w. w.owner) t.workers) [] answer)
-          (sym (length-map t.workers (λ (w : WorkerOf S). w.owner))) settled)
+          (sym (length-map t.workers (λ (w : WorkerOf S F). w.owner))) settled)
 
       -- settled
-      pub settled_end : (F : Type 0) (may_stop : MayStop) (answer : Option Distance)
+      pub settled_end : (may_stop : MayStop) (answer : Option Distance)
           → IsSettledAnswer (searched owner t.space (length t.workers)) (map (λ w. w.owner) t.workers) [] answer → is_some answer ≡ true
           → IsSearched {F = F} owner may_stop space n (Settled e)
-      settled_end F may_stop None settled some = absurd (cc)
-      settled_end F may_stop (Some bound) settled some = (end_in, (bound, answer_at (Some bound) settled))
+      settled_end may_stop None settled some = absurd (cc)
+      settled_end may_stop (Some bound) settled some = (end_in, (bound, answer_at (Some bound) settled))
 
       -- not settled, and ended by the gate
-      pub gate_end : (F : Type 0) (may_stop : MayStop)
+      pub gate_end : (may_stop : MayStop)
           → IsSettledAnswer (searched owner t.space (length t.workers)) (map (λ w. w.owner) t.workers) [] None → IsEndedByGate may_stop n
           → IsSearched {F = F} owner may_stop space n (Stopped e)
-      gate_end F may_stop not_settled gate = (end_in, answer_at None not_settled, inr gate)
+      gate_end may_stop not_settled gate = (end_in, answer_at None not_settled, inr gate)
 
       -- not settled, and an owner at its limit
-      pub limit_end : (F : Type 0) (may_stop : MayStop)
+      pub limit_end : (may_stop : MayStop)
           → IsSettledAnswer (searched owner t.space (length t.workers)) (map (λ w. w.owner) t.workers) [] None → IsRefusedBy owner e LimitReached
           → IsSearched {F = F} owner may_stop space n (Stopped e)
-      limit_end F may_stop not_settled refused = (end_in, answer_at None not_settled, inl refused)
+      limit_end may_stop not_settled refused = (end_in, answer_at None not_settled, inl refused)

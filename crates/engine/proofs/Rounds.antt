@@ -40,10 +40,10 @@ zip_at R (x ∷ xs) (z ∷ ys) zipped (suc v) y at = zip_at R xs ys zipped.1 v y
 
 -- ---- links
 
-ends_sent : (o p : Out) (i : In) → AreEnds o i → SameOut o p → AreEnds p i
+ends_sent : {F : Type 0} (o p : Out F) (i : In F) → AreEnds o i → SameOut o p → AreEnds p i
 ends_sent o p i ends same = (ends.0 ∙ sym same.0.0, ends.1 ∙ sym same.0.1, ends.2 ∙ sym same.0.2, ends.3 ∙ sym same.0.3)
 
-linked_sent : (os ps : List Out) (to : ℕ) (is : List In) (from : ℕ) → AreSameOuts os ps → AreLinked os to is from → AreLinked ps to is from
+linked_sent : {F : Type 0} (os ps : List (Out F)) (to : ℕ) (is : List (In F)) (from : ℕ) → AreSameOuts os ps → AreLinked os to is from → AreLinked ps to is from
 linked_sent os ps to is from outs linked p i at_p at_i =
     let lt = slice_get_within ps to p at_p in
     let at_o = slice_get-get_or os to p (omega (arith, lt, outs.len)) in
@@ -51,14 +51,14 @@ linked_sent os ps to is from outs linked p i at_p at_i =
 
 -- ---- before the round
 
-module _ {S : Type 0} (t : TeamOf S) (team : IsTeam t) (ws : List (WorkerOf S)) (ws_is : ws ≡ t.workers) where
+module _ {S F : Type 0} (t : TeamOf S F) (team : IsTeam t) (ws : List (WorkerOf S F)) (ws_is : ws ≡ t.workers) where
   pub round_some : 0 < length ws
-  round_some = subst (λ (xs : List (WorkerOf S)). 0 < length xs) (sym ws_is) team.some
+  round_some = subst (λ (xs : List (WorkerOf S F)). 0 < length xs) (sym ws_is) team.some
 
   pub round_none_aside : All (λ w. w.misfits ≡ []) t.workers → All (λ w. w.misfits ≡ []) ws
-  round_none_aside none = subst (All (λ (w : WorkerOf S). w.misfits ≡ [])) (sym ws_is) none
+  round_none_aside none = subst (All (λ (w : WorkerOf S F). w.misfits ≡ [])) (sym ws_is) none
 
-  numbered_from : (k : ℕ) (xs : List (WorkerOf S)) → ((i : ℕ) (w : WorkerOf S) → At xs i w → w.owner.worker ≡ k + i) → AreNumbered k xs
+  numbered_from : (k : ℕ) (xs : List (WorkerOf S F)) → ((i : ℕ) (w : WorkerOf S F) → At xs i w → w.owner.worker ≡ k + i) → AreNumbered k xs
   numbered_from k [] numbers = tt
   numbered_from k (w ∷ xs) numbers = (
     (let e = numbers 0 w refl in omega (arith, e)),
@@ -67,28 +67,28 @@ module _ {S : Type 0} (t : TeamOf S) (team : IsTeam t) (ws : List (WorkerOf S)) 
 
   pub round_numbered : AreNumbered 0 ws
   round_numbered = numbered_from 0 ws (λ i w at.
-      let e = (team.members.each i w (subst (λ (xs : List (WorkerOf S)). At xs i w) ws_is at)).number in omega (arith, e))
+      let e = (team.members.each i w (subst (λ (xs : List (WorkerOf S F)). At xs i w) ws_is at)).number in omega (arith, e))
 
   pub round_least : (best : Distance) → best ≡ t.best → best ≡ least (map (λ w. w.offered) ws)
-  round_least best best_is = best_is ∙ (team.best ∙ ap (λ (xs : List (WorkerOf S)). least (map (λ w. w.offered) xs)) (sym ws_is))
+  round_least best best_is = best_is ∙ (team.best ∙ ap (λ (xs : List (WorkerOf S F)). least (map (λ w. w.offered) xs)) (sym ws_is))
 
   pub round_bounded : (best : Distance) → best ≡ t.best → All (λ w. best ≤ᵈ w.seen) ws
-  round_bounded best best_is = all_at (λ (w : WorkerOf S). best ≤ᵈ w.seen) ws (λ v w at.
-      subst (λ (d : Distance). d ≤ᵈ w.seen) (sym best_is) (team.bounded v w (subst (λ (xs : List (WorkerOf S)). At xs v w) ws_is at)))
+  round_bounded best best_is = all_at (λ (w : WorkerOf S F). best ≤ᵈ w.seen) ws (λ v w at.
+      subst (λ (d : Distance). d ≤ᵈ w.seen) (sym best_is) (team.bounded v w (subst (λ (xs : List (WorkerOf S F)). At xs v w) ws_is at)))
 
   -- ---- after it
 
-  module _ (owner : S → List ℕ → ℕ → ℕ) (may_stop : MayStop) (r : RoundEndOf S) (round : IsRound owner may_stop ws r) where
+  module _ (owner : S → List ℕ → ℕ → ℕ) (values : List ℕ → F → List ℕ) (may_stop : MayStop) (r : RoundEndOf S F) (round : IsRound owner values may_stop ws r) where
     pub round_count : length r.workers ≡ length t.workers
     round_count = AllZip-long (HasPlayed (least (map (λ w. w.offered) ws))) ws r.workers round.played ∙ ap length ws_is
 
-    earlier : (v : ℕ) (b : WorkerOf S) → At r.workers v b
-        → (a : WorkerOf S) × At t.workers v a × HasPlayed (least (map (λ w. w.offered) ws)) a b
+    earlier : (v : ℕ) (b : WorkerOf S F) → At r.workers v b
+        → (a : WorkerOf S F) × At t.workers v a × HasPlayed (least (map (λ w. w.offered) ws)) a b
     earlier v b at =
         let found = zip_at (HasPlayed (least (map (λ w. w.offered) ws))) ws r.workers round.played v b at in
-        (found.0, subst (λ (xs : List (WorkerOf S)). At xs v found.0) ws_is found.1, found.2)
+        (found.0, subst (λ (xs : List (WorkerOf S F)). At xs v found.0) ws_is found.1, found.2)
 
-    member : (v : ℕ) (b : WorkerOf S) → At r.workers v b → IsMember t.space (length r.workers) v b
+    member : (v : ℕ) (b : WorkerOf S F) → At r.workers v b → IsMember t.space (length r.workers) v b
     member v b at =
         let (a, at_a, played) = earlier v b at in
         let is = team.members.each v a at_a in
@@ -116,7 +116,7 @@ module _ {S : Type 0} (t : TeamOf S) (team : IsTeam t) (ws : List (WorkerOf S)) 
         links = linked;
       };
       best = round.best;
-      bounded = λ v w at. each_at (λ (x : WorkerOf S). r.best ≤ᵈ x.seen) r.workers v w round.bounded at;
+      bounded = λ v w at. each_at (λ (x : WorkerOf S F). r.best ≤ᵈ x.seen) r.workers v w round.bounded at;
     }
 
 -- ---- what ended it
@@ -127,9 +127,9 @@ IsFaultIn may_stop workers None = Unit {0}
 IsFaultIn may_stop workers (Some (v, Owner fault)) = v < workers
 IsFaultIn may_stop workers (Some (v, Gate turn stop)) = (v < workers) × may_stop v turn stop
 
-module _ {S : Type 0} (owner : S → List ℕ → ℕ → ℕ) (may_stop : MayStop) where
-  first_in : (k : ℕ) (ws : List (WorkerOf S)) (fs : List (Option TurnFault)) → AllZip (IsEndedBy owner may_stop) ws fs
-      → ((i : ℕ) (w : WorkerOf S) → At ws i w → w.owner.worker ≡ k + i) → IsFaultIn may_stop (k + length ws) (first_fault k fs)
+module _ {S F : Type 0} (owner : S → List ℕ → ℕ → ℕ) (values : List ℕ → F → List ℕ) (may_stop : MayStop) where
+  first_in : (k : ℕ) (ws : List (WorkerOf S F)) (fs : List (Option TurnFault)) → AllZip (IsEndedBy owner values may_stop) ws fs
+      → ((i : ℕ) (w : WorkerOf S F) → At ws i w → w.owner.worker ≡ k + i) → IsFaultIn may_stop (k + length ws) (first_fault k fs)
   first_in k [] [] zipped numbers = tt
   first_in k [] (f ∷ fs) zipped numbers = absurd zipped
   first_in k (w ∷ ws) [] zipped numbers = absurd zipped
@@ -142,14 +142,14 @@ module _ {S : Type 0} (owner : S → List ℕ → ℕ → ℕ) (may_stop : MaySt
       let here : w.owner.worker ≡ k = (let e = numbers 0 w refl in omega (arith, e)) in
       (omega arith, subst (λ (v : ℕ). may_stop v turn stop) here zipped.0.0)
 
-  module _ (t : TeamOf S) (team : IsTeam t) (ws : List (WorkerOf S)) (ws_is : ws ≡ t.workers) (r : RoundEndOf S) (round : IsRound owner may_stop ws r) where
+  module _ (t : TeamOf S F) (team : IsTeam t) (ws : List (WorkerOf S F)) (ws_is : ws ≡ t.workers) (r : RoundEndOf S F) (round : IsRound owner values may_stop ws r) where
     pub round_fault : IsFaultIn may_stop (length t.workers) r.fault
     round_fault =
         subst (IsFaultIn may_stop (length t.workers)) (sym round.fault)
         (subst (λ (n : ℕ). IsFaultIn may_stop n (first_fault 0 round.faults))
-        (let long = round_count t team ws ws_is owner may_stop r round in let e : 0 + length r.workers ≡ length t.workers = omega (arith, long) in e)
+        (let long = round_count t team ws ws_is owner values may_stop r round in let e : 0 + length r.workers ≡ length t.workers = omega (arith, long) in e)
         (first_in 0 r.workers round.faults round.stopped (λ i w at.
-        let e = (member t team ws ws_is owner may_stop r round i w at).number in omega (arith, e))))
+        let e = (member t team ws ws_is owner values may_stop r round i w at).number in omega (arith, e))))
 
 -- what the search makes of it
 pub halt_in : (may_stop : MayStop) (workers : ℕ) (fault : Option (ℕ × TurnFault)) (halt : Option Halt) → IsFaultIn may_stop workers fault

@@ -28,12 +28,12 @@ IsHalt may_stop workers (Some (Refused worker)) = worker < workers
 IsHalt may_stop workers (Some AtGate) = IsEndedByGate may_stop workers
 
 -- a team of so many workers in that space
-pub record IsTeamIn {S : Type 0} (searched_space : SpaceOf S) (workers : ℕ) (t : TeamOf S) : Type 0 where
+pub record IsTeamIn {S F : Type 0} (searched_space : SpaceOf S) (workers : ℕ) (t : TeamOf S F) : Type 0 where
   pub space : t.space ≡ searched_space
   pub count : length t.workers ≡ workers
 
 -- no message stands aside, so that it can play a round
-pub record IsReadyIn {S : Type 0} (searched_space : SpaceOf S) (workers : ℕ) (t : TeamOf S) : Type 0 where
+pub record IsReadyIn {S F : Type 0} (searched_space : SpaceOf S) (workers : ℕ) (t : TeamOf S F) : Type 0 where
   pub is_in : IsTeamIn searched_space workers t
   pub none_aside : All (λ w. w.misfits ≡ []) t.workers
 

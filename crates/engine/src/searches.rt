@@ -72,7 +72,7 @@ fn after_refusal<'a, S: Spread + Drop, F: StateForm + Drop>(
 ) -> Result<Outcome<'a, S, F>, EngineFault>
     requires number { number < length team.workers }
     requires none_aside { All (λ w. w.misfits ≡ []) team.workers }
-    requires empty { AreEmpty team.workers }
+    requires empty { AreEmpty F.values team }
     requires unsettled { IsSettledAnswer (searched S.owner team.space (length team.workers)) (map (λ w. w.owner) team.workers) [] None }
     ensures outcome { IfOk result (IsOutcome S.owner no_stop team.entry.space (length team.entry.workers)) }
     ensures fault { IfErr result (IsSearchFault S.owner no_stop team.entry.space (length team.entry.workers)) }

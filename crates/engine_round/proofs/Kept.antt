@@ -13,13 +13,13 @@ use Rattle.worker.specs.Turns.{chained, ReceivesFrom, SendsTo, HasTaken, HasNoth
 use Rattle.worker.proofs.Rows.{outs_through, ins_through, outs_same, ins_same}
 use Rattle.engine_round.specs.declared.fault.TurnFault.{TurnFault}
 use Rattle.engine_round.specs.declared.fault.TurnFault.TheVariants.{Owner, Gate}
-use Rattle.engine_round.specs.Turns.{MayStop, IsSameWorker, IsSeated, IsTurnFault, HasKept, HasWorked}
+use Rattle.engine_round.specs.Turns.{MayStop, IsSameWorker, IsSeated, IsAtWork, IsTurnFault, HasKept, HasWorked}
 
 lesser_more : (x y z a b : Distance) → y ≡ lesser x a → z ≡ lesser y b → z ≡ lesser x (lesser a b)
 lesser_more x y z a b e f = f ∙ (ap (λ d. lesser d b) e ∙ lesser_assoc x a b)
 
-module _ {S : Type 0} where
-  pub same_through : (a b c : WorkerOf S) → IsSameWorker a b → IsSameWorker b c → IsSameWorker a c
+module _ {S F : Type 0} where
+  pub same_through : (a b c : WorkerOf S F) → IsSameWorker a b → IsSameWorker b c → IsSameWorker a c
   same_through a b c ab bc = record {
     space = bc.space ∙ ab.space;
     number = bc.number ∙ ab.number;
@@ -29,7 +29,7 @@ module _ {S : Type 0} where
   }
 
   -- a step that leaves all of this as it is
-  still : (a b : WorkerOf S) → b.owner.space ≡ a.owner.space → b.owner.worker ≡ a.owner.worker → b.outs ≡ a.outs → b.ins ≡ a.ins
+  pub still : (a b : WorkerOf S F) → b.owner.space ≡ a.owner.space → b.owner.worker ≡ a.owner.worker → b.outs ≡ a.outs → b.ins ≡ a.ins
       → b.spent ≡ a.spent → IsSameWorker a b
   still a b space number outs ins spent = record {
     space = space;
@@ -39,30 +39,30 @@ module _ {S : Type 0} where
     spent = spent;
   }
 
-  pub same_worker : (a b : WorkerOf S) → b ≡ a → IsSameWorker a b
-  same_worker a b e = still a b (ap (λ (w : WorkerOf S). w.owner.space) e) (ap (λ (w : WorkerOf S). w.owner.worker) e)
-      (ap (λ (w : WorkerOf S). w.outs) e) (ap (λ (w : WorkerOf S). w.ins) e) (ap (λ (w : WorkerOf S). w.spent) e)
+  pub same_worker : (a b : WorkerOf S F) → b ≡ a → IsSameWorker a b
+  same_worker a b e = still a b (ap (λ (w : WorkerOf S F). w.owner.space) e) (ap (λ (w : WorkerOf S F). w.owner.worker) e)
+      (ap (λ (w : WorkerOf S F). w.outs) e) (ap (λ (w : WorkerOf S F). w.ins) e) (ap (λ (w : WorkerOf S F). w.spent) e)
 
-  module _ (owner : S → List ℕ → ℕ → ℕ) where
-    receive_same : (from : ℕ) (a b : WorkerOf S) → ReceivesFrom owner from a b → IsSameWorker a b
+  module _ (owner : S → List ℕ → ℕ → ℕ) (values : List ℕ → F → List ℕ) where
+    receive_same : (from : ℕ) (a b : WorkerOf S F) → ReceivesFrom owner values from a b → IsSameWorker a b
     receive_same from a b has = ⊎_elim
-        (λ (t : HasTaken owner from a b). record {
+        (λ (t : HasTaken owner values from a b). record {
           space = ap (λ (o : OwnerOf S). o.space) t.others;
           number = ap (λ (o : OwnerOf S). o.worker) t.others;
-          outs = subst (AreSameOuts a.outs) (sym (ap (λ (w : WorkerOf S). w.outs) t.worker)) (outs_same a.outs);
+          outs = subst (AreSameOuts a.outs) (sym (ap (λ (w : WorkerOf S F). w.outs) t.worker)) (outs_same a.outs);
           ins = t.popped.ends;
-          spent = ap (λ (w : WorkerOf S). w.spent) t.worker;
+          spent = ap (λ (w : WorkerOf S F). w.spent) t.worker;
         })
-        (λ (t : HasNothingTaken from a b). record {
-          space = ap (λ (w : WorkerOf S). w.owner.space) t.worker;
-          number = ap (λ (w : WorkerOf S). w.owner.worker) t.worker;
-          outs = subst (AreSameOuts a.outs) (sym (ap (λ (w : WorkerOf S). w.outs) t.worker)) (outs_same a.outs);
+        (λ (t : HasNothingTaken values from a b). record {
+          space = ap (λ (w : WorkerOf S F). w.owner.space) t.worker;
+          number = ap (λ (w : WorkerOf S F). w.owner.worker) t.worker;
+          outs = subst (AreSameOuts a.outs) (sym (ap (λ (w : WorkerOf S F). w.outs) t.worker)) (outs_same a.outs);
           ins = t.ends;
-          spent = ap (λ (w : WorkerOf S). w.spent) t.worker;
+          spent = ap (λ (w : WorkerOf S F). w.spent) t.worker;
         })
         has
 
-    pub receives_same : (k : ℕ) (a b : WorkerOf S) → chained (ReceivesFrom owner) k a b → IsSameWorker a b
+    pub receives_same : (k : ℕ) (a b : WorkerOf S F) → chained (ReceivesFrom owner values) k a b → IsSameWorker a b
     receives_same zero a b e = same_worker a b e
     receives_same (suc k) a b (m, before, step) = same_through a m b (receives_same k a m before) (receive_same k m b step)
 
@@ -71,55 +71,55 @@ module _ {S : Type 0} where
     expansion_keeps bound o p None e = (ap (λ (q : OwnerOf S). q.space) e.1, ap (λ (q : OwnerOf S). q.worker) e.1)
     expansion_keeps bound o p (Some n) e = (e.space, e.worker)
 
-  send_same : (to : ℕ) (a b : WorkerOf S) → SendsTo to a b → IsSameWorker a b
-  send_same to a b has = ⊎_elim
-      (λ (t : HasSent to a b). record {
-        space = ap (λ (w : WorkerOf S). w.owner.space) t.worker;
-        number = ap (λ (w : WorkerOf S). w.owner.worker) t.worker;
+  send_same : (values : List ℕ → F → List ℕ) (to : ℕ) (a b : WorkerOf S F) → SendsTo values to a b → IsSameWorker a b
+  send_same values to a b has = ⊎_elim
+      (λ (t : HasSent values to a b). record {
+        space = ap (λ (w : WorkerOf S F). w.owner.space) t.worker;
+        number = ap (λ (w : WorkerOf S F). w.owner.worker) t.worker;
         outs = t.ends;
-        ins = subst (AreSameIns a.ins) (sym (ap (λ (w : WorkerOf S). w.ins) t.worker)) (ins_same a.ins);
-        spent = ap (λ (w : WorkerOf S). w.spent) t.worker;
+        ins = subst (AreSameIns a.ins) (sym (ap (λ (w : WorkerOf S F). w.ins) t.worker)) (ins_same a.ins);
+        spent = ap (λ (w : WorkerOf S F). w.spent) t.worker;
       })
-      (λ (t : HasNotSent to a b). record {
-        space = ap (λ (w : WorkerOf S). w.owner.space) t.worker;
-        number = ap (λ (w : WorkerOf S). w.owner.worker) t.worker;
+      (λ (t : HasNotSent values to a b). record {
+        space = ap (λ (w : WorkerOf S F). w.owner.space) t.worker;
+        number = ap (λ (w : WorkerOf S F). w.owner.worker) t.worker;
         outs = t.ends;
-        ins = subst (AreSameIns a.ins) (sym (ap (λ (w : WorkerOf S). w.ins) t.worker)) (ins_same a.ins);
-        spent = ap (λ (w : WorkerOf S). w.spent) t.worker;
+        ins = subst (AreSameIns a.ins) (sym (ap (λ (w : WorkerOf S F). w.ins) t.worker)) (ins_same a.ins);
+        spent = ap (λ (w : WorkerOf S F). w.spent) t.worker;
       })
       has
 
-  pub sends_same : (k : ℕ) (a b : WorkerOf S) → chained SendsTo k a b → IsSameWorker a b
-  sends_same zero a b e = same_worker a b e
-  sends_same (suc k) a b (m, before, step) = same_through a m b (sends_same k a m before) (send_same k m b step)
+  pub sends_same : (values : List ℕ → F → List ℕ) (k : ℕ) (a b : WorkerOf S F) → chained (SendsTo values) k a b → IsSameWorker a b
+  sends_same values zero a b e = same_worker a b e
+  sends_same values (suc k) a b (m, before, step) = same_through a m b (sends_same values k a m before) (send_same values k m b step)
 
   -- one step that leaves all of it as it is, told by what it makes of the worker
-  changed : (a b c : WorkerOf S) → b ≡ c → IsSameWorker a c → IsSameWorker a b
+  pub changed : (a b c : WorkerOf S F) → b ≡ c → IsSameWorker a c → IsSameWorker a b
   changed a b c e same = subst (IsSameWorker a) (sym e) same
 
-  pub turned_same : (owner : S → List ℕ → ℕ → ℕ) (old new : WorkerOf S) (u v : View) → HasTurned owner old new u v → IsSameWorker old new
-  turned_same owner old new u v t =
-      let kept = expansion_keeps owner t.looked.bound t.looked.owner t.expanded.owner t.posted t.expands.expansion in
-      same_through old t.received new (receives_same owner (length old.ins) old t.received t.receives)
+  pub turned_same : (owner : S → List ℕ → ℕ → ℕ) (values : List ℕ → F → List ℕ) (old new : WorkerOf S F) (u v : View) → HasTurned owner values old new u v → IsSameWorker old new
+  turned_same owner values old new u v t =
+      let kept = expansion_keeps owner values t.looked.bound t.looked.owner t.expanded.owner t.posted t.expands.expansion in
+      same_through old t.received new (receives_same owner values (length old.ins) old t.received t.receives)
       (same_through t.received t.looked new (changed _ _ _ t.looks.worker (still _ _ refl refl refl refl refl))
       (same_through t.looked t.expanded new
       (changed _ _ _ t.expands.worker (still _ _ kept.0 kept.1 refl refl refl))
       (same_through t.expanded t.added new (changed _ _ _ t.adds.worker (still _ _ refl refl refl refl refl))
       (same_through t.added t.offered new (changed _ _ _ t.offers.worker (still _ _ refl refl refl refl refl))
-      (same_through t.offered t.sent new (sends_same (length t.offered.outs) t.offered t.sent t.sends)
+      (same_through t.offered t.sent new (sends_same values (length t.offered.outs) t.offered t.sent t.sends)
       (changed _ _ _ t.counts.worker (still _ _ refl refl refl refl refl)))))))
 
   -- ---- what was read and offered, and what stands aside
-  pub record KeepsBounds (a b : WorkerOf S) : Type 0 where
+  pub record KeepsBounds (a b : WorkerOf S F) : Type 0 where
     pub bound : b.bound ≡ a.bound
     pub seen : b.seen ≡ a.seen
     pub offered : b.offered ≡ a.offered
     pub misfits : b.misfits ≡ a.misfits
 
-  bounds_of : (a b c : WorkerOf S) → b ≡ c → KeepsBounds a c → KeepsBounds a b
+  bounds_of : (a b c : WorkerOf S F) → b ≡ c → KeepsBounds a c → KeepsBounds a b
   bounds_of a b c e keeps = subst (KeepsBounds a) (sym e) keeps
 
-  bounds_through : (a b c : WorkerOf S) → KeepsBounds a b → KeepsBounds b c → KeepsBounds a c
+  bounds_through : (a b c : WorkerOf S F) → KeepsBounds a b → KeepsBounds b c → KeepsBounds a c
   bounds_through a b c p q = record {
     bound = q.bound ∙ p.bound;
     seen = q.seen ∙ p.seen;
@@ -127,33 +127,33 @@ module _ {S : Type 0} where
     misfits = q.misfits ∙ p.misfits;
   }
 
-  module _ (owner : S → List ℕ → ℕ → ℕ) where
-    receive_bounds : (from : ℕ) (a b : WorkerOf S) → ReceivesFrom owner from a b → KeepsBounds a b
+  module _ (owner : S → List ℕ → ℕ → ℕ) (values : List ℕ → F → List ℕ) where
+    receive_bounds : (from : ℕ) (a b : WorkerOf S F) → ReceivesFrom owner values from a b → KeepsBounds a b
     receive_bounds from a b has = ⊎_elim
-        (λ (t : HasTaken owner from a b). bounds_of a b _ t.worker (record { bound = refl; seen = refl; offered = refl; misfits = refl }))
-        (λ (t : HasNothingTaken from a b). bounds_of a b _ t.worker (record { bound = refl; seen = refl; offered = refl; misfits = refl }))
+        (λ (t : HasTaken owner values from a b). bounds_of a b _ t.worker (record { bound = refl; seen = refl; offered = refl; misfits = refl }))
+        (λ (t : HasNothingTaken values from a b). bounds_of a b _ t.worker (record { bound = refl; seen = refl; offered = refl; misfits = refl }))
         has
 
-    receives_bounds : (k : ℕ) (a b : WorkerOf S) → chained (ReceivesFrom owner) k a b → KeepsBounds a b
+    pub receives_bounds : (k : ℕ) (a b : WorkerOf S F) → chained (ReceivesFrom owner values) k a b → KeepsBounds a b
     receives_bounds zero a b e = bounds_of a b a e (record { bound = refl; seen = refl; offered = refl; misfits = refl })
     receives_bounds (suc k) a b (m, before, step) = bounds_through a m b (receives_bounds k a m before) (receive_bounds k m b step)
 
-  send_bounds : (to : ℕ) (a b : WorkerOf S) → SendsTo to a b → KeepsBounds a b
-  send_bounds to a b has = ⊎_elim
-      (λ (t : HasSent to a b). bounds_of a b _ t.worker (record { bound = refl; seen = refl; offered = refl; misfits = refl }))
-      (λ (t : HasNotSent to a b). bounds_of a b _ t.worker (record { bound = refl; seen = refl; offered = refl; misfits = refl }))
+  send_bounds : (values : List ℕ → F → List ℕ) (to : ℕ) (a b : WorkerOf S F) → SendsTo values to a b → KeepsBounds a b
+  send_bounds values to a b has = ⊎_elim
+      (λ (t : HasSent values to a b). bounds_of a b _ t.worker (record { bound = refl; seen = refl; offered = refl; misfits = refl }))
+      (λ (t : HasNotSent values to a b). bounds_of a b _ t.worker (record { bound = refl; seen = refl; offered = refl; misfits = refl }))
       has
 
-  sends_bounds : (k : ℕ) (a b : WorkerOf S) → chained SendsTo k a b → KeepsBounds a b
-  sends_bounds zero a b e = bounds_of a b a e (record { bound = refl; seen = refl; offered = refl; misfits = refl })
-  sends_bounds (suc k) a b (m, before, step) = bounds_through a m b (sends_bounds k a m before) (send_bounds k m b step)
+  pub sends_bounds : (values : List ℕ → F → List ℕ) (k : ℕ) (a b : WorkerOf S F) → chained (SendsTo values) k a b → KeepsBounds a b
+  sends_bounds values zero a b e = bounds_of a b a e (record { bound = refl; seen = refl; offered = refl; misfits = refl })
+  sends_bounds values (suc k) a b (m, before, step) = bounds_through a m b (sends_bounds values k a m before) (send_bounds values k m b step)
 
-  pub turned_seated : (owner : S → List ℕ → ℕ → ℕ) (old new : WorkerOf S) (u v : View) → HasTurned owner old new u v → IsSeated old new u v
-  turned_seated owner old new u v t =
-      let r : KeepsBounds old t.received = receives_bounds owner (length old.ins) old t.received t.receives in
-      let s : KeepsBounds t.offered t.sent = sends_bounds (length t.offered.outs) t.offered t.sent t.sends in
-      let w_seen = λ (w : WorkerOf S). w.seen in
-      let w_offered = λ (w : WorkerOf S). w.offered in
+  pub turned_seated : (owner : S → List ℕ → ℕ → ℕ) (values : List ℕ → F → List ℕ) (old new : WorkerOf S F) (u v : View) → HasTurned owner values old new u v → IsSeated old new u v
+  turned_seated owner values old new u v t =
+      let r : KeepsBounds old t.received = receives_bounds owner values (length old.ins) old t.received t.receives in
+      let s : KeepsBounds t.offered t.sent = sends_bounds values (length t.offered.outs) t.offered t.sent t.sends in
+      let w_seen = λ (w : WorkerOf S F). w.seen in
+      let w_offered = λ (w : WorkerOf S F). w.offered in
       let v_seen = λ (x : View). x.seen in
       let v_offered = λ (x : View). x.offered in
       let v_parts = λ (x : View). x.parts in
@@ -172,18 +172,18 @@ module _ {S : Type 0} where
       }
 
   -- ---- turns that end before that
-  pub stopped_same : (owner : S → List ℕ → ℕ → ℕ) (old new : WorkerOf S) → HasStopped owner old new → IsSameWorker old new
-  stopped_same owner old new t = same_through old t.received new (receives_same owner t.from old t.received t.receives)
+  pub stopped_same : (owner : S → List ℕ → ℕ → ℕ) (values : List ℕ → F → List ℕ) (old new : WorkerOf S F) → HasStopped owner values old new → IsSameWorker old new
+  stopped_same owner values old new t = same_through old t.received new (receives_same owner values t.from old t.received t.receives)
       (record {
-        space = ap (λ (w : WorkerOf S). w.owner.space) t.aside.worker;
-        number = ap (λ (w : WorkerOf S). w.owner.worker) t.aside.worker;
-        outs = subst (AreSameOuts t.received.outs) (sym (ap (λ (w : WorkerOf S). w.outs) t.aside.worker)) (outs_same t.received.outs);
+        space = ap (λ (w : WorkerOf S F). w.owner.space) t.aside.worker;
+        number = ap (λ (w : WorkerOf S F). w.owner.worker) t.aside.worker;
+        outs = subst (AreSameOuts t.received.outs) (sym (ap (λ (w : WorkerOf S F). w.outs) t.aside.worker)) (outs_same t.received.outs);
         ins = t.aside.popped.ends;
-        spent = ap (λ (w : WorkerOf S). w.spent) t.aside.worker;
+        spent = ap (λ (w : WorkerOf S F). w.spent) t.aside.worker;
       })
 
   -- nothing was read or offered
-  seated_by : (a b : WorkerOf S) (u v : View) → b.seen ≡ a.seen → b.offered ≡ a.offered → v ≡ u → IsSeated a b u v
+  seated_by : (a b : WorkerOf S F) (u v : View) → b.seen ≡ a.seen → b.offered ≡ a.offered → v ≡ u → IsSeated a b u v
   seated_by a b u v same_seen same_offered view = record {
     seen_since = Infinite;
     offered_since = Infinite;
@@ -194,48 +194,48 @@ module _ {S : Type 0} where
     parts = ap (λ (x : View). x.parts) view;
   }
 
-  pub stopped_seated : (owner : S → List ℕ → ℕ → ℕ) (old new : WorkerOf S) (u v : View) → HasStopped owner old new → v ≡ u → IsSeated old new u v
-  stopped_seated owner old new u v t view =
-      let r : KeepsBounds old t.received = receives_bounds owner t.from old t.received t.receives in
+  pub stopped_seated : (owner : S → List ℕ → ℕ → ℕ) (values : List ℕ → F → List ℕ) (old new : WorkerOf S F) (u v : View) → HasStopped owner values old new → v ≡ u → IsSeated old new u v
+  stopped_seated owner values old new u v t view =
+      let r : KeepsBounds old t.received = receives_bounds owner values t.from old t.received t.receives in
       seated_by old new u v
-      (ap (λ (w : WorkerOf S). w.seen) t.aside.worker ∙ r.seen) (ap (λ (w : WorkerOf S). w.offered) t.aside.worker ∙ r.offered) view
+      (ap (λ (w : WorkerOf S F). w.seen) t.aside.worker ∙ r.seen) (ap (λ (w : WorkerOf S F). w.offered) t.aside.worker ∙ r.offered) view
 
-  pub refused_same : (owner : S → List ℕ → ℕ → ℕ) (fault : OwnerFault) (old new : WorkerOf S) (u v : View)
-      → HasRefused owner fault old new u v → IsSameWorker old new
-  refused_same owner fault old new u v t = same_through old t.received new (receives_same owner (length old.ins) old t.received t.receives)
+  pub refused_same : (owner : S → List ℕ → ℕ → ℕ) (values : List ℕ → F → List ℕ) (fault : OwnerFault) (old new : WorkerOf S F) (u v : View)
+      → HasRefused owner values fault old new u v → IsSameWorker old new
+  refused_same owner values fault old new u v t = same_through old t.received new (receives_same owner values (length old.ins) old t.received t.receives)
       (changed _ _ _ t.looks.worker (still _ _ refl refl refl refl refl))
 
-  pub refused_seated : (owner : S → List ℕ → ℕ → ℕ) (fault : OwnerFault) (old new : WorkerOf S) (u v : View)
-      → HasRefused owner fault old new u v → IsSeated old new u v
-  refused_seated owner fault old new u v t =
-      let r : KeepsBounds old t.received = receives_bounds owner (length old.ins) old t.received t.receives in
+  pub refused_seated : (owner : S → List ℕ → ℕ → ℕ) (values : List ℕ → F → List ℕ) (fault : OwnerFault) (old new : WorkerOf S F) (u v : View)
+      → HasRefused owner values fault old new u v → IsSeated old new u v
+  refused_seated owner values fault old new u v t =
+      let r : KeepsBounds old t.received = receives_bounds owner values (length old.ins) old t.received t.receives in
       record {
         seen_since = new.bound;
         offered_since = Infinite;
-        seen = ap (λ (w : WorkerOf S). w.seen) t.looks.worker ∙ ap (λ d. lesser d new.bound) r.seen;
-        offered = (ap (λ (w : WorkerOf S). w.offered) t.looks.worker ∙ r.offered) ∙ sym (lesser_left old.offered Infinite (at_most_infinite old.offered));
+        seen = ap (λ (w : WorkerOf S F). w.seen) t.looks.worker ∙ ap (λ d. lesser d new.bound) r.seen;
+        offered = (ap (λ (w : WorkerOf S F). w.offered) t.looks.worker ∙ r.offered) ∙ sym (lesser_left old.offered Infinite (at_most_infinite old.offered));
         view_seen = ap (λ (x : View). x.seen) t.looks.view ∙ sym (lesser_right u.seen new.bound t.looks.falls.0);
         view_offered = ap (λ (x : View). x.offered) t.looks.view ∙ sym (lesser_left u.offered Infinite (at_most_infinite u.offered));
         parts = ap (λ (x : View). x.parts) t.looks.view;
       }
 
   -- the bound is read, and nothing else is done
-  looked_same : (old new : WorkerOf S) (u v : View) → HasLooked old new u v → IsSameWorker old new
+  looked_same : (old new : WorkerOf S F) (u v : View) → HasLooked old new u v → IsSameWorker old new
   looked_same old new u v looks = changed _ _ _ looks.worker (still _ _ refl refl refl refl refl)
 
-  looked_seated : (old new : WorkerOf S) (u v : View) → HasLooked old new u v → IsSeated old new u v
+  looked_seated : (old new : WorkerOf S F) (u v : View) → HasLooked old new u v → IsSeated old new u v
   looked_seated old new u v looks = record {
     seen_since = new.bound;
     offered_since = Infinite;
-    seen = ap (λ (w : WorkerOf S). w.seen) looks.worker;
-    offered = ap (λ (w : WorkerOf S). w.offered) looks.worker ∙ sym (lesser_left old.offered Infinite (at_most_infinite old.offered));
+    seen = ap (λ (w : WorkerOf S F). w.seen) looks.worker;
+    offered = ap (λ (w : WorkerOf S F). w.offered) looks.worker ∙ sym (lesser_left old.offered Infinite (at_most_infinite old.offered));
     view_seen = ap (λ (x : View). x.seen) looks.view ∙ sym (lesser_right u.seen new.bound looks.falls.0);
     view_offered = ap (λ (x : View). x.offered) looks.view ∙ sym (lesser_left u.offered Infinite (at_most_infinite u.offered));
     parts = ap (λ (x : View). x.parts) looks.view;
   }
 
   -- ---- one turn after another
-  pub seated_through : (a b c : WorkerOf S) (u v w : View) → IsSeated a b u v → IsSeated b c v w → IsSeated a c u w
+  pub seated_through : (a b c : WorkerOf S F) (u v w : View) → IsSeated a b u v → IsSeated b c v w → IsSeated a c u w
   seated_through a b c u v w ab bc = record {
     seen_since = lesser ab.seen_since bc.seen_since;
     offered_since = lesser ab.offered_since bc.offered_since;
@@ -247,60 +247,51 @@ module _ {S : Type 0} where
   }
 
   -- ---- a worker in the middle of a round
-  -- it has the seat, all of it is kept, and nothing is left to be added, to be subtracted or aside
-  pub record IsAtWork (b : Board) (s : BoardSeat) (old : WorkerOf S) (t : BoardSeat) (w : WorkerOf S) : Type 0 where
-    pub seat : IsSeatOf b t
-    pub same : IsSameWorker old w
-    pub seated : IsSeated old w (view s) (view t)
-    pub uncounted : w.uncounted ≡ 0
-    pub taken : w.taken ≡ 0
-    pub misfits : w.misfits ≡ []
-
-  pub at_start : (b : Board) (s : BoardSeat) (old w : WorkerOf S) → IsSeatOf b s → old.misfits ≡ []
+  pub at_start : (b : Board) (s : BoardSeat) (old w : WorkerOf S F) → IsSeatOf b s → old.misfits ≡ []
       → w ≡ record old { resting = false; uncounted = 0; taken = 0 } → IsAtWork b s old s w
   at_start b s old w seat none e = record {
     seat = seat;
     same = changed old w _ e (still _ _ refl refl refl refl refl);
-    seated = seated_by old w (view s) (view s) (ap (λ (x : WorkerOf S). x.seen) e) (ap (λ (x : WorkerOf S). x.offered) e) refl;
-    uncounted = ap (λ (x : WorkerOf S). x.uncounted) e;
-    taken = ap (λ (x : WorkerOf S). x.taken) e;
-    misfits = ap (λ (x : WorkerOf S). x.misfits) e ∙ none;
+    seated = seated_by old w (view s) (view s) (ap (λ (x : WorkerOf S F). x.seen) e) (ap (λ (x : WorkerOf S F). x.offered) e) refl;
+    uncounted = ap (λ (x : WorkerOf S F). x.uncounted) e;
+    taken = ap (λ (x : WorkerOf S F). x.taken) e;
+    misfits = ap (λ (x : WorkerOf S F). x.misfits) e ∙ none;
   }
 
-  module _ (owner : S → List ℕ → ℕ → ℕ) (may_stop : MayStop) (b : Board) (s : BoardSeat) (old : WorkerOf S) where
-    turned_misfits : (w x : WorkerOf S) (u v : View) → HasTurned owner w x u v → x.misfits ≡ w.misfits
+  module _ (owner : S → List ℕ → ℕ → ℕ) (values : List ℕ → F → List ℕ) (may_stop : MayStop) (b : Board) (s : BoardSeat) (old : WorkerOf S F) where
+    turned_misfits : (w x : WorkerOf S F) (u v : View) → HasTurned owner values w x u v → x.misfits ≡ w.misfits
     turned_misfits w x u v t =
-        let r : KeepsBounds w t.received = receives_bounds owner (length w.ins) w t.received t.receives in
-        let q : KeepsBounds t.offered t.sent = sends_bounds (length t.offered.outs) t.offered t.sent t.sends in
-        let m = λ (y : WorkerOf S). y.misfits in
+        let r : KeepsBounds w t.received = receives_bounds owner values (length w.ins) w t.received t.receives in
+        let q : KeepsBounds t.offered t.sent = sends_bounds values (length t.offered.outs) t.offered t.sent t.sends in
+        let m = λ (y : WorkerOf S F). y.misfits in
         ap m t.counts.worker ∙ (q.misfits ∙ (ap m t.offers.worker ∙ (ap m t.adds.worker ∙ (ap m t.expands.worker ∙ (ap m t.looks.worker ∙ r.misfits)))))
 
-    turned_bound : (w x : WorkerOf S) (u v : View) → HasTurned owner w x u v → x.bound ≤ᵈ u.seen
+    turned_bound : (w x : WorkerOf S F) (u v : View) → HasTurned owner values w x u v → x.bound ≤ᵈ u.seen
     turned_bound w x u v t =
-        let q : KeepsBounds t.offered t.sent = sends_bounds (length t.offered.outs) t.offered t.sent t.sends in
-        let d = λ (y : WorkerOf S). y.bound in
+        let q : KeepsBounds t.offered t.sent = sends_bounds values (length t.offered.outs) t.offered t.sent t.sends in
+        let d = λ (y : WorkerOf S F). y.bound in
         let e : x.bound ≡ t.looked.bound = ap d t.counts.worker ∙ (q.bound ∙ (ap d t.offers.worker ∙ (ap d t.adds.worker ∙ ap d t.expands.worker))) in
         subst (λ y. y ≤ᵈ u.seen) (sym e) t.looks.falls.0
 
     -- a bound that is at most what the seat has seen so far
-    told_from : (w : WorkerOf S) (u v : View) (d : Distance) → IsSeated old w u v → d ≤ᵈ v.seen → d ≤ᵈ u.seen
+    told_from : (w : WorkerOf S F) (u v : View) (d : Distance) → IsSeated old w u v → d ≤ᵈ v.seen → d ≤ᵈ u.seen
     told_from w u v d seated below = at_most_through d (lesser u.seen seated.seen_since) u.seen (subst (λ y. d ≤ᵈ y) seated.view_seen below)
         (lesser_at_most_left u.seen seated.seen_since)
 
-    pub one_turn : (seat t : BoardSeat) (w x : WorkerOf S) → IsAtWork b s old seat w → IsSeatOf b t → x.uncounted ≡ 0
-        → HasTurned owner w x (view seat) (view t) → IsAtWork b s old t x
+    pub one_turn : (seat t : BoardSeat) (w x : WorkerOf S F) → IsAtWork b s old seat w → IsSeatOf b t → x.uncounted ≡ 0
+        → HasTurned owner values w x (view seat) (view t) → IsAtWork b s old t x
     one_turn seat t w x is there uncounted turned = record {
       seat = there;
-      same = same_through old w x is.same (turned_same owner w x (view seat) (view t) turned);
-      seated = seated_through old w x (view s) (view seat) (view t) is.seated (turned_seated owner w x (view seat) (view t) turned);
+      same = same_through old w x is.same (turned_same owner values w x (view seat) (view t) turned);
+      seated = seated_through old w x (view s) (view seat) (view t) is.seated (turned_seated owner values w x (view seat) (view t) turned);
       uncounted = uncounted;
-      taken = ap (λ (y : WorkerOf S). y.taken) turned.counts.worker;
+      taken = ap (λ (y : WorkerOf S F). y.taken) turned.counts.worker;
       misfits = turned_misfits w x (view seat) (view t) turned ∙ is.misfits;
     }
 
     -- the last turn is a whole one
-    pub last_turn : (seat t : BoardSeat) (w x : WorkerOf S) → IsAtWork b s old seat w → IsSeatOf b t → x.uncounted ≡ 0
-        → HasTurned owner w x (view seat) (view t) → HasWorked owner may_stop b s old (record { worker = x; seat = t; fault = None })
+    pub last_turn : (seat t : BoardSeat) (w x : WorkerOf S F) → IsAtWork b s old seat w → IsSeatOf b t → x.uncounted ≡ 0
+        → HasTurned owner values w x (view seat) (view t) → HasWorked owner values may_stop b s old (record { worker = x; seat = t; fault = None })
     last_turn seat t w x is there uncounted turned =
         let now = one_turn seat t w x is there uncounted turned in
         record {
@@ -315,14 +306,14 @@ module _ {S : Type 0} where
         }
 
     -- the last turn ends with a message that does not fit
-    pub stopped_turn : (seat t : BoardSeat) (w x : WorkerOf S) → IsAtWork b s old seat w → IsSeatOf b t → x.uncounted ≡ 0
-        → view t ≡ view seat → HasStopped owner w x → HasWorked owner may_stop b s old (record { worker = x; seat = t; fault = None })
+    pub stopped_turn : (seat t : BoardSeat) (w x : WorkerOf S F) → IsAtWork b s old seat w → IsSeatOf b t → x.uncounted ≡ 0
+        → view t ≡ view seat → HasStopped owner values w x → HasWorked owner values may_stop b s old (record { worker = x; seat = t; fault = None })
     stopped_turn seat t w x is there uncounted view_is stopped = record {
       seat = there;
       kept = λ _. record {
-        same = same_through old w x is.same (stopped_same owner w x stopped);
-        seated = seated_through old w x (view s) (view seat) (view t) is.seated (stopped_seated owner w x (view seat) (view t) stopped view_is);
-        told = λ none. absurd (aside_there (sym none ∙ ap (λ (y : WorkerOf S). y.misfits) stopped.aside.worker));
+        same = same_through old w x is.same (stopped_same owner values w x stopped);
+        seated = seated_through old w x (view s) (view seat) (view t) is.seated (stopped_seated owner values w x (view seat) (view t) stopped view_is);
+        told = λ none. absurd (aside_there (sym none ∙ ap (λ (y : WorkerOf S F). y.misfits) stopped.aside.worker));
         uncounted = uncounted;
       };
       ended = (w, view seat, view t, inr stopped);
@@ -332,17 +323,17 @@ module _ {S : Type 0} where
         aside_there e = cc
 
     -- the last turn is refused
-    refused_keeps : (fault : OwnerFault) (seat t : BoardSeat) (w x : WorkerOf S) → IsAtWork b s old seat w → x.uncounted ≡ 0
-        → HasRefused owner fault w x (view seat) (view t) → HasKept old x (view s) (view t)
+    refused_keeps : (fault : OwnerFault) (seat t : BoardSeat) (w x : WorkerOf S F) → IsAtWork b s old seat w → x.uncounted ≡ 0
+        → HasRefused owner values fault w x (view seat) (view t) → HasKept old x (view s) (view t)
     refused_keeps fault seat t w x is uncounted refused = record {
-      same = same_through old w x is.same (refused_same owner fault w x (view seat) (view t) refused);
-      seated = seated_through old w x (view s) (view seat) (view t) is.seated (refused_seated owner fault w x (view seat) (view t) refused);
+      same = same_through old w x is.same (refused_same owner values fault w x (view seat) (view t) refused);
+      seated = seated_through old w x (view s) (view seat) (view t) is.seated (refused_seated owner values fault w x (view seat) (view t) refused);
       told = λ _. told_from w (view s) (view seat) x.bound is.seated refused.looks.falls.0;
       uncounted = uncounted;
     }
 
     -- the gate ends the search: the bound is read, and no turn is taken
-    gated_keeps : (seat t : BoardSeat) (w x : WorkerOf S) → IsAtWork b s old seat w → x.uncounted ≡ 0
+    gated_keeps : (seat t : BoardSeat) (w x : WorkerOf S F) → IsAtWork b s old seat w → x.uncounted ≡ 0
         → HasLooked w x (view seat) (view t) → HasKept old x (view s) (view t)
     gated_keeps seat t w x is uncounted looks = record {
       same = same_through old w x is.same (looked_same w x (view seat) (view t) looks);
@@ -352,23 +343,23 @@ module _ {S : Type 0} where
     }
 
     -- the round is ended for all after that
-    pub refused_turn : (fault : TurnFault) (seat t : BoardSeat) (v : View) (w x : WorkerOf S) → IsAtWork b s old seat w → IsSeatOf b t
-        → x.uncounted ≡ 0 → view t ≡ v → IsTurnFault owner may_stop w x (view seat) v fault
-        → HasWorked owner may_stop b s old (record { worker = x; seat = t; fault = Some fault })
+    pub refused_turn : (fault : TurnFault) (seat t : BoardSeat) (v : View) (w x : WorkerOf S F) → IsAtWork b s old seat w → IsSeatOf b t
+        → x.uncounted ≡ 0 → view t ≡ v → IsTurnFault owner values may_stop w x (view seat) v fault
+        → HasWorked owner values may_stop b s old (record { worker = x; seat = t; fault = Some fault })
     refused_turn (Owner OutOfMemory) seat t v w x is there uncounted view_is refusal =
         record { seat = there; kept = λ other. absurd (other refl); ended = refusal }
     refused_turn (Owner LimitReached) seat t v w x is there uncounted view_is refusal = record {
       seat = there;
-      kept = λ _. refused_keeps LimitReached seat t w x is uncounted (subst (HasRefused owner LimitReached w x (view seat)) (sym view_is) refusal);
+      kept = λ _. refused_keeps LimitReached seat t w x is uncounted (subst (HasRefused owner values LimitReached w x (view seat)) (sym view_is) refusal);
       ended = refusal.refusal;
     }
     refused_turn (Owner TotalTooLarge) seat t v w x is there uncounted view_is refusal = record {
       seat = there;
-      kept = λ _. refused_keeps TotalTooLarge seat t w x is uncounted (subst (HasRefused owner TotalTooLarge w x (view seat)) (sym view_is) refusal);
+      kept = λ _. refused_keeps TotalTooLarge seat t w x is uncounted (subst (HasRefused owner values TotalTooLarge w x (view seat)) (sym view_is) refusal);
       ended = refusal.refusal;
     }
     refused_turn (Gate turn stop) seat t v w x is there uncounted view_is refusal = record {
       seat = there;
       kept = λ _. gated_keeps seat t w x is uncounted (subst (HasLooked w x (view seat)) (sym view_is) refusal.1);
-      ended = subst (λ n. may_stop n turn stop) (sym (ap (λ (y : WorkerOf S). y.owner.worker) refusal.1.worker)) refusal.0;
+      ended = subst (λ n. may_stop n turn stop) (sym (ap (λ (y : WorkerOf S F). y.owner.worker) refusal.1.worker)) refusal.0;
     }

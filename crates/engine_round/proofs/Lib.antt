@@ -5,3 +5,4 @@ pub mod Joining
 pub mod Faults
 pub mod Followed
 pub mod Gathering
+pub mod Relays

@@ -19,17 +19,17 @@ pub record AreSplit (b : Board) (v : View) (count : ℕ) (seats : List BoardSeat
   pub offered : least (map (λ s. (view s).offered) seats) ≡ v.offered
 
 -- each worker stands at the place of its number, where the places are counted from this number
-abbrev pub AreNumbered : {S : Type 0} → ℕ → List (WorkerOf S) → Type 0
+abbrev pub AreNumbered : {S F : Type 0} → ℕ → List (WorkerOf S F) → Type 0
 AreNumbered v [] = Unit {0}
 AreNumbered v (w ∷ ws) = (w.owner.worker ≡ v) × AreNumbered (suc v) ws
 
 -- a worker with a seat for a round
-pub record JobOf (S : Type 0) : Type 0 where
+pub record JobOf (S F : Type 0) : Type 0 where
   pub seat : BoardSeat
-  pub worker : WorkerOf S
+  pub worker : WorkerOf S F
 
 -- the worker may take turns with that seat
-abbrev pub IsReady : {S : Type 0} → Board → JobOf S → Type 0
+abbrev pub IsReady : {S F : Type 0} → Board → JobOf S F → Type 0
 IsReady b j = IsSeatOf b j.seat × (j.worker.misfits ≡ [])
 
 -- the seat through which a board was opened for a round: the least cost that was offered before is offered and was read
@@ -40,7 +40,7 @@ pub record IsOpened (best : Distance) (v : View) : Type 0 where
 
 -- a seat for the caller and one for each of these workers, none of whose messages stands aside: together the seats have all parts and
 -- have offered this cost, and none has seen a greater bound
-pub record AreSetUp {S : Type 0} (b : Board) (best : Distance) (workers : List (WorkerOf S)) (own : BoardSeat) (jobs : List (JobOf S)) : Type 0 where
+pub record AreSetUp {S F : Type 0} (b : Board) (best : Distance) (workers : List (WorkerOf S F)) (own : BoardSeat) (jobs : List (JobOf S F)) : Type 0 where
   pub own_seat : IsSeatOf b own
   pub workers_are : map (λ j. j.worker) jobs ≡ workers
   pub ready : All (IsReady b) jobs
@@ -49,20 +49,20 @@ pub record AreSetUp {S : Type 0} (b : Board) (best : Distance) (workers : List (
   pub offered : lesser (view own).offered (least (map (λ j. (view j.seat).offered) jobs)) ≡ best
 
 -- a job that was begun at a board, with this gate
-pub record BegunOf (S G : Type 0) : Type 0 where
+pub record BegunOf (S F G : Type 0) : Type 0 where
   pub board : Board
-  pub job : JobOf S
+  pub job : JobOf S F
   pub gate : G
 
 -- the worker of that job has taken its turns
-abbrev pub HasDone : {S : Type 0} → (S → List ℕ → ℕ → ℕ) → MayStop → Board → JobOf S → WorkedOf S → Type 0
-HasDone owner may_stop b j r = HasWorked owner may_stop b j.seat j.worker r
+abbrev pub HasDone : {S F : Type 0} → (S → List ℕ → ℕ → ℕ) → (List ℕ → F → List ℕ) → MayStop → Board → JobOf S F → WorkedOf S F → Type 0
+HasDone owner values may_stop b j r = HasWorked owner values may_stop b j.seat j.worker r
 
 -- memory did not run out in the worker
-abbrev pub HasMemory : {S : Type 0} → WorkedOf S → Type 0
+abbrev pub HasMemory : {S F : Type 0} → WorkedOf S F → Type 0
 HasMemory r = r.fault ≢ Some (Owner OutOfMemory)
 
 -- what a seat knows after it was joined with the seats of these workers, one after the other
-abbrev pub joined_all : {S : Type 0} → View → List (WorkedOf S) → View
+abbrev pub joined_all : {S F : Type 0} → View → List (WorkedOf S F) → View
 joined_all v [] = v
 joined_all v (r ∷ rs) = joined_all (joined v (view r.seat)) rs

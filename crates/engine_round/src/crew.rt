@@ -56,7 +56,7 @@ fn work_with<
     requires jobs { All (IsReady board.now) jobs.items }
     requires room { (worked.items ≡ []) × (vec_len jobs ≤ vec_capacity worked) }
     ensures own { IsSeatOf board.now own.new × (view own.new ≡ view own.old) }
-    ensures worked { AllZip (HasDone S.owner (G.may_stop gate.now) board.now) jobs.entry.items result.items }
+    ensures worked { AllZip (HasDone S.owner F.values (G.may_stop gate.now) board.now) jobs.entry.items result.items }
     ensures room { vec_capacity worked.entry ≤ vec_capacity result }
 {
     let Some(job) = jobs.pop() else {
@@ -91,7 +91,7 @@ fn work_in<
     requires own { IsSeatOf board.now own }
     requires jobs { All (IsReady board.now) jobs.items }
     ensures own { IfOk result (λ r. IsSeatOf board.now r.0 × (view r.0 ≡ view own)) }
-    ensures worked { IfOk result (λ r. AllZip (HasDone S.owner (G.may_stop gate.now) board.now) jobs.entry.items r.1.items) }
+    ensures worked { IfOk result (λ r. AllZip (HasDone S.owner F.values (G.may_stop gate.now) board.now) jobs.entry.items r.1.items) }
 {
     let worked = Vec::with_capacity(alloc, jobs.len())?;
     let worked = work_with(rt, scope, board, &mut own, jobs, worked, gate);
@@ -117,7 +117,7 @@ pub(crate) fn work_each<
     requires own { IsSeatOf board.now own }
     requires jobs { All (IsReady board.now) jobs.items }
     ensures own { IfOk result (λ r. IsSeatOf board.now r.0 × (view r.0 ≡ view own)) }
-    ensures worked { IfOk result (λ r. AllZip (HasDone S.owner (G.may_stop gate.now) board.now) jobs.entry.items r.1.items) }
+    ensures worked { IfOk result (λ r. AllZip (HasDone S.owner F.values (G.may_stop gate.now) board.now) jobs.entry.items r.1.items) }
 {
     thread::scope(
         thread::scope_env(),
@@ -125,7 +125,7 @@ pub(crate) fn work_each<
         move |scope| -> Result<(Seat, Vec<Worked<S, F>>), AllocError>
             requires { IsSync R.row × IsSeatOf board.now own × All (IsReady board.now) jobs.items }
             ensures own { IfOk result (λ r. IsSeatOf board.entry.now r.0 × (view r.0 ≡ view own)) }
-            ensures worked { IfOk result (λ r. AllZip (HasDone S.owner (G.may_stop gate.entry.now) board.entry.now) jobs.entry.items r.1.items) }
+            ensures worked { IfOk result (λ r. AllZip (HasDone S.owner F.values (G.may_stop gate.entry.now) board.entry.now) jobs.entry.items r.1.items) }
         { work_in(rt, alloc, scope, board, own, jobs, gate) },
     )
 }

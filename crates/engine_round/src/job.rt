@@ -31,7 +31,7 @@ impl<'a, S: Spread + Drop, F: StateForm + Drop> Model for Job<'a, S, F> {
     ghost use Rattle.std.specs.Prelude.{◌≡◌};
     ghost use Rattle.engine_round.specs.Jobs.{JobOf};
 
-    ghost Value = { JobOf S };
+    ghost Value = { JobOf S F };
 
     ghost view = { λ j. record { seat = j.seat; worker = j.worker } };
 
@@ -50,7 +50,7 @@ impl<'a, S: Spread + Drop, F: StateForm + Drop, G: Gate> Promise<Worked<'a, S, F
     for WorkOf<'a, S, F, G> {
     ghost use Rattle.engine_round.specs.Turns.{HasWorked};
 
-    ghost kept_by = { λ p r. HasWorked S.owner (G.may_stop p.gate.value) p.board.value p.job.value.seat p.job.value.worker r };
+    ghost kept_by = { λ p r. HasWorked S.owner F.values (G.may_stop p.gate.value) p.board.value p.job.value.seat p.job.value.worker r };
 }
 
 /// A job that runs in a thread; or that was done at once, because no thread could be made.
@@ -64,14 +64,14 @@ impl<'a, S: Spread + Drop, F: StateForm + Drop, G: Gate> Model for Begun<'a, S, 
     ghost use Rattle.engine_round.specs.Turns.{HasWorked};
     ghost use Rattle.engine_round.specs.Jobs.{BegunOf};
 
-    ghost Value = { BegunOf S G };
+    ghost Value = { BegunOf S F G };
 
     ghost view = { λ x. record { board = x.of.board.value; job = x.of.job.value; gate = x.of.gate.value } };
 
     ghost invariant = { λ x.
         IfOk x.run (λ h. (h.promise.board.value ≡ x.of.board.value) × (h.promise.job.value ≡ x.of.job.value)
         × (h.promise.gate.value ≡ x.of.gate.value)) ×
-        IfErr x.run (λ r. HasWorked S.owner (G.may_stop x.of.gate.value) x.of.board.value x.of.job.value.seat x.of.job.value.worker r) };
+        IfErr x.run (λ r. HasWorked S.owner F.values (G.may_stop x.of.gate.value) x.of.board.value x.of.job.value.seat x.of.job.value.worker r) };
 }
 
 /// What is to be promised of the job.
@@ -97,7 +97,7 @@ pub(crate) fn run<'a, R: Wait + Clock, S: Spread + Drop, F: StateForm + Drop, G:
     gate: &G,
 ) -> Worked<'a, S, F>
     requires { IsReady board.now job }
-    ensures { HasWorked S.owner (G.may_stop gate.now) board.now job.entry.seat job.entry.worker result }
+    ensures { HasWorked S.owner F.values (G.may_stop gate.now) board.now job.entry.seat job.entry.worker result }
 {
     let Job {
         seat,
@@ -136,7 +136,7 @@ pub(crate) fn begin<
         promise,
         move || -> Worked<S, F>
             requires { IsSync R.row × IsReady board.now job }
-            ensures { HasWorked S.owner (G.may_stop gate.entry.now) board.entry.now job.entry.seat job.entry.worker result }
+            ensures { HasWorked S.owner F.values (G.may_stop gate.entry.now) board.entry.now job.entry.seat job.entry.worker result }
         { run(rt, board, job, gate) },
     );
     let run = match begun {
@@ -152,7 +152,7 @@ pub(crate) fn begin<
 impl<'a, S: Spread + Drop, F: StateForm + Drop, G: Gate> Begun<'a, S, F, G> {
     /// Waits until the worker has taken its turns.
     pub(crate) fn finish<R: Threads>(self, rt: &R) -> Worked<'a, S, F>
-        ensures { HasWorked S.owner (G.may_stop self.entry.gate) self.entry.board self.entry.job.seat self.entry.job.worker result }
+        ensures { HasWorked S.owner F.values (G.may_stop self.entry.gate) self.entry.board self.entry.job.seat self.entry.job.worker result }
     {
         let Begun { of: _, run } = self;
         match run {

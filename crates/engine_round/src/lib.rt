@@ -7,6 +7,7 @@ mod finish;
 mod gate;
 mod job;
 mod pause;
+mod relay;
 mod rounds;
 mod seats;
 mod start;

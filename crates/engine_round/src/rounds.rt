@@ -36,7 +36,7 @@ pub struct RoundEnd<'a, S: Spread + Drop, F: StateForm + Drop> {
 impl<'a, S: Spread + Drop, F: StateForm + Drop> Model for RoundEnd<'a, S, F> {
     ghost use Rattle.engine_round.specs.Rounds.{RoundEndOf};
 
-    ghost Value = { RoundEndOf S };
+    ghost Value = { RoundEndOf S F };
 
     ghost view = { λ r. record { workers = r.workers.items; best = r.best; fault = r.fault } };
 }
@@ -65,7 +65,7 @@ pub fn round<
     requires numbered { AreNumbered 0 workers.items }
     requires least { best ≡ least (map (λ w. w.offered) workers.items) }
     requires bounded { All (λ w. best ≤ᵈ w.seen) workers.items }
-    ensures { IfOk result (IsRound S.owner (G.may_stop gate.now) workers.entry.items) }
+    ensures { IfOk result (IsRound S.owner F.values (G.may_stop gate.now) workers.entry.items) }
 {
     let (board, seat) = Board::new(alloc)?;
     let (own, jobs) = set_up(alloc, &board, seat, best, workers)?;

@@ -8,9 +8,12 @@ ghost use Rattle.engine_round.specs.Turns.{IsTurnFault, HasWorked};
 use crate::fault::TurnFault;
 use crate::gate::Gate;
 use crate::pause::Pause;
+use crate::relay::relay;
 use board::{Board, Seat};
+use owner::OwnerFault;
 use packed::StateForm;
 use packed_spread::Spread;
+use std::alloc::AllocError;
 use std::marker::Model;
 use std::sync::Wait;
 use std::time::Clock;
@@ -28,7 +31,7 @@ pub(crate) struct Worked<'a, S: Spread + Drop, F: StateForm + Drop> {
 impl<'a, S: Spread + Drop, F: StateForm + Drop> Model for Worked<'a, S, F> {
     ghost use Rattle.engine_round.specs.Turns.{WorkedOf};
 
-    ghost Value = { WorkedOf S };
+    ghost Value = { WorkedOf S F };
 
     ghost view = { λ w. record { worker = w.worker; seat = w.seat; fault = w.fault } };
 }
@@ -49,8 +52,8 @@ fn take_turn<'a, S: Spread + Drop, F: StateForm + Drop, G: Gate>(
     requires none_uncounted { worker.old.uncounted ≡ 0 }
     requires none_taken { worker.old.taken ≡ 0 }
     ensures seat { IsSeatOf board.now seat.new }
-    ensures turned { IfOk result (IsTurn S.owner worker.old worker.new (view seat.old) (view seat.new)) }
-    ensures fault { IfErr result (IsTurnFault S.owner (G.may_stop gate.now) worker.old worker.new (view seat.old) (view seat.new)) }
+    ensures turned { IfOk result (IsTurn S.owner F.values worker.old worker.new (view seat.old) (view seat.new)) }
+    ensures fault { IfErr result (IsTurnFault S.owner F.values (G.may_stop gate.now) worker.old worker.new (view seat.old) (view seat.new)) }
     ensures none_uncounted { worker.new.uncounted ≡ 0 }
 {
     if let Err(stop) = gate.turn(number, turn) {
@@ -60,8 +63,9 @@ fn take_turn<'a, S: Spread + Drop, F: StateForm + Drop, G: Gate>(
     worker.turn(board, seat).map_err(TurnFault::Owner)
 }
 
-/// Takes turns until nothing is counted as left to do, or the round is ended. A message that is not for the worker, a fault and the
-/// gate, which is asked before each turn of this worker, end the round for all workers. `number` is the worker's.
+/// Takes turns until nothing is counted as left to do, or the round is ended, and relays messages between them. A message that is not
+/// for the worker, a fault and the gate, which is asked before each turn of this worker, end the round for all workers. `number` is the
+/// worker's.
 pub(crate) fn work<'a, R: Wait + Clock, S: Spread + Drop, F: StateForm + Drop, G: Gate>(
     rt: &R,
     board: &Board,
@@ -73,7 +77,7 @@ pub(crate) fn work<'a, R: Wait + Clock, S: Spread + Drop, F: StateForm + Drop, G
     requires seat { IsSeatOf board.now seat }
     requires number { number ≡ worker.owner.worker }
     requires none_aside { worker.misfits ≡ [] }
-    ensures { HasWorked S.owner (G.may_stop gate.now) board.now seat worker.entry result }
+    ensures { HasWorked S.owner F.values (G.may_stop gate.now) board.now seat worker.entry result }
 {
     let mut pause = Pause::new();
     let mut turn = 0u64;
@@ -81,10 +85,20 @@ pub(crate) fn work<'a, R: Wait + Clock, S: Spread + Drop, F: StateForm + Drop, G
     for _ in rt.forever() {
         turn = turn.saturating_add(1);
         let fault = match take_turn(board, &mut seat, number, &mut worker, gate, turn) {
-            Ok(Turn::Next) => {
-                pause.after(rt, worker.is_resting());
-                continue;
-            }
+            Ok(Turn::Next) => match relay(board, &mut seat, &mut worker) {
+                Ok(true) => {
+                    pause.after(rt, worker.is_resting());
+                    continue;
+                }
+                Ok(false) => {
+                    board.halt(&mut seat);
+                    None
+                }
+                Err(AllocError) => {
+                    board.halt(&mut seat);
+                    Some(TurnFault::Owner(OwnerFault::OutOfMemory))
+                }
+            },
             Ok(Turn::Last) => None,
             Ok(Turn::Misfit) => {
                 board.halt(&mut seat);

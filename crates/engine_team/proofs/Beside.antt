@@ -4,13 +4,14 @@ use Rattle.std.specs.Prelude.{slice_set}
 use Rattle.std.specs.List.{insert, remove}
 use Rattle.std.proofs.lemmas.Bool.{cases_lt}
 use Rattle.std.proofs.lemmas.List.{length-set}
+use Rattle.fdr.specs.Tasks.{ranges}
 use Rattle.owner_theory.specs.Owners.{At}
 use Rattle.owner_theory.specs.Families.{IsSearchSpace}
 use Rattle.owner.specs.Spaces.{SpaceOf, searched}
 use Rattle.owner.specs.Owned.{space_of}
 use Rattle.extract.proofs.Places.{at_below, at_read}
 use Rattle.worker.specs.Matching.{AreLinked, IsMatchedUp}
-use Rattle.worker.specs.Workers.{WorkerOf, IsKept}
+use Rattle.worker.specs.Workers.{WorkerOf, values_in, IsKept}
 use Rattle.engine_team.specs.Teams.{AreMembers}
 use Rattle.engine_team.specs.Draining.{IsLinkMatched}
 use Rattle.engine_team.proofs.Fitting.{space_is}
@@ -92,13 +93,13 @@ module _ {X : Type 0} where
   kept_at (z ∷ xs) (suc k) y (suc i) x ne at = kept_at xs k y i x (λ e. ne (ap suc e)) at
 
 -- there is a link from the first worker to the second
-pub record HaveLink {S : Type 0} (a b : WorkerOf S) : Type 0 where
+pub record HaveLink {S F : Type 0} (a b : WorkerOf S F) : Type 0 where
   pub sends : b.owner.worker < length a.outs
   pub receives : a.owner.worker < length b.ins
   pub linked : AreLinked a.outs b.owner.worker b.ins a.owner.worker
 
-module _ {S : Type 0} (space : SpaceOf S) (ws : List (WorkerOf S)) (are : AreMembers space ws) where
-  have_link : (u v : ℕ) (a b : WorkerOf S) → At ws u a → At ws v b → HaveLink a b
+module _ {S F : Type 0} (space : SpaceOf S) (ws : List (WorkerOf S F)) (are : AreMembers space ws) where
+  have_link : (u v : ℕ) (a b : WorkerOf S F) → At ws u a → At ws v b → HaveLink a b
   have_link u v a b at_a at_b =
       let u_lt = at_below ws u a at_a in let v_lt = at_below ws v b at_b in
       let first = (are.each u a at_a).number in let second = (are.each v b at_b).number in
@@ -111,9 +112,9 @@ module _ {S : Type 0} (space : SpaceOf S) (ws : List (WorkerOf S)) (are : AreMem
       }
 
   -- two workers are changed
-  two_changed : (owner : S → List ℕ → ℕ → ℕ) (from to : ℕ) (a c b d : WorkerOf S) (n : ℕ) → from ≢ to → At ws from a → At ws to b
+  two_changed : (owner : S → List ℕ → ℕ → ℕ) (from to : ℕ) (a c b d : WorkerOf S F) (n : ℕ) → from ≢ to → At ws from a → At ws to b
       → IsMatchedUp b.owner.worker a.owner.worker a.outs c.outs b.ins d.ins n → c ≡ record a { outs = c.outs } → d ≡ record b { ins = d.ins }
-      → (new : List (WorkerOf S)) → new ≡ slice_set (slice_set ws from c) to d → IsLinkMatched owner from to ws new n
+      → (new : List (WorkerOf S F)) → new ≡ slice_set (slice_set ws from c) to d → IsLinkMatched owner from to ws new n
   two_changed owner from to a c b d n differ at_a at_b m sent received new is =
       let long = length-set ws from c in
       let from_lt = at_below ws from a at_a in
@@ -133,7 +134,7 @@ module _ {S : Type 0} (space : SpaceOf S) (ws : List (WorkerOf S)) (are : AreMem
       (subst (λ p. IsMatchedUp b.owner.worker p a.outs c.outs b.ins d.ins n) (are.each from a at_a).number m))
       sent received are.links
 
-module _ {S : Type 0} (owner : S → List ℕ → ℕ → ℕ) (space : SpaceOf S) (xs : List (WorkerOf S)) (r : WorkerOf S) (to : ℕ) (within : to ≤ length xs)
+module _ {S F : Type 0} (owner : S → List ℕ → ℕ → ℕ) (space : SpaceOf S) (xs : List (WorkerOf S F)) (r : WorkerOf S F) (to : ℕ) (within : to ≤ length xs)
     (are : AreMembers space (insert xs to r)) where
   at_receiver : At (insert xs to r) to r
   at_receiver = at_inserted xs to r within
@@ -141,7 +142,7 @@ module _ {S : Type 0} (owner : S → List ℕ → ℕ → ℕ) (space : SpaceOf 
   pub own_link : HaveLink r r
   own_link = have_link space (insert xs to r) are to to r r at_receiver at_receiver
 
-  pub own_ring : (from : ℕ) (s : WorkerOf S) (n : ℕ) → from ≡ to → IsMatchedUp r.owner.worker r.owner.worker r.outs s.outs r.ins s.ins n
+  pub own_ring : (from : ℕ) (s : WorkerOf S F) (n : ℕ) → from ≡ to → IsMatchedUp r.owner.worker r.owner.worker r.outs s.outs r.ins s.ins n
       → s ≡ record r { outs = s.outs; ins = s.ins } → IsLinkMatched owner from to (insert xs to r) (insert xs to s) n
   own_ring from s n same m e =
       subst (λ u. IsLinkMatched owner u to (insert xs to r) (insert xs to s) n) (sym same)
@@ -157,7 +158,7 @@ module _ {S : Type 0} (owner : S → List ℕ → ℕ → ℕ) (space : SpaceOf 
         (λ (le : to ≤ from). let same = behind le in omega (arith, le, same, inside))
         (cases_lt from to)
 
-    set_sender : (c s : WorkerOf S) → insert (slice_set xs place c) to s ≡ slice_set (slice_set (insert xs to r) from c) to s
+    set_sender : (c s : WorkerOf S F) → insert (slice_set xs place c) to s ≡ slice_set (slice_set (insert xs to r) from c) to s
     set_sender c s = ⊎_elim
         (λ (lt : from < to). let same = before lt in
         subst (λ k. insert (slice_set xs place c) to s ≡ slice_set (slice_set (insert xs to r) k c) to s) same
@@ -167,7 +168,7 @@ module _ {S : Type 0} (owner : S → List ℕ → ℕ → ℕ) (space : SpaceOf 
         (set_behind xs to r place c s (omega (arith, le, same, ne)) within))
         (cases_lt from to)
 
-    module _ (a : WorkerOf S) (is : a ≡ get_or xs place a) where
+    module _ (a : WorkerOf S F) (is : a ≡ get_or xs place a) where
       at_sender : At (insert xs to r) from a
       at_sender = ⊎_elim
           (λ (lt : from < to). subst (λ k. At (insert xs to r) k a) (before lt)
@@ -180,7 +181,7 @@ module _ {S : Type 0} (owner : S → List ℕ → ℕ → ℕ) (space : SpaceOf 
       pub other_link : HaveLink a r
       other_link = have_link space (insert xs to r) are from to a r at_sender at_receiver
 
-      pub other_ring : (c s : WorkerOf S) (n : ℕ)
+      pub other_ring : (c s : WorkerOf S F) (n : ℕ)
           → IsMatchedUp r.owner.worker a.owner.worker a.outs c.outs r.ins s.ins n
           → c ≡ record a { outs = c.outs } → s ≡ record r { ins = s.ins }
           → IsLinkMatched owner from to (insert xs to r) (insert (slice_set xs place c) to s) n
@@ -191,13 +192,20 @@ module _ {S : Type 0} (owner : S → List ℕ → ℕ → ℕ) (space : SpaceOf 
   pub count_is : (count : ℕ) → count ≡ length r.outs → count ≡ length (insert xs to r)
   count_is count is = is ∙ (are.each to r at_receiver).outs
 
-  pub space_here : IsKept owner r → IsSearchSpace (space_of owner r.owner) → IsSearchSpace (searched owner space (length (insert xs to r)))
-  space_here kept ok = subst IsSearchSpace (space_is owner space (length (insert xs to r)) to r (are.each to r at_receiver) kept) ok
+  pub space_here : (values : List ℕ → F → List ℕ) → IsKept owner values r → IsSearchSpace (space_of owner r.owner)
+      → IsSearchSpace (searched owner space (length (insert xs to r)))
+  space_here values kept ok =
+      subst IsSearchSpace (space_is owner values space (length (insert xs to r)) to r (are.each to r at_receiver) kept) ok
+
+  -- the values of a form, as the receiver's task has them
+  pub values_here : (values : List ℕ → F → List ℕ) → values (ranges space.task) ≡ values_in values r
+  values_here values = ap (λ (s : SpaceOf S). values (ranges s.task)) (sym (are.each to r at_receiver).space)
 
 -- what holds of all the others and of the one
-pub kept_beside : {S : Type 0} (owner : S → List ℕ → ℕ → ℕ) (xs : List (WorkerOf S)) (r : WorkerOf S) (to : ℕ)
-    → ((v : ℕ) (w : WorkerOf S) → At xs v w → IsKept owner w) → IsKept owner r → (v : ℕ) (w : WorkerOf S) → At (insert xs to r) v w → IsKept owner w
-kept_beside {S = S} owner xs r to others one v w at = ⊎_elim
-    (λ (e : r ≡ w). subst (IsKept owner) e one)
+pub kept_beside : {S F : Type 0} (owner : S → List ℕ → ℕ → ℕ) (values : List ℕ → F → List ℕ) (xs : List (WorkerOf S F)) (r : WorkerOf S F) (to : ℕ)
+    → ((v : ℕ) (w : WorkerOf S F) → At xs v w → IsKept owner values w) → IsKept owner values r → (v : ℕ) (w : WorkerOf S F)
+    → At (insert xs to r) v w → IsKept owner values w
+kept_beside {S = S} owner values xs r to others one v w at = ⊎_elim
+    (λ (e : r ≡ w). subst (IsKept owner values) e one)
     (λ (h : (j : ℕ) × At xs j w). others h.0 w h.1)
     (at_insert xs to r v w at)

@@ -20,7 +20,7 @@ use Rattle.extract.specs.Ends.{EndOf, IsForm, IsEndOf}
 use Rattle.extract.proofs.Leasts.{at_most_least_of}
 use Rattle.extract.proofs.Places.{all_at, at_below, at_read, at_some}
 use Rattle.worker.specs.Workers.{WorkerOf, IsKept, IsWorking, sent_to, received_from}
-use Rattle.engine_team.specs.Teams.{TeamOf, IsTeam, AreEmpty}
+use Rattle.engine_team.specs.Teams.{TeamOf, IsTeam, values_on, AreEmpty}
 use Rattle.engine_team.proofs.Choice.{IsChoice, choice}
 use Rattle.engine_team.proofs.Fitting.{outs_past, space_is, received_past, works_as}
 
@@ -46,26 +46,26 @@ at_map f (w ∷ ws) zero x at = (w, refl, at)
 at_map f (w ∷ ws) (suc v) x at = at_map f ws v x at
 
 -- the owners of a team as the end of a search, where no message is left
-abbrev pub end_of : {S : Type 0} → TeamOf S → EndOf S
+abbrev pub end_of : {S F : Type 0} → TeamOf S F → EndOf S
 end_of t = record { space = t.space; owners = map (λ w. w.owner) t.workers; left = [] }
 
-pub form_of : {S : Type 0} (owner : S → List ℕ → ℕ → ℕ) (t : TeamOf S) → IsTeam t → ((v : ℕ) (w : WorkerOf S) → At t.workers v w → IsKept owner w)
-    → IsForm (end_of t)
-form_of {S = S} owner t team kept = record {
-  some = let long = length-map t.workers (λ (w : WorkerOf S). w.owner) in omega (arith, team.some, long);
+pub form_of : {S F : Type 0} (owner : S → List ℕ → ℕ → ℕ) (values : List ℕ → F → List ℕ) (t : TeamOf S F) → IsTeam t
+    → ((v : ℕ) (w : WorkerOf S F) → At t.workers v w → IsKept owner values w) → IsForm (end_of t)
+form_of {S = S} {F = F} owner values t team kept = record {
+  some = let long = length-map t.workers (λ (w : WorkerOf S F). w.owner) in omega (arith, team.some, long);
   each = λ v o at.
-      let (w, at_w, is) = at_map (λ (w : WorkerOf S). w.owner) t.workers v o at in
+      let (w, at_w, is) = at_map (λ (w : WorkerOf S F). w.owner) t.workers v o at in
       let member = team.members.each v w at_w in (
         ap (λ (x : OwnerOf S). x.space) (sym is) ∙ member.space,
         ap (λ (x : OwnerOf S). x.worker) (sym is) ∙ member.number,
         ap (λ (x : OwnerOf S). length x.outboxes) (sym is) ∙ (sym (kept v w at_w).outs ∙ (member.outs
-            ∙ sym (length-map t.workers (λ (w : WorkerOf S). w.owner)))),
+            ∙ sym (length-map t.workers (λ (w : WorkerOf S F). w.owner)))),
       );
   left = All-nil (λ p. IsState (ranges t.space.task) p.message.state × (p.message.cost ≤ max_total));
 }
 
-module _ {S : Type 0} (owner : S → List ℕ → ℕ → ℕ) (t : TeamOf S) (team : IsTeam t)
-    (kept : (v : ℕ) (w : WorkerOf S) → At t.workers v w → IsKept owner w) (empty : AreEmpty t.workers)
+module _ {S F : Type 0} (owner : S → List ℕ → ℕ → ℕ) (values : List ℕ → F → List ℕ) (t : TeamOf S F) (team : IsTeam t)
+    (kept : (v : ℕ) (w : WorkerOf S F) → At t.workers v w → IsKept owner values w) (empty : AreEmpty values t)
     (ok : IsSearchSpace (searched owner t.space (length t.workers))) where
   abbrev n : ℕ
   n = length t.workers
@@ -73,11 +73,15 @@ module _ {S : Type 0} (owner : S → List ℕ → ℕ → ℕ) (t : TeamOf S) (t
   abbrev space : SearchSpace
   space = searched owner t.space n
 
+  -- the values of a form, as the task has them
+  abbrev read : F → List ℕ
+  read = values_on values t
+
   abbrev sent : ℕ → ℕ → List Message
-  sent = at_or t.workers (λ w. sent_to w.outs) (λ v. [])
+  sent = at_or t.workers (λ w. sent_to read w.outs) (λ v. [])
 
   abbrev received : ℕ → ℕ → List Message
-  received = at_or t.workers (λ w. received_from w.ins) (λ u. [])
+  received = at_or t.workers (λ w. received_from read w.ins) (λ u. [])
 
   abbrev aside : ℕ → List Packet
   aside = at_or t.workers (λ w. w.misfits) []
@@ -89,23 +93,23 @@ module _ {S : Type 0} (owner : S → List ℕ → ℕ → ℕ) (t : TeamOf S) (t
       rings_at : sent w v ≡ received v w
       rings_at = ⊎_elim
           (λ (w_lt : w < n). let (a, at_a) = at_some t.workers w w_lt in
-          let was_sent : sent w v ≡ sent_to a.outs v = λ j. at_or-there t.workers (λ x. sent_to x.outs) (λ u. []) w a at_a j v in ⊎_elim
+          let was_sent : sent w v ≡ sent_to read a.outs v = λ j. at_or-there t.workers (λ x. sent_to read x.outs) (λ u. []) w a at_a j v in ⊎_elim
           (λ (v_lt : v < n). let (b, at_b) = at_some t.workers v v_lt in
-          was_sent ∙ (sym (empty w v a b at_a at_b) ∙ (λ j. sym (at_or-there t.workers (λ x. received_from x.ins) (λ u. []) v b at_b) j w)))
+          was_sent ∙ (sym (empty w v a b at_a at_b) ∙ (λ j. sym (at_or-there t.workers (λ x. received_from read x.ins) (λ u. []) v b at_b) j w)))
           (λ (v_le : n ≤ v).
-          was_sent ∙ (outs_past a.outs v (let long = (team.members.each w a at_a).outs in omega (arith, long, v_le))
-          ∙ (λ j. sym (at_or-past t.workers (λ x. received_from x.ins) (λ u. []) v v_le) j w)))
+          was_sent ∙ (outs_past read a.outs v (let long = (team.members.each w a at_a).outs in omega (arith, long, v_le))
+          ∙ (λ j. sym (at_or-past t.workers (λ x. received_from read x.ins) (λ u. []) v v_le) j w)))
           (cases_lt v n))
           (λ (w_le : n ≤ w).
-          let none_sent : sent w v ≡ [] = λ j. at_or-past t.workers (λ x. sent_to x.outs) (λ u. []) w w_le j v in ⊎_elim
+          let none_sent : sent w v ≡ [] = λ j. at_or-past t.workers (λ x. sent_to read x.outs) (λ u. []) w w_le j v in ⊎_elim
           (λ (v_lt : v < n). let (b, at_b) = at_some t.workers v v_lt in
-          none_sent ∙ (sym (received_past b.ins w (let long = (team.members.each v b at_b).ins in omega (arith, long, w_le)))
-          ∙ (λ j. sym (at_or-there t.workers (λ x. received_from x.ins) (λ u. []) v b at_b) j w)))
-          (λ (v_le : n ≤ v). none_sent ∙ (λ j. sym (at_or-past t.workers (λ x. received_from x.ins) (λ u. []) v v_le) j w))
+          none_sent ∙ (sym (received_past read b.ins w (let long = (team.members.each v b at_b).ins in omega (arith, long, w_le)))
+          ∙ (λ j. sym (at_or-there t.workers (λ x. received_from read x.ins) (λ u. []) v b at_b) j w)))
+          (λ (v_le : n ≤ v). none_sent ∙ (λ j. sym (at_or-past t.workers (λ x. received_from read x.ins) (λ u. []) v v_le) j w))
           (cases_lt v n))
           (cases_lt w n)
 
-  module _ (logs : ℕ → Log) (chosen : IsChoice (IsWorking owner) t.workers (start space) logs) where
+  module _ (logs : ℕ → Log) (chosen : IsChoice (IsWorking owner values) t.workers (start space) logs) where
     abbrev family : Family
     family = record { logs = logs; left = [] }
 
@@ -115,24 +119,24 @@ module _ {S : Type 0} (owner : S → List ℕ → ℕ → ℕ) (t : TeamOf S) (t
         (λ (lt : w < n). let (a, at_a) = at_some t.workers w lt in
         subst (λ (ps : List Packet). IsWorker space w (logs w) (sent w) (received w) [] ps) (sym (at_or-there t.workers (λ x. x.misfits) [] w a at_a))
         (subst (λ (f : ℕ → List Message). IsWorker space w (logs w) (sent w) f [] a.misfits)
-        (sym (at_or-there t.workers (λ x. received_from x.ins) (λ u. []) w a at_a))
-        (subst (λ (f : ℕ → List Message). IsWorker space w (logs w) f (received_from a.ins) [] a.misfits)
-        (sym (at_or-there t.workers (λ x. sent_to x.outs) (λ v. []) w a at_a))
-        (works_as owner t.space n w a (team.members.each w a at_a) (kept w a at_a) (logs w) (chosen.each w a at_a)))))
+        (sym (at_or-there t.workers (λ x. received_from read x.ins) (λ u. []) w a at_a))
+        (subst (λ (f : ℕ → List Message). IsWorker space w (logs w) f (received_from read a.ins) [] a.misfits)
+        (sym (at_or-there t.workers (λ x. sent_to read x.outs) (λ v. []) w a at_a))
+        (works_as owner values t.space n read refl w a (team.members.each w a at_a) (kept w a at_a) (logs w) (chosen.each w a at_a)))))
         (λ (le : n ≤ w).
         subst (λ (l : Log). IsWorker space w l (sent w) (received w) [] (aside w)) (sym (chosen.others w le))
         (subst (λ (ps : List Packet). IsWorker space w (start space w) (sent w) (received w) [] ps) (sym (at_or-past t.workers (λ x. x.misfits) [] w le))
         (subst (λ (f : ℕ → List Message). IsWorker space w (start space w) (sent w) f [] [])
-        (sym (at_or-past t.workers (λ x. received_from x.ins) (λ u. []) w le))
+        (sym (at_or-past t.workers (λ x. received_from read x.ins) (λ u. []) w le))
         (subst (λ (f : ℕ → List Message). IsWorker space w (start space w) f (λ u. []) [] [])
-        (sym (at_or-past t.workers (λ x. sent_to x.outs) (λ v. []) w le))
+        (sym (at_or-past t.workers (λ x. sent_to read x.outs) (λ v. []) w le))
         (begins space w)))))
         (cases_lt w n)
 
     least_offered : least_of n (λ v. (logs v).offered) ≤ᵈ t.best
     least_offered = subst (λ d. least_of n (λ v. (logs v).offered) ≤ᵈ d) (sym team.best)
-        (at_most_least_of (λ (w : WorkerOf S). w.offered) (least_of n (λ v. (logs v).offered)) t.workers
-        (all_at (λ (w : WorkerOf S). least_of n (λ v. (logs v).offered) ≤ᵈ w.offered) t.workers (λ v w at.
+        (at_most_least_of (λ (w : WorkerOf S F). w.offered) (least_of n (λ v. (logs v).offered)) t.workers
+        (all_at (λ (w : WorkerOf S F). least_of n (λ v. (logs v).offered) ≤ᵈ w.offered) t.workers (λ v w at.
         subst (λ d. least_of n (λ v. (logs v).offered) ≤ᵈ d) (chosen.each v w at).offered_is
         (least_of_at_most n (λ v. (logs v).offered) v (at_below t.workers v w at)))))
 
@@ -154,12 +158,12 @@ module _ {S : Type 0} (owner : S → List ℕ → ℕ → ℕ) (t : TeamOf S) (t
     -- ---- the end
     of_owner : (v : ℕ) (o : OwnerOf S) → At owners v o → (bound : Distance) × ((logs v).owner ≡ record { nodes = o.nodes; outboxes = o.outboxes; bound = bound; best = o.best })
     of_owner v o at =
-        let (w, at_w, is) = at_map (λ (w : WorkerOf S). w.owner) t.workers v o at in
+        let (w, at_w, is) = at_map (λ (w : WorkerOf S F). w.owner) t.workers v o at in
         (w.bound, (chosen.each v w at_w).owner_is ∙ (λ j. let after : machine.Owner = record { nodes = (is j).nodes; outboxes = (is j).outboxes; bound = w.bound; best = (is j).best } in after))
 
     end_is : IsEndOf owner (record { space = t.space; owners = owners; left = [] }) family
     end_is = record {
-      lawful = subst (λ k. IsLawful (searched owner t.space k) family) (sym (length-map t.workers (λ (w : WorkerOf S). w.owner)))
+      lawful = subst (λ k. IsLawful (searched owner t.space k) family) (sym (length-map t.workers (λ (w : WorkerOf S F). w.owner)))
           (joined_lawful space family sent received (λ w v. []) (λ w. []) aside ok joined);
       nodes = λ v o at. ap (λ (x : machine.Owner). x.nodes) (of_owner v o at).1;
       outboxes = λ v o at. ap (λ (x : machine.Owner). x.outboxes) (of_owner v o at).1;
@@ -170,8 +174,8 @@ module _ {S : Type 0} (owner : S → List ℕ → ℕ → ℕ) (t : TeamOf S) (t
   -- ---- what the end of a search needs
   pub some_family : ∥ ((family : Family) × IsEndOf owner (end_of t) family) ∥₁
   some_family = ∥∥₁_elim
-      (choice (IsWorking owner) t.workers (start space) (λ v w at. (kept v w at).working (team.members.each v w at).whole))
-      squash₁ (λ (c : (logs : ℕ → Log) × IsChoice (IsWorking owner) t.workers (start space) logs). ∣ (record { logs = c.0; left = [] }, end_is c.0 c.1) ∣₁)
+      (choice (IsWorking owner values) t.workers (start space) (λ v w at. (kept v w at).working (team.members.each v w at).whole))
+      squash₁ (λ (c : (logs : ℕ → Log) × IsChoice (IsWorking owner values) t.workers (start space) logs). ∣ (record { logs = c.0; left = [] }, end_is c.0 c.1) ∣₁)
 
   -- the same, as the code puts it together
   pub lawful_as : (os : List (OwnerOf S)) (left : List Packet) → os ≡ map (λ w. w.owner) t.workers → left ≡ []
@@ -182,12 +186,13 @@ module _ {S : Type 0} (owner : S → List ℕ → ℕ → ℕ) (t : TeamOf S) (t
   pub form_as : (os : List (OwnerOf S)) (left : List Packet) → os ≡ map (λ w. w.owner) t.workers → left ≡ []
       → IsForm (record { space = t.space; owners = os; left = left })
   form_as os left owners_are none =
-      subst (λ (e : EndOf S). IsForm e) (λ j. record { space = t.space; owners = sym owners_are j; left = sym none j }) (form_of owner t team kept)
+      subst (λ (e : EndOf S). IsForm e) (λ j. record { space = t.space; owners = sym owners_are j; left = sym none j }) (form_of owner values t team kept)
 
 -- what is searched, from the first worker
-pub team_space : {S : Type 0} (owner : S → List ℕ → ℕ → ℕ) (t : TeamOf S) (team : IsTeam t) → ((v : ℕ) (w : WorkerOf S) → At t.workers v w → IsKept owner w)
-    → (a : WorkerOf S) → a ≡ get_or t.workers 0 a → (o : OwnerOf S) → o ≡ a.owner → IsSearchSpace (space_of owner o)
+pub team_space : {S F : Type 0} (owner : S → List ℕ → ℕ → ℕ) (values : List ℕ → F → List ℕ) (t : TeamOf S F) (team : IsTeam t)
+    → ((v : ℕ) (w : WorkerOf S F) → At t.workers v w → IsKept owner values w)
+    → (a : WorkerOf S F) → a ≡ get_or t.workers 0 a → (o : OwnerOf S) → o ≡ a.owner → IsSearchSpace (space_of owner o)
     → IsSearchSpace (searched owner t.space (length t.workers))
-team_space owner t team kept a is o same ok =
+team_space owner values t team kept a is o same ok =
     let at = at_read t.workers 0 a team.some is in
-    subst IsSearchSpace (ap (λ x. space_of owner x) same ∙ space_is owner t.space (length t.workers) 0 a (team.members.each 0 a at) (kept 0 a at)) ok
+    subst IsSearchSpace (ap (λ x. space_of owner x) same ∙ space_is owner values t.space (length t.workers) 0 a (team.members.each 0 a at) (kept 0 a at)) ok

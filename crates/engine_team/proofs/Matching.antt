@@ -27,17 +27,17 @@ get_elsewhere (z ∷ xs) zero y (suc k) x ne e = e
 get_elsewhere (z ∷ xs) (suc i) y zero x ne e = e
 get_elsewhere (z ∷ xs) (suc i) y (suc k) x ne e = get_elsewhere xs i y k x (λ s. ne (ap suc s)) e
 
-module _ {S : Type 0} where
+module _ {S F : Type 0} where
   -- the worker at a place, where the link between two places has these ends now
-  pub record IsRelinked (from to : ℕ) (sender : Out) (receiver : In) (v : ℕ) (old new : WorkerOf S) : Type 0 where
+  pub record IsRelinked (from to : ℕ) (sender : Out F) (receiver : In F) (v : ℕ) (old new : WorkerOf S F) : Type 0 where
     pub outs_here : v ≡ from → new.outs ≡ slice_set old.outs to sender
     pub outs_there : v ≢ from → new.outs ≡ old.outs
     pub ins_here : v ≡ to → new.ins ≡ slice_set old.ins from receiver
     pub ins_there : v ≢ to → new.ins ≡ old.ins
     pub worker : new ≡ record old { outs = new.outs; ins = new.ins }
 
-  module _ (from to : ℕ) (sender : Out) (receiver : In) (old new : List (WorkerOf S)) (len : length new ≡ length old)
-      (each : (v : ℕ) (a b : WorkerOf S) → At old v a → At new v b → IsRelinked from to sender receiver v a b) where
+  module _ (from to : ℕ) (sender : Out F) (receiver : In F) (old new : List (WorkerOf S F)) (len : length new ≡ length old)
+      (each : (v : ℕ) (a b : WorkerOf S F) → At old v a → At new v b → IsRelinked from to sender receiver v a b) where
     linked_now : AreEnds sender receiver → AreAllLinked old → AreAllLinked new
     linked_now ends links u v c d at_c at_d o i at_o at_i =
         let (a, at_a) = at_some old u (let lt = at_below new u c at_c in omega (arith, lt, len)) in
@@ -70,19 +70,19 @@ module _ {S : Type 0} where
         (cases_eq v to)))
         (cases_eq u from)
 
-    module _ (owner : S → List ℕ → ℕ → ℕ) (a c b d : WorkerOf S) (at_a : At old from a) (at_c : At new from c) (at_b : At old to b) (at_d : At new to d)
+    module _ (owner : S → List ℕ → ℕ → ℕ) (a c b d : WorkerOf S F) (at_a : At old from a) (at_c : At new from c) (at_b : At old to b) (at_d : At new to d)
         (n : ℕ) (m : IsMatchedUp to from a.outs c.outs b.ins d.ins n) where
-      looked : (v : ℕ) (x y : WorkerOf S) → At old v x → At new v y → IsLookedAt owner x y
+      looked : (v : ℕ) (x y : WorkerOf S F) → At old v x → At new v y → IsLookedAt owner x y
       looked v x y at_x at_y =
           let one = each v x y at_x at_y in
           record {
             taken = takes_none owner x y y.outs y.ins x.resting x.taken one.worker
-                (λ w. ⊎_elim
+                (λ values w. ⊎_elim
                 (λ (here : v ≡ from).
                 let was : x ≡ a = at_once old from x a (subst (λ k. At old k x) here at_x) at_a in
                 let is : y ≡ c = at_once new from y c (subst (λ k. At new k y) here at_y) at_c in
-                ap (λ z. sent_to z.outs w) is ∙ (m.sent_same w ∙ sym (ap (λ z. sent_to z.outs w) was)))
-                (λ (there : v ≢ from). ap (λ os. sent_to os w) (one.outs_there there))
+                ap (λ z. sent_to values z.outs w) is ∙ (m.sent_same values w ∙ sym (ap (λ z. sent_to values z.outs w) was)))
+                (λ (there : v ≢ from). ap (λ os. sent_to values os w) (one.outs_there there))
                 (cases_eq v from))
                 (⊎_elim
                 (λ (here : v ≡ from). ap length (one.outs_here here) ∙ length-set x.outs to sender)
@@ -92,30 +92,30 @@ module _ {S : Type 0} where
                 (λ (here : v ≡ to). ap length (one.ins_here here) ∙ length-set x.ins from receiver)
                 (λ (there : v ≢ to). ap length (one.ins_there there))
                 (cases_eq v to));
-            received = λ u. ⊎_elim
+            received = λ values u. ⊎_elim
                 (λ (here : v ≡ to).
                 let was : x ≡ b = at_once old to x b (subst (λ k. At old k x) here at_x) at_b in
                 let is : y ≡ d = at_once new to y d (subst (λ k. At new k y) here at_y) at_d in
-                ap (λ z. received_from z.ins u) is ∙ (m.received_same u ∙ sym (ap (λ z. received_from z.ins u) was)))
-                (λ (there : v ≢ to). ap (λ is. received_from is u) (one.ins_there there))
+                ap (λ z. received_from values z.ins u) is ∙ (m.received_same values u ∙ sym (ap (λ z. received_from values z.ins u) was)))
+                (λ (there : v ≢ to). ap (λ is. received_from values is u) (one.ins_there there))
                 (cases_eq v to);
           }
 
       pub matched : AreEnds sender receiver → AreAllLinked old → IsLinkMatched owner from to old new n
       matched ends links = record {
         looked = record { len = len; links = linked_now ends links; each = looked };
-        all = λ y at_y.
+        all = λ values y at_y.
             let is : d ≡ y = at_once new to d y at_d at_y in
-            subst (λ z. received_from z.ins from ++ known_from z.ins from ≡ sent_by old from to) is
-            (m.all ∙ (m.sent_same to ∙ sym (sent_at old from to a at_a)));
-        counted = λ y at_y.
+            subst (λ z. received_from values z.ins from ++ known_from values z.ins from ≡ sent_by values old from to) is
+            (m.all values ∙ (m.sent_same values to ∙ sym (sent_at values old from to a at_a)));
+        counted = λ values y at_y.
             let is : d ≡ y = at_once new to d y at_d at_y in
-            subst (λ z. n ≡ length (known_from z.ins from)) is m.counted;
+            subst (λ z. n ≡ length (known_from values z.ins from)) is (m.counted values);
       }
 
-  module _ (owner : S → List ℕ → ℕ → ℕ) (old new : List (WorkerOf S)) where
+  module _ (owner : S → List ℕ → ℕ → ℕ) (old new : List (WorkerOf S F)) where
     -- a worker's link to itself
-    pub matched_own : (v : ℕ) (a c : WorkerOf S) (n : ℕ) → At old v a → new ≡ slice_set old v c → IsMatchedUp v v a.outs c.outs a.ins c.ins n
+    pub matched_own : (v : ℕ) (a c : WorkerOf S F) (n : ℕ) → At old v a → new ≡ slice_set old v c → IsMatchedUp v v a.outs c.outs a.ins c.ins n
         → c ≡ record a { outs = c.outs; ins = c.ins } → AreAllLinked old → IsLinkMatched owner v v old new n
     matched_own v a c n at_a is m worker links =
         matched v v m.sender m.receiver old new (ap length is ∙ length-set old v c)
@@ -142,9 +142,9 @@ module _ {S : Type 0} where
         at_now = subst (λ ws. At ws v c) (sym is) (at_here old v c (at_below old v a at_a))
 
     -- a link between two workers
-    pub matched_two : (from to : ℕ) (a c b d : WorkerOf S) (n : ℕ) → from ≢ to → At old from a → At old to b
+    pub matched_two : (from to : ℕ) (a c b d : WorkerOf S F) (n : ℕ) → from ≢ to → At old from a → At old to b
         → length new ≡ length old → At new from c → At new to d
-        → ((v : ℕ) (y : WorkerOf S) → v ≢ from → v ≢ to → At new v y → At old v y)
+        → ((v : ℕ) (y : WorkerOf S F) → v ≢ from → v ≢ to → At new v y → At old v y)
         → IsMatchedUp to from a.outs c.outs b.ins d.ins n → c ≡ record a { outs = c.outs } → d ≡ record b { ins = d.ins }
         → AreAllLinked old → IsLinkMatched owner from to old new n
     matched_two from to a c b d n differ at_a at_b len at_c at_d others m sent received links =
@@ -159,7 +159,7 @@ module _ {S : Type 0} where
           outs_here = λ e. m.outs_after;
           outs_there = λ ne. absurd (ne here);
           ins_here = λ e. absurd (differ (sym here ∙ e));
-          ins_there = λ ne. ap (λ (w : WorkerOf S). w.ins) sent;
+          ins_there = λ ne. ap (λ (w : WorkerOf S F). w.ins) sent;
           worker = sent ∙ (λ j. record a { outs = c.outs; ins = (sym sent j).ins });
         })))
         (λ (ne : v ≢ from). ⊎_elim
@@ -170,7 +170,7 @@ module _ {S : Type 0} where
         (subst (λ z. IsRelinked from to m.sender m.receiver v b z) is
         (record {
           outs_here = λ e. absurd (ne e);
-          outs_there = λ e. ap (λ (w : WorkerOf S). w.outs) received;
+          outs_there = λ e. ap (λ (w : WorkerOf S F). w.outs) received;
           ins_here = λ e. m.ins_after;
           ins_there = λ e. absurd (e here);
           worker = received ∙ (λ j. record b { outs = (sym received j).outs; ins = d.ins });

@@ -21,46 +21,46 @@ use Rattle.engine_team.proofs.Fitting.{sent_at, sent_past}
 use Rattle.engine_team.proofs.Places.{at_set}
 
 -- the ends of a link are still its ends after one of them took a message
-ends_kept : (o : Out) (i j : In) → AreEnds o i → SameIn i j → AreEnds o j
+ends_kept : {F : Type 0} (o : Out F) (i j : In F) → AreEnds o i → SameIn i j → AreEnds o j
 ends_kept o i j ends into = (into.0.0 ∙ ends.0, into.0.1 ∙ ends.1, into.0.2 ∙ ends.2, into.0.3 ∙ ends.3)
 
-pub linked_after : (os : List Out) (to : ℕ) (is js : List In) (from : ℕ) → AreSameIns is js → AreLinked os to is from → AreLinked os to js from
+pub linked_after : {F : Type 0} (os : List (Out F)) (to : ℕ) (is js : List (In F)) (from : ℕ) → AreSameIns is js → AreLinked os to is from → AreLinked os to js from
 linked_after os to is js from ins linked o j at_o at_j =
     let lt = slice_get_within js from j at_j in
     let at_i = slice_get-get_or is from j (omega (arith, lt, ins.len)) in
     ends_kept o (get_or is from j) j (linked o (get_or is from j) at_o at_i) (ins.each from (get_or is from j) j at_i at_j)
 
-module _ {S : Type 0} where
+module _ {S F : Type 0} where
   -- a worker of a team stays one, and has sent nothing more
-  pub record Keeps (a b : WorkerOf S) : Type 0 where
+  pub record Keeps (a b : WorkerOf S F) : Type 0 where
     pub member : (space : SpaceOf S) (n v : ℕ) → IsMember space n v a → IsMember space n v b
-    pub sent : (to : ℕ) → sent_to b.outs to ≡ sent_to a.outs to
+    pub sent : (values : F → List ℕ) (to : ℕ) → sent_to values b.outs to ≡ sent_to values a.outs to
 
-  pub taken_keeps : (owner : S → List ℕ → ℕ → ℕ) (ms : List Message) (a b : WorkerOf S) → HasTakenEach owner ms a b → Keeps a b
+  pub taken_keeps : (owner : S → List ℕ → ℕ → ℕ) (ms : List Message) (a b : WorkerOf S F) → HasTakenEach owner ms a b → Keeps a b
   taken_keeps owner ms a b t = record {
     member = λ space n v is. record {
       space = ap (λ (o : OwnerOf S). o.space) t.others ∙ is.space;
       number = ap (λ (o : OwnerOf S). o.worker) t.others ∙ is.number;
       outs = t.outs ∙ is.outs;
       ins = t.ins ∙ is.ins;
-      whole = ap (λ (w : WorkerOf S). w.spent) t.worker ∙ is.whole;
-      counted = ap (λ (w : WorkerOf S). w.uncounted) t.worker ∙ is.counted;
+      whole = ap (λ (w : WorkerOf S F). w.spent) t.worker ∙ is.whole;
+      counted = ap (λ (w : WorkerOf S F). w.uncounted) t.worker ∙ is.counted;
     };
     sent = t.sent;
   }
 
   -- each worker of a list stays one
-  pub record HaveKept (old new : List (WorkerOf S)) : Type 0 where
+  pub record HaveKept (old new : List (WorkerOf S F)) : Type 0 where
     pub len : length new ≡ length old
-    pub each : (v : ℕ) (a b : WorkerOf S) → At old v a → At new v b → Keeps a b
+    pub each : (v : ℕ) (a b : WorkerOf S F) → At old v a → At new v b → Keeps a b
 
-  module _ (old new : List (WorkerOf S)) (have : HaveKept old new) where
+  module _ (old new : List (WorkerOf S F)) (have : HaveKept old new) where
     -- the worker at a place before
-    pub earlier : (v : ℕ) (b : WorkerOf S) → At new v b → (a : WorkerOf S) × At old v a
+    pub earlier : (v : ℕ) (b : WorkerOf S F) → At new v b → (a : WorkerOf S F) × At old v a
     earlier v b at = at_some old v (let lt = at_below new v b at in omega (arith, lt, have.len))
 
     -- and now
-    pub later : (v : ℕ) (a : WorkerOf S) → At old v a → (b : WorkerOf S) × At new v b
+    pub later : (v : ℕ) (a : WorkerOf S F) → At old v a → (b : WorkerOf S F) × At new v b
     later v a at = at_some new v (let lt = at_below old v a at in omega (arith, lt, have.len))
 
     pub members_kept : (space : SpaceOf S) → AreMembers space old → AreAllLinked new → AreMembers space new
@@ -71,16 +71,16 @@ module _ {S : Type 0} where
     }
 
     -- nothing was sent
-    pub sent_kept : (u to : ℕ) → sent_by new u to ≡ sent_by old u to
-    sent_kept u to = ⊎_elim
+    pub sent_kept : (values : F → List ℕ) (u to : ℕ) → sent_by values new u to ≡ sent_by values old u to
+    sent_kept values u to = ⊎_elim
         (λ (lt : u < length old).
         let (a, at_a) = at_some old u lt in let (b, at_b) = later u a at_a in
-        sent_at new u to b at_b ∙ ((have.each u a b at_a at_b).sent to ∙ sym (sent_at old u to a at_a)))
-        (λ (le : length old ≤ u). sent_past new u to (omega (arith, le, have.len)) ∙ sym (sent_past old u to le))
+        sent_at values new u to b at_b ∙ ((have.each u a b at_a at_b).sent values to ∙ sym (sent_at values old u to a at_a)))
+        (λ (le : length old ≤ u). sent_past values new u to (omega (arith, le, have.len)) ∙ sym (sent_past values old u to le))
         (cases_lt u (length old))
 
   -- one worker of a list was changed
-  pub set_kept : (ws : List (WorkerOf S)) (v : ℕ) (a b : WorkerOf S) → At ws v a → Keeps a b → HaveKept ws (slice_set ws v b)
+  pub set_kept : (ws : List (WorkerOf S F)) (v : ℕ) (a b : WorkerOf S F) → At ws v a → Keeps a b → HaveKept ws (slice_set ws v b)
   set_kept ws v a b at_a keeps = record {
     len = length-set ws v b;
     each = λ w x y at_x at_y. ⊎_elim
@@ -89,20 +89,20 @@ module _ {S : Type 0} where
         subst (λ z. Keeps z y) was (subst (λ z. Keeps a z) h.1 keeps))
         (λ (h : (w ≢ v) × At ws w y).
         let was : y ≡ x = at_once ws w y x h.1 at_x in
-        subst (λ z. Keeps z y) was (record { member = λ space n k is. is; sent = λ to. refl }))
+        subst (λ z. Keeps z y) was (record { member = λ space n k is. is; sent = λ values to. refl }))
         (at_set ws v b w y at_y);
   }
 
   -- and it has taken messages, so its links are the same
-  pub set_linked : (ws : List (WorkerOf S)) (v : ℕ) (a b : WorkerOf S) → At ws v a → b.outs ≡ a.outs → AreSameIns a.ins b.ins → AreAllLinked ws
+  pub set_linked : (ws : List (WorkerOf S F)) (v : ℕ) (a b : WorkerOf S F) → At ws v a → b.outs ≡ a.outs → AreSameIns a.ins b.ins → AreAllLinked ws
       → AreAllLinked (slice_set ws v b)
   set_linked ws v a b at_a outs ins links u w c d at_c at_d =
-      let first : (x : WorkerOf S) × At ws u x × (c.outs ≡ x.outs) = ⊎_elim
-      (λ (h : (u ≡ v) × (b ≡ c)). (a, subst (λ k. At ws k a) (sym h.0) at_a, ap (λ (z : WorkerOf S). z.outs) (sym h.1) ∙ outs))
+      let first : (x : WorkerOf S F) × At ws u x × (c.outs ≡ x.outs) = ⊎_elim
+      (λ (h : (u ≡ v) × (b ≡ c)). (a, subst (λ k. At ws k a) (sym h.0) at_a, ap (λ (z : WorkerOf S F). z.outs) (sym h.1) ∙ outs))
       (λ (h : (u ≢ v) × At ws u c). (c, h.1, refl))
       (at_set ws v b u c at_c) in
-      let second : (x : WorkerOf S) × At ws w x × AreSameIns x.ins d.ins = ⊎_elim
-      (λ (h : (w ≡ v) × (b ≡ d)). (a, subst (λ k. At ws k a) (sym h.0) at_a, subst (λ (z : WorkerOf S). AreSameIns a.ins z.ins) h.1 ins))
+      let second : (x : WorkerOf S F) × At ws w x × AreSameIns x.ins d.ins = ⊎_elim
+      (λ (h : (w ≡ v) × (b ≡ d)). (a, subst (λ k. At ws k a) (sym h.0) at_a, subst (λ (z : WorkerOf S F). AreSameIns a.ins z.ins) h.1 ins))
       (λ (h : (w ≢ v) × At ws w d). (d, h.1, ins_same d.ins))
       (at_set ws v b w d at_d) in
       subst (λ os. AreLinked os w d.ins u) (sym first.2)

@@ -14,21 +14,21 @@ use Rattle.worker.specs.Workers.{WorkerOf}
 use Rattle.engine_team.specs.Teams.{TeamOf}
 use Rattle.engine_team.proofs.Joining.{end_of}
 
-module _ {S : Type 0} (owner : S → List ℕ → ℕ → ℕ) (t : TeamOf S) (form : IsForm (end_of t)) (best pending : Distance)
+module _ {S F : Type 0} (owner : S → List ℕ → ℕ → ℕ) (t : TeamOf S F) (form : IsForm (end_of t)) (best pending : Distance)
     (is_best : best ≡ least (map (λ w. w.owner.best) t.workers)) (is_pending : pending ≡ least (map (λ w. least_held owner w.owner) t.workers))
   where
     best_of_end : best ≡ least_best (end_of t)
-    best_of_end = is_best ∙ ap least (sym (map-map (λ (o : OwnerOf S). o.best) (λ (w : WorkerOf S). w.owner) t.workers))
+    best_of_end = is_best ∙ ap least (sym (map-map (λ (o : OwnerOf S). o.best) (λ (w : WorkerOf S F). w.owner) t.workers))
 
     pending_of_end : pending ≡ least_pending owner (end_of t)
     pending_of_end =
         is_pending
-        ∙ (ap least (sym (map-map (least_held owner) (λ (w : WorkerOf S). w.owner) t.workers))
-        ∙ sym (lesser_left (least (map (least_held owner) (map (λ (w : WorkerOf S). w.owner) t.workers))) Infinite
-        (at_most_infinite (least (map (least_held owner) (map (λ (w : WorkerOf S). w.owner) t.workers))))))
+        ∙ (ap least (sym (map-map (least_held owner) (λ (w : WorkerOf S F). w.owner) t.workers))
+        ∙ sym (lesser_left (least (map (least_held owner) (map (λ (w : WorkerOf S F). w.owner) t.workers))) Infinite
+        (at_most_infinite (least (map (least_held owner) (map (λ (w : WorkerOf S F). w.owner) t.workers))))))
 
-    count : length (map (λ (w : WorkerOf S). w.owner) t.workers) ≡ length t.workers
-    count = length-map t.workers (λ (w : WorkerOf S). w.owner)
+    count : length (map (λ (w : WorkerOf S F). w.owner) t.workers) ≡ length t.workers
+    count = length-map t.workers (λ (w : WorkerOf S F). w.owner)
 
     pub team_settled : is_le (distance_cmp best pending) ≡ true
         → IsSettledAnswer (searched owner t.space (length t.workers)) (map (λ w. w.owner) t.workers) [] (Some best)

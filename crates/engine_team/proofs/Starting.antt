@@ -16,35 +16,37 @@ use Rattle.worker.specs.Workers.{WorkerOf, IsFirstWorker, sent_to, received_from
 use Rattle.engine_team.specs.Teams.{TeamOf, IsTeam, IsFirstTeam, IsFirst, AreFreshLinks, AreFirstWorkers}
 use Rattle.engine_team.proofs.Fitting.{outs_past, received_past}
 
-sent_get : (os : List Out) (v : ℕ) (o : Out) → slice_get os v ≡ Some o → sent_to os v ≡ map message_of (sent o)
-sent_get [] v o e = absurd (cc)
-sent_get (x ∷ os) zero o e = let same : x ≡ o = cc in ap (λ y. map message_of (sent y)) same
-sent_get (x ∷ os) (suc v) o e = sent_get os v o e
+sent_get : {F : Type 0} (values : F → List ℕ) (os : List (Out F)) (v : ℕ) (o : Out F) → slice_get os v ≡ Some o
+    → sent_to values os v ≡ map (message_of values) (sent o)
+sent_get values [] v o e = absurd (cc)
+sent_get values (x ∷ os) zero o e = let same : x ≡ o = cc in ap (λ y. map (message_of values) (sent y)) same
+sent_get values (x ∷ os) (suc v) o e = sent_get values os v o e
 
-received_get : (is : List In) (u : ℕ) (i : In) → slice_get is u ≡ Some i → received_from is u ≡ map message_of (received i)
-received_get [] u i e = absurd (cc)
-received_get (x ∷ is) zero i e = let same : x ≡ i = cc in ap (λ y. map message_of (received y)) same
-received_get (x ∷ is) (suc u) i e = received_get is u i e
+received_get : {F : Type 0} (values : F → List ℕ) (is : List (In F)) (u : ℕ) (i : In F) → slice_get is u ≡ Some i
+    → received_from values is u ≡ map (message_of values) (received i)
+received_get values [] u i e = absurd (cc)
+received_get values (x ∷ is) zero i e = let same : x ≡ i = cc in ap (λ y. map (message_of values) (received y)) same
+received_get values (x ∷ is) (suc u) i e = received_get values is u i e
 
-least_infinite : {S : Type 0} (ws : List (WorkerOf S)) → ((v : ℕ) (w : WorkerOf S) → At ws v w → w.offered ≡ Infinite)
+least_infinite : {S F : Type 0} (ws : List (WorkerOf S F)) → ((v : ℕ) (w : WorkerOf S F) → At ws v w → w.offered ≡ Infinite)
     → least (map (λ w. w.offered) ws) ≡ Infinite
 least_infinite [] none = refl
 least_infinite (w ∷ ws) none = (λ j. lesser (none 0 w refl j) (least_infinite ws (λ v x at. none (suc v) x at) j))
 
-module _ (capacity n : ℕ) (outs : List (List Out)) (ins : List (List In)) (fresh : AreFreshLinks capacity n outs ins) where
+module _ {F : Type 0} (capacity n : ℕ) (outs : List (List (Out F))) (ins : List (List (In F))) (fresh : AreFreshLinks capacity n outs ins) where
   -- the two ends of the link between two workers
-  link_at : (u v : ℕ) (os : List Out) (is : List In) (o : Out) (i : In) → At outs u os → slice_get os v ≡ Some o → At ins v is → slice_get is u ≡ Some i
+  link_at : (u v : ℕ) (os : List (Out F)) (is : List (In F)) (o : Out F) (i : In F) → At outs u os → slice_get os v ≡ Some o → At ins v is → slice_get is u ≡ Some i
       → IsFresh capacity o i
   link_at u v os is o i at_os at_o at_is at_i = fresh.matched u v os is o i (at_get outs u os at_os) at_o (at_get ins v is at_is) at_i
 
-  row_out : (u : ℕ) (os : List Out) → At outs u os → length os ≡ n
+  row_out : (u : ℕ) (os : List (Out F)) → At outs u os → length os ≡ n
   row_out u os at = fresh.senders.1 u os (at_get outs u os at)
 
-  row_in : (v : ℕ) (is : List In) → At ins v is → length is ≡ n
+  row_in : (v : ℕ) (is : List (In F)) → At ins v is → length is ≡ n
   row_in v is at = fresh.receivers.1 v is (at_get ins v is at)
 
   -- the ends at a place, where the row of one is given
-  fresh_out : (u v : ℕ) (os : List Out) (o : Out) → At outs u os → slice_get os v ≡ Some o → (i : In) × IsFresh capacity o i
+  fresh_out : (u v : ℕ) (os : List (Out F)) (o : Out F) → At outs u os → slice_get os v ≡ Some o → (i : In F) × IsFresh capacity o i
   fresh_out u v os o at_os at_o =
       let u_lt = at_below outs u os at_os in
       let v_lt = slice_get_within os v o at_o in
@@ -56,7 +58,7 @@ module _ (capacity n : ℕ) (outs : List (List Out)) (ins : List (List In)) (fre
       let (i, at_i) = at_some is u (omega (arith, u_lt, tall, wide_in)) in
       (i, link_at u v os is o i at_os at_o at_is (at_get is u i at_i))
 
-  fresh_in : (u v : ℕ) (is : List In) (i : In) → At ins v is → slice_get is u ≡ Some i → (o : Out) × IsFresh capacity o i
+  fresh_in : (u v : ℕ) (is : List (In F)) (i : In F) → At ins v is → slice_get is u ≡ Some i → (o : Out F) × IsFresh capacity o i
   fresh_in u v is i at_is at_i =
       let v_lt = at_below ins v is at_is in
       let u_lt = slice_get_within is u i at_i in
@@ -68,28 +70,28 @@ module _ (capacity n : ℕ) (outs : List (List Out)) (ins : List (List In)) (fre
       let (o, at_o) = at_some os v (omega (arith, v_lt, tall_in, wide)) in
       (o, link_at u v os is o i at_os (at_get os v o at_o) at_is at_i)
 
-  pub none_sent : (u : ℕ) (os : List Out) → At outs u os → (length os ≡ n) × ((v : ℕ) → sent_to os v ≡ [])
+  pub none_sent : (u : ℕ) (os : List (Out F)) → At outs u os → (length os ≡ n) × ((values : F → List ℕ) (v : ℕ) → sent_to values os v ≡ [])
   none_sent u os at = (
     row_out u os at,
-    λ v. ⊎_elim
+    λ values v. ⊎_elim
         (λ (lt : v < length os). let (o, at_o) = at_some os v lt in
-        sent_get os v o (at_get os v o at_o) ∙ ap (map message_of) (fresh_out u v os o at (at_get os v o at_o)).1.sent_none)
-        (λ (le : length os ≤ v). outs_past os v le)
+        sent_get values os v o (at_get os v o at_o) ∙ ap (map (message_of values)) (fresh_out u v os o at (at_get os v o at_o)).1.sent_none)
+        (λ (le : length os ≤ v). outs_past values os v le)
         (cases_lt v (length os)),
   )
 
-  pub none_received : (v : ℕ) (is : List In) → At ins v is → (length is ≡ n) × ((u : ℕ) → received_from is u ≡ [])
+  pub none_received : (v : ℕ) (is : List (In F)) → At ins v is → (length is ≡ n) × ((values : F → List ℕ) (u : ℕ) → received_from values is u ≡ [])
   none_received v is at = (
     row_in v is at,
-    λ u. ⊎_elim
+    λ values u. ⊎_elim
         (λ (lt : u < length is). let (i, at_i) = at_some is u lt in
-        received_get is u i (at_get is u i at_i) ∙ ap (map message_of) (fresh_in u v is i at (at_get is u i at_i)).1.received_none)
-        (λ (le : length is ≤ u). received_past is u le)
+        received_get values is u i (at_get is u i at_i) ∙ ap (map (message_of values)) (fresh_in u v is i at (at_get is u i at_i)).1.received_none)
+        (λ (le : length is ≤ u). received_past values is u le)
         (cases_lt u (length is)),
   )
 
-  module _ {S : Type 0} (space : SpaceOf S) (ws : List (WorkerOf S)) (first : AreFirstWorkers space n outs ins ws) where
-    abbrev team : TeamOf S
+  module _ {S : Type 0} (space : SpaceOf S) (ws : List (WorkerOf S F)) (first : AreFirstWorkers space n outs ins ws) where
+    abbrev team : TeamOf S F
     team = record { space = space; workers = ws; best = Infinite }
 
     pub first_is_team : 0 < n → IsTeam team
@@ -130,14 +132,14 @@ at_snoc (z ∷ xs) y zero x at = inl at
 at_snoc (z ∷ xs) y (suc i) x at = ⊎_elim (λ (h : At xs i x). inl h)
     (λ (h : (i ≡ length xs) × (y ≡ x)). inr (ap suc h.0, h.1)) (at_snoc xs y i x at)
 
-module _ {S : Type 0} (space : SpaceOf S) (n : ℕ) (outs : List (List Out)) (ins : List (List In)) where
+module _ {S F : Type 0} (space : SpaceOf S) (n : ℕ) (outs : List (List (Out F))) (ins : List (List (In F))) where
   -- the first workers at the start, and the ends that are left for the others
-  pub record AreStarting (ws : List (WorkerOf S)) (left_outs : List (List Out)) (left_ins : List (List In)) : Type 0 where
+  pub record AreStarting (ws : List (WorkerOf S F)) (left_outs : List (List (Out F))) (left_ins : List (List (In F))) : Type 0 where
     pub count : length ws + length left_outs ≡ n
     pub both : length left_ins ≡ length left_outs
-    pub outs_at : (j : ℕ) (os : List Out) → At left_outs j os → At outs (length ws + j) os
-    pub ins_at : (j : ℕ) (is : List In) → At left_ins j is → At ins (length ws + j) is
-    pub each : (v : ℕ) (w : WorkerOf S) → At ws v w → IsFirst space n outs ins v w
+    pub outs_at : (j : ℕ) (os : List (Out F)) → At left_outs j os → At outs (length ws + j) os
+    pub ins_at : (j : ℕ) (is : List (In F)) → At left_ins j is → At ins (length ws + j) is
+    pub each : (v : ℕ) (w : WorkerOf S F) → At ws v w → IsFirst space n outs ins v w
 
   pub none_started : HasSize n n outs → HasSize n n ins → AreStarting [] outs ins
   none_started tall tall_in = record {
@@ -148,7 +150,7 @@ module _ {S : Type 0} (space : SpaceOf S) (n : ℕ) (outs : List (List Out)) (in
     each = λ v w at. absurd at;
   }
 
-  pub one_started : (ws : List (WorkerOf S)) (w : WorkerOf S) (os : List Out) (left_outs : List (List Out)) (is : List In) (left_ins : List (List In))
+  pub one_started : (ws : List (WorkerOf S F)) (w : WorkerOf S F) (os : List (Out F)) (left_outs : List (List (Out F))) (is : List (In F)) (left_ins : List (List (In F)))
       → AreStarting ws (os ∷ left_outs) (is ∷ left_ins) → IsFirstWorker space (length ws) n os is w → AreStarting (ws ++ w ∷ []) left_outs left_ins
   one_started ws w os left_outs is left_ins p first =
       let long = length-append ws (w ∷ []) in record {
@@ -169,42 +171,42 @@ module _ {S : Type 0} (space : SpaceOf S) (n : ℕ) (outs : List (List Out)) (in
 
       one : IsFirst space n outs ins (length ws) w
       one = record {
-        is = subst (λ (xs : List Out). IsFirstWorker space (length ws) n xs w.ins w) (sym first.outs)
-            (subst (λ (xs : List In). IsFirstWorker space (length ws) n os xs w) (sym first.ins) first);
-        sends = subst (λ (xs : List Out). At outs (length ws) xs) (sym first.outs) (subst (λ k. At outs k os) none_more (p.outs_at 0 os refl));
-        receives = subst (λ (xs : List In). At ins (length ws) xs) (sym first.ins) (subst (λ k. At ins k is) none_more (p.ins_at 0 is refl));
+        is = subst (λ (xs : List (Out F)). IsFirstWorker space (length ws) n xs w.ins w) (sym first.outs)
+            (subst (λ (xs : List (In F)). IsFirstWorker space (length ws) n os xs w) (sym first.ins) first);
+        sends = subst (λ (xs : List (Out F)). At outs (length ws) xs) (sym first.outs) (subst (λ k. At outs k os) none_more (p.outs_at 0 os refl));
+        receives = subst (λ (xs : List (In F)). At ins (length ws) xs) (sym first.ins) (subst (λ k. At ins k is) none_more (p.ins_at 0 is refl));
       }
 
-  pub all_started : (ws : List (WorkerOf S)) (left_outs : List (List Out)) (left_ins : List (List In)) → AreStarting ws left_outs left_ins
+  pub all_started : (ws : List (WorkerOf S F)) (left_outs : List (List (Out F))) (left_ins : List (List (In F))) → AreStarting ws left_outs left_ins
       → length left_outs ≡ 0 → AreFirstWorkers space n outs ins ws
   all_started ws left_outs left_ins p none = record { len = let count = p.count in omega (arith, count, none); each = p.each }
 
-module _ (capacity n : ℕ) (outs : List (List Out)) (ins : List (List In)) (fresh : AreFreshLinks capacity n outs ins) {S : Type 0} (space : SpaceOf S) where
-  pub starts : (ws : List (WorkerOf S)) (los : List (List Out)) (lis : List (List In)) → ws ≡ [] → los ≡ outs → lis ≡ ins → AreStarting space n outs ins ws los lis
+module _ {F : Type 0} (capacity n : ℕ) (outs : List (List (Out F))) (ins : List (List (In F))) (fresh : AreFreshLinks capacity n outs ins) {S : Type 0} (space : SpaceOf S) where
+  pub starts : (ws : List (WorkerOf S F)) (los : List (List (Out F))) (lis : List (List (In F))) → ws ≡ [] → los ≡ outs → lis ≡ ins → AreStarting space n outs ins ws los lis
   starts ws los lis none a b =
       subst (λ xs. AreStarting space n outs ins xs los lis) (sym none)
       (subst (λ xs. AreStarting space n outs ins [] xs lis) (sym a)
       (subst (λ xs. AreStarting space n outs ins [] outs xs) (sym b) (none_started space n outs ins fresh.senders fresh.receivers)))
 
-  module _ (ws : List (WorkerOf S)) (los : List (List Out)) (lis : List (List In)) (os : List Out) (is : List In) (rest_outs : List (List Out))
-      (rest_ins : List (List In)) (p : AreStarting space n outs ins ws los lis) (a : los ≡ os ∷ rest_outs) (b : lis ≡ is ∷ rest_ins) where
+  module _ (ws : List (WorkerOf S F)) (los : List (List (Out F))) (lis : List (List (In F))) (os : List (Out F)) (is : List (In F)) (rest_outs : List (List (Out F)))
+      (rest_ins : List (List (In F))) (p : AreStarting space n outs ins ws los lis) (a : los ≡ os ∷ rest_outs) (b : lis ≡ is ∷ rest_ins) where
     as_next : AreStarting space n outs ins ws (os ∷ rest_outs) (is ∷ rest_ins)
     as_next = subst (λ xs. AreStarting space n outs ins ws (os ∷ rest_outs) xs) b (subst (λ xs. AreStarting space n outs ins ws xs lis) a p)
 
     none_more : length ws + 0 ≡ length ws
     none_more = omega arith
 
-    pub next_sends : (count : ℕ) → count ≡ n → (length os ≡ count) × ((v : ℕ) → sent_to os v ≡ [])
+    pub next_sends : (count : ℕ) → count ≡ n → (length os ≡ count) × ((values : F → List ℕ) (v : ℕ) → sent_to values os v ≡ [])
     next_sends count e =
         let one = none_sent capacity n outs ins fresh (length ws) os (subst (λ k. At outs k os) none_more (as_next.outs_at 0 os refl)) in
         (one.0 ∙ sym e, one.1)
 
-    pub next_receives : (count : ℕ) → count ≡ n → (length is ≡ count) × ((u : ℕ) → received_from is u ≡ [])
+    pub next_receives : (count : ℕ) → count ≡ n → (length is ≡ count) × ((values : F → List ℕ) (u : ℕ) → received_from values is u ≡ [])
     next_receives count e =
         let one = none_received capacity n outs ins fresh (length ws) is (subst (λ k. At ins k is) none_more (as_next.ins_at 0 is refl)) in
         (one.0 ∙ sym e, one.1)
 
-    pub next_started : (number count : ℕ) (w : WorkerOf S) (now : List (WorkerOf S)) → number ≡ length ws → count ≡ n
+    pub next_started : (number count : ℕ) (w : WorkerOf S F) (now : List (WorkerOf S F)) → number ≡ length ws → count ≡ n
         → IsFirstWorker space number count os is w → now ≡ ws ++ w ∷ [] → AreStarting space n outs ins now rest_outs rest_ins
     next_started number count w now at total first is_now =
         subst (λ xs. AreStarting space n outs ins xs rest_outs rest_ins) (sym is_now)
@@ -219,7 +221,7 @@ rows_long [] = refl
 rows_long (v ∷ vs) = ap suc (rows_long vs)
 
 -- the ends of a table of links
-pub fresh_rows : {G H : Type 0} (capacity n : ℕ) (outs : List (Vec Out G)) (ins : List (Vec In H)) → HasSize n n (rows outs) → HasSize n n (rows ins)
+pub fresh_rows : {F G H : Type 0} (capacity n : ℕ) (outs : List (Vec (Out F) G)) (ins : List (Vec (In F) H)) → HasSize n n (rows outs) → HasSize n n (rows ins)
     → AreMatched capacity (rows outs) (rows ins) → (length outs ≡ n) × AreFreshLinks capacity (length outs) (rows outs) (rows ins)
 fresh_rows capacity n outs ins tall tall_in matched =
     let long : length outs ≡ n = sym (rows_long outs) ∙ tall.0 in (
@@ -228,8 +230,8 @@ fresh_rows capacity n outs ins tall tall_in matched =
     )
 
 -- the team of all of them
-module _ {S : Type 0} (capacity n count : ℕ) (outs : List (List Out)) (ins : List (List In)) (fresh : AreFreshLinks capacity n outs ins)
-    (space : SpaceOf S) (ws : List (WorkerOf S)) (first : AreFirstWorkers space n outs ins ws) (same : n ≡ count) (d : Distance) (none : d ≡ Infinite) where
+module _ {S F : Type 0} (capacity n count : ℕ) (outs : List (List (Out F))) (ins : List (List (In F))) (fresh : AreFreshLinks capacity n outs ins)
+    (space : SpaceOf S) (ws : List (WorkerOf S F)) (first : AreFirstWorkers space n outs ins ws) (same : n ≡ count) (d : Distance) (none : d ≡ Infinite) where
   pub starts_team : 0 < count → IsTeam (record { space = space; workers = ws; best = d })
   starts_team some = subst (λ b. IsTeam (record { space = space; workers = ws; best = b })) (sym none)
       (first_is_team capacity n outs ins fresh space ws first (omega (arith, some, same)))

@@ -1,6 +1,7 @@
 -- A team: the workers of a search as one value, between the rounds in which they take turns.
 use Rattle.std.specs.Prelude.{◌≡◌, ℕ, zero, suc, ◌<◌, false, List, [], ◌∷◌, map, length, slice_get, Some}
 use Rattle.cost.specs.Distances.{Distance, Infinite, ◌≤ᵈ◌, least}
+use Rattle.fdr.specs.Tasks.{ranges}
 use Rattle.owner_theory.specs.Owners.{At, Message}
 use Rattle.owner.specs.Spaces.{SpaceOf}
 use Rattle.links.specs.declared.ends.Out.{Out}
@@ -11,14 +12,14 @@ use Rattle.worker.specs.Matching.{AreLinked}
 use Rattle.worker.specs.Workers.{WorkerOf, IsFirstWorker, sent_to, received_from}
 
 -- the space, the workers in the order of their numbers, and the least cost that any of them has offered
-pub record TeamOf (S : Type 0) : Type 0 where
+pub record TeamOf (S F : Type 0) : Type 0 where
   pub space : SpaceOf S
-  pub workers : List (WorkerOf S)
+  pub workers : List (WorkerOf S F)
   pub best : Distance
 
 -- the worker of that number of so many in a space, with a link to each and from each; memory did not run out in it, and no message in
 -- its outboxes is uncounted
-pub record IsMember {S : Type 0} (searched_space : SpaceOf S) (workers v : ℕ) (w : WorkerOf S) : Type 0 where
+pub record IsMember {S F : Type 0} (searched_space : SpaceOf S) (workers v : ℕ) (w : WorkerOf S F) : Type 0 where
   pub space : w.owner.space ≡ searched_space
   pub number : w.owner.worker ≡ v
   pub outs : length w.outs ≡ workers
@@ -27,60 +28,66 @@ pub record IsMember {S : Type 0} (searched_space : SpaceOf S) (workers v : ℕ) 
   pub counted : w.uncounted ≡ 0
 
 -- their ends are those of a link from each of them to each
-abbrev pub AreAllLinked : {S : Type 0} → List (WorkerOf S) → Type 0
-AreAllLinked {S = S} ws = (u v : ℕ) (a b : WorkerOf S) → At ws u a → At ws v b → AreLinked a.outs v b.ins u
+abbrev pub AreAllLinked : {S F : Type 0} → List (WorkerOf S F) → Type 0
+AreAllLinked {S = S} {F = F} ws = (u v : ℕ) (a b : WorkerOf S F) → At ws u a → At ws v b → AreLinked a.outs v b.ins u
 
 -- the workers of a space, each at its number, with links between them
-pub record AreMembers {S : Type 0} (searched_space : SpaceOf S) (ws : List (WorkerOf S)) : Type 0 where
-  pub each : (v : ℕ) (w : WorkerOf S) → At ws v w → IsMember searched_space (length ws) v w
+pub record AreMembers {S F : Type 0} (searched_space : SpaceOf S) (ws : List (WorkerOf S F)) : Type 0 where
+  pub each : (v : ℕ) (w : WorkerOf S F) → At ws v w → IsMember searched_space (length ws) v w
   pub links : AreAllLinked ws
 
 -- there are workers, and no bound that any of them has seen is below the least cost that was offered
-pub record IsTeam {S : Type 0} (t : TeamOf S) : Type 0 where
+pub record IsTeam {S F : Type 0} (t : TeamOf S F) : Type 0 where
   pub some : 0 < length t.workers
   pub members : AreMembers t.space t.workers
   pub best : t.best ≡ least (map (λ w. w.offered) t.workers)
-  pub bounded : (v : ℕ) (w : WorkerOf S) → At t.workers v w → t.best ≤ᵈ w.seen
+  pub bounded : (v : ℕ) (w : WorkerOf S F) → At t.workers v w → t.best ≤ᵈ w.seen
 
 -- ---- the start
 
 -- the ends of new links between so many workers, each with this room: the rows of sending ends by sender, of receiving ends by receiver
-pub record AreFreshLinks (capacity workers : ℕ) (outs : List (List Out)) (ins : List (List In)) : Type 0 where
+pub record AreFreshLinks {F : Type 0} (capacity workers : ℕ) (outs : List (List (Out F))) (ins : List (List (In F))) : Type 0 where
   pub senders : HasSize workers workers outs
   pub receivers : HasSize workers workers ins
   pub matched : AreMatched capacity outs ins
 
 -- the worker of that number at the start, with its ends of these links
-pub record IsFirst {S : Type 0} (searched_space : SpaceOf S) (workers : ℕ) (outs : List (List Out)) (ins : List (List In)) (v : ℕ) (w : WorkerOf S)
+pub record IsFirst {S F : Type 0} (searched_space : SpaceOf S) (workers : ℕ) (outs : List (List (Out F))) (ins : List (List (In F))) (v : ℕ) (w : WorkerOf S F)
     : Type 0 where
   pub is : IsFirstWorker searched_space v workers w.outs w.ins w
   pub sends : At outs v w.outs
   pub receives : At ins v w.ins
 
 -- so many workers at the start
-pub record AreFirstWorkers {S : Type 0} (searched_space : SpaceOf S) (workers : ℕ) (outs : List (List Out)) (ins : List (List In))
-    (ws : List (WorkerOf S)) : Type 0 where
+pub record AreFirstWorkers {S F : Type 0} (searched_space : SpaceOf S) (workers : ℕ) (outs : List (List (Out F))) (ins : List (List (In F)))
+    (ws : List (WorkerOf S F)) : Type 0 where
   pub len : length ws ≡ workers
-  pub each : (v : ℕ) (w : WorkerOf S) → At ws v w → IsFirst searched_space workers outs ins v w
+  pub each : (v : ℕ) (w : WorkerOf S F) → At ws v w → IsFirst searched_space workers outs ins v w
 
 -- so many workers at the start, with links that have room for so many messages and over which nothing was sent
-pub record IsFirstTeam {S : Type 0} (searched_space : SpaceOf S) (workers capacity : ℕ) (t : TeamOf S) : Type 0 where
+pub record IsFirstTeam {S F : Type 0} (searched_space : SpaceOf S) (workers capacity : ℕ) (t : TeamOf S F) : Type 0 where
   pub space : t.space ≡ searched_space
   pub count : length t.workers ≡ workers
-  pub each : (v : ℕ) (w : WorkerOf S) → At t.workers v w → IsFirstWorker searched_space v workers w.outs w.ins w
-  pub none_sent : (v : ℕ) (w : WorkerOf S) → At t.workers v w → (to : ℕ) → sent_to w.outs to ≡ []
-  pub none_received : (v : ℕ) (w : WorkerOf S) → At t.workers v w → (from : ℕ) → received_from w.ins from ≡ []
-  pub room : (v : ℕ) (w : WorkerOf S) → At t.workers v w → (to : ℕ) (o : Out) → slice_get w.outs to ≡ Some o → room o ≡ capacity
+  pub each : (v : ℕ) (w : WorkerOf S F) → At t.workers v w → IsFirstWorker searched_space v workers w.outs w.ins w
+  pub none_sent : (v : ℕ) (w : WorkerOf S F) → At t.workers v w → (values : F → List ℕ) (to : ℕ) → sent_to values w.outs to ≡ []
+  pub none_received : (v : ℕ) (w : WorkerOf S F) → At t.workers v w → (values : F → List ℕ) (from : ℕ) → received_from values w.ins from ≡ []
+  pub room : (v : ℕ) (w : WorkerOf S F) → At t.workers v w → (to : ℕ) (o : Out F) → slice_get w.outs to ≡ Some o → room o ≡ capacity
   pub best : t.best ≡ Infinite
 
 -- ---- what was sent
 
--- what the worker of a number has sent to another, nothing past the last worker
-abbrev pub sent_by : {S : Type 0} → List (WorkerOf S) → ℕ → ℕ → List Message
-sent_by [] u to = []
-sent_by (w ∷ ws) zero to = sent_to w.outs to
-sent_by (w ∷ ws) (suc u) to = sent_by ws u to
+-- what the worker of a number has sent to another, nothing past the last worker, where a form of a state has these values
+abbrev pub sent_by : {S F : Type 0} → (F → List ℕ) → List (WorkerOf S F) → ℕ → ℕ → List Message
+sent_by values [] u to = []
+sent_by values (w ∷ ws) zero to = sent_to values w.outs to
+sent_by values (w ∷ ws) (suc u) to = sent_by values ws u to
+
+-- the values of a form of a state, where a form has these by the ranges of a task's variables
+abbrev pub values_on : {S F : Type 0} → (List ℕ → F → List ℕ) → TeamOf S F → F → List ℕ
+values_on values t = values (ranges t.space.task)
 
 -- no message is in a ring: each worker has received all that was sent to it
-abbrev pub AreEmpty : {S : Type 0} → List (WorkerOf S) → Type 0
-AreEmpty {S = S} ws = (u v : ℕ) (a b : WorkerOf S) → At ws u a → At ws v b → received_from b.ins u ≡ sent_to a.outs v
+abbrev pub AreEmpty : {S F : Type 0} → (List ℕ → F → List ℕ) → TeamOf S F → Type 0
+AreEmpty {S = S} {F = F} values t =
+    (u v : ℕ) (a b : WorkerOf S F) → At t.workers u a → At t.workers v b
+    → received_from (values_on values t) b.ins u ≡ sent_to (values_on values t) a.outs v

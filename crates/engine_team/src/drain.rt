@@ -2,9 +2,10 @@
 
 ghost use Rattle.std.specs.Prelude.{◌≡◌, ◌≢◌, ℕ, ◌+◌, ◌<◌, ◌≤◌, [], length, IfOk};
 ghost use Rattle.std.specs.List.{insert};
+ghost use Rattle.fdr.specs.Tasks.{ranges};
 ghost use Rattle.owner_theory.specs.Owners.{At};
 ghost use Rattle.owner.specs.Spaces.{SpaceOf};
-ghost use Rattle.worker.specs.Workers.{WorkerOf, IsKept};
+ghost use Rattle.worker.specs.Workers.{WorkerOf, values_in, IsKept};
 ghost use Rattle.engine_team.specs.Teams.{AreMembers};
 ghost use Rattle.engine_team.specs.Draining.{AreLookedAt, IsLinkMatched, IsLinkEmptied, AreLinksEmptied, AreDrained, IsDrained};
 
@@ -16,7 +17,7 @@ use worker::Worker;
 
 /// What holds of each worker, stated as a contract for all of them.
 pub(crate) fn recall_each<S: Spread + Drop, F: StateForm + Drop>(workers: &Vec<Worker<'_, S, F>>)
-    ensures { (v : ℕ) (w : WorkerOf S) → At workers.now.items v w → IsKept S.owner w }
+    ensures { (v : ℕ) (w : WorkerOf S F) → At workers.now.items v w → IsKept S.owner F.values w }
 {
     for worker in workers {
         worker.recall();
@@ -82,7 +83,7 @@ fn empty_ring<'a, S: Spread + Drop, F: StateForm + Drop>(
     requires to { to ≤ length others.old.items }
     requires members { (space : SpaceOf S) × AreMembers space (insert others.old.items to receiver.old) }
     requires none_aside { receiver.old.misfits ≡ [] }
-    ensures { IfOk result (λ _. IsLinkEmptied S.owner from to (insert others.old.items to receiver.old) (insert others.new.items to receiver.new)) }
+    ensures { IfOk result (λ _. IsLinkEmptied S.owner (values_in F.values receiver.old) from to (insert others.old.items to receiver.old) (insert others.new.items to receiver.new)) }
 {
     let waiting = match_link(others, receiver, from, to);
     for _ in 0..waiting {
@@ -104,7 +105,7 @@ fn empty_rings<'a, S: Spread + Drop, F: StateForm + Drop>(
 ) -> Result<(), AllocError>
     requires to { to ≤ length others.old.items }
     requires members { (space : SpaceOf S) × AreMembers space (insert others.old.items to receiver.old) }
-    ensures { IfOk result (λ _. AreLinksEmptied S.owner (length (insert others.old.items to receiver.old)) to (insert others.old.items to receiver.old) (insert others.new.items to receiver.new)) }
+    ensures { IfOk result (λ _. AreLinksEmptied S.owner (values_in F.values receiver.old) (length (insert others.old.items to receiver.old)) to (insert others.old.items to receiver.old) (insert others.new.items to receiver.new)) }
 {
     match_links(others, receiver, to);
     for from in 0..receiver.workers() {
@@ -120,7 +121,7 @@ fn empty_rings_to<S: Spread + Drop, F: StateForm + Drop>(
 ) -> Result<(), AllocError>
     requires to { to < length workers.old.items }
     requires members { (space : SpaceOf S) × AreMembers space workers.old.items }
-    ensures { IfOk result (λ _. AreLinksEmptied S.owner (length workers.old.items) to workers.old.items workers.new.items) }
+    ensures { IfOk result (λ _. (space : SpaceOf S) → AreMembers space workers.old.items → AreLinksEmptied S.owner (F.values (ranges space.task)) (length workers.old.items) to workers.old.items workers.new.items) }
 {
     let mut receiver = workers.remove(to);
     empty_rings(workers, &mut receiver, to)?;
@@ -133,7 +134,7 @@ fn empty_all<S: Spread + Drop, F: StateForm + Drop>(
     workers: &mut Vec<Worker<'_, S, F>>,
 ) -> Result<(), AllocError>
     requires { (space : SpaceOf S) × AreMembers space workers.old.items }
-    ensures { IfOk result (λ _. AreDrained S.owner (length workers.old.items) workers.old.items workers.new.items) }
+    ensures { IfOk result (λ _. (space : SpaceOf S) → AreMembers space workers.old.items → AreDrained S.owner (F.values (ranges space.task)) (length workers.old.items) workers.old.items workers.new.items) }
 {
     for to in 0..workers.len() {
         empty_rings_to(workers, to)?;
@@ -145,7 +146,7 @@ impl<'a, S: Spread + Drop, F: StateForm + Drop> Team<'a, S, F> {
     /// The team after each worker has taken the messages that were left in the rings to it: those from worker 0 first, and of each
     /// sender the oldest first. Fails only if allocation fails, and then the team is gone.
     pub fn drain(self) -> Result<Team<'a, S, F>, AllocError>
-        ensures { IfOk result (IsDrained S.owner self.entry) }
+        ensures { IfOk result (IsDrained S.owner F.values self.entry) }
     {
         let Team {
             space,

@@ -29,7 +29,7 @@ fn owners_of<'a, S: Spread + Drop, F: StateForm + Drop>(
 impl<'a, S: Spread + Drop, F: StateForm + Drop> Team<'a, S, F> {
     /// The owners as the end of a search, where no message is left in a ring. Fails only if allocation fails.
     pub fn into_joined(self, alloc: Global) -> Result<Joined<'a, S, F>, AllocError>
-        requires { AreEmpty self.workers }
+        requires { AreEmpty F.values self }
         ensures space { IfOk result (λ j. j.space ≡ self.entry.space) }
         ensures owners { IfOk result (λ j. j.owners ≡ map (λ w. w.owner) self.entry.workers) }
         ensures left { IfOk result (λ j. j.left ≡ []) }

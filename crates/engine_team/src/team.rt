@@ -25,7 +25,7 @@ pub struct Team<'a, S: Spread + Drop, F: StateForm + Drop> {
 impl<'a, S: Spread + Drop, F: StateForm + Drop> Model for Team<'a, S, F> {
     ghost use Rattle.engine_team.specs.Teams.{TeamOf, IsTeam};
 
-    ghost Value = { TeamOf S };
+    ghost Value = { TeamOf S F };
 
     ghost view = { λ t. record { space = t.space.now; workers = t.workers.items; best = t.best } };
 
@@ -47,7 +47,7 @@ pub struct Parts<'a, S: Spread + Drop, F: StateForm + Drop> {
 fn first_workers<'a, S: Spread + Drop, F: StateForm + Drop>(
     alloc: Global,
     space: &'a Space<'a, S>,
-    links: LinkTable,
+    links: LinkTable<F>,
 ) -> Result<Vec<Worker<'a, S, F>>, AllocError>
     requires fits { F.Fits (ranges space.now.task) }
     requires links { (capacity : ℕ) × AreFreshLinks capacity (length links.outs.items) (rows links.outs.items) (rows links.ins.items) }

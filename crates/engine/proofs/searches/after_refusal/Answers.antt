@@ -12,7 +12,7 @@ returns-in-None-clause-outcome g c =
 
 pub into_joined-requires : goal.into_joined-requires
 into_joined-requires g c =
-    asked_empty g.S.Spread.owner c.args.number c.args.team (c.in_ok-team.team, c.in_ok-team.refused) c.in_ok-team.ensures c.requires.empty
+    asked_empty g.S.Spread.owner c.args.number c.args.team (c.in_ok-team.team, c.in_ok-team.refused) c.in_ok-team.ensures g.F.StateForm.values c.requires.empty
 
 pub returns-in-Some-LimitReached-clause-outcome : goal.returns-in-Some-LimitReached-clause-outcome
 returns-in-Some-LimitReached-clause-outcome g c =
@@ -22,7 +22,7 @@ returns-in-Some-LimitReached-clause-outcome g c =
     limit_end g.S.Spread.owner c.args.team.space (length c.args.team.workers) c.in_ok-team.team
     (asked_in g.S.Spread.owner c.args.number c.args.team (c.in_ok-team.team, c.in_ok-team.refused) c.in_ok-team.ensures c.args.team.space
     (length c.args.team.workers) (record { space = refl; count = refl }))
-    joined.field-0 joined.ensures.space joined.ensures.owners joined.ensures.left g.row.F.Denot no_stop
+    joined.field-0 joined.ensures.space joined.ensures.owners joined.ensures.left no_stop
     (still_unsettled g.S.Spread.owner c.args.number c.args.team (c.in_ok-team.team, c.in_ok-team.refused) c.in_ok-team.ensures LimitReached refused
     c.requires.unsettled)
     (refused_by g.S.Spread.owner c.args.number c.args.team (c.in_ok-team.team, c.in_ok-team.refused) c.in_ok-team.ensures LimitReached refused
@@ -30,7 +30,7 @@ returns-in-Some-LimitReached-clause-outcome g c =
 
 pub into_joined-requires-in-Some-TotalTooLarge : goal.into_joined-requires-in-Some-TotalTooLarge
 into_joined-requires-in-Some-TotalTooLarge g c =
-    asked_empty g.S.Spread.owner c.args.number c.args.team (c.in_ok-team.team, c.in_ok-team.refused) c.in_ok-team.ensures c.requires.empty
+    asked_empty g.S.Spread.owner c.args.number c.args.team (c.in_ok-team.team, c.in_ok-team.refused) c.in_ok-team.ensures g.F.StateForm.values c.requires.empty
 
 pub returns-in-Some-TotalTooLarge-clause-fault : goal.returns-in-Some-TotalTooLarge-clause-fault
 returns-in-Some-TotalTooLarge-clause-fault g c =

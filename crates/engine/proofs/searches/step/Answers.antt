@@ -7,15 +7,15 @@ use Rattle.engine.proofs.searches.step.Goals as goal
 
 pub returns-then-is_some-clause-outcome : goal.returns-then-is_some-clause-outcome
 returns-then-is_some-clause-outcome g c =
-    let ready = drained_ready g.S.Spread.owner c.args.team.space (length c.args.team.workers) c.in_ok-played.played c.in_ok-drained.drained
+    let ready = drained_ready g.S.Spread.owner c.args.team.space (length c.args.team.workers) g.F.StateForm.values c.in_ok-played.played c.in_ok-drained.drained
     c.in_ok-played.ensures.team c.in_ok-drained.ensures in
     settled_end g.S.Spread.owner c.args.team.space (length c.args.team.workers) c.in_ok-drained.drained ready.is_in c.in_ok-joined.joined
-    c.in_ok-joined.ensures.space c.in_ok-joined.ensures.owners c.in_ok-joined.ensures.left g.row.F.Denot (g.G.Gate.may_stop c.args.gate.now)
+    c.in_ok-joined.ensures.space c.in_ok-joined.ensures.owners c.in_ok-joined.ensures.left (g.G.Gate.may_stop c.args.gate.now)
     c.in_ok-settled.field-0 c.in_ok-settled.ensures (sym c.is_some.ensures ∙ c.if-is_some.true)
 
 pub after_refusal-requires-clause-none_aside : goal.after_refusal-requires-clause-none_aside
 after_refusal-requires-clause-none_aside g c =
-    (drained_ready g.S.Spread.owner c.args.team.space (length c.args.team.workers) c.in_ok-played.played c.in_ok-drained.drained
+    (drained_ready g.S.Spread.owner c.args.team.space (length c.args.team.workers) g.F.StateForm.values c.in_ok-played.played c.in_ok-drained.drained
     c.in_ok-played.ensures.team c.in_ok-drained.ensures).none_aside
 
 pub after_refusal-requires-clause-unsettled : goal.after_refusal-requires-clause-unsettled
@@ -25,12 +25,12 @@ after_refusal-requires-clause-unsettled g c =
 
 pub returns-in-None-clause-outcome : goal.returns-in-None-clause-outcome
 returns-in-None-clause-outcome g c =
-    drained_ready g.S.Spread.owner c.args.team.space (length c.args.team.workers) c.in_ok-played.played c.in_ok-drained.drained
+    drained_ready g.S.Spread.owner c.args.team.space (length c.args.team.workers) g.F.StateForm.values c.in_ok-played.played c.in_ok-drained.drained
     c.in_ok-played.ensures.team c.in_ok-drained.ensures
 
 pub returns-in-Some-Refused-clause-outcome : goal.returns-in-Some-Refused-clause-outcome
 returns-in-Some-Refused-clause-outcome g c =
-    let ready = drained_ready g.S.Spread.owner c.args.team.space (length c.args.team.workers) c.in_ok-played.played c.in_ok-drained.drained
+    let ready = drained_ready g.S.Spread.owner c.args.team.space (length c.args.team.workers) g.F.StateForm.values c.in_ok-played.played c.in_ok-drained.drained
     c.in_ok-played.ensures.team c.in_ok-drained.ensures in
     IfOk-weaker c.after_refusal.result
     (IsOutcome g.S.Spread.owner no_stop c.in_ok-drained.drained.space (length c.in_ok-drained.drained.workers))
@@ -41,7 +41,7 @@ returns-in-Some-Refused-clause-outcome g c =
 
 pub returns-in-Some-Refused-clause-fault : goal.returns-in-Some-Refused-clause-fault
 returns-in-Some-Refused-clause-fault g c =
-    let ready = drained_ready g.S.Spread.owner c.args.team.space (length c.args.team.workers) c.in_ok-played.played c.in_ok-drained.drained
+    let ready = drained_ready g.S.Spread.owner c.args.team.space (length c.args.team.workers) g.F.StateForm.values c.in_ok-played.played c.in_ok-drained.drained
     c.in_ok-played.ensures.team c.in_ok-drained.ensures in
     MatchResult-weaker c.after_refusal.result c.after_refusal.ensures.fault (λ o h. h)
     (λ f out. fault_under g.S.Spread.owner c.args.team.space (length c.args.team.workers) (g.G.Gate.may_stop c.args.gate.now) f
@@ -49,11 +49,11 @@ returns-in-Some-Refused-clause-fault g c =
 
 pub returns-in_ok-joined-in-Some-AtGate-clause-outcome : goal.returns-in_ok-joined-in-Some-AtGate-clause-outcome
 returns-in_ok-joined-in-Some-AtGate-clause-outcome g c =
-    let ready = drained_ready g.S.Spread.owner c.args.team.space (length c.args.team.workers) c.in_ok-played.played c.in_ok-drained.drained
+    let ready = drained_ready g.S.Spread.owner c.args.team.space (length c.args.team.workers) g.F.StateForm.values c.in_ok-played.played c.in_ok-drained.drained
     c.in_ok-played.ensures.team c.in_ok-drained.ensures in
     let joined = c.in_ok-joined-in-Some-AtGate in
     gate_end g.S.Spread.owner c.args.team.space (length c.args.team.workers) c.in_ok-drained.drained ready.is_in joined.joined
-    joined.ensures.space joined.ensures.owners joined.ensures.left g.row.F.Denot (g.G.Gate.may_stop c.args.gate.now)
+    joined.ensures.space joined.ensures.owners joined.ensures.left (g.G.Gate.may_stop c.args.gate.now)
     (unsettled (searched g.S.Spread.owner c.in_ok-drained.drained.space (length c.in_ok-drained.drained.workers))
     (map (λ w. w.owner) c.in_ok-drained.drained.workers) c.in_ok-settled.field-0 c.in_ok-settled.ensures (sym c.is_some.ensures ∙ c.if-is_some.false))
     (subst (IsHalt (g.G.Gate.may_stop c.args.gate.now) (length c.args.team.workers)) (c.in-Some-AtGate.is ∙ ap Some (rw c.in-Some-AtGate.is at c.in-Some-AtGate.field-0-is))

@@ -19,7 +19,7 @@ pub with_next-requires-2 : goal.with_next-requires-2
 with_next-requires-2 g t c =
     omega (
       arith,
-      as_long (HasDone g.S.Spread.owner (g.G.Gate.may_stop c.args.gate.now) c.args.board.now) c.pop.new.self.items c.work_with-worked.result.items c.work_with-worked.ensures.worked,
+      as_long (HasDone g.S.Spread.owner g.F.StateForm.values (g.G.Gate.may_stop c.args.gate.now) c.args.board.now) c.pop.new.self.items c.work_with-worked.result.items c.work_with-worked.ensures.worked,
       c.work_with-worked.ensures.room,
       c.requires.room.1,
       c.in-Some.ensures.cases,
@@ -32,13 +32,13 @@ returns-clause-own g t c = (c.work_with-worked.ensures.own.0, c.work_with-worked
 
 pub returns-clause-worked : goal.returns-clause-worked
 returns-clause-worked g t c =
-    one_more (HasDone g.S.Spread.owner (g.G.Gate.may_stop c.args.gate.now) c.args.board.now) c.args.jobs.items c.pop.new.self.items c.in-Some.job c.work_with-worked.result.items
+    one_more (HasDone g.S.Spread.owner g.F.StateForm.values (g.G.Gate.may_stop c.args.gate.now) c.args.board.now) c.args.jobs.items c.pop.new.self.items c.in-Some.job c.work_with-worked.result.items
     c.with_next-2.result.items c.finish.result c.in-Some.ensures.items c.with_next-2.ensures.items c.work_with-worked.ensures.worked
-    (subst (λ (x : BegunOf g.row.S.Denot g.row.G.Denot). HasWorked g.S.Spread.owner (g.G.Gate.may_stop x.gate) x.board x.job.seat x.job.worker c.finish.result) c.begin-begun.ensures.job c.finish.ensures)
+    (subst (λ (x : BegunOf g.row.S.Denot g.row.F.Denot g.row.G.Denot). HasWorked g.S.Spread.owner g.F.StateForm.values (g.G.Gate.may_stop x.gate) x.board x.job.seat x.job.worker c.finish.result) c.begin-begun.ensures.job c.finish.ensures)
 
 pub returns-then-is_empty-clause-worked : goal.returns-then-is_empty-clause-worked
 returns-then-is_empty-clause-worked g t c =
-    one_more (HasDone g.S.Spread.owner (g.G.Gate.may_stop c.args.gate.now) c.args.board.now) c.args.jobs.items c.pop.new.self.items c.in-Some.job c.args.worked.items
+    one_more (HasDone g.S.Spread.owner g.F.StateForm.values (g.G.Gate.may_stop c.args.gate.now) c.args.board.now) c.args.jobs.items c.pop.new.self.items c.in-Some.job c.args.worked.items
     c.with_next.result.items c.run.result c.in-Some.ensures.items c.with_next.ensures.items
-    (none_left (HasDone g.S.Spread.owner (g.G.Gate.may_stop c.args.gate.now) c.args.board.now) c.pop.new.self.items c.args.worked.items (empty_is c.pop.new.self.len (length c.pop.new.self.items) (sym c.is_empty.ensures ∙ c.if-is_empty.true) c.pop.new.self.ok.0) c.requires.room.0)
+    (none_left (HasDone g.S.Spread.owner g.F.StateForm.values (g.G.Gate.may_stop c.args.gate.now) c.args.board.now) c.pop.new.self.items c.args.worked.items (empty_is c.pop.new.self.len (length c.pop.new.self.items) (sym c.is_empty.ensures ∙ c.if-is_empty.true) c.pop.new.self.ok.0) c.requires.room.0)
     c.run.ensures

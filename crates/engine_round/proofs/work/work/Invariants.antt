@@ -1,4 +1,4 @@
-use Rattle.engine_round.proofs.Kept.{IsAtWork}
+use Rattle.engine_round.specs.Turns.{IsAtWork}
 use Rattle.engine_round.proofs.work.work.Given as goal
 
 abbrev pub invariant-loop : goal.invariant-loop

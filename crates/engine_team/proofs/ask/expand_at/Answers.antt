@@ -10,7 +10,7 @@ use Rattle.engine_team.proofs.ask.expand_at.Goals as goal
 
 pub expand-requires : goal.expand-requires
 expand-requires g c =
-    ap (λ (w : WorkerOf g.row.S.Denot). w.uncounted) c.in_ok-tell.ensures
+    ap (λ (w : WorkerOf g.row.S.Denot g.row.F.Denot). w.uncounted) c.in_ok-tell.ensures
     ∙ (c.requires.members.1.each c.args.number c.index_mut-worker.result.now
     (at_read c.args.workers.now.items c.args.number c.index_mut-worker.result.now c.requires.number c.index_mut-worker.ensures.value)).counted
 

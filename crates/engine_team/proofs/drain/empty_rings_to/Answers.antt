@@ -15,5 +15,5 @@ empty_rings-requires g c = record {
 pub returns : goal.returns
 returns g c =
     rw c.in_ok-insert.ensures.items
-    (put_in g.S.Spread.owner c.args.workers.now.items c.remove-receiver.new.self.items c.args.to c.remove-receiver.result c.requires.to
+    (put_in g.S.Spread.owner g.F.StateForm.values c.args.workers.now.items c.remove-receiver.new.self.items c.args.to c.remove-receiver.result c.requires.to
     c.remove-receiver.ensures.value c.remove-receiver.ensures.items _ c.in_ok-empty_rings.ensures)

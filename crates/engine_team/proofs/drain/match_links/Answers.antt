@@ -10,13 +10,13 @@ loop-from-init g c = (no_link_yet g.S.Spread.owner c.args.to (insert c.args.othe
 
 pub match_link-requires : goal.match_link-requires
 match_link-requires g c = record {
-  from = still_inside g.S.Spread.owner c.requires.members.0 c.args.to c.args.others.now.items c.args.receiver.now c.requires.to c.requires.members.1
+  from = still_inside g.S.Spread.owner g.F.StateForm.values c.requires.members.0 c.args.to c.args.others.now.items c.args.receiver.now c.requires.to c.requires.members.1
       c.loop-from.others.items c.loop-from.invariant.1 c.loop-from.from c.workers-from-end.result c.loop-from-test.true c.workers-from-end.ensures.outs;
-  to = still_within g.S.Spread.owner c.requires.members.0 c.args.to c.args.others.now.items c.args.receiver.now c.requires.to c.requires.members.1
+  to = still_within g.S.Spread.owner g.F.StateForm.values c.requires.members.0 c.args.to c.args.others.now.items c.args.receiver.now c.requires.to c.requires.members.1
       c.loop-from.others.items c.loop-from.invariant.1;
   members = (
     c.requires.members.0,
-    matching_members g.S.Spread.owner c.requires.members.0 c.args.to c.args.others.now.items c.args.receiver.now c.requires.to c.requires.members.1
+    matching_members g.S.Spread.owner g.F.StateForm.values c.requires.members.0 c.args.to c.args.others.now.items c.args.receiver.now c.requires.to c.requires.members.1
         c.loop-from.from c.loop-from.others.items c.loop-from.receiver c.loop-from.invariant.0,
   );
 }
@@ -34,6 +34,6 @@ returns-clause-looked g c = c.loop-from.invariant.0.looked
 
 pub returns-clause-none_aside : goal.returns-clause-none_aside
 returns-clause-none_aside g c =
-    matching_done g.S.Spread.owner c.requires.members.0 c.args.to c.args.others.now.items c.args.receiver.now c.requires.to c.requires.members.1
+    matching_done g.S.Spread.owner g.F.StateForm.values c.requires.members.0 c.args.to c.args.others.now.items c.args.receiver.now c.requires.to c.requires.members.1
     c.loop-from.from c.workers-from-end.result c.loop-from.others.items c.loop-from.receiver c.loop-from.invariant.1 c.loop-from-test.false
     c.workers-from-end.ensures.outs c.loop-from.invariant.0 c.recall_each.ensures c.recall.ensures c.owner.result.now c.owner.ensures c.recall-2.ensures.space

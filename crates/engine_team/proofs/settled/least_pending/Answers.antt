@@ -29,5 +29,5 @@ loop-worker-preserved g c =
 pub returns : goal.returns
 returns g c =
     c.loop-worker.invariant
-    ∙ ap (λ (ws : List (WorkerOf g.row.S.Denot)). least (map (λ w. least_held g.S.Spread.owner w.owner) ws))
+    ∙ ap (λ (ws : List (WorkerOf g.row.S.Denot g.row.F.Denot)). least (map (λ w. least_held g.S.Spread.owner w.owner) ws))
     (take_all c.loop-worker.worker-index c.args.workers.now c.loop-worker-test.false)

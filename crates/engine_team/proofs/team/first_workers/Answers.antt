@@ -1,4 +1,5 @@
 use Rattle.std.proofs.Common.{◌≡◌, ◌∙◌, rules, [], ◌∷◌, length, sym, ap}
+use Rattle.fdr.specs.Tasks.{ranges}
 use Rattle.links.specs.Tables.{rows}
 use Rattle.engine_team.proofs.Starting.{starts, next_sends, next_receives, next_started, all_started, either, rows_long}
 use Rattle.engine_team.proofs.team.first_workers.Goals as goal
@@ -15,19 +16,21 @@ pub start-requires-clause-outs : goal.start-requires-clause-outs
 start-requires-clause-outs g c =
     let first : c.loop-outs.outs-iterator.a.rest.items ≡ c.in-Some.outs ∷ c.next.new.self.a.rest.items = search rules in
     let second : c.loop-outs.outs-iterator.b.rest.items ≡ c.in-Some.ins ∷ c.next.new.self.b.rest.items = search rules in
-    next_sends c.requires.links.0 (length c.args.links.outs.items) (rows c.args.links.outs.items) (rows c.args.links.ins.items) c.requires.links.1 c.args.space.now
+    let sends = next_sends c.requires.links.0 (length c.args.links.outs.items) (rows c.args.links.outs.items) (rows c.args.links.ins.items) c.requires.links.1 c.args.space.now
     c.loop-outs.workers.items (rows c.loop-outs.outs-iterator.a.rest.items) (rows c.loop-outs.outs-iterator.b.rest.items) c.in-Some.outs.items c.in-Some.ins.items
     (rows c.next.new.self.a.rest.items) (rows c.next.new.self.b.rest.items) c.loop-outs.invariant (ap rows first) (ap rows second) c.len-count.result
-    (c.len-count.ensures ∙ c.args.links.outs.ok.0)
+    (c.len-count.ensures ∙ c.args.links.outs.ok.0) in
+    (sends.0, sends.1 (g.F.StateForm.values (ranges c.args.space.now.task)))
 
 pub start-requires-clause-ins : goal.start-requires-clause-ins
 start-requires-clause-ins g c =
     let first : c.loop-outs.outs-iterator.a.rest.items ≡ c.in-Some.outs ∷ c.next.new.self.a.rest.items = search rules in
     let second : c.loop-outs.outs-iterator.b.rest.items ≡ c.in-Some.ins ∷ c.next.new.self.b.rest.items = search rules in
-    next_receives c.requires.links.0 (length c.args.links.outs.items) (rows c.args.links.outs.items) (rows c.args.links.ins.items) c.requires.links.1 c.args.space.now
+    let receives = next_receives c.requires.links.0 (length c.args.links.outs.items) (rows c.args.links.outs.items) (rows c.args.links.ins.items) c.requires.links.1 c.args.space.now
     c.loop-outs.workers.items (rows c.loop-outs.outs-iterator.a.rest.items) (rows c.loop-outs.outs-iterator.b.rest.items) c.in-Some.outs.items c.in-Some.ins.items
     (rows c.next.new.self.a.rest.items) (rows c.next.new.self.b.rest.items) c.loop-outs.invariant (ap rows first) (ap rows second) c.len-count.result
-    (c.len-count.ensures ∙ c.args.links.outs.ok.0)
+    (c.len-count.ensures ∙ c.args.links.outs.ok.0) in
+    (receives.0, receives.1 (g.F.StateForm.values (ranges c.args.space.now.task)))
 
 pub loop-outs-preserved : goal.loop-outs-preserved
 loop-outs-preserved g c =

@@ -10,15 +10,15 @@ use Rattle.engine_team.proofs.team.Team.settled.Goals as goal
 pub returns-then-le : goal.returns-then-le
 returns-then-le g c =
     rw (← c.self.view_is)
-    (let t : TeamOf g.row.S.Denot = record { space = c.self.inside.space.now; workers = c.self.inside.workers.items; best = c.self.inside.best } in
-    team_settled g.S.Spread.owner t (form_of g.S.Spread.owner t c.self.invariant c.recall_each.ensures) c.best_goal-best.result c.least_pending.result
-    (c.best_goal-best.ensures ∙ ap (λ (ws : List (WorkerOf g.row.S.Denot)). least (map (λ w. w.owner.best) ws)) c.deref.ensures.value)
-    (c.least_pending.ensures ∙ ap (λ (ws : List (WorkerOf g.row.S.Denot)). least (map (λ w. least_held g.S.Spread.owner w.owner) ws)) c.deref-2.ensures.value) (sym c.le.ensures ∙ c.if-le.true))
+    (let t : TeamOf g.row.S.Denot g.row.F.Denot = record { space = c.self.inside.space.now; workers = c.self.inside.workers.items; best = c.self.inside.best } in
+    team_settled g.S.Spread.owner t (form_of g.S.Spread.owner g.F.StateForm.values t c.self.invariant c.recall_each.ensures) c.best_goal-best.result c.least_pending.result
+    (c.best_goal-best.ensures ∙ ap (λ (ws : List (WorkerOf g.row.S.Denot g.row.F.Denot)). least (map (λ w. w.owner.best) ws)) c.deref.ensures.value)
+    (c.least_pending.ensures ∙ ap (λ (ws : List (WorkerOf g.row.S.Denot g.row.F.Denot)). least (map (λ w. least_held g.S.Spread.owner w.owner) ws)) c.deref-2.ensures.value) (sym c.le.ensures ∙ c.if-le.true))
 
 pub returns : goal.returns
 returns g c =
     rw (← c.self.view_is)
-    (let t : TeamOf g.row.S.Denot = record { space = c.self.inside.space.now; workers = c.self.inside.workers.items; best = c.self.inside.best } in
-    team_unsettled g.S.Spread.owner t (form_of g.S.Spread.owner t c.self.invariant c.recall_each.ensures) c.best_goal-best.result c.least_pending.result
-    (c.best_goal-best.ensures ∙ ap (λ (ws : List (WorkerOf g.row.S.Denot)). least (map (λ w. w.owner.best) ws)) c.deref.ensures.value)
-    (c.least_pending.ensures ∙ ap (λ (ws : List (WorkerOf g.row.S.Denot)). least (map (λ w. least_held g.S.Spread.owner w.owner) ws)) c.deref-2.ensures.value) (sym c.le.ensures ∙ c.if-le.false))
+    (let t : TeamOf g.row.S.Denot g.row.F.Denot = record { space = c.self.inside.space.now; workers = c.self.inside.workers.items; best = c.self.inside.best } in
+    team_unsettled g.S.Spread.owner t (form_of g.S.Spread.owner g.F.StateForm.values t c.self.invariant c.recall_each.ensures) c.best_goal-best.result c.least_pending.result
+    (c.best_goal-best.ensures ∙ ap (λ (ws : List (WorkerOf g.row.S.Denot g.row.F.Denot)). least (map (λ w. w.owner.best) ws)) c.deref.ensures.value)
+    (c.least_pending.ensures ∙ ap (λ (ws : List (WorkerOf g.row.S.Denot g.row.F.Denot)). least (map (λ w. least_held g.S.Spread.owner w.owner) ws)) c.deref-2.ensures.value) (sym c.le.ensures ∙ c.if-le.false))
