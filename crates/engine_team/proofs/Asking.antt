@@ -44,13 +44,14 @@ told_bound offered old new u v w first offers looked closes =
     ∙ ap (λ (d : Distance). record old { bound = d; seen = lesser old.seen d })
     (bound_is offered new.bound u v w first offers looked.view looked.falls.1 closes)
 
-module _ {S F : Type 0} (owner : S → List ℕ → ℕ → ℕ) where
+module _ {S : Type 0} (owner : S → List ℕ → ℕ → ℕ) where
   -- an owner that answers keeps its space and its number
   expansion_keeps : (bound : Distance) (o p : OwnerOf S) (posted : Option ℕ) → IsExpansion owner bound o p posted
       → (p.space ≡ o.space) × (p.worker ≡ o.worker)
   expansion_keeps bound o p None e = (ap (λ (q : OwnerOf S). q.space) e.1, ap (λ (q : OwnerOf S). q.worker) e.1)
   expansion_keeps bound o p (Some n) e = (e.space, e.worker)
 
+module _ {S F : Type 0} (owner : S → List ℕ → ℕ → ℕ) where
   -- where memory did not run out, the worker is as it was
   not_memory : (fault : OwnerFault) → fault ≢ OutOfMemory → (a m : WorkerOf S F) → IsExpandRefusal owner a m fault
       → IsRefusal owner a.bound a.owner m.owner fault × (m ≡ a)
@@ -60,7 +61,7 @@ module _ {S F : Type 0} (owner : S → List ℕ → ℕ → ℕ) where
 
   answer_keeps : (bound : Distance) (a b : WorkerOf S F) (refused : Option OwnerFault) → HasAnswered owner bound a b refused
       → (b.owner.space ≡ a.owner.space) × (b.owner.worker ≡ a.owner.worker)
-  answer_keeps bound a b None h = expansion_keeps bound a.owner b.owner h.0 h.1
+  answer_keeps bound a b None h = expansion_keeps owner bound a.owner b.owner h.0 h.1
   answer_keeps bound a b (Some fault) h = (ap (λ (q : OwnerOf S). q.space) h.2, ap (λ (q : OwnerOf S). q.worker) h.2)
 
   -- ---- one worker of a list is asked: as it was, told the bound, after its owner has answered, and when it begins a round

@@ -1,5 +1,5 @@
 -- Elements of a list of which one or two are changed.
-use Rattle.std.proofs.Common.{◌≡◌, ◌≢◌, ◌⊎◌, ℕ, zero, suc, ◌+◌, ◌<◌, ◌≤◌, List, [], ◌∷◌, length, get_or, refl, sym, ap, subst, inl, inr, ⊎_elim, arith}
+use Rattle.std.proofs.Common.{◌≡◌, ◌≢◌, ◌⊎◌, ℕ, zero, suc, ◌+◌, ◌<◌, ◌≤◌, List, [], ◌∷◌, ◌++◌, length, map, get_or, refl, sym, ap, ◌∙◌, subst, append_assoc, inl, inr, ⊎_elim, arith}
 use Rattle.std.specs.Prelude.{slice_set}
 use Rattle.std.proofs.lemmas.Bool.{cases_lt}
 use Rattle.owner_theory.specs.Owners.{At}
@@ -45,3 +45,11 @@ each_more_read {X = X} P xs ys e k x within is here each =
 pub each_all_read : {X : Type 0} (P : ℕ → X → Type 0) (xs ys : List X) (e : ys ≡ xs) (k : ℕ) → length ys ≤ k
     → ((v : ℕ) (w : X) → v < k → At xs v w → P v w) → (v : ℕ) (w : X) → At xs v w → P v w
 each_all_read {X = X} P xs ys e k le each = each_all P xs k (subst (λ (zs : List X). length zs ≤ k) e le) each
+
+-- what is mapped so far, and what is left of a list, of which the next element is mapped
+pub mapped_next : {X Y : Type 0} (f : X → Y) (done new : List Y) (all : List Y) (y : Y) (x : X) (left rest : List X) → left ≡ x ∷ rest → y ≡ f x
+    → new ≡ done ++ y ∷ [] → done ++ map f left ≡ all → new ++ map f rest ≡ all
+mapped_next {X = X} {Y = Y} f done new all y x left rest e is pushed before =
+    ap (λ (ys : List Y). ys ++ map f rest) pushed
+    ∙ (append_assoc done (y ∷ []) (map f rest)
+    ∙ (ap (λ (z : Y). done ++ (z ∷ map f rest)) is ∙ (ap (λ (xs : List X). done ++ map f xs) (sym e) ∙ before)))

@@ -7,6 +7,11 @@ use Rattle.engine_team.proofs.Joining.{form_of}
 use Rattle.engine_team.proofs.Settling.{team_settled, team_unsettled}
 use Rattle.engine_team.proofs.team.Team.settled.Goals as goal
 
+pub least_pending-requires-clause-buffer : goal.least_pending-requires-clause-buffer
+least_pending-requires-clause-buffer g c =
+    let names = rw c.task.ensures at c.variable_count.ensures in
+    c.deref_mut.ensures.len ∙ (c.in_ok-state.ensures.len ∙ names)
+
 pub returns-then-le : goal.returns-then-le
 returns-then-le g c =
     rw (← c.self.view_is)
