@@ -7,7 +7,7 @@ use Rattle.optplan_sas.specs.Searches.{EndsAfter, IsRefusedAfter}
 use Rattle.optplan_sas.proofs.searching.found_after.Goals as goal
 
 pub returns-clause-found : goal.returns-clause-found
-returns-clause-found c =
+returns-clause-found g c =
     let steps = c.args.steps.now in
     let options = c.args.options.now in
     subst
@@ -16,7 +16,7 @@ returns-clause-found c =
     c.in_ok-space.ensures.task_is c.after_steps_in_smallest_form.ensures.found
 
 pub returns-clause-refused : goal.returns-clause-refused
-returns-clause-refused c =
+returns-clause-refused g c =
     subst
     (λ (t : FiniteDomainTask). IfErr c.after_steps_in_smallest_form.result (IsRefusedAfter c.args.options.now c.args.steps.now t))
     c.in_ok-space.ensures.task_is c.after_steps_in_smallest_form.ensures.refused

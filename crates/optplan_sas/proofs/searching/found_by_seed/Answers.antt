@@ -7,7 +7,7 @@ use Rattle.optplan_sas.specs.Searches.{EndsBySeed, IsRefusedBySeed}
 use Rattle.optplan_sas.proofs.searching.found_by_seed.Goals as goal
 
 pub returns-clause-found : goal.returns-clause-found
-returns-clause-found c =
+returns-clause-found g c =
     let seed = c.args.seed in
     let options = c.args.options.now in
     subst
@@ -16,7 +16,7 @@ returns-clause-found c =
     c.in_ok-space.ensures.task_is c.by_seed_in_smallest_form.ensures.found
 
 pub returns-clause-refused : goal.returns-clause-refused
-returns-clause-refused c =
+returns-clause-refused g c =
     subst
     (λ (t : FiniteDomainTask). IfErr c.by_seed_in_smallest_form.result (IsRefusedBySeed c.args.options.now c.args.seed t))
     c.in_ok-space.ensures.task_is c.by_seed_in_smallest_form.ensures.refused
