@@ -19,7 +19,7 @@ from second_reading import certificate_fault, check_sas
 
 FINITE_DOMAIN = (("road", "closed.cert"), ("road", "table.cert"))
 PLANNING = ("blocks", "door", "drive", "grip", "gripper", "lamp", "logistics", "noop", "road")
-VERDICT = re.compile(rb"(valid \d+|invalid [^\n]*)\n")
+VERDICT = re.compile(rb"(valid \d+|no such action \d+|not applicable \d+ \(.+\)|goal open \(.+\))\n")
 CLAUSE = re.compile(rb"(accepted (\d+|unsolvable)|rejected C[1-8]( [^\n]*)?)\n")
 FAULT = re.compile(rb"optplan: F(\d+) [A-Za-z]+( [^\n ]+)?( (domain|problem|plan|cert)( (\d+))?)?\n")
 
