@@ -54,10 +54,10 @@ class Threads(PlannerTest):
         self.is_cheapest(GRIP_DOMAIN, GRIP_PROBLEM, outcome, 7)
 
     def test_many_states(self):
-        # Five discs stand in 3^5 = 243 ways, and without tables nearly all of them cost less than the 2^5 - 1 moves to the goal.
-        problem = tower(5)
+        # Nine discs stand in 3^9 = 19,683 ways, and without tables nearly all of them cost less than the 2^9 - 1 moves to the goal.
+        problem = tower(9)
         searches = [{"workers": 4, "ring": 1} for _ in range(SEARCHES)]
-        self.costs_by(searches, HANOI, problem, 31, table=1)
+        self.costs_by(searches, HANOI, problem, 511, table=1)
 
     def is_bounded(self, problem, outcome, cost):
         """Fails unless the outcome is a bound of at most this cost with no plan, and a certificate that the checker accepts for it."""
