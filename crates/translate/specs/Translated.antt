@@ -78,7 +78,8 @@ IsTooLarge task atoms variables (fault.Misplaced k) = ⊥
 abbrev pub indexed : PlanningTask → List Atom → Indexed
 indexed task atoms = record { task = task; atoms = atoms; actions = actions_over task (contains atoms) }
 
--- the atoms are the least closed set, in order, and the variables are those that are chosen over them by proposed groups
+-- the atoms are the least closed set, in order, and the variables are those that are chosen over them from some groups
+-- that may be proposed
 pub record AreChosenParts (task : PlanningTask) (atoms : List Atom) (variables : List PlacedVariable) : Type 0 where
   pub least : IsLeastClosedSet task (contains atoms)
   pub ascending : IsAscending atoms
