@@ -1,6 +1,9 @@
 """Searches that are stopped by `--limit` or `--steps`: the bound, the best plan so far, and the certificate of the bound."""
 
+import re
+
 from program import Outcome, ProgramTest, checked, checked_sas, example, run
+from test_threads import HANOI, tower
 
 # Examples that are solved, or shown to have no plan, after few states.
 SMALL_TASKS = ("blocks", "door", "drive", "grip", "gripper", "lamp", "noop", "road")
@@ -52,7 +55,7 @@ def bound_of(outcome):
     return outcome.out.splitlines()[-1].removeprefix(b"; cost = ").split()[0].decode()
 
 
-class LimitTest(ProgramTest):
+class StoppedTest(ProgramTest):
     def is_solved(self, outcome, out, status, plan=None, **row):
         """Fails, with the row, unless this was printed, with this status, and the plan's file is this, if one is expected."""
         with self.subTest(**row):
@@ -64,6 +67,8 @@ class LimitTest(ProgramTest):
         """Fails, with the row, unless the certificate is accepted for exactly what was answered."""
         self.is_answered(checked(domain, problem, outcome.files["cert"]), f"accepted {bound_of(outcome)}", **row)
 
+
+class LimitTest(StoppedTest):
     def test_bound_before_a_plan_is_found(self):
         # the tables of ROAD are exact, so the least open f is 2 from the first state on, and after one step of any owner too
         for words in (("--workers", "1", "--limit", "1"), ("--workers", "1", "--limit", "0"), ("--steps", "1"), ("--steps", "0")):
@@ -131,3 +136,58 @@ class LimitTest(ProgramTest):
                 with self.subTest(name=name, limit=limit):
                     self.assertLessEqual(least, bound)
                 least = bound
+
+
+# A line of progress: seconds, states expanded and kept, the least f of those that are open, and the least cost of a goal state.
+LINE_OF_PROGRESS = re.compile(r"optplan: \d+ s, \d+ expanded, \d+ kept, least f \d+, (no plan yet|best cost \d+)")
+
+
+class WatchTest(StoppedTest):
+    """Searches by threads that time or memory ends, and their progress."""
+
+    def test_no_memory(self):
+        # the initial state takes memory, so the first turn is not taken
+        outcome = solved(DRIVE, D1, *DRIVE_WITHOUT_TABLES, "--memory", "0", seed=None)
+        self.is_solved(outcome, b"limit 0\n", STOPPED)
+        self.is_certified(DRIVE, D1, outcome)
+
+    def test_memory_enough(self):
+        plan = b"(go a b)\n(go b c)\n; cost = 7 (general cost)\n"
+        for words in (("--memory", "1"), ("--memory", "9223372036854775807")):
+            outcome = solved(DRIVE, D1, *words, seed=None)
+            self.is_solved(outcome, plan, 0, plan, words=words)
+
+    def test_memory_for_some_states(self):
+        # of 3^10 states, 1 MiB holds some 13,000 of 80 bytes, so neither few nor all are kept
+        for workers in ("1", "4"):
+            outcome = solved(HANOI, tower(10), "--table", "1", "--workers", workers, "--memory", "1", seed=None)
+            self.assertEqual(outcome.status, STOPPED)
+            closed = next(line for line in outcome.files["cert"].splitlines() if line.startswith(b"closed "))
+            with self.subTest(workers=workers, closed=closed):
+                self.assertGreater(int(closed.split()[1]), 1_000)
+                self.assertLess(int(closed.split()[1]), 20_000)
+            self.is_certified(HANOI, tower(10), outcome, workers=workers)
+
+    def test_memory_of_a_simulation_is_not_limited(self):
+        plan = b"(go a b)\n(go b c)\n; cost = 7 (general cost)\n"
+        self.is_solved(solved(DRIVE, D1, "--memory", "0"), plan, 0, plan)
+
+    def test_progress_changes_nothing_else(self):
+        for name in SMALL_TASKS:
+            domain, problem = example(name, "domain.pddl"), example(name, "problem.pddl")
+            for words in (("--workers", "1"), ("--workers", "1", "--limit", "3")):
+                plain, told = (solved(domain, problem, *words, *more, seed=None) for more in ((), ("--progress",)))
+                with self.subTest(name=name, words=words):
+                    self.assertEqual((plain.out, plain.status, plain.files), (told.out, told.status, told.files))
+                    self.are_lines_of_progress(told.err)
+
+    def test_progress_of_a_search_of_seconds(self):
+        # the look at which the time is over tells the progress first
+        outcome = solved(HANOI, tower(16), "--table", "1", "--time", "1", "--progress", seed=None)
+        self.assertEqual(outcome.status, STOPPED)
+        self.assertGreaterEqual(len(outcome.err.splitlines()), 1)
+        self.are_lines_of_progress(outcome.err)
+
+    def are_lines_of_progress(self, text):
+        for line in text.decode().splitlines():
+            self.assertRegex(line, f"^{LINE_OF_PROGRESS.pattern}$")

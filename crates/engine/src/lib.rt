@@ -6,7 +6,7 @@ mod halt;
 mod searched;
 mod searches;
 
-pub use engine_round::{Gate, Open, Stop};
+pub use engine_round::{Gate, Open, Progress, Stop};
 pub use fault::EngineFault;
 pub use searched::Searched;
 pub use searches::search;

@@ -1,5 +1,7 @@
 //! What may end a search by threads between turns.
 
+use crate::progress::Progress;
+
 /// How a gate ends a search.
 #[derive(Clone, Copy, Debug, PartialEq, Eq)]
 pub enum Stop {
@@ -17,9 +19,9 @@ pub trait Gate {
     /// Whether the gate may end a search so, before the turn of that number of the worker of that number.
     ghost may_stop: { Self → ℕ → ℕ → Stop → Type 0 };
 
-    /// Asked before a turn of a worker, in the worker's thread. Workers are counted from 0, and the turns of each from 1 in each
-    /// round; a turn's number stays at 2^64 - 1 once it is there. Allocates nothing.
-    fn turn(&self, worker: usize, turn: u64) -> Result<(), Stop>
+    /// Asked before a turn of a worker, in the worker's thread, with what the worker has come to. Workers are counted from 0, and the
+    /// turns of each from 1 in each round; a turn's number stays at 2^64 - 1 once it is there.
+    fn turn(&self, worker: usize, turn: u64, progress: Progress) -> Result<(), Stop>
         ensures { IfErr result (may_stop self.now worker turn) };
 }
 
@@ -30,7 +32,7 @@ pub struct Open;
 impl Gate for Open {
     ghost may_stop = { λ _ _ _ _. ⊥ };
 
-    fn turn(&self, _worker: usize, _turn: u64) -> Result<(), Stop> {
+    fn turn(&self, _worker: usize, _turn: u64, _progress: Progress) -> Result<(), Stop> {
         Ok(())
     }
 }

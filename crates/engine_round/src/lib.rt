@@ -7,6 +7,7 @@ mod finish;
 mod gate;
 mod job;
 mod pause;
+mod progress;
 mod relay;
 mod rounds;
 mod seats;
@@ -15,4 +16,5 @@ mod work;
 
 pub use fault::TurnFault;
 pub use gate::{Gate, Open, Stop};
+pub use progress::Progress;
 pub use rounds::{RoundEnd, round};

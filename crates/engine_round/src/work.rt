@@ -8,6 +8,7 @@ ghost use Rattle.engine_round.specs.Turns.{IsTurnFault, HasWorked};
 use crate::fault::TurnFault;
 use crate::gate::Gate;
 use crate::pause::Pause;
+use crate::progress::progress_of;
 use crate::relay::relay;
 use board::{Board, Seat};
 use owner::OwnerFault;
@@ -56,7 +57,8 @@ fn take_turn<'a, S: Spread + Drop, F: StateForm + Drop, G: Gate>(
     ensures fault { IfErr result (IsTurnFault S.owner F.values (G.may_stop gate.now) worker.old worker.new (view seat.old) (view seat.new)) }
     ensures none_uncounted { worker.new.uncounted ≡ 0 }
 {
-    if let Err(stop) = gate.turn(number, turn) {
+    let progress = progress_of(worker);
+    if let Err(stop) = gate.turn(number, turn, progress) {
         worker.look(board, seat); // the bound that it read last may be that of an earlier round
         return Err(TurnFault::Gate(turn, stop));
     }

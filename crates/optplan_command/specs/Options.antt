@@ -2,6 +2,7 @@
 use Rattle.std.specs.Prelude.{◌≡◌, ℕ, ◌≤◌, ◌<◌, ◌^◌, List, Option, Some, None, codes}
 use Rattle.std.specs.Str.Parse.{IsNumeral, digits_value}
 use Rattle.optplan_sas.specs.Choices.{Choices}
+use Rattle.optplan_solve.specs.declared.settings.Watch.{Watch}
 use Rattle.optplan_solve.specs.declared.settings.Schedule.{Schedule}
 use Rattle.optplan_solve.specs.declared.settings.Schedule.TheVariants.{Threads, Drawn}
 use Rattle.optplan_solve.specs.declared.settings.Settings.{Settings}
@@ -32,22 +33,23 @@ pub record AreChoicesOf (value : List ℕ → Option (List ℕ)) (choices : Choi
   pub ring : IsNumberOr 64 1 65536 (value (codes "ring")) choices.ring
   pub steps : IsNumberOr 1000000 0 9223372036854775807 (value (codes "steps")) choices.steps
 
--- the schedule by a seed and by seconds: steps drawn from the seed, whatever the seconds; or where there is none, threads, which have
--- these seconds, if there are any
-abbrev pub schedule_by : Option ℕ → Option ℕ → Schedule
-schedule_by (Some seed) seconds = Drawn seed
-schedule_by None seconds = Threads seconds
+-- the schedule by a seed and by what may end threads: steps drawn from the seed, whatever that is; or where there is none, threads that are
+-- watched so
+abbrev pub schedule_by : Option ℕ → Watch → Schedule
+schedule_by (Some seed) watch = Drawn seed
+schedule_by None watch = Threads watch
 
--- the schedule by the values of the options that name a seed and seconds
-pub record IsScheduleOf (simulate time : Option (List ℕ)) (schedule : Schedule) : Type 0 where
+-- the schedule by the values of the options that name a seed, seconds and memory; whether the search reports how far it is may be either
+pub record IsScheduleOf (value : List ℕ → Option (List ℕ)) (schedule : Schedule) : Type 0 where
   pub seed : Option ℕ
-  pub seed_is : IsNumberOf 0 9223372036854775807 simulate seed
-  pub seconds : Option ℕ
-  pub seconds_are : IsNumberOf 0 9223372036854775807 time seconds
-  pub is : schedule ≡ schedule_by seed seconds
+  pub seed_is : IsNumberOf 0 9223372036854775807 (value (codes "simulate")) seed
+  pub watch : Watch
+  pub seconds_are : IsNumberOf 0 9223372036854775807 (value (codes "time")) watch.seconds
+  pub mebibytes_are : IsNumberOf 0 9223372036854775807 (value (codes "memory")) watch.mebibytes
+  pub is : schedule ≡ schedule_by seed watch
 
 -- what is requested beside the task, by the values of the command's options
 pub record AreSettingsOf (value : List ℕ → Option (List ℕ)) (settings : Settings) : Type 0 where
   pub choices : AreChoicesOf value settings.options
-  pub schedule : IsScheduleOf (value (codes "simulate")) (value (codes "time")) settings.schedule
+  pub schedule : IsScheduleOf value settings.schedule
   pub files : files_of settings ≡ record { plan = value (codes "plan"); cert = value (codes "cert") }

@@ -8,11 +8,11 @@ ghost use Rattle.optplan_command.specs.SolveWords.{SolvesByWords, SolvesSasByWor
 
 use crate::file_words::file;
 use crate::options::{RefusedValue, number_for};
-use clap::{Arg, ArgMatches, Command, Error};
+use clap::{Arg, ArgAction, ArgMatches, Command, Error};
 use optplan_device::Device;
 use optplan_replies::Status;
 use optplan_sas::{MAX_RING, MAX_TABLE, MAX_WORKERS, Options};
-use optplan_solve::{Schedule, Settings, run_solve, run_solve_sas};
+use optplan_solve::{Schedule, Settings, Watch, run_solve, run_solve_sas};
 use std::alloc::{AllocError, Global};
 use std::sync::Wait;
 use std::thread::Threads;
@@ -26,12 +26,14 @@ Reads a domain and a problem in PDDL 2.1 level 1 with types, negative preconditi
 
   the plan                    one (name arguments) a step, and a line with its cost (status 0)
   unsolvable                  there is no plan (status 4)
-  limit N                     the search came to --limit, --time or --steps first: no plan costs less than N; behind this
-                              line stands the cheapest plan that was found by then, if there is one (status 5)
+  limit N                     the search came to --limit, --time, --memory or --steps first: no plan costs less than N;
+                              behind this line stands the cheapest plan that was found by then, if there is one (status 5)
 
 Workers in threads of their own share the states. With --simulate one thread does their steps, in an order that is drawn
 from the seed, so it finds the same plan each time. The seconds of --time count from when the files are read, but only
-the search can be ended: what comes before it may take longer.
+the search can be ended: what comes before it may take longer. --memory counts the states and the messages of a search by
+threads, of which each worker may keep its share, and no tables. --progress tells the seconds, the states expanded and
+kept, the least f of those that are open, and the least cost of a goal state that was reached.
 
 With the metric minimize (total-cost) an action costs what it increases the total cost by, without it each action costs
 1. The certificate that --cert asks for is what the command check takes, beside the domain and the problem. A text that
@@ -48,12 +50,14 @@ effects), and prints:
 
   the plan                    one (operator) a step, and a line with its cost (status 0)
   unsolvable                  there is no plan (status 4)
-  limit N                     the search came to --limit, --time or --steps first: no plan costs less than N; behind this
-                              line stands the cheapest plan that was found by then, if there is one (status 5)
+  limit N                     the search came to --limit, --time, --memory or --steps first: no plan costs less than N;
+                              behind this line stands the cheapest plan that was found by then, if there is one (status 5)
 
 Workers in threads of their own share the states. With --simulate one thread does their steps, in an order that is drawn
 from the seed, so it finds the same plan each time. The seconds of --time count from when the files are read, but only
-the search can be ended: what comes before it may take longer.
+the search can be ended: what comes before it may take longer. --memory counts the states and the messages of a search by
+threads, of which each worker may keep its share, and no tables. --progress tells the seconds, the states expanded and
+kept, the least f of those that are open, and the least cost of a goal state that was reached.
 
 The certificate that --cert asks for is what the command check-sas takes, beside the task. A text that cannot be read is
 refused with one line on standard error, and so is a task that is too large (status 1).";
@@ -83,6 +87,18 @@ fn with_ending_options<'a>(alloc: Global, command: Command<'a>) -> Result<Comman
             "SECONDS",
             "Ends the search by threads after so many seconds, as at a limit",
         ))?
+        .arg(option(
+            alloc,
+            "memory",
+            "MIB",
+            "Ends the search by threads once its states take so many MiB, as at a limit",
+        ))?
+        .arg(
+            Arg::new(alloc, "progress")
+                .long("progress")
+                .action(ArgAction::SetTrue)
+                .help("Prints about once a second to standard error how far the search by threads is"),
+        )?
         .arg(option(
             alloc,
             "steps",
@@ -183,16 +199,22 @@ fn search_options<'a>(words: &ArgMatches<'a>) -> Result<Options, RefusedValue<'a
     }
 }
 
-/// The schedule that the words request: steps drawn from a seed, or threads where they name no seed, which have the seconds that the
-/// words name, if they name any. Fails with the first value that is refused.
+/// The schedule that the words request: steps drawn from a seed, or threads where they name no seed, which have the seconds and the
+/// memory that the words name, if they name any. Fails with the first value that is refused.
 fn schedule_of<'a>(words: &ArgMatches<'a>) -> Result<Schedule, RefusedValue<'a>>
-    ensures { IfOk result (IsScheduleOf (first_value (found_of words.now) (codes "simulate")) (first_value (found_of words.now) (codes "time"))) }
+    ensures { IfOk result (IsScheduleOf (λ name. first_value (found_of words.now) name)) }
 {
     let seed = number_for(words, "simulate", 0, MAX_NUMBER)?;
     let seconds = number_for(words, "time", 0, MAX_NUMBER)?;
+    let mebibytes = number_for(words, "memory", 0, MAX_NUMBER)?;
+    let reports = words.get_flag("progress");
     match seed {
         Some(seed) => Ok(Schedule::Drawn(seed)),
-        None => Ok(Schedule::Threads(seconds)),
+        None => Ok(Schedule::Threads(Watch {
+            seconds,
+            mebibytes,
+            reports,
+        })),
     }
 }
 
@@ -212,7 +234,7 @@ fn settings_of<'a>(words: &ArgMatches<'a>) -> Result<Settings<'a>, RefusedValue<
 
 /// Solves a planning task as the words request, and returns the exit status. Fails with the command's error for the first
 /// value that is refused, or if allocation fails.
-pub(crate) fn solve_by_words<D: Device, R: Threads + Wait + Clock + Sync + AllocGlobal>(
+pub(crate) fn solve_by_words<D: Device, R: Threads + Wait + Clock + Eprint + Sync + AllocGlobal>(
     rt: &R,
     device: &mut D,
     words: &ArgMatches<'_>,
@@ -236,7 +258,7 @@ pub(crate) fn solve_by_words<D: Device, R: Threads + Wait + Clock + Sync + Alloc
 
 /// Solves a finite-domain task as the words request, and returns the exit status. Fails with the command's error for the
 /// first value that is refused, or if allocation fails.
-pub(crate) fn solve_sas_by_words<D: Device, R: Threads + Wait + Clock + Sync + AllocGlobal>(
+pub(crate) fn solve_sas_by_words<D: Device, R: Threads + Wait + Clock + Eprint + Sync + AllocGlobal>(
     rt: &R,
     device: &mut D,
     words: &ArgMatches<'_>,

@@ -1,15 +1,14 @@
 //! The command that translates a planning task, over any device.
 
-ghost use Rattle.std.specs.Prelude.{◌≡◌, ◌≢◌, ◌≤◌, ◌+◌, ◌++◌, ℕ, List, Some, map, length, All, IsTrue, IfOk, IfErr};
-ghost use Rattle.pddl_task.specs.Planning.{IsPlanningTask, IsActionOf, IsAtomOf, has_small_costs, Action};
-ghost use Rattle.pddl_task.specs.Atoms.{Literal};
+ghost use Rattle.std.specs.Prelude.{◌≡◌, ◌≢◌, ◌≤◌, ◌+◌, ◌++◌, ℕ, List, Some, map, length, IfOk, IfErr};
+ghost use Rattle.pddl_task.specs.Planning.{IsPlanningTask};
 ghost use Rattle.pddl.specs.Texts.{SpellTask};
 ghost use Rattle.sasfile_writer.specs.Written.{written};
+ghost use Rattle.translate.specs.Translated.{IsReadTask};
 ghost use Rattle.optplan_device.specs.Events.{Event, HasPut, Adds};
 ghost use Rattle.optplan_replies.specs.Faults.{fault_status};
 ghost use Rattle.optplan_replies.specs.Runs.{IsQuiet};
 ghost use Rattle.optplan_command.specs.Translating.{IsTranslationText, IsTranslationRefusal, Translates};
-ghost use Rattle.pddl_task.specs.Limits.{max_cost};
 
 use optplan_device::Device;
 use optplan_replies::{Fault, Status, put_text, read_task_files, report, task_fault};
@@ -43,11 +42,7 @@ fn text_of(alloc: Global, translated: &Translated) -> Result<Vec<u8>, AllocError
 /// The text of a translation of a task that texts spell. Fails if the task or its translation exceeds a limit, or if
 /// allocation fails.
 fn translation_text(alloc: Global, task: &Task) -> Result<Vec<u8>, Fault>
-    requires small { IsTrue (has_small_costs task.now) }
-    requires costs { (a : Action) → IsActionOf task.now a → a.cost ≤ max_cost }
-    requires initial { All (IsAtomOf task.now) task.now.initial }
-    requires goals { All (λ (l : Literal). IsAtomOf task.now l.atom) task.now.goal }
-    requires added { (a : Action) → IsActionOf task.now a → All (IsAtomOf task.now) a.adds }
+    requires read { IsReadTask task.now }
     requires well { IsPlanningTask task.now }
     ensures text { (domain problem : List ℕ) → SpellTask domain problem task.now →
         IfOk result (λ text. IsTranslationText domain problem text.items) }

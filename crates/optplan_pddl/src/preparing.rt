@@ -1,13 +1,11 @@
 //! Preparing a planning task for a search, from its texts.
 
-ghost use Rattle.std.specs.Prelude.{◌≡◌, ◌≤◌, ℕ, List, All, IsTrue, IfOk, IfErr};
-ghost use Rattle.pddl_task.specs.Planning.{IsPlanningTask, IsActionOf, IsAtomOf, has_small_costs, Action};
-ghost use Rattle.pddl_task.specs.Atoms.{Literal};
+ghost use Rattle.std.specs.Prelude.{ℕ, List, IfOk, IfErr};
+ghost use Rattle.pddl_task.specs.Planning.{IsPlanningTask};
 ghost use Rattle.pddl.specs.Texts.{SpellTask};
-ghost use Rattle.translate.specs.Translated.{IsTranslation, HasSamePlans};
+ghost use Rattle.translate.specs.Translated.{IsReadTask, IsTranslation, HasSamePlans};
 ghost use Rattle.optplan_pddl.specs.Prepared.{IsPrepared};
 ghost use Rattle.optplan_pddl.specs.Answers.{IsPlanningRefusal};
-ghost use Rattle.pddl_task.specs.Limits.{max_cost};
 
 use crate::fault::PlanningFault;
 use cert_value::CertificateKind;
@@ -27,11 +25,7 @@ pub(crate) struct Prepared {
 
 /// The task's translation. Fails if the task or its translation exceeds a limit, or if allocation fails.
 fn translation_of(alloc: Global, task: &Task) -> Result<Translated, PlanningFault>
-    requires small { IsTrue (has_small_costs task.now) }
-    requires costs { (a : Action) → IsActionOf task.now a → a.cost ≤ max_cost }
-    requires initial { All (IsAtomOf task.now) task.now.initial }
-    requires goals { All (λ (l : Literal). IsAtomOf task.now l.atom) task.now.goal }
-    requires added { (a : Action) → IsActionOf task.now a → All (IsAtomOf task.now) a.adds }
+    requires read { IsReadTask task.now }
     requires well { IsPlanningTask task.now }
     ensures translation { IfOk result (IsTranslation task.now) }
     ensures plans { IfOk result (HasSamePlans task.now) }
@@ -48,11 +42,7 @@ fn translation_of(alloc: Global, task: &Task) -> Result<Translated, PlanningFaul
 /// The task's translation, with the kind of certificates for it. Fails if the task or its translation exceeds a limit, or
 /// if allocation fails.
 fn prepare_task(alloc: Global, task: &Task) -> Result<Prepared, PlanningFault>
-    requires small { IsTrue (has_small_costs task.now) }
-    requires costs { (a : Action) → IsActionOf task.now a → a.cost ≤ max_cost }
-    requires initial { All (IsAtomOf task.now) task.now.initial }
-    requires goals { All (λ (l : Literal). IsAtomOf task.now l.atom) task.now.goal }
-    requires added { (a : Action) → IsActionOf task.now a → All (IsAtomOf task.now) a.adds }
+    requires read { IsReadTask task.now }
     requires well { IsPlanningTask task.now }
     ensures prepared { (domain problem : List ℕ) → SpellTask domain problem task.now → IfOk result (IsPrepared domain problem) }
     ensures refused { (domain problem : List ℕ) → SpellTask domain problem task.now → IfErr result (IsPlanningRefusal domain problem (λ task e. ⊥)) }

@@ -11,7 +11,7 @@ mod schedule;
 mod searching;
 
 pub use answer::{Answer, CheapestPlan, KnownSoFar, WrittenPlan};
-pub use engine::{Gate, Open, Stop};
+pub use engine::{Gate, Open, Progress, Stop};
 pub use fault::{SasSolveFault, SearchFault};
 pub use found::{Found, FoundPlan, SoFar, Solution, found_by};
 pub use options::{MAX_RING, MAX_TABLE, MAX_WORKERS, Options};

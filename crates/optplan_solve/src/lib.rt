@@ -5,8 +5,9 @@ mod outputs;
 mod sas_solving;
 mod settings;
 mod solving;
-mod time_limit;
+mod tally;
+mod watcher;
 
 pub use sas_solving::run_solve_sas;
-pub use settings::{Schedule, Settings};
+pub use settings::{Schedule, Settings, Watch};
 pub use solving::run_solve;

@@ -11,7 +11,7 @@ ghost use Rattle.optplan_solve.specs.SasSolving.{IsSasSolveRefusal, SolvesSas};
 
 use crate::outputs::reply_answer;
 use crate::settings::{Schedule, Settings};
-use crate::time_limit::TimeLimit;
+use crate::watcher::Watcher;
 use optplan_device::Device;
 use optplan_replies::{Fault, FileWord, Status, read_file, report};
 use optplan_sas::{SasAnswer, SasSolveFault, simulate_sas, solve_sas};
@@ -34,7 +34,7 @@ fn solve_fault(fault: SasSolveFault) -> Fault
 
 /// The answer for the task that the text spells, by the schedule that the settings request, whose seconds count from now on. Fails as the
 /// solver does.
-fn solved<R: Threads + Wait + Clock + Sync + AllocGlobal>(
+fn solved<R: Threads + Wait + Clock + Eprint + Sync + AllocGlobal>(
     rt: &R,
     sas: &[u8],
     settings: &Settings<'_>,
@@ -43,9 +43,9 @@ fn solved<R: Threads + Wait + Clock + Sync + AllocGlobal>(
     ensures refused { IfErr result (IsSasRefusal sas.now (IsRefusedBy settings.now.options settings.now.schedule)) }
 {
     match settings.schedule {
-        Schedule::Threads(seconds) => {
-            let limit = TimeLimit::new(rt, seconds);
-            solve_sas(rt, sas, &settings.options, &limit)
+        Schedule::Threads(watch) => {
+            let watcher = Watcher::new(rt, rt.alloc(), watch, settings.options.workers())?;
+            solve_sas(rt, sas, &settings.options, &watcher)
         }
         Schedule::Drawn(seed) => simulate_sas(rt, sas, &settings.options, seed),
     }
@@ -54,7 +54,7 @@ fn solved<R: Threads + Wait + Clock + Sync + AllocGlobal>(
 /// The answer for the task that the text spells.
 ///
 /// Fails with the first fault of the text, with `TotalTooLarge` if a path's total is too large, or with `OutOfMemory`.
-fn answer_of<R: Threads + Wait + Clock + Sync + AllocGlobal>(
+fn answer_of<R: Threads + Wait + Clock + Eprint + Sync + AllocGlobal>(
     rt: &R,
     sas: &[u8],
     settings: &Settings<'_>,
@@ -73,7 +73,7 @@ fn answer_of<R: Threads + Wait + Clock + Sync + AllocGlobal>(
 ///
 /// Returns the exit status: `Done` with a cheapest plan, `Unsolvable` if there is none, `Limited` at a limit, or the fault's.
 /// No plan is written where there is none.
-pub fn run_solve_sas<D: Device, R: Threads + Wait + Clock + Sync + AllocGlobal>(
+pub fn run_solve_sas<D: Device, R: Threads + Wait + Clock + Eprint + Sync + AllocGlobal>(
     rt: &R,
     device: &mut D,
     sas: &str,

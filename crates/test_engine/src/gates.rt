@@ -3,7 +3,7 @@
 ghost use Rattle.std.specs.Prelude.{◌<◌};
 
 use crate::searches::space_for;
-use engine::{EngineFault, Gate, Searched, Stop, search};
+use engine::{EngineFault, Gate, Progress, Searched, Stop, search};
 use fdr::FdrTask;
 use owner::Space;
 use packed::Plain;
@@ -69,7 +69,7 @@ impl Gate for Meeting {
     ghost may_stop = { λ _ _ _ _. Unit {0} };
 
     /// Each of workers 0 and 1 waits for the other in its first turn.
-    fn turn(&self, worker: usize, turn: u64) -> Result<(), Stop> {
+    fn turn(&self, worker: usize, turn: u64, _progress: Progress) -> Result<(), Stop> {
         if turn > 1 || self.meet(worker == 0) {
             Ok(())
         } else {
@@ -89,7 +89,7 @@ impl Gate for Refusal {
 
     ghost may_stop = { λ g worker turn stop. (worker ≡ 1) × (turn ≡ 1) × (stop ≡ g.stop) };
 
-    fn turn(&self, worker: usize, turn: u64) -> Result<(), Stop> {
+    fn turn(&self, worker: usize, turn: u64, _progress: Progress) -> Result<(), Stop> {
         if worker == 1 && turn == 1 {
             Err(self.stop)
         } else {
@@ -107,7 +107,7 @@ struct FirstTurns {
 impl Gate for FirstTurns {
     ghost may_stop = { λ _ _ _ _. ⊥ };
 
-    fn turn(&self, _worker: usize, turn: u64) -> Result<(), Stop> {
+    fn turn(&self, _worker: usize, turn: u64, _progress: Progress) -> Result<(), Stop> {
         if turn == 1 {
             self.count.fetch_add(1, Ordering::SeqCst);
         }

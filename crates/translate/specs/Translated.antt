@@ -1,12 +1,13 @@
 -- The translation of a planning task with the atoms and the variables that it is over, and its relation to the plans of
 -- the task.
-use Rattle.std.specs.Prelude.{◌≡◌, ◌↔◌, ⊤, ℕ, List, length, Some, slice_get, All, Contains}
+use Rattle.std.specs.Prelude.{◌≡◌, ◌↔◌, ◌≤◌, ⊤, ℕ, List, length, Some, slice_get, All, Contains, IsTrue}
 use Rattle.std.specs.List.{filter_map, AllZip}
 use Rattle.std.specs.List.Sorted.{IsNonDecreasingBy}
 use Rattle.cost.specs.Distances.{Distance}
 use Rattle.fdr.specs.Tasks.{FiniteDomainTask, IsPlan, plan_cost, IsPastLimit, EveryPlanCostsAtLeast, HasNoPlan}
-use Rattle.pddl_task.specs.Atoms.{Atom, contains}
-use Rattle.pddl_task.specs.Planning.{PlanningTask, Action}
+use Rattle.pddl_task.specs.Atoms.{Atom, Literal, contains}
+use Rattle.pddl_task.specs.Limits.{max_cost}
+use Rattle.pddl_task.specs.Planning.{PlanningTask, Action, IsActionOf, IsAtomOf, has_small_costs}
 use Rattle.pddl_task.specs.Plans.{IsValidPlan, total_cost, HasNoValidPlan}
 use Rattle.ground_theory.specs.Grounding.{IsLeastClosedSet, actions_over}
 use Rattle.ground_atoms.specs.Order.{IsAscending}
@@ -22,6 +23,15 @@ use Rattle.translate_assembly.specs.Carried.{AreCarriedAt}
 use Rattle.translate_vars.specs.Parts.{AreFit}
 use Rattle.translate_vars.specs.declared.fault.TranslateFault.{TranslateFault}
 use Rattle.translate_vars.specs.declared.fault.TranslateFault.TheVariants as fault
+
+-- what holds of every task that texts spell: costs are small, and the initial atoms, the atoms of the goal and those that
+-- actions add are atoms of the task
+pub record IsReadTask (task : PlanningTask) : Type 0 where
+  pub small : IsTrue (has_small_costs task)
+  pub costs : (a : Action) → IsActionOf task a → a.cost ≤ max_cost
+  pub initial : All (IsAtomOf task) task.initial
+  pub goals : All (λ (l : Literal). IsAtomOf task l.atom) task.goal
+  pub added : (a : Action) → IsActionOf task a → All (IsAtomOf task) a.adds
 
 -- the atoms, the variables over them, the finite-domain task, and for each operator the place of its action
 pub record TranslatedTask : Type 0 where

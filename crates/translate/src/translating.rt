@@ -1,8 +1,8 @@
 //! Translating planning tasks.
 
 ghost use Rattle.std.specs.Prelude.{◌≡◌, ◌≤◌, All, IsTrue, IfOk, IfErr, length};
-ghost use Rattle.pddl_task.specs.Atoms.{Literal, contains};
-ghost use Rattle.pddl_task.specs.Planning.{IsPlanningTask, IsActionOf, IsAtomOf, has_small_costs, Action};
+ghost use Rattle.pddl_task.specs.Atoms.{contains};
+ghost use Rattle.pddl_task.specs.Planning.{IsPlanningTask, IsActionOf, has_small_costs, Action};
 ghost use Rattle.ground_theory.specs.Grounding.{actions_over, AreListedAtoms, AreListedActions, IsLeastClosedSet};
 ghost use Rattle.ground_atoms.specs.Order.{AreDistinct, IsAscending};
 ghost use Rattle.ground_bindings.specs.Search.{max_actions};
@@ -10,7 +10,7 @@ ghost use Rattle.ground.specs.Rounds.{max_atoms};
 ghost use Rattle.translate_theory.specs.Translations.{AreVariables};
 ghost use Rattle.translate_theory.specs.Variables.{IsPlaced, variables_at};
 ghost use Rattle.translate_vars.specs.Faults.{IsFirstFault};
-ghost use Rattle.translate.specs.Translated.{IsTranslation, HasSamePlans, AreChosenParts, IsTooLarge, IsUntranslated};
+ghost use Rattle.translate.specs.Translated.{IsReadTask, IsTranslation, HasSamePlans, AreChosenParts, IsTooLarge, IsUntranslated};
 ghost use Rattle.pddl_task.specs.Limits.{max_cost};
 
 use crate::translated::Translated;
@@ -133,11 +133,7 @@ fn chosen(
 /// Fails with `GroundLimit` if there are too many atoms or actions, with `Limit` if the finite-domain task over the
 /// variables that are chosen would have too many variables, values of a variable or operators, or if allocation fails.
 pub fn translate(alloc: Global, task: &Task) -> Result<Translated, TranslateFault>
-    requires small { IsTrue (has_small_costs task.now) }
-    requires costs { (a : Action) → IsActionOf task.now a → a.cost ≤ max_cost }
-    requires initial { All (IsAtomOf task.now) task.now.initial }
-    requires goals { All (λ (l : Literal). IsAtomOf task.now l.atom) task.now.goal }
-    requires added { (a : Action) → IsActionOf task.now a → All (IsAtomOf task.now) a.adds }
+    requires { IsReadTask task.now }
     ensures translation { IfOk result (IsTranslation task.now) }
     ensures least { IfOk result (λ t. IsLeastClosedSet task.now (contains t.atoms)) }
     ensures chosen { IfOk result (λ t. AreChosenParts task.now t.atoms t.variables) }

@@ -4,14 +4,10 @@ use Rattle.pddl_laws.proofs.KnownAtoms.{spelled_known}
 use Rattle.optplan_pddl.proofs.Reading.{read_refusal}
 use Rattle.optplan_pddl.proofs.preparing.prepare.Goals as goal
 
-pub prepare_task-requires-clause-initial : goal.prepare_task-requires-clause-initial
-prepare_task-requires-clause-initial c = (spelled_known c.args.domain.now c.args.problem.now _ c.in_ok-task.ensures.found).initial
-
-pub prepare_task-requires-clause-goals : goal.prepare_task-requires-clause-goals
-prepare_task-requires-clause-goals c = (spelled_known c.args.domain.now c.args.problem.now _ c.in_ok-task.ensures.found).goals
-
-pub prepare_task-requires-clause-added : goal.prepare_task-requires-clause-added
-prepare_task-requires-clause-added c = (spelled_known c.args.domain.now c.args.problem.now _ c.in_ok-task.ensures.found).added
+pub prepare_task-requires-clause-read : goal.prepare_task-requires-clause-read
+prepare_task-requires-clause-read c =
+    let known = spelled_known c.args.domain.now c.args.problem.now _ c.in_ok-task.ensures.found in
+    record { small = c.in_ok-task.ensures.small; costs = c.in_ok-task.ensures.costs; initial = known.initial; goals = known.goals; added = known.added }
 
 pub prepare_task-requires-clause-well : goal.prepare_task-requires-clause-well
 prepare_task-requires-clause-well c = spelled_well c.args.domain.now c.args.problem.now _ c.in_ok-task.ensures.found
