@@ -21,7 +21,7 @@ pub struct Progress {
     /// The number of words of 64 bits that the values of a state take.
     pub words: usize,
     /// The least f-value of the states that its owner has yet to expand, infinite if there is none.
-    pub open: Dist,
+    pub least_open: Dist,
     /// The least cost at which its owner has taken a goal state, infinite if it has taken none.
     pub best: Dist,
 }
@@ -33,7 +33,7 @@ pub(crate) fn progress_of<'a, S: Spread + Drop, F: StateForm + Drop>(
     ensures states { result.states ≡ length worker.now.owner.nodes }
     ensures messages { result.messages ≡ waiting worker.now.owner.outboxes }
     ensures words { result.words ≡ word_count (ranges worker.now.owner.space.task) }
-    ensures open { result.open ≡ least_open (space_of S.owner worker.now.owner) worker.now.owner.nodes }
+    ensures least_open { result.least_open ≡ least_open (space_of S.owner worker.now.owner) worker.now.owner.nodes }
     ensures best { result.best ≡ worker.now.owner.best }
 {
     let owner = worker.owner();
@@ -41,7 +41,7 @@ pub(crate) fn progress_of<'a, S: Spread + Drop, F: StateForm + Drop>(
         states: owner.len(),
         messages: owner.messages(),
         words: owner.space().layout().word_count(),
-        open: owner.least_open(),
+        least_open: owner.least_open(),
         best: owner.best_goal(),
     }
 }

@@ -56,7 +56,7 @@ impl Tally {
         let Some(row) = self.rows.get(worker) else {
             return;
         };
-        let open = number_of(progress.open);
+        let open = number_of(progress.least_open);
         let best = number_of(progress.best);
         let known = self.best.fetch_min(best, Ordering::SeqCst).min(best);
         row.kept.store(progress.states as u64, Ordering::SeqCst);
