@@ -21,7 +21,7 @@ TABLE = 100
 def solved(domain, problem, **options):
     """The outcome of the solver for a task, by threads, or by the schedule of a seed with `simulate`: it writes the plan to the file `l`,
     the certificate to `c`."""
-    words = [word for name, number in options.items() for word in (f"--{name}", str(number))]
+    words = [word for name, value in options.items() for word in (f"--{name}", str(value))]
     return run("solve", "d", "p", *words, "--plan", "l", "--cert", "c", files={"d": domain, "p": problem})
 
 
@@ -33,6 +33,11 @@ def by_seeds(*numbers):
 def by_threads(*numbers):
     """The options of some searches for each of these numbers of threads."""
     return [{"workers": workers, "ring": ROOMS[search % len(ROOMS)]} for workers in numbers for search in range(SEARCHES)]
+
+
+def deep_by(*numbers):
+    """The options of some searches for each of these numbers of workers that go deep first among states of the same f-value."""
+    return [{"workers": workers, "ties": "deep", **schedule} for workers in numbers for schedule in [{"simulate": seed} for seed in SEEDS[:3]] + [{}]]
 
 
 class PlannerTest(ProgramTest):
@@ -61,10 +66,11 @@ class PlannerTest(ProgramTest):
         """Fails unless owners in one thread and threads solve the task at this cost, with tables of that size."""
         self.costs_by(by_seeds(*WORKERS), domain, problem, cost, table)
         self.costs_by(by_threads(*THREADS), domain, problem, cost, table)
+        self.costs_by(deep_by(*WORKERS), domain, problem, cost, table)
 
     def unsolvable(self, domain, problem):
         """Fails unless owners in one thread and threads find that the task has no plan, with a certificate of that."""
-        for options in by_seeds(*WORKERS) + by_threads(*THREADS):
+        for options in by_seeds(*WORKERS) + by_threads(*THREADS) + deep_by(*WORKERS):
             with self.subTest(problem=problem, **options):
                 outcome = solved(domain, problem, table=TABLE, **options)
                 cert = outcome.files.get("c", b"")

@@ -11,7 +11,7 @@ use crate::alone::alone_in_smallest_form;
 use crate::together::together_in_smallest_form;
 use fdr::FdrTask;
 use optplan_device::{Device, ProcessDevice};
-use owner::{OwnerFault, Space};
+use owner::{OwnerFault, Space, Ties};
 use packed_spread::Zobrist;
 use sasfile::read_sas;
 use scp::{Columns, choose_columns, make_columns};
@@ -62,7 +62,14 @@ fn searched<'a, R: Threads + Sync>(
 {
     let columns = columns_of(rt, alloc, task, amounts.table)?;
     let spread = Zobrist::new(alloc, task)?;
-    let space: Space<'a, Zobrist<'a>> = Space::new(alloc, task, columns, spread, None)?;
+    let space: Space<'a, Zobrist<'a>> = Space::new(
+        alloc,
+        task,
+        columns,
+        spread,
+        None,
+        Ties::Shallow,
+    )?;
     if amounts.owners == 1 {
         alone_in_smallest_form(alloc, &space, amounts.steps)
     } else {

@@ -1,6 +1,8 @@
 -- The options of a solve command.
 use Rattle.std.specs.Prelude.{◌≡◌, ℕ, ◌≤◌, ◌<◌, ◌^◌, List, Option, Some, None, codes}
 use Rattle.std.specs.Str.Parse.{IsNumeral, digits_value}
+use Rattle.owner.specs.declared.ties.Ties.{Ties}
+use Rattle.owner.specs.declared.ties.Ties.TheVariants.{Shallow, Deep}
 use Rattle.optplan_sas.specs.Choices.{Choices}
 use Rattle.optplan_solve.specs.declared.settings.Watch.{Watch}
 use Rattle.optplan_solve.specs.declared.settings.Schedule.{Schedule}
@@ -25,6 +27,16 @@ abbrev pub IsNumberOr : ℕ → ℕ → ℕ → Option (List ℕ) → ℕ → Ty
 IsNumberOr absent least most None number = number ≡ absent
 IsNumberOr absent least most (Some text) number = IsNumberIn least most text × (number ≡ digits_value 10 text)
 
+-- the text names this order among states of the same f-value
+abbrev pub NamesTies : List ℕ → Ties → Type 0
+NamesTies text Shallow = text ≡ codes "shallow"
+NamesTies text Deep = text ≡ codes "deep"
+
+-- the order of an option with this value, Shallow if it has none
+abbrev pub IsTiesOf : Option (List ℕ) → Ties → Type 0
+IsTiesOf None ties = ties ≡ Shallow
+IsTiesOf (Some text) ties = NamesTies text ties
+
 -- the options of the solver, by the values of the command's options
 pub record AreChoicesOf (value : List ℕ → Option (List ℕ)) (choices : Choices) : Type 0 where
   pub workers : IsNumberOr 4 1 64 (value (codes "workers")) choices.workers
@@ -32,6 +44,7 @@ pub record AreChoicesOf (value : List ℕ → Option (List ℕ)) (choices : Choi
   pub limit : IsNumberOf 0 9223372036854775807 (value (codes "limit")) choices.limit
   pub ring : IsNumberOr 64 1 65536 (value (codes "ring")) choices.ring
   pub steps : IsNumberOr 1000000 0 9223372036854775807 (value (codes "steps")) choices.steps
+  pub ties : IsTiesOf (value (codes "ties")) choices.ties
 
 -- the schedule by a seed and by what may end threads: steps drawn from the seed, whatever that is; or where there is none, threads that are
 -- watched so

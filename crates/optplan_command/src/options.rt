@@ -1,21 +1,30 @@
-//! Options with numbers.
+//! The values of options.
 
-ghost use Rattle.std.specs.Prelude.{◌≤◌, IfOk, IfSome, SomeIff};
+ghost use Rattle.std.specs.Prelude.{◌≢◌, ◌≤◌, IfOk, IfSome, IfNone, SomeIff, codes};
 ghost use Rattle.std.specs.Str.Parse.{digits_value};
 ghost use Rattle.clap.specs.Matches.{found_of, first_value};
-ghost use Rattle.optplan_command.specs.Options.{IsNumberIn, IsNumberOf};
+ghost use Rattle.optplan_command.specs.Options.{IsNumberIn, IsNumberOf, NamesTies, IsTiesOf};
 
 use clap::error::ErrorKind;
 use clap::{ArgMatches, Command, Error};
+use optplan_sas::Ties;
 use std::alloc::{AllocError, Global};
 
-/// A value that is refused for an option that takes numbers in a range.
+/// What an option takes.
+#[derive(Clone, Copy, Debug)]
+enum Taken {
+    /// A number from the first to the second.
+    Number(u64, u64),
+    /// The name of an order among states of the same f-value.
+    Ties,
+}
+
+/// A value that is refused for an option.
 #[derive(Clone, Copy, Debug)]
 pub(crate) struct RefusedValue<'a> {
     option: &'a str,
     value: &'a str,
-    least: u64,
-    most: u64,
+    taken: Taken,
 }
 
 impl<'a> RefusedValue<'a> {
@@ -24,13 +33,17 @@ impl<'a> RefusedValue<'a> {
         let RefusedValue {
             option,
             value,
-            least,
-            most,
+            taken,
         } = self;
         let mut command = command;
-        let message = format!(in alloc;
-            "invalid value '{value}' for '--{option}': not a number from {least} to {most}"
-        );
+        let message = match taken {
+            Taken::Number(least, most) => format!(in alloc;
+                "invalid value '{value}' for '--{option}': not a number from {least} to {most}"
+            ),
+            Taken::Ties => format!(in alloc;
+                "invalid value '{value}' for '--{option}': neither shallow nor deep"
+            ),
+        };
         let Ok(message) = message else {
             return Error::from(AllocError);
         };
@@ -73,8 +86,39 @@ pub(crate) fn number_for<'a>(
         None => Err(RefusedValue {
             option,
             value,
-            least,
-            most,
+            taken: Taken::Number(least, most),
+        }),
+    }
+}
+
+/// The order that a text names, if it names one.
+fn ties_named(text: &str) -> Option<Ties>
+    ensures named { IfSome result (NamesTies text.now) }
+    ensures neither { IfNone result ((text.now ≢ codes "shallow") × (text.now ≢ codes "deep")) }
+{
+    match text {
+        "shallow" => Some(Ties::Shallow),
+        "deep" => Some(Ties::Deep),
+        _ => None,
+    }
+}
+
+/// The order that is given for the option, `Shallow` if the option is not there. Fails if the value names none.
+pub(crate) fn ties_for<'a>(
+    words: &ArgMatches<'a>,
+    option: &'a str,
+) -> Result<Ties, RefusedValue<'a>>
+    ensures { IfOk result (IsTiesOf (first_value (found_of words.now) option.entry.now)) }
+{
+    let Some(value) = words.get_str(option) else {
+        return Ok(Ties::Shallow);
+    };
+    match ties_named(value) {
+        Some(ties) => Ok(ties),
+        None => Err(RefusedValue {
+            option,
+            value,
+            taken: Taken::Ties,
         }),
     }
 }

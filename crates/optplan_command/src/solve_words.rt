@@ -7,7 +7,7 @@ ghost use Rattle.optplan_command.specs.Options.{AreChoicesOf, IsScheduleOf, AreS
 ghost use Rattle.optplan_command.specs.SolveWords.{SolvesByWords, SolvesSasByWords};
 
 use crate::file_words::file;
-use crate::options::{RefusedValue, number_for};
+use crate::options::{RefusedValue, number_for, ties_for};
 use clap::{Arg, ArgAction, ArgMatches, Command, Error};
 use optplan_device::Device;
 use optplan_replies::Status;
@@ -35,6 +35,10 @@ the search can be ended: what comes before it may take longer. --memory counts t
 threads, of which each worker may keep its share, and no tables. --progress tells the seconds, the states expanded and
 kept, the least f of those that are open, and the least cost of a goal state that was reached.
 
+Among states of the same f-value, the cost to reach the state plus the lower bound for what is left, --ties shallow expands
+the one reached at the least cost first, which is the order of earlier versions, and --ties deep the one reached at the
+greatest. deep mostly finds a plan after fewer expansions where many states have the f-value of the cheapest plan.
+
 With the metric minimize (total-cost) an action costs what it increases the total cost by, without it each action costs
 1. The certificate that --cert asks for is what the command check takes, beside the domain and the problem. A text that
 cannot be read is refused with one line on standard error, and so is a task that is too large (status 1).";
@@ -58,6 +62,10 @@ from the seed, so it finds the same plan each time. The seconds of --time count 
 the search can be ended: what comes before it may take longer. --memory counts the states and the messages of a search by
 threads, of which each worker may keep its share, and no tables. --progress tells the seconds, the states expanded and
 kept, the least f of those that are open, and the least cost of a goal state that was reached.
+
+Among states of the same f-value, the cost to reach the state plus the lower bound for what is left, --ties shallow expands
+the one reached at the least cost first, which is the order of earlier versions, and --ties deep the one reached at the
+greatest. deep mostly finds a plan after fewer expansions where many states have the f-value of the cheapest plan.
 
 The certificate that --cert asks for is what the command check-sas takes, beside the task. A text that cannot be read is
 refused with one line on standard error, and so is a task that is too large (status 1).";
@@ -137,7 +145,14 @@ fn with_search_options<'a>(alloc: Global, command: Command<'a>) -> Result<Comman
             "N",
             "How many entries a table of lower bounds may have, 1 to 16777216",
         )
-        .default_value("100000"))?;
+        .default_value("100000"))?
+        .arg(option(
+            alloc,
+            "ties",
+            "ORDER",
+            "Which of the states of the same f-value is expanded first, shallow or deep: the one of the least cost, or the greatest",
+        )
+        .default_value("shallow"))?;
     with_ending_options(alloc, command)
 }
 
@@ -188,11 +203,13 @@ fn search_options<'a>(words: &ArgMatches<'a>) -> Result<Options, RefusedValue<'a
     let limit = number_for(words, "limit", 0, MAX_NUMBER)?;
     let steps = number_for(words, "steps", 0, MAX_NUMBER)?.unwrap_or(plain.steps());
     let ring = number_for(words, "ring", 1, MAX_RING as u64)?.unwrap_or(plain.ring() as u64);
+    let ties = ties_for(words, "ties")?;
     let options = plain
         .with_workers(workers as usize)
         .with_table(table as usize)
         .with_ring(ring as usize)
-        .with_steps(steps);
+        .with_steps(steps)
+        .with_ties(ties);
     match limit {
         Some(limit) => Ok(options.with_limit(limit)),
         None => Ok(options),

@@ -17,10 +17,11 @@ use Rattle.optplan_sas.specs.Schedules.{IsSimulated, IsSimulationRefusal}
 use Rattle.optplan_sas.specs.declared.fault.SearchFault.{SearchFault}
 use Rattle.optplan_sas.specs.declared.fault.SearchFault.TheVariants.{OutOfMemory, TotalTooLarge, Gate}
 
--- a space of the task, with this limit and the states spread by a hash
+-- a space of the task, with this limit, this order among nodes of the same f-value, and the states spread by a hash
 pub record IsSpaceFor (task : FiniteDomainTask) (choices : Choices) (space : SpaceOf spread.Zobrist) : Type 0 where
   pub task_is : space.task ≡ task
   pub limit_is : space.limit ≡ choices.limit
+  pub ties_are : space.ties ≡ choices.ties
 
 -- the end that a world is
 abbrev pub end_of : {S : Type 0} → WorldOf S → EndOf S

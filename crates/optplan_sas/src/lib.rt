@@ -15,6 +15,7 @@ pub use engine::{Gate, Open, Progress, Stop};
 pub use fault::{SasSolveFault, SearchFault};
 pub use found::{Found, FoundPlan, SoFar, Solution, found_by};
 pub use options::{MAX_RING, MAX_TABLE, MAX_WORKERS, Options};
+pub use owner::Ties;
 pub use sas::{SasAnswer, simulate_sas, solve_sas, solve_sas_steps};
 pub use schedule::simulated;
 pub use searching::{found_after, found_by_seed, found_by_threads};

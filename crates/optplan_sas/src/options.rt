@@ -2,6 +2,7 @@
 
 ghost use Rattle.std.specs.Prelude.{◌≡◌, ◌≤◌, ◌^◌, Some, None};
 
+use owner::Ties;
 use std::marker::Model;
 
 /// The greatest number of owners.
@@ -14,8 +15,8 @@ pub const MAX_TABLE: usize = 16_777_216;
 pub const MAX_RING: usize = 65_536;
 
 /// How a task is solved: the number of owners (1 to 64), the greatest number of abstract states of a table (1 to 2^24),
-/// the limit on the nodes that each owner expands, if there is one, the room of a link between two workers in messages (1 to 65,536), and
-/// the greatest number of steps of a simulation.
+/// the limit on the nodes that each owner expands, if there is one, the room of a link between two workers in messages (1 to 65,536),
+/// the greatest number of steps of a simulation, and the order of expansion among nodes of the same f-value.
 #[derive(Debug, Drop)]
 pub struct Options {
     workers: usize,
@@ -23,6 +24,7 @@ pub struct Options {
     limit: Option<u64>,
     ring: usize,
     steps: u64,
+    ties: Ties,
 }
 
 impl Model for Options {
@@ -31,16 +33,16 @@ impl Model for Options {
 
     ghost Value = { Choices };
 
-    ghost view = { λ o. record { workers = o.workers; table = o.table; limit = o.limit; ring = o.ring; steps = o.steps } };
+    ghost view = { λ o. record { workers = o.workers; table = o.table; limit = o.limit; ring = o.ring; steps = o.steps; ties = o.ties } };
 
     ghost invariant = { λ o. (1 ≤ o.workers) × (o.workers ≤ 64) × (1 ≤ o.table) × (o.table ≤ 2 ^ 24) × (1 ≤ o.ring) × (o.ring ≤ 2 ^ 16) };
 }
 
 impl Options {
-    /// The defaults: 4 owners, tables of at most 100,000 abstract states, no limit on expansions, links with room for 64 messages, and
-    /// 1,000,000 steps of a simulation.
+    /// The defaults: 4 owners, tables of at most 100,000 abstract states, no limit on expansions, links with room for 64 messages,
+    /// 1,000,000 steps of a simulation, and the order `Shallow`.
     pub fn new() -> Options
-        ensures { result ≡ record { workers = 4; table = 100000; limit = None; ring = 64; steps = 1000000 } }
+        ensures { result ≡ record { workers = 4; table = 100000; limit = None; ring = 64; steps = 1000000; ties = Ties.Shallow } }
     {
         Options {
             workers: 4,
@@ -48,6 +50,7 @@ impl Options {
             limit: None,
             ring: 64,
             steps: 1_000_000,
+            ties: Ties::Shallow,
         }
     }
 
@@ -95,6 +98,13 @@ impl Options {
         Options { steps, ..self }
     }
 
+    /// These options with this order of expansion among nodes of the same f-value.
+    pub fn with_ties(self, ties: Ties) -> Options
+        ensures { result ≡ record self { ties = ties } }
+    {
+        Options { ties, ..self }
+    }
+
     /// The number of owners.
     pub fn workers(&self) -> usize
         ensures value { result ≡ self.now.workers }
@@ -134,5 +144,12 @@ impl Options {
         ensures { result ≡ self.now.steps }
     {
         self.steps
+    }
+
+    /// The order of expansion among nodes of the same f-value.
+    pub fn ties(&self) -> Ties
+        ensures { result ≡ self.now.ties }
+    {
+        self.ties
     }
 }

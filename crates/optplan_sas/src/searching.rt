@@ -35,7 +35,8 @@ fn space_for<'a, R: Threads + Sync>(
 {
     let columns = choose_columns(rt, alloc, task, options.table())?;
     let spread = Zobrist::new(alloc, task)?;
-    Space::new(alloc, task, columns, spread, options.limit())
+    let (limit, ties) = (options.limit(), options.ties());
+    Space::new(alloc, task, columns, spread, limit, ties)
 }
 
 /// The finding after these steps of a world of owners, as `found_after` returns it, whose states have the form `F`.

@@ -1,17 +1,17 @@
 -- The entry that comes first is of the next node.
 use Rattle.std.proofs.Common.{◌≡◌, ℕ, zero, suc, ◌≤◌, Bool, true, false, ◌==◌, ◌&&◌, ◌||◌, not, List, [], ◌∷◌, refl, sym, ap, ◌∙◌, subst, arith, true≢false, cond}
-use Rattle.std.specs.Prelude.{nat_le}
+use Rattle.std.specs.Prelude.{nat_lt, nat_le}
 use Rattle.std.specs.List.{list_all}
 use Rattle.std.proofs.lemmas.Bool.{and_from}
 use Rattle.std.proofs.lemmas.Bool.Decides.{nat_tests}
 use Rattle.cost.specs.Distances.{Distance, Finite, Infinite, ◌+ᵈ◌, ◌≤ᵈ◌, is_at_most, lesser}
 use Rattle.cost.proofs.DistanceLaws.{at_most_itself, at_most_through, at_most_both, at_most_lesser, lesser_at_most_left, lesser_at_most_right, is_at_most-true, is_at_most-from}
-use Rattle.owner_theory.specs.Owners.{At, SearchSpace, Node, Owner, f_value, rank_less, may_expand}
+use Rattle.owner_theory.specs.Owners.{At, SearchSpace, Node, Owner, f_value, may_expand}
 use Rattle.owner_theory.specs.Worlds.{no_open}
 use Rattle.openlist.specs.declared.entry.OpenEntry.{OpenEntry}
-use Rattle.openlist.specs.OpenLists.{comes_first, entry_of}
+use Rattle.owner.specs.declared.ties.Ties.{Ties}
 use Rattle.owner.specs.Queues.{IsLeast, HasNoneOpen}
-use Rattle.owner.specs.Owned.{IsNext, least_open}
+use Rattle.owner.specs.Owned.{IsNext, least_open, ties_first}
 
 -- ---- every node passes, or one fails
 
@@ -47,30 +47,30 @@ one_fails p (x ∷ ns) (suc i) n at e = last_false (p x) (list_all p ns) (one_fa
 
 -- ---- which comes first
 
-comes_first_f : (e : OpenEntry) (f c s j : ℕ) → comes_first e (entry_of f c s j) ≡ true → e.f ≤ f
-comes_first_f e f c s j h = grind (arith, nat_tests)
+-- f goes before ties
+below_or_tied : (a b : ℕ) (tied : Bool) → (nat_lt a b || ((a == b) && tied)) ≡ true → a ≤ b
+below_or_tied a b tied h = grind (arith, nat_tests)
 
-before_numbers : (a b c d c' d' i j : ℕ) → comes_first (entry_of a c d i) (entry_of b c' d' j) ≡ true
-    → (not (nat_le b a) || (nat_le a b && (rank_less c d c' d' || ((c == c') && ((d == d') && nat_le i j))))) ≡ true
-before_numbers a b c d c' d' i j h = grind (arith, nat_tests)
+not_above : (a b : ℕ) (tied : Bool) → (nat_lt a b || ((a == b) && tied)) ≡ true → (not (nat_le b a) || (nat_le a b && tied)) ≡ true
+not_above a b tied h = grind (arith, nat_tests)
 
-least_passes : (space : SearchSpace) (ns : List Node) (e : OpenEntry) (bound : Distance) → IsLeast space.heuristic ns e
+least_passes : {ties : Ties} (space : SearchSpace) (ns : List Node) (e : OpenEntry) (bound : Distance) → IsLeast ties space.heuristic ns e
     → bound ≤ᵈ Finite e.f → PassesFrom space bound ns
-least_passes space ns e bound l le i n f at waits is =
+least_passes {ties = ties} space ns e bound l le i n f at waits is =
     is_at_most-from bound (Finite f)
-    (at_most_through bound (Finite e.f) (Finite f) le (comes_first_f e f n.cost n.steps i (l.first i n f at waits is)))
+    (at_most_through bound (Finite e.f) (Finite f) le (below_or_tied e.f f (ties_first ties e.index l.node i n) (l.first i n f at waits is)))
 
 -- ---- what the first entry tells
 
 pub no_open_none : (space : SearchSpace) (o : Owner) → HasNoneOpen space.heuristic o.nodes → no_open space o ≡ true
 no_open_none space o h = all_pass space o.bound o.nodes (λ i n f at waits is. absurd (h i n f at waits is))
 
-pub no_open_past : (space : SearchSpace) (o : Owner) (e : OpenEntry) → IsLeast space.heuristic o.nodes e
+pub no_open_past : {ties : Ties} (space : SearchSpace) (o : Owner) (e : OpenEntry) → IsLeast ties space.heuristic o.nodes e
     → is_at_most o.bound (Finite e.f) ≡ true → no_open space o ≡ true
 no_open_past space o e l past =
     all_pass space o.bound o.nodes (least_passes space o.nodes e o.bound l (is_at_most-true o.bound (Finite e.f) past))
 
-pub no_open_some : (space : SearchSpace) (o : Owner) (e : OpenEntry) → IsLeast space.heuristic o.nodes e
+pub no_open_some : {ties : Ties} (space : SearchSpace) (o : Owner) (e : OpenEntry) → IsLeast ties space.heuristic o.nodes e
     → is_at_most o.bound (Finite e.f) ≡ false → no_open space o ≡ false
 no_open_some space o e l below =
     one_fails (λ n. n.expanded || is_at_most o.bound (f_value space n.state n.cost)) o.nodes e.index l.node l.there
@@ -81,24 +81,19 @@ finite_or true d h = absurd (true≢false (sym h))
 finite_or false Infinite h = absurd (true≢false (sym h))
 finite_or false (Finite f) h = (refl, (f, refl))
 
-pub is_next : (space : SearchSpace) (ns : List Node) (bound : Distance) (e : OpenEntry) → (l : IsLeast space.heuristic ns e)
-    → is_at_most bound (Finite e.f) ≡ false → IsNext space ns bound e.index l.node
-is_next space ns bound e l below = record {
+pub is_next : {ties : Ties} (space : SearchSpace) (ns : List Node) (bound : Distance) (e : OpenEntry) → (l : IsLeast ties space.heuristic ns e)
+    → is_at_most bound (Finite e.f) ≡ false → IsNext ties space ns bound e.index l.node
+is_next {ties = ties} space ns bound e l below = record {
   there = l.there;
   open_node = (λ j. not (l.waits j) && not (is_at_most Infinite (l.f j)));
   below = ap (is_at_most bound) l.f ∙ below;
   first = λ j x at opened.
       let (waits, (f, is)) = finite_or x.expanded (f_value space x.state x.cost) opened in
-      let first : comes_first (entry_of e.f l.node.cost l.node.steps e.index) (entry_of f x.cost x.steps j) ≡ true =
-      (λ k. comes_first (record { f = e.f; rank = record { cost = l.cost k; steps = l.steps k }; index = e.index }) (entry_of f x.cost x.steps j))
-      ∙ l.first j x f at waits is in
-      (λ k. not (is_at_most (is k) (l.f k)) || (is_at_most (l.f k) (is k)
-      && (rank_less l.node.cost l.node.steps x.cost x.steps
-      || ((l.node.cost == x.cost) && ((l.node.steps == x.steps) && nat_le e.index j)))))
-      ∙ before_numbers e.f f l.node.cost l.node.steps x.cost x.steps e.index j first;
+      (λ k. not (is_at_most (is k) (l.f k)) || (is_at_most (l.f k) (is k) && ties_first ties e.index l.node j x))
+      ∙ not_above e.f f (ties_first ties e.index l.node j x) (l.first j x f at waits is);
 }
 
-pub may_be_expanded : (space : SearchSpace) (o : Owner) (e : OpenEntry) → (l : IsLeast space.heuristic o.nodes e)
+pub may_be_expanded : {ties : Ties} (space : SearchSpace) (o : Owner) (e : OpenEntry) → (l : IsLeast ties space.heuristic o.nodes e)
     → is_at_most o.bound (Finite e.f) ≡ false → may_expand space o l.node ≡ true
 unfolding may_expand
 may_be_expanded space o e l below =
@@ -146,7 +141,7 @@ least_open_above space (n ∷ ns) bound h =
     one false Infinite h = tt
     one false (Finite f) h = is_at_most-true bound (Finite f) (h refl f refl)
 
-pub least_open_first : (space : SearchSpace) (ns : List Node) (e : OpenEntry) → IsLeast space.heuristic ns e
+pub least_open_first : {ties : Ties} (space : SearchSpace) (ns : List Node) (e : OpenEntry) → IsLeast ties space.heuristic ns e
     → least_open space ns ≡ Finite e.f
 least_open_first space ns e l =
     at_most_both (least_open space ns) (Finite e.f)

@@ -1,9 +1,8 @@
 -- Entries of an open list: their order, and lists of them up to the order.
-use Rattle.std.proofs.Common.{◌≡◌, ◌⊎◌, ℕ, zero, suc, ◌≤◌, true, List, [], ◌∷◌, length, get_or, All, refl, ap, inl, inr, arith}
-use Rattle.std.specs.Prelude.{Contains}
+use Rattle.std.proofs.Common.{◌≡◌, ◌⊎◌, ℕ, zero, suc, true, List, [], ◌∷◌, length, get_or, All, refl, ap, subst, inl, inr, ⊎_elim, arith}
+use Rattle.std.specs.Prelude.{Contains, map}
 use Rattle.std.proofs.lemmas.Bool.Decides.{nat_tests}
 use Rattle.std.proofs.lemmas.List.Elements.{All-contains, Contains-get_or}
-use Rattle.owner_theory.specs.Owners.{rank_less}
 use Rattle.openlist.specs.declared.entry.OpenEntry.{OpenEntry}
 use Rattle.openlist.specs.OpenLists.{comes_first, IsFirst, entry_of}
 
@@ -22,6 +21,17 @@ not_in_none x xs e h = let lt = h.1 in omega (arith, ap length e)
 
 pub all_contained : {X : Type 0} (P : X → Type 0) (xs : List X) → ((x : X) → Contains xs x → P x) → All P xs
 all_contained P xs h = λ k d lt. h (get_or xs k d) (Contains-get_or xs k d lt)
+
+-- what a function makes of an element is among what it makes of all, and all of that is made of an element
+pub contains_map : {X Y : Type 0} (f : X → Y) (xs : List X) (x : X) → Contains xs x → Contains (map f xs) (f x)
+contains_map f [] x h = absurd (not_in_none x [] refl h)
+contains_map f (y ∷ xs) x h = ⊎_elim (λ (p : y ≡ x). subst (λ z. Contains (map f (y ∷ xs)) (f z)) p (in_front_of (f y) (map f xs)))
+    (λ (p : Contains xs x). in_rest (f x) (f y) (map f xs) (contains_map f xs x p)) (first_or_rest x y xs h)
+
+pub contains_back : {X Y : Type 0} (f : X → Y) (xs : List X) (y : Y) → Contains (map f xs) y → (x : X) × Contains xs x × (f x ≡ y)
+contains_back f [] y h = absurd (not_in_none y [] refl h)
+contains_back f (x ∷ xs) y h = ⊎_elim (λ (p : f x ≡ y). (x, in_front_of x xs, p))
+    (λ (p : Contains (map f xs) y). let r = contains_back f xs y p in (r.0, in_rest r.0 x xs r.1, r.2)) (first_or_rest y (f x) (map f xs) h)
 
 -- the first of more is the first of fewer
 pub first_of_fewer : (e : OpenEntry) (xs ys : List OpenEntry) → ((x : OpenEntry) → Contains xs x → Contains ys x) → IsFirst e ys → IsFirst e xs
@@ -42,8 +52,3 @@ pub first_both : (x y : OpenEntry) → comes_first x y ≡ true → comes_first 
 first_both x y p q =
     let e = numbers_both x.f x.rank.cost x.rank.steps x.index y.f y.rank.cost y.rank.steps y.index p q in
     λ j. record { f = e.0 j; rank = record { cost = e.1 j; steps = e.2 j }; index = e.3 j }
-
--- an entry of more f or the same, and of a greater rank, does not come first
-pub later_not_first : (f c s i f' c' s' i' : ℕ) → f' ≤ f → rank_less c' s' c s ≡ true
-    → comes_first (entry_of f c s i) (entry_of f' c' s' i') ≡ true → ⊥
-later_not_first f c s i f' c' s' i' le less first = grind (arith, nat_tests)

@@ -128,7 +128,7 @@ successors_are task me i s os rank n is same cost steps =
 
 -- ---- the next node
 
-module _ {S : Type 0} (owner : S → List ℕ → ℕ → ℕ) (o : OwnerOf S) (e : OpenEntry) (l : IsLeast (h_of o.space) o.nodes e) where
+module _ {S : Type 0} (owner : S → List ℕ → ℕ → ℕ) (o : OwnerOf S) (e : OpenEntry) (l : IsLeast o.space.ties (h_of o.space) o.nodes e) where
   pub least_index : e.index < length o.nodes
   least_index = at_below o.nodes e.index l.node l.there
 

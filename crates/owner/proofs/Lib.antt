@@ -1,4 +1,5 @@
 pub mod Entries
+pub mod TieLaws
 pub mod Outcomes
 pub mod Queues
 pub mod Currents

@@ -19,6 +19,7 @@ use Rattle.closed.specs.declared.message.Parent.{Parent}
 use Rattle.closed.specs.declared.message.Message.{Message}
 use Rattle.closed.specs.declared.table.Outcome.TheVariants.{Kept}
 use Rattle.closed.specs.Tables.{reached, outcome_of, fresh}
+use Rattle.owner.specs.declared.ties.Ties.{Ties}
 use Rattle.owner.specs.Spaces.{SpaceOf, searched}
 use Rattle.owner.specs.Owned.{OwnerOf, space_of, under, IsMessageTo, IsKept}
 use Rattle.owner.specs.Queues.{ReachedOf, message_at, h_of, IsLeast}
@@ -199,7 +200,7 @@ packed_fits owner o to state state' rank parent same ok mine cost steps =
 
 -- the owner after its next node is marked
 abbrev pub IsMarkedAs : {S : Type 0} → OwnerOf S → OwnerOf S → Type 0
-IsMarkedAs old new = (e : OpenEntry) (n : Node) → IsLeast (h_of old.space) old.nodes e → At old.nodes e.index n
+IsMarkedAs old new = (e : OpenEntry) (n : Node) → IsLeast old.space.ties (h_of old.space) old.nodes e → At old.nodes e.index n
     → new ≡ record old {
       nodes = slice_set old.nodes e.index (marked n);
       expansions = cond (is_some old.space.limit) (suc old.expansions) old.expansions;
@@ -240,7 +241,7 @@ module _ {S : Type 0} (owner : S → List ℕ → ℕ → ℕ) (o : OwnerOf S) w
       })))
 
   pub marked_as : (space : SpaceOf S) (nodes : List Node) (boxes : List (List machine.Message)) (expansions : ℕ) → space ≡ o.space → boxes ≡ o.outboxes
-      → ((e : OpenEntry) (n : Node) → IsLeast (h_of o.space) o.nodes e → At o.nodes e.index n → nodes ≡ slice_set o.nodes e.index (marked n))
+      → ((e : OpenEntry) (n : Node) → IsLeast o.space.ties (h_of o.space) o.nodes e → At o.nodes e.index n → nodes ≡ slice_set o.nodes e.index (marked n))
       → expansions ≡ cond (is_some o.space.limit) (suc o.expansions) o.expansions
       → IsMarkedAs o (with_marked space nodes boxes expansions)
   marked_as space nodes boxes expansions same boxes_same is count e n least at =
@@ -259,10 +260,10 @@ pub all_from_at : {X : Type 0} (P : X → Type 0) (xs : List X) → ((i : ℕ) (
 all_from_at P [] h = All-nil P
 all_from_at P (x ∷ xs) h = All-cons P x xs (h 0 x refl) (all_from_at P xs (λ i y at. h (suc i) y at))
 
-pub idle_not : (r : Option OpenEntry) (space : SearchSpace) (o : Owner) → is_some r ≡ true
-    → IfSome r (λ e. IsLeast space.heuristic o.nodes e × (is_at_most o.bound (Finite e.f) ≡ false)) → false ≡ idle space o
-idle_not None space o some h = absurd (true≢false (sym some))
-idle_not (Some e) space o some h = sym (both_false (no_open space o) (list_all is_empty o.outboxes) (no_open_some space o e h.0 h.1))
+pub idle_not : (ties : Ties) (r : Option OpenEntry) (space : SearchSpace) (o : Owner) → is_some r ≡ true
+    → IfSome r (λ e. IsLeast ties space.heuristic o.nodes e × (is_at_most o.bound (Finite e.f) ≡ false)) → false ≡ idle space o
+idle_not ties None space o some h = absurd (true≢false (sym some))
+idle_not ties (Some e) space o some h = sym (both_false (no_open space o) (list_all is_empty o.outboxes) (no_open_some space o e h.0 h.1))
 
 pub none_from : {X : Type 0} (r : Option X) → is_some r ≡ false → r ≡ None
 none_from None h = refl

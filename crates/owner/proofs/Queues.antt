@@ -1,11 +1,12 @@
 -- The open list follows the nodes.
-use Rattle.std.proofs.Common.{◌≡◌, ◌⊎◌, ℕ, ◌+◌, ◌<◌, ◌≤◌, ◌^◌, true, false, List, [], ◌∷◌, ◌++◌, length, Option, Some, None, All, refl, sym, ap, ◌∙◌, subst, inl, inr, ⊎_elim, arith, true≢false}
-use Rattle.std.specs.Prelude.{Contains, slice_get, slice_set, IfSome, IfNone}
+use Rattle.std.proofs.Common.{◌≡◌, ◌⊎◌, ℕ, ◌+◌, ◌<◌, ◌≤◌, ◌^◌, true, false, ◌&&◌, ◌||◌, ◌==◌, List, [], ◌∷◌, ◌++◌, length, Option, Some, None, All, refl, sym, ap, ◌∙◌, subst, inl, inr, ⊎_elim, arith, true≢false}
+use Rattle.std.specs.Prelude.{Contains, map, nat_lt, slice_get, slice_set, IfSome, IfNone}
 use Rattle.std.specs.List.Sorted.{IsPermutation}
 use Rattle.std.proofs.lemmas.Bool.{cases_lt}
 use Rattle.std.proofs.lemmas.Bool.Decides.{nat_tests}
-use Rattle.std.proofs.lemmas.List.Elements.{All-contains}
-use Rattle.std.proofs.lemmas.List.Sorted.{Contains-permutation, IsPermutation-sym, length_permutation}
+use Rattle.std.proofs.lemmas.List.{map-append}
+use Rattle.std.proofs.lemmas.List.Elements.{All-nil, All-cons, All-tail, All-append, All-contains}
+use Rattle.std.proofs.lemmas.List.Sorted.{Contains-permutation, IsPermutation-map, IsPermutation-sym, All-permutation, length_permutation}
 use Rattle.cost.specs.Distances.{Distance, Finite, Infinite, ◌+ᵈ◌, distance_of}
 use Rattle.owner_theory.specs.Owners.{At, Node, rank_less, marked}
 use Rattle.owner_theory.proofs.Lists.{at_once, at_front}
@@ -17,8 +18,11 @@ use Rattle.closed.specs.declared.message.Parent.{Parent}
 use Rattle.closed.specs.declared.table.Outcome.{Outcome}
 use Rattle.closed.specs.declared.table.Outcome.TheVariants.{New, Better, Kept}
 use Rattle.closed.specs.Tables.{reached, outcome_of, fresh}
-use Rattle.owner.specs.Queues.{IsOf, IsCurrent, AreQueued, IsQueue, IsLeast, HasNoneOpen, added}
-use Rattle.owner.proofs.Entries.{in_front_of, in_rest, first_or_rest, not_in_none, all_contained, first_of_fewer, first_before, first_both, later_not_first}
+use Rattle.owner.specs.declared.ties.Ties.{Ties}
+use Rattle.owner.specs.Owned.{ties_first}
+use Rattle.owner.specs.Queues.{turned, HasWords, IsOf, IsCurrent, AreQueued, IsQueue, IsLeast, HasNoneOpen, added}
+use Rattle.owner.proofs.Entries.{in_front_of, in_rest, first_or_rest, not_in_none, all_contained, contains_map, contains_back, first_of_fewer, first_before, first_both}
+use Rattle.owner.proofs.TieLaws.{turned_words, turned_twice, turned_order}
 use Rattle.owner.proofs.Outcomes.{last_at, push_at, at_below, set_elsewhere, get_at, IsNew, IsBetter, IsKeptAs, comes}
 
 -- ---- entries in another order
@@ -30,100 +34,107 @@ queued_permuted h ns xs ys p q = record {
   sound = λ e there. q.sound e (Contains-permutation ys xs e (IsPermutation-sym xs ys p) there);
 }
 
-pub queue_permuted : (h : List ℕ → Distance) (ns : List Node) (xs ys : List OpenEntry) → IsPermutation xs ys → IsQueue h ns xs
-    → IsQueue h ns ys
-queue_permuted h ns xs ys p q = record {
-  queued = queued_permuted h ns xs ys p q.queued;
+pub queue_permuted : (ties : Ties) (h : List ℕ → Distance) (ns : List Node) (xs ys : List OpenEntry) → IsPermutation xs ys → IsQueue ties h ns xs
+    → IsQueue ties h ns ys
+queue_permuted ties h ns xs ys p q = record {
+  words = All-permutation HasWords xs ys p q.words;
+  queued = queued_permuted h ns (map (turned ties) xs) (map (turned ties) ys) (IsPermutation-map (turned ties) xs ys p) q.queued;
   top = λ e there first. q.top e (Contains-permutation ys xs e (IsPermutation-sym xs ys p) there)
       (first_of_fewer e xs ys (λ x. Contains-permutation xs ys x p) first);
 }
 
 -- ---- a state is reached
 
--- f at more cost is more, and infinite at each cost or at none
-f_grows : (c c' f f' : ℕ) (d : Distance) → c' ≤ c → Finite c +ᵈ d ≡ Finite f → Finite c' +ᵈ d ≡ Finite f' → f' ≤ f
-f_grows c c' f f' (Finite n) le p q = let a : c + n ≡ f = cc in let b : c' + n ≡ f' = cc in omega arith
-f_grows c c' f f' Infinite le p q = absurd (cc)
-
+-- f is infinite at each cost or at none
 f_finite : (c c' f : ℕ) (d : Distance) → Finite c +ᵈ d ≡ Finite f → Infinite ≡ Finite c' +ᵈ d → ⊥
 f_finite c c' f (Finite n) p q = cc
 f_finite c c' f Infinite p q = cc
 
+-- what is of a node is of it where there is a node more
+of_more : (h : List ℕ → Distance) (ns : List Node) (m : Node) (e : OpenEntry) → IsOf h ns e → IsOf h (ns ++ m ∷ []) e
+of_more h ns m e o = record {
+  node = o.node;
+  there = at_front o.node ns (m ∷ []) e.index o.there;
+  f = o.f;
+  within = o.within;
+  cost = o.cost;
+  steps = o.steps;
+}
+
+current_more : (ns : List Node) (m : Node) (e : OpenEntry) → IsCurrent ns e → IsCurrent (ns ++ m ∷ []) e
+current_more ns m e c = record {
+  node = c.node;
+  there = at_front c.node ns (m ∷ []) e.index c.there;
+  waits = c.waits;
+  cost = c.cost;
+  steps = c.steps;
+}
+
 -- a new node whose f-value is infinite
-new_closed : (h : List ℕ → Distance) (ns : List Node) (es : List OpenEntry) (m : Node) → IsQueue h ns es
-    → Infinite ≡ Finite m.cost +ᵈ h m.state → IsQueue h (ns ++ m ∷ []) es
-new_closed h ns es m q inf = record {
-  queued = record {
-    complete = λ i n f at waits is. ⊎_elim (λ (p : At ns i n). q.queued.complete i n f p waits is)
-        (λ (p : (i ≡ length ns) × (m ≡ n)). absurd (f_finite n.cost n.cost f (h n.state) is
-        (subst (λ (x : Node). Infinite ≡ Finite x.cost +ᵈ h x.state) p.1 inf))) (push_at ns m i n at);
-    sound = λ e there. let o = q.queued.sound e there in record {
-      node = o.node;
-      there = at_front o.node ns (m ∷ []) e.index o.there;
-      f = o.f;
-      within = o.within;
-      cost = o.cost;
-      steps = o.steps;
-    };
-  };
-  top = λ e there first. let o = q.top e there first in record {
-    node = o.node;
-    there = at_front o.node ns (m ∷ []) e.index o.there;
-    waits = o.waits;
-    cost = o.cost;
-    steps = o.steps;
-  };
+closed_queued : (h : List ℕ → Distance) (ns : List Node) (es : List OpenEntry) (m : Node) → AreQueued h ns es
+    → Infinite ≡ Finite m.cost +ᵈ h m.state → AreQueued h (ns ++ m ∷ []) es
+closed_queued h ns es m q inf = record {
+  complete = λ i n f at waits is. ⊎_elim (λ (p : At ns i n). q.complete i n f p waits is)
+      (λ (p : (i ≡ length ns) × (m ≡ n)). absurd (f_finite n.cost n.cost f (h n.state) is
+      (subst (λ (x : Node). Infinite ≡ Finite x.cost +ᵈ h x.state) p.1 inf))) (push_at ns m i n at);
+  sound = λ e there. of_more h ns m e (q.sound e there);
+}
+
+new_closed : (ties : Ties) (h : List ℕ → Distance) (ns : List Node) (es : List OpenEntry) (m : Node) → IsQueue ties h ns es
+    → Infinite ≡ Finite m.cost +ᵈ h m.state → IsQueue ties h (ns ++ m ∷ []) es
+new_closed ties h ns es m q inf = record {
+  words = q.words;
+  queued = closed_queued h ns (map (turned ties) es) m q.queued inf;
+  top = λ e there first. current_more ns m (turned ties e) (q.top e there first);
 }
 
 -- a new node with its entry
-new_open : (h : List ℕ → Distance) (ns : List Node) (es : List OpenEntry) (m : Node) (f : ℕ) → IsQueue h ns es
-    → Finite f ≡ Finite m.cost +ᵈ h m.state → f ≤ 2 ^ 63 → m.expanded ≡ false
-    → IsQueue h (ns ++ m ∷ []) (entry_of f m.cost m.steps (length ns) ∷ es)
-new_open h ns es m f q is within waits = record {
-  queued = record {
-    complete = λ i n f' at waits' is'. ⊎_elim
-        (λ (p : At ns i n). in_rest _ _ es (q.queued.complete i n f' p waits' is'))
-        (λ (p : (i ≡ length ns) × (m ≡ n)).
-        let same : f ≡ f' = let e : Finite f ≡ Finite f' = is ∙ (ap (λ (x : Node). Finite x.cost +ᵈ h x.state) p.1 ∙ is') in cc in
-        let P : OpenEntry → Type 0 = λ e. Contains (x0 ∷ es) e in
-        subst P (λ j. record { f = same j; rank = record { cost = (p.1 j).cost; steps = (p.1 j).steps }; index = sym p.0 j })
-        (in_front_of x0 es))
-        (push_at ns m i n at);
-    sound = λ e there. ⊎_elim
-        (λ (p : x0 ≡ e). subst (λ (y : OpenEntry). IsOf h (ns ++ m ∷ []) y) p (record {
-          node = m;
-          there = last_at ns m;
-          f = sym is;
-          within = within;
-          cost = omega arith;
-          steps = λ _. omega arith;
-        }))
-        (λ (p : Contains es e). let o = q.queued.sound e p in record {
-          node = o.node;
-          there = at_front o.node ns (m ∷ []) e.index o.there;
-          f = o.f;
-          within = o.within;
-          cost = o.cost;
-          steps = o.steps;
-        })
-        (first_or_rest e x0 es there);
-  };
+open_queued : (h : List ℕ → Distance) (ns : List Node) (es : List OpenEntry) (m : Node) (f : ℕ) → AreQueued h ns es
+    → Finite f ≡ Finite m.cost +ᵈ h m.state → f ≤ 2 ^ 63
+    → AreQueued h (ns ++ m ∷ []) (entry_of f m.cost m.steps (length ns) ∷ es)
+open_queued h ns es m f q is within = record {
+  complete = λ i n f' at waits' is'. ⊎_elim
+      (λ (p : At ns i n). in_rest _ _ es (q.complete i n f' p waits' is'))
+      (λ (p : (i ≡ length ns) × (m ≡ n)).
+      let same : f ≡ f' = let e : Finite f ≡ Finite f' = is ∙ (ap (λ (x : Node). Finite x.cost +ᵈ h x.state) p.1 ∙ is') in cc in
+      let P : OpenEntry → Type 0 = λ e. Contains (x0 ∷ es) e in
+      subst P (λ j. record { f = same j; rank = record { cost = (p.1 j).cost; steps = (p.1 j).steps }; index = sym p.0 j })
+      (in_front_of x0 es))
+      (push_at ns m i n at);
+  sound = λ e there. ⊎_elim
+      (λ (p : x0 ≡ e). subst (λ (y : OpenEntry). IsOf h (ns ++ m ∷ []) y) p (record {
+        node = m;
+        there = last_at ns m;
+        f = sym is;
+        within = within;
+        cost = omega arith;
+        steps = λ _. omega arith;
+      }))
+      (λ (p : Contains es e). of_more h ns m e (q.sound e p))
+      (first_or_rest e x0 es there);
+}
+  where
+    x0 : OpenEntry
+    x0 = entry_of f m.cost m.steps (length ns)
+
+new_open : (ties : Ties) (h : List ℕ → Distance) (ns : List Node) (es : List OpenEntry) (m : Node) (f : ℕ) → IsQueue ties h ns es
+    → Finite f ≡ Finite m.cost +ᵈ h m.state → f ≤ 2 ^ 63 → m.expanded ≡ false → HasWords (entry_of f m.cost m.steps (length ns))
+    → IsQueue ties h (ns ++ m ∷ []) (turned ties (entry_of f m.cost m.steps (length ns)) ∷ es)
+new_open ties h ns es m f q is within waits words = record {
+  words = All-cons HasWords (turned ties x0) es (turned_words ties x0 words) q.words;
+  queued = subst (λ (y : OpenEntry). AreQueued h (ns ++ m ∷ []) (y ∷ map (turned ties) es)) (sym (turned_twice ties x0 words))
+      (open_queued h ns (map (turned ties) es) m f q.queued is within);
   top = λ e there first. ⊎_elim
-      (λ (p : x0 ≡ e). subst (λ (y : OpenEntry). IsCurrent (ns ++ m ∷ []) y) p (record {
+      (λ (p : turned ties x0 ≡ e). subst (λ (y : OpenEntry). IsCurrent (ns ++ m ∷ []) y) (sym (turned_twice ties x0 words) ∙ ap (turned ties) p) (record {
         node = m;
         there = last_at ns m;
         waits = waits;
         cost = refl;
         steps = refl;
       }))
-      (λ (p : Contains es e). let o = q.top e p (first_of_fewer e es (x0 ∷ es) (λ x. in_rest x x0 es) first) in record {
-        node = o.node;
-        there = at_front o.node ns (m ∷ []) e.index o.there;
-        waits = o.waits;
-        cost = o.cost;
-        steps = o.steps;
-      })
-      (first_or_rest e x0 es there);
+      (λ (p : Contains es e). current_more ns m (turned ties e)
+      (q.top e p (first_of_fewer e es (turned ties x0 ∷ es) (λ x. in_rest x (turned ties x0) es) first)))
+      (first_or_rest e (turned ties x0) es there);
 }
   where
     x0 : OpenEntry
@@ -183,146 +194,148 @@ set_at ns i x m j e at there =
     (same_or_not j i)
 
 -- a better node whose f-value is infinite
-better_closed : (h : List ℕ → Distance) (ns : List Node) (es : List OpenEntry) (i : ℕ) (x m : Node) → IsQueue h ns es → At ns i x
+better_closed : (h : List ℕ → Distance) (ns : List Node) (es : List OpenEntry) (i : ℕ) (x m : Node) → AreQueued h ns es → At ns i x
     → x.state ≡ m.state → rank_less m.cost m.steps x.cost x.steps ≡ true → Infinite ≡ Finite m.cost +ᵈ h m.state
-    → IsQueue h (slice_set ns i m) es
+    → AreQueued h (slice_set ns i m) es
 better_closed h ns es i x m q at same less inf = record {
-  queued = record {
-    complete = λ j n f there waits is. ⊎_elim
-        (λ (p : (j ≡ i) × (m ≡ n)). absurd (f_finite n.cost n.cost f (h n.state) is
-        (subst (λ (y : Node). Infinite ≡ Finite y.cost +ᵈ h y.state) p.1 inf)))
-        (λ (p : (j ≡ i → ⊥) × At ns j n). q.queued.complete j n f p.1 waits is)
-        (set_at ns i x m j n at there);
-    sound = λ e there. better_of h ns i x m e at same less (q.queued.sound e there);
-  };
-  top = λ e there first. let o = q.top e there first in record {
-    node = o.node;
-    there = set_elsewhere ns i m e.index o.node (λ here. none e (q.queued.sound e there) here) o.there;
-    waits = o.waits;
-    cost = o.cost;
-    steps = o.steps;
-  };
+  complete = λ j n f there waits is. ⊎_elim
+      (λ (p : (j ≡ i) × (m ≡ n)). absurd (f_finite n.cost n.cost f (h n.state) is
+      (subst (λ (y : Node). Infinite ≡ Finite y.cost +ᵈ h y.state) p.1 inf)))
+      (λ (p : (j ≡ i → ⊥) × At ns j n). q.complete j n f p.1 waits is)
+      (set_at ns i x m j n at there);
+  sound = λ e there. better_of h ns i x m e at same less (q.sound e there);
 }
-  where
-    none : (e : OpenEntry) → IsOf h ns e → e.index ≡ i → ⊥
-    none e o here =
-        let is : o.node ≡ x = at_once ns i o.node x (subst (λ k. At ns k o.node) here o.there) at in
-        f_finite e.rank.cost m.cost e.f (h m.state)
-        (ap (λ (s : List ℕ). Finite e.rank.cost +ᵈ h s) (sym (ap (λ (n : Node). n.state) is ∙ same)) ∙ o.f) inf
 
 -- a better node with its entry
-better_open : (h : List ℕ → Distance) (ns : List Node) (es : List OpenEntry) (i : ℕ) (x m : Node) (f : ℕ) → IsQueue h ns es
+better_open : (h : List ℕ → Distance) (ns : List Node) (es : List OpenEntry) (i : ℕ) (x m : Node) (f : ℕ) → AreQueued h ns es
     → At ns i x → x.state ≡ m.state → rank_less m.cost m.steps x.cost x.steps ≡ true
-    → Finite f ≡ Finite m.cost +ᵈ h m.state → f ≤ 2 ^ 63 → m.expanded ≡ false
-    → IsQueue h (slice_set ns i m) (entry_of f m.cost m.steps i ∷ es)
-better_open h ns es i x m f q at same less is within waits = record {
-  queued = record {
-    complete = λ j n f' there waits' is'. ⊎_elim
-        (λ (p : (j ≡ i) × (m ≡ n)).
-        let fs : f ≡ f' = let e : Finite f ≡ Finite f' = is ∙ (ap (λ (y : Node). Finite y.cost +ᵈ h y.state) p.1 ∙ is') in cc in
-        let P : OpenEntry → Type 0 = λ e. Contains (x0 ∷ es) e in
-        subst P (λ k. record { f = fs k; rank = record { cost = (p.1 k).cost; steps = (p.1 k).steps }; index = sym p.0 k })
-        (in_front_of x0 es))
-        (λ (p : (j ≡ i → ⊥) × At ns j n). in_rest _ _ es (q.queued.complete j n f' p.1 waits' is'))
-        (set_at ns i x m j n at there);
-    sound = λ e there. ⊎_elim
-        (λ (p : x0 ≡ e). subst (λ (y : OpenEntry). IsOf h (slice_set ns i m) y) p (record {
-          node = m;
-          there = mark_there ns i m x at;
-          f = sym is;
-          within = within;
-          cost = omega arith;
-          steps = λ _. omega arith;
-        }))
-        (λ (p : Contains es e). better_of h ns i x m e at same less (q.queued.sound e p))
-        (first_or_rest e x0 es there);
-  };
-  top = λ e there first. ⊎_elim
-      (λ (p : x0 ≡ e). subst (λ (y : OpenEntry). IsCurrent (slice_set ns i m) y) p (record {
+    → Finite f ≡ Finite m.cost +ᵈ h m.state → f ≤ 2 ^ 63
+    → AreQueued h (slice_set ns i m) (entry_of f m.cost m.steps i ∷ es)
+better_open h ns es i x m f q at same less is within = record {
+  complete = λ j n f' there waits' is'. ⊎_elim
+      (λ (p : (j ≡ i) × (m ≡ n)).
+      let fs : f ≡ f' = let e : Finite f ≡ Finite f' = is ∙ (ap (λ (y : Node). Finite y.cost +ᵈ h y.state) p.1 ∙ is') in cc in
+      let P : OpenEntry → Type 0 = λ e. Contains (x0 ∷ es) e in
+      subst P (λ k. record { f = fs k; rank = record { cost = (p.1 k).cost; steps = (p.1 k).steps }; index = sym p.0 k })
+      (in_front_of x0 es))
+      (λ (p : (j ≡ i → ⊥) × At ns j n). in_rest _ _ es (q.complete j n f' p.1 waits' is'))
+      (set_at ns i x m j n at there);
+  sound = λ e there. ⊎_elim
+      (λ (p : x0 ≡ e). subst (λ (y : OpenEntry). IsOf h (slice_set ns i m) y) p (record {
         node = m;
         there = mark_there ns i m x at;
-        waits = waits;
-        cost = refl;
-        steps = refl;
+        f = sym is;
+        within = within;
+        cost = omega arith;
+        steps = λ _. omega arith;
       }))
-      (λ (p : Contains es e).
-      let o = q.top e p (first_of_fewer e es (x0 ∷ es) (λ y. in_rest y x0 es) first) in record {
-        node = o.node;
-        there = set_elsewhere ns i m e.index o.node
-            (λ here. stale e o (q.queued.sound e p) here (first_before e x0 (x0 ∷ es) first (in_front_of x0 es))) o.there;
-        waits = o.waits;
-        cost = o.cost;
-        steps = o.steps;
-      })
+      (λ (p : Contains es e). better_of h ns i x m e at same less (q.sound e p))
       (first_or_rest e x0 es there);
 }
   where
     x0 : OpenEntry
     x0 = entry_of f m.cost m.steps i
 
-    stale : (e : OpenEntry) → IsCurrent ns e → IsOf h ns e → e.index ≡ i → comes_first e x0 ≡ true → ⊥
-    stale e c o here first =
-        let is_x : c.node ≡ x = at_once ns i c.node x (subst (λ k. At ns k c.node) here c.there) at in
-        let o_x : o.node ≡ x = at_once ns i o.node x (subst (λ k. At ns k o.node) here o.there) at in
-        let costs : x.cost ≡ e.rank.cost = sym (ap (λ (n : Node). n.cost) is_x) ∙ c.cost in
-        let steps : x.steps ≡ e.rank.steps = sym (ap (λ (n : Node). n.steps) is_x) ∙ c.steps in
-        let below = rank_less-true m.cost m.steps x.cost x.steps less in
-        let le : m.cost ≤ e.rank.cost = let b = below.cost in omega arith in
-        later_not_first e.f e.rank.cost e.rank.steps e.index f m.cost m.steps i
-        (f_grows e.rank.cost m.cost e.f f (h m.state) le
-        (ap (λ (s : List ℕ). Finite e.rank.cost +ᵈ h s) (sym (ap (λ (n : Node). n.state) o_x ∙ same)) ∙ o.f) (sym is))
-        (let r : rank_less m.cost m.steps e.rank.cost e.rank.steps ≡ rank_less m.cost m.steps x.cost x.steps =
-        (λ j. rank_less m.cost m.steps (sym costs j) (sym steps j)) in r ∙ less)
-        first
+-- the entry that goes into the list, turned over, and those that were there
+added_words : (ties : Ties) (added es1 es2 : List OpenEntry) → IsPermutation (map (turned ties) added ++ es1) es2 → All HasWords added → All HasWords es1
+    → All HasWords es2
+added_words ties added es1 es2 p words q =
+    All-permutation HasWords (map (turned ties) added ++ es1) es2 p
+    (All-append HasWords (map (turned ties) added) es1 (turned_all added words) q)
+  where
+    turned_all : (xs : List OpenEntry) → All HasWords xs → All HasWords (map (turned ties) xs)
+    turned_all xs all = all_contained HasWords (map (turned ties) xs) (λ e there. let b = contains_back (turned ties) xs e there in
+        subst HasWords b.2 (turned_words ties b.0 (All-contains HasWords xs b.0 all b.1)))
 
--- the state is reached, and its entry put in where there is one
-pub reach_queue : (h : List ℕ → Distance) (ns : List Node) (es0 es1 es2 : List OpenEntry) (state : List ℕ) (rank : Rank)
-    (parent : Option Parent) (f : Option ℕ) (o : Outcome) → IsQueue h ns es0 → IsPermutation es0 es1
-    → distance_of f ≡ Finite rank.cost +ᵈ h state → IfSome f (λ f. f ≤ 2 ^ 63)
-    → o ≡ outcome_of ns (fresh state rank parent) → IsPermutation (added f rank o ++ es1) es2
-    → IsQueue h (reached ns (fresh state rank parent)) es2
-reach_queue h ns es0 es1 es2 state rank parent f o q p0 is within came p1 =
-    let q1 = queue_permuted h ns es0 es1 p0 q in
+-- turned back, they are the entry and those that were there, turned back
+added_back : (ties : Ties) (added es1 es2 : List OpenEntry) → IsPermutation (map (turned ties) added ++ es1) es2 → All HasWords added
+    → IsPermutation (added ++ map (turned ties) es1) (map (turned ties) es2)
+added_back ties added es1 es2 p words =
+    subst (λ (l : List OpenEntry). IsPermutation l (map (turned ties) es2))
+    (map-append (turned ties) (map (turned ties) added) es1 ∙ ap (λ (l : List OpenEntry). l ++ map (turned ties) es1) (twice added words))
+    (IsPermutation-map (turned ties) (map (turned ties) added ++ es1) es2 p)
+  where
+    twice : (xs : List OpenEntry) → All HasWords xs → map (turned ties) (map (turned ties) xs) ≡ xs
+    twice [] all = refl
+    twice (x ∷ xs) all = λ k. turned_twice ties x (All-contains HasWords (x ∷ xs) x all (in_front_of x xs)) k
+        ∷ twice xs (All-tail HasWords x xs all) k
+
+-- the state is improved, and its entry put in where there is one; its old entry may be first
+pub improve_queued : (ties : Ties) (h : List ℕ → Distance) (ns : List Node) (es0 es1 es2 : List OpenEntry) (state : List ℕ) (rank : Rank)
+    (parent : Option Parent) (f : Option ℕ) (o : Outcome) (i : ℕ) → o ≡ Better i → IsQueue ties h ns es0 → IsPermutation es0 es1
+    → distance_of f ≡ Finite rank.cost +ᵈ h state → IfSome f (λ f. f ≤ 2 ^ 63) → o ≡ outcome_of ns (fresh state rank parent)
+    → IsPermutation (map (turned ties) (added f rank o) ++ es1) es2 → All HasWords (added f rank o)
+    → All HasWords es2 × AreQueued h (reached ns (fresh state rank parent)) (map (turned ties) es2)
+improve_queued ties h ns es0 es1 es2 state rank parent f o i better q p0 is within came p1 words = (
+  added_words ties (added f rank o) es1 es2 p1 words q1.words,
+  ⊎_elim
+      (λ (c : IsNew 0 ns m (outcome_of ns m) (reached ns m)).
+      let e : Better i ≡ New (0 + length ns) = sym better ∙ (came ∙ c.0) in absurd (cc))
+      (λ (rest : IsBetter 0 ns m (outcome_of ns m) (reached ns m) ⊎ IsKeptAs ns (outcome_of ns m) (reached ns m)). ⊎_elim
+      (λ (b : IsBetter 0 ns m (outcome_of ns m) (reached ns m)).
+      subst (λ (l : List Node). AreQueued h l (map (turned ties) es2)) (sym b.nodes)
+      (queued_permuted h (slice_set ns b.place m) _ (map (turned ties) es2) (added_back ties (added f rank o) es1 es2 p1 words)
+      (subst (λ (k : Outcome). AreQueued h (slice_set ns b.place m) (added f rank k ++ map (turned ties) es1)) (sym (came ∙ b.outcome))
+      (at_better f is within q1.queued b))))
+      (λ (k : IsKeptAs ns (outcome_of ns m) (reached ns m)).
+      let e : Better i ≡ Kept = sym better ∙ (came ∙ k.0) in absurd (cc))
+      rest)
+      (comes ns m),
+)
+  where
+    m : Node
+    m = fresh state rank parent
+
+    q1 : IsQueue ties h ns es1
+    q1 = queue_permuted ties h ns es0 es1 p0 q
+
+    at_better : (f : Option ℕ) → distance_of f ≡ Finite rank.cost +ᵈ h state → IfSome f (λ f. f ≤ 2 ^ 63) → AreQueued h ns (map (turned ties) es1)
+        → (b : IsBetter 0 ns m (outcome_of ns m) (reached ns m))
+        → AreQueued h (slice_set ns b.place m) (added f rank (Better (0 + b.place)) ++ map (turned ties) es1)
+    at_better None is within q1 b = better_closed h ns (map (turned ties) es1) b.place b.node m q1 b.there b.state b.less is
+    at_better (Some f) is within q1 b = let e : b.place ≡ 0 + b.place = omega arith in
+        subst (λ k. AreQueued h (slice_set ns b.place m) (entry_of f rank.cost rank.steps k ∷ map (turned ties) es1)) e
+        (better_open h ns (map (turned ties) es1) b.place b.node m f q1 b.there b.state b.less is within)
+
+-- the state is new or as it was, and its entry put in where there is one
+pub reach_queue : (ties : Ties) (h : List ℕ → Distance) (ns : List Node) (es0 es1 es2 : List OpenEntry) (state : List ℕ) (rank : Rank)
+    (parent : Option Parent) (f : Option ℕ) (o : Outcome) → ((i : ℕ) → o ≡ Better i → ⊥) → IsQueue ties h ns es0 → IsPermutation es0 es1
+    → distance_of f ≡ Finite rank.cost +ᵈ h state → IfSome f (λ f. f ≤ 2 ^ 63) → o ≡ outcome_of ns (fresh state rank parent)
+    → IsPermutation (map (turned ties) (added f rank o) ++ es1) es2 → All HasWords (added f rank o)
+    → IsQueue ties h (reached ns (fresh state rank parent)) es2
+reach_queue ties h ns es0 es1 es2 state rank parent f o no_better q p0 is within came p1 words =
+    let q1 = queue_permuted ties h ns es0 es1 p0 q in
     ⊎_elim
     (λ (c : IsNew 0 ns m (outcome_of ns m) (reached ns m)).
-    subst (λ (l : List Node). IsQueue h l es2) (sym c.1) (queue_permuted h (ns ++ m ∷ []) _ es2 p1
-    (subst (λ (k : Outcome). IsQueue h (ns ++ m ∷ []) (added f rank k ++ es1)) (sym (came ∙ c.0)) (at_new f is within q1))))
+    subst (λ (l : List Node). IsQueue ties h l es2) (sym c.1) (queue_permuted ties h (ns ++ m ∷ []) _ es2 p1
+    (subst (λ (k : Outcome). IsQueue ties h (ns ++ m ∷ []) (map (turned ties) (added f rank k) ++ es1)) (sym (came ∙ c.0))
+    (at_new f is within q1 (subst (λ (k : Outcome). All HasWords (added f rank k)) (came ∙ c.0) words)))))
     (λ (rest : IsBetter 0 ns m (outcome_of ns m) (reached ns m) ⊎ IsKeptAs ns (outcome_of ns m) (reached ns m)). ⊎_elim
-    (λ (b : IsBetter 0 ns m (outcome_of ns m) (reached ns m)).
-    subst (λ (l : List Node). IsQueue h l es2) (sym b.nodes) (queue_permuted h (slice_set ns b.place m) _ es2 p1
-    (subst (λ (k : Outcome). IsQueue h (slice_set ns b.place m) (added f rank k ++ es1)) (sym (came ∙ b.outcome)) (at_better f is within q1 b))))
+    (λ (b : IsBetter 0 ns m (outcome_of ns m) (reached ns m)). absurd (no_better (0 + b.place) (came ∙ b.outcome)))
     (λ (k : IsKeptAs ns (outcome_of ns m) (reached ns m)).
-    subst (λ (l : List Node). IsQueue h l es2) (sym k.1) (queue_permuted h ns _ es2 p1
-    (subst (λ (c : Outcome). IsQueue h ns (added f rank c ++ es1)) (sym (came ∙ k.0)) (at_kept f q1))))
+    subst (λ (l : List Node). IsQueue ties h l es2) (sym k.1) (queue_permuted ties h ns _ es2 p1
+    (subst (λ (c : Outcome). IsQueue ties h ns (map (turned ties) (added f rank c) ++ es1)) (sym (came ∙ k.0)) (at_kept f q1))))
     rest)
     (comes ns m)
   where
     m : Node
     m = fresh state rank parent
 
-    at_new : (f : Option ℕ) → distance_of f ≡ Finite rank.cost +ᵈ h state → IfSome f (λ f. f ≤ 2 ^ 63) → IsQueue h ns es1
-        → IsQueue h (ns ++ m ∷ []) (added f rank (New (0 + length ns)) ++ es1)
-    at_new None is within q1 = new_closed h ns es1 m q1 is
-    at_new (Some f) is within q1 = let e : length ns ≡ 0 + length ns = omega arith in
-        subst (λ k. IsQueue h (ns ++ m ∷ []) (entry_of f rank.cost rank.steps k ∷ es1)) e (new_open h ns es1 m f q1 is within refl)
+    at_new : (f : Option ℕ) → distance_of f ≡ Finite rank.cost +ᵈ h state → IfSome f (λ f. f ≤ 2 ^ 63) → IsQueue ties h ns es1
+        → All HasWords (added f rank (New (0 + length ns)))
+        → IsQueue ties h (ns ++ m ∷ []) (map (turned ties) (added f rank (New (0 + length ns))) ++ es1)
+    at_new None is within q1 words = new_closed ties h ns es1 m q1 is
+    at_new (Some f) is within q1 words = let e : length ns ≡ 0 + length ns = omega arith in
+        subst (λ k. IsQueue ties h (ns ++ m ∷ []) (turned ties (entry_of f rank.cost rank.steps k) ∷ es1)) e
+        (new_open ties h ns es1 m f q1 is within refl (subst (λ k. HasWords (entry_of f rank.cost rank.steps k)) (sym e)
+        (All-contains HasWords (entry_of f rank.cost rank.steps (0 + length ns) ∷ []) (entry_of f rank.cost rank.steps (0 + length ns)) words
+        (in_front_of (entry_of f rank.cost rank.steps (0 + length ns)) []))))
 
-    at_better : (f : Option ℕ) → distance_of f ≡ Finite rank.cost +ᵈ h state → IfSome f (λ f. f ≤ 2 ^ 63) → IsQueue h ns es1
-        → (b : IsBetter 0 ns m (outcome_of ns m) (reached ns m))
-        → IsQueue h (slice_set ns b.place m) (added f rank (Better (0 + b.place)) ++ es1)
-    at_better None is within q1 b = better_closed h ns es1 b.place b.node m q1 b.there b.state b.less is
-    at_better (Some f) is within q1 b = let e : b.place ≡ 0 + b.place = omega arith in
-        subst (λ k. IsQueue h (slice_set ns b.place m) (entry_of f rank.cost rank.steps k ∷ es1)) e
-        (better_open h ns es1 b.place b.node m f q1 b.there b.state b.less is within refl)
-
-    at_kept : (f : Option ℕ) → IsQueue h ns es1 → IsQueue h ns (added f rank Kept ++ es1)
+    at_kept : (f : Option ℕ) → IsQueue ties h ns es1 → IsQueue ties h ns (map (turned ties) (added f rank Kept) ++ es1)
     at_kept None q1 = q1
     at_kept (Some f) q1 = q1
 
 -- ---- the first entry
-
--- the entry of a node of its rank
-current_is : (ns : List Node) (e : OpenEntry) (c : IsCurrent ns e) → entry_of e.f c.node.cost c.node.steps e.index ≡ e
-current_is ns e c = λ j. record { f = e.f; rank = record { cost = c.cost j; steps = c.steps j }; index = e.index }
 
 current_f : (h : List ℕ → Distance) (ns : List Node) (e : OpenEntry) (c : IsCurrent ns e) → IsOf h ns e
     → Finite c.node.cost +ᵈ h c.node.state ≡ Finite e.f
@@ -330,35 +343,49 @@ current_f h ns e c o =
     let is : c.node ≡ o.node = at_once ns e.index c.node o.node c.there o.there in
     (λ j. Finite (c.cost j) +ᵈ h ((is j).state)) ∙ o.f
 
-pub is_least : (h : List ℕ → Distance) (ns : List Node) (es : List OpenEntry) (e : OpenEntry) → IsQueue h ns es → Contains es e
-    → IsFirst e es → IsLeast h ns e
-is_least h ns es e q there first =
-    let c = q.top e there first in let o = q.queued.sound e there in
+pub is_least : (ties : Ties) (h : List ℕ → Distance) (ns : List Node) (es : List OpenEntry) (x : OpenEntry) → IsQueue ties h ns es → Contains es x
+    → IsFirst x es → IsLeast ties h ns (turned ties x)
+is_least ties h ns es x q there first =
+    let c = q.top x there first in
+    let o = q.queued.sound (turned ties x) (contains_map (turned ties) es x there) in
     record {
       node = c.node;
       there = c.there;
       waits = c.waits;
       cost = c.cost;
       steps = c.steps;
-      f = current_f h ns e c o;
+      f = current_f h ns (turned ties x) c o;
       within = o.within;
-      first = λ j x f at waits is. first_before e (entry_of f x.cost x.steps j) es first (q.queued.complete j x f at waits is);
+      first = λ j n f at waits is.
+          let (y, y_there, y_is) = contains_back (turned ties) es (entry_of f n.cost n.steps j) (q.queued.complete j n f at waits is) in
+          let e : OpenEntry = turned ties x in
+          subst (λ (z : OpenEntry). (nat_lt e.f z.f || ((e.f == z.f) && ties_first ties e.index c.node z.index n)) ≡ true) y_is
+          (sym (turned_order ties x y c.node n (All-contains HasWords es x q.words there) (All-contains HasWords es y q.words y_there) c.cost c.steps
+          (ap (λ (z : OpenEntry). z.rank.cost) (sym y_is)) (ap (λ (z : OpenEntry). z.rank.steps) (sym y_is)))
+          ∙ first_before x y es first y_there);
     }
 
-pub none_open : (h : List ℕ → Distance) (ns : List Node) (es : List OpenEntry) → IsQueue h ns es → es ≡ [] → HasNoneOpen h ns
-none_open h ns es q none i n f at waits is = not_in_none (entry_of f n.cost n.steps i) es none (q.queued.complete i n f at waits is)
+pub none_open : (ties : Ties) (h : List ℕ → Distance) (ns : List Node) (es : List OpenEntry) → IsQueue ties h ns es → es ≡ [] → HasNoneOpen h ns
+none_open ties h ns es q none i n f at waits is =
+    not_in_none (entry_of f n.cost n.steps i) (map (turned ties) es) (ap (map (turned ties)) none) (q.queued.complete i n f at waits is)
 
 -- there is one first entry of an open node
-pub one_least : (h : List ℕ → Distance) (ns : List Node) (es : List OpenEntry) (x e : OpenEntry) → IsQueue h ns es → Contains es x
-    → IsFirst x es → IsLeast h ns e → x ≡ e
-one_least h ns es x e q there first l =
+pub one_least : (ties : Ties) (h : List ℕ → Distance) (ns : List Node) (es : List OpenEntry) (x e : OpenEntry) → IsQueue ties h ns es → Contains es x
+    → IsFirst x es → IsLeast ties h ns e → turned ties x ≡ e
+one_least ties h ns es x e q there first l =
     let c = q.top x there first in
-    let in_es : Contains es e = subst (λ (y : OpenEntry). Contains es y)
+    let o = q.queued.sound (turned ties x) (contains_map (turned ties) es x there) in
+    let in_es : Contains (map (turned ties) es) e = subst (λ (y : OpenEntry). Contains (map (turned ties) es) y)
     (λ j. record { f = e.f; rank = record { cost = l.cost j; steps = l.steps j }; index = e.index })
     (q.queued.complete e.index l.node e.f l.there l.waits l.f) in
-    first_both x e (first_before x e es first in_es)
-    (subst (λ (y : OpenEntry). comes_first e y ≡ true) (current_is ns x c)
-    (l.first x.index c.node x.f c.there c.waits (current_f h ns x c (q.queued.sound x there))))
+    let (y, y_there, y_is) = contains_back (turned ties) es e in_es in
+    let z : OpenEntry = turned ties x in
+    let order = turned_order ties y x l.node c.node (All-contains HasWords es y q.words y_there) (All-contains HasWords es x q.words there)
+    (l.cost ∙ ap (λ (w : OpenEntry). w.rank.cost) (sym y_is)) (l.steps ∙ ap (λ (w : OpenEntry). w.rank.steps) (sym y_is)) c.cost c.steps in
+    let back : comes_first y x ≡ true = order
+    ∙ subst (λ (w : OpenEntry). (nat_lt w.f z.f || ((w.f == z.f) && ties_first ties w.index l.node z.index c.node)) ≡ true) (sym y_is)
+    (l.first z.index c.node z.f c.there c.waits (current_f h ns z c o)) in
+    ap (turned ties) (first_both x y (first_before x y es first y_there) back) ∙ y_is
 
 -- ---- a node is expanded
 
@@ -420,22 +447,25 @@ stale_queued h ns es es' x stale p q = record {
 }
 
 -- where the first entry is current, whichever is first is it
-pub current_queue : (h : List ℕ → Distance) (ns : List Node) (es : List OpenEntry) (x : OpenEntry) → Contains es x → IsFirst x es
-    → IsCurrent ns x → AreQueued h ns es → IsQueue h ns es
-current_queue h ns es x there first c q = record {
+pub current_queue : (ties : Ties) (h : List ℕ → Distance) (ns : List Node) (es : List OpenEntry) (x : OpenEntry) → Contains es x → IsFirst x es
+    → IsCurrent ns (turned ties x) → All HasWords es → AreQueued h ns (map (turned ties) es) → IsQueue ties h ns es
+current_queue ties h ns es x there first c words q = record {
+  words = words;
   queued = q;
-  top = λ e there' first'. subst (λ (y : OpenEntry). IsCurrent ns y)
+  top = λ e there' first'. subst (λ (y : OpenEntry). IsCurrent ns (turned ties y))
       (first_both x e (first_before x e es first there') (first_before e x es first' there)) c;
 }
 
-pub empty_queue : (h : List ℕ → Distance) (ns : List Node) (es : List OpenEntry) → es ≡ [] → AreQueued h ns es → IsQueue h ns es
-empty_queue h ns es none q = record { queued = q; top = λ e there first. absurd (not_in_none e es none there) }
+pub empty_queue : (ties : Ties) (h : List ℕ → Distance) (ns : List Node) (es : List OpenEntry) → es ≡ [] → All HasWords es
+    → AreQueued h ns (map (turned ties) es) → IsQueue ties h ns es
+empty_queue ties h ns es none words q = record { words = words; queued = q; top = λ e there first. absurd (not_in_none e es none there) }
 
-pub no_queue : (h : List ℕ → Distance) (ns : List Node) (es : List OpenEntry) → ns ≡ [] → es ≡ [] → IsQueue h ns es
-no_queue h ns es none empty = record {
+pub no_queue : (ties : Ties) (h : List ℕ → Distance) (ns : List Node) (es : List OpenEntry) → ns ≡ [] → es ≡ [] → IsQueue ties h ns es
+no_queue ties h ns es none empty = record {
+  words = subst (All HasWords) (sym empty) (All-nil HasWords);
   queued = record {
     complete = λ i n f at waits is. absurd (subst (λ (l : List Node). At l i n) none at);
-    sound = λ e there. absurd (not_in_none e es empty there);
+    sound = λ e there. absurd (not_in_none e (map (turned ties) es) (ap (map (turned ties)) empty) there);
   };
   top = λ e there first. absurd (not_in_none e es empty there);
 }
@@ -443,10 +473,10 @@ no_queue h ns es none empty = record {
 pub entries_below : (h : List ℕ → Distance) (ns : List Node) (es : List OpenEntry) → AreQueued h ns es → All (λ e. e.index < length ns) es
 entries_below h ns es q = all_contained (λ e. e.index < length ns) es (λ e there. let o = q.sound e there in at_below ns e.index o.node o.there)
 
-pub least_some : (h : List ℕ → Distance) (ns : List Node) (es : List OpenEntry) (r : Option OpenEntry) → IsQueue h ns es
-    → IfSome r (λ e. Contains es e) → IfSome r (λ e. IsFirst e es) → IfSome r (λ e. IsLeast h ns e)
-least_some h ns es None q there first = tt
-least_some h ns es (Some e) q there first = is_least h ns es e q there first
+pub least_none : (ties : Ties) (h : List ℕ → Distance) (ns : List Node) (es : List OpenEntry) (r : Option OpenEntry) → IsQueue ties h ns es → es ≡ []
+    → IfNone r (HasNoneOpen h ns)
+least_none ties h ns es None q none = none_open ties h ns es q none
+least_none ties h ns es (Some e) q none = tt
 
 -- what is popped is the first entry
 pub popped_first : (es es' : List OpenEntry) (x : OpenEntry) (r : Option OpenEntry) → Contains es x → IsFirst x es
@@ -467,29 +497,41 @@ rest_below n es es' x p h =
     (λ e there. All-contains (λ (y : OpenEntry). y.index < n) es e h
     (Contains-permutation (x ∷ es') es e (IsPermutation-sym es (x ∷ es') p) (in_rest e x es' there)))
 
+pub rest_words : (es es' : List OpenEntry) (x : OpenEntry) → IsPermutation es (x ∷ es') → All HasWords es → All HasWords es'
+rest_words es es' x p h = All-tail HasWords x es' (All-permutation HasWords es (x ∷ es') p h)
+
 -- ---- the next node is marked
 
-pub after_marking : (h : List ℕ → Distance) (ns ns' : List Node) (es es' : List OpenEntry) (x : OpenEntry) → IsQueue h ns es
-    → IsPermutation es (x ∷ es') → ((n : Node) → slice_get ns x.index ≡ Some n → ns' ≡ slice_set ns x.index (marked n))
-    → AreQueued h ns' es'
-after_marking h ns ns' es es' x q p is =
-    let o = q.queued.sound x (Contains-permutation (x ∷ es') es x (IsPermutation-sym es (x ∷ es') p) (in_front_of x es')) in
-    subst (λ (l : List Node). AreQueued h l es') (sym (is o.node (get_at ns x.index o.node o.there)))
-    (marked_queued h ns es es' x o.node q.queued p o.there)
+-- the entry that is popped is of a node
+popped_of : (ties : Ties) (h : List ℕ → Distance) (ns : List Node) (es es' : List OpenEntry) (x : OpenEntry) → IsQueue ties h ns es
+    → IsPermutation es (x ∷ es') → IsOf h ns (turned ties x)
+popped_of ties h ns es es' x q p = q.queued.sound (turned ties x)
+    (contains_map (turned ties) es x (Contains-permutation (x ∷ es') es x (IsPermutation-sym es (x ∷ es') p) (in_front_of x es')))
 
-pub marks_least : (h : List ℕ → Distance) (ns ns' : List Node) (es es' : List OpenEntry) (x : OpenEntry) → IsQueue h ns es
-    → IsPermutation es (x ∷ es') → IsFirst x es → ((n : Node) → slice_get ns x.index ≡ Some n → ns' ≡ slice_set ns x.index (marked n))
-    → (e : OpenEntry) (n : Node) → IsLeast h ns e → At ns e.index n → ns' ≡ slice_set ns e.index (marked n)
-marks_least h ns ns' es es' x q p first is e n least at =
+pub after_marking : (ties : Ties) (h : List ℕ → Distance) (ns ns' : List Node) (es es' : List OpenEntry) (x : OpenEntry) → IsQueue ties h ns es
+    → IsPermutation es (x ∷ es')
+    → ((n : Node) → slice_get ns (turned ties x).index ≡ Some n → ns' ≡ slice_set ns (turned ties x).index (marked n))
+    → AreQueued h ns' (map (turned ties) es')
+after_marking ties h ns ns' es es' x q p is =
+    let o = popped_of ties h ns es es' x q p in
+    subst (λ (l : List Node). AreQueued h l (map (turned ties) es')) (sym (is o.node (get_at ns (turned ties x).index o.node o.there)))
+    (marked_queued h ns (map (turned ties) es) (map (turned ties) es') (turned ties x) o.node q.queued
+    (IsPermutation-map (turned ties) es (x ∷ es') p) o.there)
+
+pub marks_least : (ties : Ties) (h : List ℕ → Distance) (ns ns' : List Node) (es es' : List OpenEntry) (x : OpenEntry) → IsQueue ties h ns es
+    → IsPermutation es (x ∷ es') → IsFirst x es
+    → ((n : Node) → slice_get ns (turned ties x).index ≡ Some n → ns' ≡ slice_set ns (turned ties x).index (marked n))
+    → (e : OpenEntry) (n : Node) → IsLeast ties h ns e → At ns e.index n → ns' ≡ slice_set ns e.index (marked n)
+marks_least ties h ns ns' es es' x q p first is e n least at =
     let in_es = Contains-permutation (x ∷ es') es x (IsPermutation-sym es (x ∷ es') p) (in_front_of x es') in
-    let i : x.index ≡ e.index = ap (λ (y : OpenEntry). y.index) (one_least h ns es x e q in_es first least) in
-    subst (λ k. ns' ≡ slice_set ns k (marked n)) i (is n (get_at ns x.index n (subst (λ k. At ns k n) (sym i) at)))
+    let i : (turned ties x).index ≡ e.index = ap (λ (y : OpenEntry). y.index) (one_least ties h ns es x e q in_es first least) in
+    subst (λ k. ns' ≡ slice_set ns k (marked n)) i (is n (get_at ns (turned ties x).index n (subst (λ k. At ns k n) (sym i) at)))
 
-pub popped_below : (h : List ℕ → Distance) (ns : List Node) (es es' : List OpenEntry) (x : OpenEntry) → IsQueue h ns es
-    → IsPermutation es (x ∷ es') → x.index < length ns
-popped_below h ns es es' x q p =
-    let o = q.queued.sound x (Contains-permutation (x ∷ es') es x (IsPermutation-sym es (x ∷ es') p) (in_front_of x es')) in
-    at_below ns x.index o.node o.there
+pub popped_below : (ties : Ties) (h : List ℕ → Distance) (ns : List Node) (es es' : List OpenEntry) (x : OpenEntry) → IsQueue ties h ns es
+    → IsPermutation es (x ∷ es') → (turned ties x).index < length ns
+popped_below ties h ns es es' x q p =
+    let o = popped_of ties h ns es es' x q p in at_below ns (turned ties x).index o.node o.there
 
-pub no_least : (h : List ℕ → Distance) (ns : List Node) (es : List OpenEntry) (e : OpenEntry) → IsQueue h ns es → es ≡ [] → IsLeast h ns e → ⊥
-no_least h ns es e q none l = none_open h ns es q none e.index l.node e.f l.there l.waits l.f
+pub no_least : (ties : Ties) (h : List ℕ → Distance) (ns : List Node) (es : List OpenEntry) (e : OpenEntry) → IsQueue ties h ns es → es ≡ []
+    → IsLeast ties h ns e → ⊥
+no_least ties h ns es e q none l = none_open ties h ns es q none e.index l.node e.f l.there l.waits l.f

@@ -7,6 +7,8 @@ use Rattle.owner_theory.specs.Owners.{At, SearchSpace, Message, Node, Owner, f_v
 use Rattle.owner_theory.specs.Worlds.{no_open, waiting}
 use Rattle.owner.specs.declared.fault.OwnerFault.{OwnerFault}
 use Rattle.owner.specs.declared.fault.OwnerFault.TheVariants.{OutOfMemory, TotalTooLarge, LimitReached}
+use Rattle.owner.specs.declared.ties.Ties.{Ties}
+use Rattle.owner.specs.declared.ties.Ties.TheVariants.{Shallow, Deep}
 use Rattle.owner.specs.Spaces.{SpaceOf, searched}
 
 -- the space and the owner's number; its nodes; an outbox for each owner, the oldest message first; the least cost at
@@ -41,24 +43,30 @@ pub record IsMessageTo (space : SearchSpace) (to : ℕ) (m : Message) : Type 0 w
 
 -- ---- the next node
 
--- the order of expansion: by f, then by rank, then by place
-abbrev pub goes_before : SearchSpace → ℕ → Node → ℕ → Node → Bool
-goes_before space i m j n =
+-- the order of expansion among nodes of the same f-value: lesser ranks first, then earlier places; or greater ranks first,
+-- then later places
+abbrev pub ties_first : Ties → ℕ → Node → ℕ → Node → Bool
+ties_first Shallow i m j n =
+    rank_less m.cost m.steps n.cost n.steps || ((m.cost == n.cost) && ((m.steps == n.steps) && nat_le i j))
+ties_first Deep i m j n =
+    rank_less n.cost n.steps m.cost m.steps || ((m.cost == n.cost) && ((m.steps == n.steps) && nat_le j i))
+
+-- the order of expansion: by f, then by ties
+abbrev pub goes_before : Ties → SearchSpace → ℕ → Node → ℕ → Node → Bool
+goes_before ties space i m j n =
     not (is_at_most (f_value space n.state n.cost) (f_value space m.state m.cost))
-    || (is_at_most (f_value space m.state m.cost) (f_value space n.state n.cost)
-    && (rank_less m.cost m.steps n.cost n.steps
-    || ((m.cost == n.cost) && ((m.steps == n.steps) && nat_le i j))))
+    || (is_at_most (f_value space m.state m.cost) (f_value space n.state n.cost) && ties_first ties i m j n)
 
 -- an open node: it is not expanded, and its f-value is finite
 abbrev pub is_open : SearchSpace → Node → Bool
 is_open space n = not n.expanded && not (is_at_most Infinite (f_value space n.state n.cost))
 
 -- the node at the place is open, its f-value is below the bound, and it comes first of all open nodes
-pub record IsNext (space : SearchSpace) (nodes : List Node) (bound : Distance) (i : ℕ) (n : Node) : Type 0 where
+pub record IsNext (ties : Ties) (space : SearchSpace) (nodes : List Node) (bound : Distance) (i : ℕ) (n : Node) : Type 0 where
   pub there : At nodes i n
   pub open_node : is_open space n ≡ true
   pub below : is_at_most bound (f_value space n.state n.cost) ≡ false
-  pub first : (j : ℕ) (x : Node) → At nodes j x → is_open space x ≡ true → goes_before space i n j x ≡ true
+  pub first : (j : ℕ) (x : Node) → At nodes j x → is_open space x ≡ true → goes_before ties space i n j x ≡ true
 
 -- the cost and the number of operators of each successor of the node are at most 2^62
 abbrev pub HasSmallSuccessors : FiniteDomainTask → Node → Type 0
@@ -78,7 +86,7 @@ pub record Expands {S : Type 0} (owner : S → List ℕ → ℕ → ℕ) (bound 
     : Type 0 where
   pub index : ℕ
   pub node : Node
-  pub next : IsNext (space_of owner old) old.nodes bound index node
+  pub next : IsNext old.space.ties (space_of owner old) old.nodes bound index node
   pub allowed : old.space.limit ≢ Some old.expansions
   pub small : HasSmallSuccessors old.space.task node
   pub after : under new bound ≡ expanded_at (space_of owner old) old.worker (under old bound) index (Some node)
@@ -99,7 +107,7 @@ IsRefusal owner bound old new OutOfMemory = Unit {0}
 IsRefusal owner bound old new LimitReached =
     (no_open (space_of owner old) (under old bound) ≡ false) × (old.space.limit ≡ Some old.expansions) × (new ≡ old)
 IsRefusal owner bound old new TotalTooLarge =
-    (i : ℕ) × (n : Node) × IsNext (space_of owner old) old.nodes bound i n × (old.space.limit ≢ Some old.expansions)
+    (i : ℕ) × (n : Node) × IsNext old.space.ties (space_of owner old) old.nodes bound i n × (old.space.limit ≢ Some old.expansions)
     × HasLargeSuccessor old.space.task n × (new ≡ old)
 
 -- ---- the owner's invariant

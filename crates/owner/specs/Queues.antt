@@ -1,18 +1,24 @@
 -- The open list of an owner and its nodes. Stale entries stay in the list: of nodes that have since been reached at a
 -- lesser rank, or have been expanded. The first entry is never stale.
-use Rattle.std.specs.Prelude.{◌≡◌, ℕ, ◌≤◌, ◌^◌, true, false, List, [], ◌∷◌, Option, Some, None, Contains}
+--
+-- The list is in the order of Shallow. For Deep, entries are turned over as they go into the list, and turned back as they
+-- come out.
+use Rattle.std.specs.Prelude.{◌≡◌, ℕ, ◌-◌, ◌<◌, ◌≤◌, ◌^◌, true, false, ◌&&◌, ◌||◌, ◌==◌, nat_lt, List, [], ◌∷◌, map, All, Option, Some, None, Contains}
 use Rattle.cost.specs.Distances.{Distance, Finite, ◌+ᵈ◌}
 use Rattle.checker_clauses.specs.Clauses.{heuristic_of}
 use Rattle.owner_theory.specs.Owners as machine
 use Rattle.owner_theory.specs.Owners.{At, Node}
 use Rattle.openlist.specs.declared.entry.Rank.{Rank}
 use Rattle.openlist.specs.declared.entry.OpenEntry.{OpenEntry}
-use Rattle.openlist.specs.OpenLists.{comes_first, IsFirst, entry_of}
+use Rattle.openlist.specs.OpenLists.{IsFirst, entry_of}
 use Rattle.closed.specs.declared.message.Parent.{Parent}
 use Rattle.closed.specs.declared.table.Outcome.{Outcome}
 use Rattle.closed.specs.declared.table.Outcome.TheVariants.{New, Better, Kept}
 use Rattle.closed.specs.Tables.{parent_of}
+use Rattle.owner.specs.declared.ties.Ties.{Ties}
+use Rattle.owner.specs.declared.ties.Ties.TheVariants.{Shallow, Deep}
 use Rattle.owner.specs.Spaces.{SpaceOf}
+use Rattle.owner.specs.Owned.{ties_first}
 
 -- the space and the states that were reached in it
 pub record ReachedOf (S : Type 0) : Type 0 where
@@ -25,6 +31,30 @@ h_of space = heuristic_of space.task space.columns
 -- the message with these parts
 abbrev pub message_at : List ℕ → Rank → Parent → machine.Message
 message_at state rank parent = record { state = state; cost = rank.cost; steps = rank.steps; parent = parent_of parent }
+
+-- ---- entries that are turned over
+
+-- the number counted down from the greatest number of 64 bits
+abbrev pub counted_down : ℕ → ℕ
+counted_down x = 2 ^ 64 - 1 - x
+
+-- the entry as the open list keeps it, and also the entry that one in the list stands for
+abbrev pub turned : Ties → OpenEntry → OpenEntry
+turned Shallow e = e
+turned Deep e =
+    record {
+      f = e.f;
+      rank = record { cost = counted_down e.rank.cost; steps = counted_down e.rank.steps };
+      index = counted_down e.index;
+    }
+
+-- the numbers that are turned over have at most 64 bits
+pub record HasWords (e : OpenEntry) : Type 0 where
+  pub cost : e.rank.cost < 2 ^ 64
+  pub steps : e.rank.steps < 2 ^ 64
+  pub index : e.index < 2 ^ 64
+
+-- ---- entries of nodes
 
 -- the entry's node was reached at the entry's rank, and has that rank or a lesser one now
 pub record IsOf (h : List ℕ → Distance) (nodes : List Node) (e : OpenEntry) : Type 0 where
@@ -49,13 +79,14 @@ pub record AreQueued (h : List ℕ → Distance) (nodes : List Node) (entries : 
       → Contains entries (entry_of f n.cost n.steps i)
   pub sound : (e : OpenEntry) → Contains entries e → IsOf h nodes e
 
--- the same, and the first entry is current
-pub record IsQueue (h : List ℕ → Distance) (nodes : List Node) (entries : List OpenEntry) : Type 0 where
-  pub queued : AreQueued h nodes entries
-  pub top : (e : OpenEntry) → Contains entries e → IsFirst e entries → IsCurrent nodes e
+-- the same of these entries turned back, and the first entry, turned back, is current
+pub record IsQueue (ties : Ties) (h : List ℕ → Distance) (nodes : List Node) (entries : List OpenEntry) : Type 0 where
+  pub words : All HasWords entries
+  pub queued : AreQueued h nodes (map (turned ties) entries)
+  pub top : (e : OpenEntry) → Contains entries e → IsFirst e entries → IsCurrent nodes (turned ties e)
 
 -- the entry is of an open node that comes first of all open nodes
-pub record IsLeast (h : List ℕ → Distance) (nodes : List Node) (e : OpenEntry) : Type 0 where
+pub record IsLeast (ties : Ties) (h : List ℕ → Distance) (nodes : List Node) (e : OpenEntry) : Type 0 where
   pub node : Node
   pub there : At nodes e.index node
   pub waits : node.expanded ≡ false
@@ -64,13 +95,13 @@ pub record IsLeast (h : List ℕ → Distance) (nodes : List Node) (e : OpenEntr
   pub f : Finite node.cost +ᵈ h node.state ≡ Finite e.f
   pub within : e.f ≤ 2 ^ 63
   pub first : (j : ℕ) (x : Node) (f : ℕ) → At nodes j x → x.expanded ≡ false → Finite x.cost +ᵈ h x.state ≡ Finite f
-      → comes_first e (entry_of f x.cost x.steps j) ≡ true
+      → (nat_lt e.f f || ((e.f == f) && ties_first ties e.index node j x)) ≡ true
 
 -- no node is open
 abbrev pub HasNoneOpen : (List ℕ → Distance) → List Node → Type 0
 HasNoneOpen h nodes = (i : ℕ) (n : Node) (f : ℕ) → At nodes i n → n.expanded ≡ false → Finite n.cost +ᵈ h n.state ≡ Finite f → ⊥
 
--- the entry that is added to the open list when a state is reached at this f-value, if that is finite
+-- the entry that goes into the open list, turned over, when a state is reached at this f-value, if that is finite
 abbrev pub added : Option ℕ → Rank → Outcome → List OpenEntry
 added None rank outcome = []
 added (Some f) rank (New i) = record { f = f; rank = rank; index = i } ∷ []

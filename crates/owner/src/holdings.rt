@@ -265,7 +265,7 @@ impl<'a, S: Spread + Drop, F: StateForm + Drop> Holdings<'a, S, F> {
 
     /// The entry of the open node that is to be expanded next, if its f-value is below the bound.
     pub(crate) fn next(&self, bound: Dist) -> Option<OpenEntry>
-        ensures some { IfSome result (λ e. IsLeast (h_of self.now.space) self.now.nodes e × (is_at_most bound (Finite e.f) ≡ false)) }
+        ensures some { IfSome result (λ e. IsLeast self.now.space.ties (h_of self.now.space) self.now.nodes e × (is_at_most bound (Finite e.f) ≡ false)) }
         ensures none { result ≡ None → no_open (space_of S.owner self.now) (under self.now bound) ≡ true }
     {
         let entry = self.reached.least()?;
@@ -285,8 +285,8 @@ impl<'a, S: Spread + Drop, F: StateForm + Drop> Holdings<'a, S, F> {
     /// Marks the node that is to be expanded next as expanded.
     pub(crate) fn expand_next(&mut self)
         requires allowed { self.old.space.limit ≢ Some self.old.expansions }
-        requires some { (e : EntryOf) × IsLeast (h_of self.old.space) self.old.nodes e }
-        ensures nodes { (e : EntryOf) (n : Node) → IsLeast (h_of self.old.space) self.old.nodes e → At self.old.nodes e.index n →
+        requires some { (e : EntryOf) × IsLeast self.old.space.ties (h_of self.old.space) self.old.nodes e }
+        ensures nodes { (e : EntryOf) (n : Node) → IsLeast self.old.space.ties (h_of self.old.space) self.old.nodes e → At self.old.nodes e.index n →
             self.new ≡ record self.old {
               nodes = slice_set self.old.nodes e.index (marked n);
               expansions = if is_some self.old.space.limit then suc self.old.expansions else self.old.expansions;

@@ -8,6 +8,7 @@ mod owner;
 mod reached;
 mod space;
 mod successors;
+mod ties;
 
 pub use closed::{Entry, Message, Parent};
 pub use fault::OwnerFault;
@@ -15,3 +16,4 @@ pub use openlist::Rank;
 pub use owner::Owner;
 pub use space::Space;
 pub use successors::MAX_TOTAL;
+pub use ties::Ties;

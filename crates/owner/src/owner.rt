@@ -133,8 +133,8 @@ impl<'a, S: Spread + Drop, F: StateForm + Drop> Owner<'a, S, F> {
     }
 
     /// Expands the next node whose f-value is below `bound`, the bound that the owner has seen last: the node of least f,
-    /// among these the one of least rank, and among these the one reached first. Its successors whose f-value reaches the
-    /// bound are dropped, those that are this owner's are taken, and the others are put into outboxes.
+    /// and among these the one that is first by the space's ties. Its successors whose f-value reaches the bound are
+    /// dropped, those that are this owner's are taken, and the others are put into outboxes.
     ///
     /// Returns the number of messages that were put into outboxes, or `None` if there is no such node, which changes
     /// nothing. A fault leaves the owner as it was, except `OutOfMemory`, after which the owner must not be used again.

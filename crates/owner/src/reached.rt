@@ -1,6 +1,6 @@
 //! The states that an owner has reached, and which of them it expands next.
 
-ghost use Rattle.std.specs.Prelude.{◌≡◌, ℕ, ◌<◌, ◌≤◌, ◌^◌, ◌++◌, ◌∷◌, [], length, slice_get, slice_set, Some, List, All, Option, IfOk, OnOk, OnErr, IfSome, IfNone, IsTrue};
+ghost use Rattle.std.specs.Prelude.{◌≡◌, ℕ, ◌<◌, ◌≤◌, ◌^◌, ◌++◌, ◌∷◌, [], length, map, slice_get, slice_set, Some, List, All, Option, IfOk, OnOk, OnErr, IfSome, IfNone, IsTrue};
 ghost use Rattle.std.specs.List.Sorted.{IsPermutation};
 ghost use Rattle.cost.specs.Distances.{Distance, Finite, ◌+ᵈ◌, distance_of};
 ghost use Rattle.fdr.specs.Tasks.{ranges, IsState};
@@ -8,9 +8,10 @@ ghost use Rattle.owner_theory.specs.Owners.{At, Node, marked};
 ghost use Rattle.openlist.specs.declared.entry.OpenEntry.{OpenEntry as EntryOf};
 ghost use Rattle.closed.specs.declared.message.Parent.{Parent};
 ghost use Rattle.closed.specs.Tables.{reached, outcome_of, fresh, node_with};
-ghost use Rattle.owner.specs.Queues.{added, h_of, IsCurrent, AreQueued, IsQueue, IsLeast, HasNoneOpen};
+ghost use Rattle.owner.specs.Queues.{added, turned, HasWords, h_of, IsCurrent, AreQueued, IsQueue, IsLeast, HasNoneOpen};
 
 use crate::space::Space;
+use crate::ties::Ties;
 use closed::{ClosedTable, Entry, Outcome, Parent};
 use cost::Dist;
 use openlist::{Buckets, OpenEntry, OpenList, Rank};
@@ -25,7 +26,8 @@ use std::marker::Model;
 pub(crate) struct Reached<'a, S: Spread + Drop, F: StateForm + Drop> {
     space: &'a Space<'a, S>,
     table: ClosedTable<F>,
-    /// The open nodes, and stale entries: nodes as they were before they were improved or expanded.
+    /// The open nodes, and stale entries: nodes as they were before they were improved or expanded. Each entry is turned
+    /// over by the space's ties, so that the list's order is theirs.
     queue: Buckets,
 }
 
@@ -39,7 +41,7 @@ impl<'a, S: Spread + Drop, F: StateForm + Drop> Model for Reached<'a, S, F> {
 
     ghost view = { λ r. record { space = r.space.now; nodes = r.table.nodes } };
 
-    ghost invariant = { λ r. (r.table.ranges ≡ ranges r.space.now.task) × IsQueue (h_of r.space.now) r.table.nodes (all_entries r.queue) };
+    ghost invariant = { λ r. (r.table.ranges ≡ ranges r.space.now.task) × IsQueue r.space.now.ties (h_of r.space.now) r.table.nodes (all_entries r.queue) };
 }
 
 /// Makes room for an entry of this f-value, if it is finite. Fails only if allocation fails.
@@ -53,13 +55,14 @@ fn make_room<L: OpenList>(list: &mut L, f: Option<u64>) -> Result<(), AllocError
     }
 }
 
-/// Adds the entry of a state that was reached, if it is new or was improved, and its f-value is finite.
-fn put_in<L: OpenList>(list: &mut L, f: Option<u64>, rank: Rank, outcome: Outcome)
+/// Adds the entry of a state that was reached, turned over, if it is new or was improved, and its f-value is finite.
+fn put_in<L: OpenList>(list: &mut L, ties: Ties, f: Option<u64>, rank: Rank, outcome: Outcome)
     requires { IfSome f (λ f. L.HasRoom list.old (f ∷ [])) }
-    ensures { IsPermutation (added f rank outcome ++ L.entries list.old) (L.entries list.new) }
+    ensures entries { IsPermutation (map (turned ties) (added f rank outcome) ++ L.entries list.old) (L.entries list.new) }
+    ensures words { All HasWords (added f rank outcome) }
 {
     if let (Some(f), Outcome::New(index) | Outcome::Better(index)) = (f, outcome) {
-        let pushed = list.push(OpenEntry { f, rank, index });
+        let pushed = list.push(ties.turned(OpenEntry { f, rank, index }));
         let _ = pushed; // there is room
     }
 }
@@ -75,12 +78,14 @@ fn is_current<F: StateForm + Drop>(table: &ClosedTable<F>, entry: OpenEntry) -> 
 }
 
 /// Removes stale entries from the top, until the first entry is current or none is left.
-fn drop_stale<F: StateForm + Drop, L: OpenList>(table: &ClosedTable<F>, list: &mut L)
-    requires { All (λ e. e.index < length table.now.nodes) (L.entries list.old) }
-    ensures { (h : List ℕ → Distance) → AreQueued h table.now.nodes (L.entries list.old) → IsQueue h table.now.nodes (L.entries list.new) }
+fn drop_stale<F: StateForm + Drop, L: OpenList>(table: &ClosedTable<F>, ties: Ties, list: &mut L)
+    requires { All (λ e. e.index < length table.now.nodes) (map (turned ties) (L.entries list.old)) }
+    ensures { (h : List ℕ → Distance) → All HasWords (L.entries list.old) →
+        AreQueued h table.now.nodes (map (turned ties) (L.entries list.old)) →
+        IsQueue ties h table.now.nodes (L.entries list.new) }
 {
     while let Some(entry) = list.least() {
-        if is_current(table, entry) {
+        if is_current(table, ties.turned(entry)) {
             return;
         }
         let _ = list.pop();
@@ -146,7 +151,11 @@ impl<'a, S: Spread + Drop, F: StateForm + Drop> Reached<'a, S, F> {
         let f = f.get();
         make_room(&mut self.queue, f)?;
         self.table.reach(state, rank, parent, outcome)?;
-        put_in(&mut self.queue, f, rank, outcome);
+        let ties = self.space.ties();
+        put_in(&mut self.queue, ties, f, rank, outcome);
+        if let Outcome::Better(_) = outcome {
+            drop_stale(&self.table, ties, &mut self.queue); // the old entry of the state may be on top
+        }
         Ok(())
     }
 
@@ -175,21 +184,23 @@ impl<'a, S: Spread + Drop, F: StateForm + Drop> Reached<'a, S, F> {
 
     /// The entry of the open node that is to be expanded next, or `None` if no node is open.
     pub(crate) fn least(&self) -> Option<OpenEntry>
-        ensures some { IfSome result (IsLeast (h_of self.now.space) self.now.nodes) }
+        ensures some { IfSome result (IsLeast self.now.space.ties (h_of self.now.space) self.now.nodes) }
         ensures none { IfNone result (HasNoneOpen (h_of self.now.space) self.now.nodes) }
     {
-        self.queue.least()
+        let entry = self.queue.least()?;
+        Some(self.space.ties().turned(entry))
     }
 
     /// Marks the node that is to be expanded next as expanded.
     pub(crate) fn expand_least(&mut self)
-        ensures nodes { (e : EntryOf) (n : Node) → IsLeast (h_of self.old.space) self.old.nodes e → At self.old.nodes e.index n →
+        ensures nodes { (e : EntryOf) (n : Node) → IsLeast self.old.space.ties (h_of self.old.space) self.old.nodes e → At self.old.nodes e.index n →
             self.new.nodes ≡ slice_set self.old.nodes e.index (marked n) }
         ensures space { self.new.space ≡ self.old.space }
     {
         if let Some(entry) = self.queue.pop() {
-            self.table.mark_expanded(entry.index);
-            drop_stale(&self.table, &mut self.queue);
+            let ties = self.space.ties();
+            self.table.mark_expanded(ties.turned(entry).index);
+            drop_stale(&self.table, ties, &mut self.queue);
         }
     }
 

@@ -8,6 +8,7 @@ ghost use Rattle.fdr.specs.Tasks.{IsState, IsTask, step};
 ghost use Rattle.owner_theory.specs.Families.{IsLowerBound};
 ghost use Rattle.fdr_successors.specs.Applicable.{applicable_operators};
 
+use crate::ties::Ties;
 use cost::Dist;
 use fdr::FdrTask;
 use fdr_successors::SuccessorGenerator;
@@ -17,14 +18,16 @@ use scp::{Columns, Places};
 use std::alloc::{AllocError, Global};
 use std::marker::Model;
 
-/// What owners search: a task, the columns of its heuristic, the owner of each state, and how many nodes each owner may
-/// expand, if there is a limit. A contract sees the task, the tables, the spread and the limit.
+/// What owners search: a task, the columns of its heuristic, the owner of each state, how many nodes each owner may
+/// expand, if there is a limit, and which of the nodes of the same f-value an owner expands first. A contract sees the
+/// task, the tables, the spread, the limit and the order.
 #[derive(Drop)]
 pub struct Space<'a, S: Spread + Drop> {
     task: &'a FdrTask,
     columns: Columns<'a>,
     spread: S,
     limit: Option<u64>,
+    ties: Ties,
     generator: SuccessorGenerator<'a>,
     layout: Layout,
     ghost columns_are_of_task: { columns.task ≡ task.now },
@@ -38,7 +41,7 @@ impl<'a, S: Spread + Drop> Model for Space<'a, S> {
 
     ghost Value = { SpaceOf S };
 
-    ghost view = { λ s. record { task = s.task.now; columns = s.columns.columns; spread = s.spread; limit = s.limit } };
+    ghost view = { λ s. record { task = s.task.now; columns = s.columns.columns; spread = s.spread; limit = s.limit; ties = s.ties } };
 }
 
 /// The cost, which is at most 2^62, plus the heuristic value.
@@ -77,10 +80,11 @@ impl<'a, S: Spread + Drop> Space<'a, S> {
         columns: Columns<'a>,
         spread: S,
         limit: Option<u64>,
+        ties: Ties,
     ) -> Result<Space<'a, S>, AllocError>
         requires columns { columns.task ≡ task.now }
         requires spread { S.ranges spread ≡ tasks.ranges task.now }
-        ensures { IfOk result (λ s. s ≡ record { task = task.now; columns = columns.entry.columns; spread = spread; limit = limit }) }
+        ensures { IfOk result (λ s. s ≡ record { task = task.now; columns = columns.entry.columns; spread = spread; limit = limit; ties = ties }) }
     {
         let generator = SuccessorGenerator::new(alloc, task)?;
         let layout = Layout::new(alloc, task)?;
@@ -89,6 +93,7 @@ impl<'a, S: Spread + Drop> Space<'a, S> {
             columns,
             spread,
             limit,
+            ties,
             generator,
             layout,
         })
@@ -160,5 +165,12 @@ impl<'a, S: Spread + Drop> Space<'a, S> {
         ensures { result ≡ self.now.limit }
     {
         self.limit
+    }
+
+    /// Which of the nodes of the same f-value an owner expands first.
+    pub fn ties(&self) -> Ties
+        ensures { result ≡ self.now.ties }
+    {
+        self.ties
     }
 }

@@ -7,7 +7,7 @@ use engine::{Open, Searched, search};
 use extract::{Joined, SearchAnswer, plan_of};
 use fdr::{FdrTask, Operator};
 use netcore::World;
-use owner::Space;
+use owner::{Space, Ties};
 use packed::{Plain, StateForm};
 use packed_spread::{ByValue, Spread, Zobrist};
 use scp::make_columns;
@@ -33,7 +33,14 @@ pub(crate) fn space_for<'a, R: Threads + Sync>(
     limit: Option<u64>,
 ) -> Result<Space<'a, ByValue<'a>>, AllocError> {
     let columns = make_columns(rt, alloc, task, &[])?;
-    Space::new(alloc, task, columns, ByValue::new(task), limit)
+    Space::new(
+        alloc,
+        task,
+        columns,
+        ByValue::new(task),
+        limit,
+        Ties::Shallow,
+    )
 }
 
 /// The answer of owners in one thread, which do the first step that would change something until no work is left.
@@ -267,6 +274,7 @@ fn finds_plans<'t, R: Threads + Wait + Clock + Sync + Abort>(
         columns,
         Zobrist::new(alloc, task)?,
         None,
+        Ties::Shallow,
     )?;
     for workers in [1, 2, 3, 4, 8] {
         for capacity in [0, 1, 64] {

@@ -10,6 +10,8 @@ mod schedules;
 #[cfg(test)]
 mod sorted_lists;
 #[cfg(test)]
+mod ties;
+#[cfg(test)]
 mod totals;
 #[cfg(test)]
 mod worlds;

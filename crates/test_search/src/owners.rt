@@ -4,7 +4,7 @@ ghost use Rattle.std.specs.Prelude.{◌≡◌, length};
 
 use cost::Dist;
 use fdr::FdrTask;
-use owner::{Owner, OwnerFault, Parent, Rank, Space};
+use owner::{Owner, OwnerFault, Parent, Rank, Space, Ties};
 use packed::{Plain, StateForm};
 use packed_spread::{ByValue, Spread};
 use scp::make_columns;
@@ -30,7 +30,14 @@ fn space_for<'a, R: Threads + Sync>(
     limit: Option<u64>,
 ) -> Result<Space<'a, ByValue<'a>>, AllocError> {
     let columns = make_columns(rt, alloc, task, &[])?;
-    Space::new(alloc, task, columns, ByValue::new(task), limit)
+    Space::new(
+        alloc,
+        task,
+        columns,
+        ByValue::new(task),
+        limit,
+        Ties::Shallow,
+    )
 }
 
 /// Expands the next node, and checks that there are then this number of states, and this least f-value of the nodes to

@@ -7,7 +7,7 @@ use extract::plan_of;
 use fdr::FdrTask;
 use netcore::WorldStep::{Deliver, Expand, Look, Offer, Rest, Send};
 use netcore::{Joined, SearchAnswer, World, WorldStep};
-use owner::Space;
+use owner::{Space, Ties};
 use packed::{Bits, StateForm};
 use packed_spread::{ByValue, Spread};
 use sasfile::read_sas;
@@ -259,7 +259,14 @@ fn space_for<'t, R: Threads + Sync>(
     task: &'t FdrTask,
 ) -> Result<Space<'t, ByValue<'t>>, AllocError> {
     let columns = make_columns(rt, alloc, task, &[])?;
-    Space::new(alloc, task, columns, ByValue::new(task), None)
+    Space::new(
+        alloc,
+        task,
+        columns,
+        ByValue::new(task),
+        None,
+        Ties::Shallow,
+    )
 }
 
 /// Two owners do the steps, after which no work is left; they are settled at the cost.

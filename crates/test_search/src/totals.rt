@@ -10,7 +10,7 @@ ghost use Rattle.owner.specs.Owned.{IsMessageTo};
 use crate::schedules::CYCLE;
 use cost::Dist;
 use fdr::FdrTask;
-use owner::{MAX_TOTAL, Message, Owner, OwnerFault, Parent, Rank, Space};
+use owner::{MAX_TOTAL, Message, Owner, OwnerFault, Parent, Rank, Space, Ties};
 use packed::{Bits, Plain, StateForm};
 use packed_spread::ByValue;
 use sasfile::read_sas;
@@ -73,7 +73,14 @@ fn refuse_total_of<'t, R: Threads + Sync + Abort>(
 ) -> Result<(), Fail> {
     let columns = make_columns(rt, alloc, task, &[])?;
     // the type is given so that the borrow checker need not infer how long the space is borrowed
-    let space: Space<'t, ByValue<'t>> = Space::new(alloc, task, columns, ByValue::new(task), None)?;
+    let space: Space<'t, ByValue<'t>> = Space::new(
+        alloc,
+        task,
+        columns,
+        ByValue::new(task),
+        None,
+        Ties::Shallow,
+    )?;
     assert!(rt; Bits::<1>::fits(space.layout()), "states of one word");
     refuse_total::<Bits<1>, R>(rt, alloc, &space)?;
     refuse_total::<Plain, R>(rt, alloc, &space)

@@ -2,7 +2,7 @@
 
 use fdr::FdrTask;
 use netcore::{World, WorldStep};
-use owner::Space;
+use owner::{Space, Ties};
 use packed::{Plain, StateForm};
 use packed_spread::{ByValue, Spread};
 use scp::make_columns;
@@ -22,7 +22,14 @@ fn space_for<'a, R: Threads + Sync>(
     task: &'a FdrTask,
 ) -> Result<Space<'a, ByValue<'a>>, AllocError> {
     let columns = make_columns(rt, alloc, task, &[])?;
-    Space::new(alloc, task, columns, ByValue::new(task), None)
+    Space::new(
+        alloc,
+        task,
+        columns,
+        ByValue::new(task),
+        None,
+        Ties::Shallow,
+    )
 }
 
 /// Checks that the step would change nothing, and changes nothing.

@@ -17,7 +17,7 @@ invariant_of-self g c =
       best = c.self.inside.best;
       expansions = c.self.inside.expansions;
     } in
-    let (e, l) = subst (λ (x : OwnerOf g.row.S.Denot). (y : OpenEntry) × IsLeast (h_of x.space) x.nodes y) (sym c.self.view_is) c.requires.some in
+    let (e, l) = subst (λ (x : OwnerOf g.row.S.Denot). (y : OpenEntry) × IsLeast x.space.ties (h_of x.space) x.nodes y) (sym c.self.view_is) c.requires.some in
     marked_kept g.S.Spread.owner o c.expand_least.new.self.space c.expand_least.new.self.nodes
     (boxes_in g.F.StateForm.values c.self.inside.outboxes c.expand_least.new.self.space) (c.self.inside.expansions + 1) e.index l.node
     c.self.invariant c.expand_least.ensures.space (ap (boxes_in g.F.StateForm.values c.self.inside.outboxes) c.expand_least.ensures.space) l.there (c.expand_least.ensures.nodes e l.node l l.there)
@@ -35,7 +35,7 @@ invariant_of-self-else-is_some g c =
       best = c.self.inside.best;
       expansions = c.self.inside.expansions;
     } in
-    let (e, l) = subst (λ (x : OwnerOf g.row.S.Denot). (y : OpenEntry) × IsLeast (h_of x.space) x.nodes y) (sym c.self.view_is) c.requires.some in
+    let (e, l) = subst (λ (x : OwnerOf g.row.S.Denot). (y : OpenEntry) × IsLeast x.space.ties (h_of x.space) x.nodes y) (sym c.self.view_is) c.requires.some in
     marked_kept g.S.Spread.owner o c.expand_least.new.self.space c.expand_least.new.self.nodes
     (boxes_in g.F.StateForm.values c.self.inside.outboxes c.expand_least.new.self.space) c.self.inside.expansions e.index l.node
     c.self.invariant c.expand_least.ensures.space (ap (boxes_in g.F.StateForm.values c.self.inside.outboxes) c.expand_least.ensures.space) l.there (c.expand_least.ensures.nodes e l.node l l.there) c.self.invariant.counted
