@@ -70,6 +70,9 @@ impl<'a> Spread for Zobrist<'a> {
     ghost is_below = { zobrist_owner_is_below };
 
     fn owner_of(&self, state: &[u32], owners: usize) -> usize {
+        if owners == 1 {
+            return 0; // every hash modulo 1
+        }
         let hash = hash_of(&self.words, &self.firsts, state);
         (hash % owners as u64) as usize
     }

@@ -38,7 +38,7 @@ put_fits r (Required c) some fits = (some, some)
 put_fits r (Moved from to) some fits = (fits.1, fits.0)
 put_fits r (Assigned e) some fits = (fits, some)
 
-below_product : (r s x n : ℕ) → x < r → n < s → x + r * n < r * s
+pub below_product : (r s x n : ℕ) → x < r → n < s → x + r * n < r * s
 below_product r s x n l m =
     let more : r * (n + 1) ≤ r * s = mul-le r (n + 1) r s (omega arith) (omega arith) in omega arith
 

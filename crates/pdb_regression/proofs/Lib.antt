@@ -6,3 +6,4 @@ pub mod RuleLaws
 pub mod TableLaws
 pub mod TransitionLaws
 pub mod WayLaws
+pub mod WordLaws

@@ -123,17 +123,16 @@ module _ (rs : List ℕ) (op : Operator) where
       })
       (changes_fit (w * slice_index rs p) ps is (next_weight w p ps l all) (All-tail (λ p. 0 < slice_index rs p) p ps all) (omega arith))
 
-  pub row_is : (ps : List ℕ) → IsOperator rs op → All (λ p. 0 < slice_index rs p) ps → size_of rs ps ≤ 2 ^ 24 → touches_pattern ps op ≡ true → IsRow (changes_of op (digits_from rs 1 ps) ps)
-  row_is ps is all small touches =
+  pub row_is : (ps : List ℕ) → IsOperator rs op → All (λ p. 0 < slice_index rs p) ps → size_of rs ps ≤ 2 ^ 24 → IsRow (changes_of op (digits_from rs 1 ps) ps)
+  row_is ps is all small =
       record {
         fit = changes_fit 1 ps is (omega arith) all (omega arith);
         small = rw (size_told 1 ps) small;
         chain = chain_told 1 ps;
-        asks = λ none. absurd (effect_somewhere 1 ps touches none);
       }
 
 pub empty_row : IsRow []
-empty_row = record { fit = All-nil IsFit; small = omega arith; chain = tt; asks = λ _. refl }
+empty_row = record { fit = All-nil IsFit; small = omega arith; chain = tt }
 
 pub ranges_positive : (task : FiniteDomainTask) → IsTask task → (ps : List ℕ) → AllExist (ranges task) ps → All (λ p. 0 < slice_index (ranges task) p) ps
 ranges_positive task is ps exist k d l = let below = is.initial.in_range (get_or ps k d) (exist k d l) in omega arith
@@ -166,7 +165,7 @@ pub row_told : (p : Projection) (op : Operator) → IsOperator (ranges p.task) o
 row_told p op is = go (touches_pattern p.pattern op) refl
   where
     go : (b : Bool) → touches_pattern p.pattern op ≡ b → IsRow (cond b (changes_of op (digits_from (ranges p.task) 1 p.pattern) p.pattern) [])
-    go true e = row_is (ranges p.task) op p.pattern is (projection_ranges p) p.small e
+    go true e = row_is (ranges p.task) op p.pattern is (projection_ranges p) p.small
     go false e = empty_row
 
 pub changes_along : (p : Projection) (op : Operator) → (changes_in p op ≡ [] → ⊥) → IsAlong (digits_from (ranges p.task) 1 p.pattern) (changes_in p op)

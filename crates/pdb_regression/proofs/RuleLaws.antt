@@ -1,11 +1,11 @@
 -- The arithmetic of a rule tells the ways by its changes.
-use Rattle.std.proofs.Common.{◌≡◌, ℕ, suc, ◌+◌, ◌*◌, ◌/◌, ◌%◌, ◌^◌, ◌<◌, ◌≤◌, ◌-◌, Bool, true, false, List, [], ◌∷◌, length, map, take, drop, Option, Some, None, inl, inr, ⊎_elim, get_or, refl, sym, ap, ◌∙◌, subst, arith, cond}
-use Rattle.std.specs.Prelude.{◌&&◌, ◌⊎◌, ◌↔◌, All, Contains, slice_index}
+use Rattle.std.proofs.Common.{◌≡◌, ℕ, suc, ◌+◌, ◌*◌, ◌/◌, ◌%◌, ◌^◌, ◌<◌, ◌≤◌, ◌-◌, true, false, List, [], ◌∷◌, length, map, take, drop, inl, inr, ⊎_elim, get_or, refl, sym, ap, ◌∙◌, subst, arith, cond}
+use Rattle.std.specs.Prelude.{◌⊎◌, ◌↔◌, All, Contains, slice_index}
 use Rattle.std.specs.List.{list_all}
-use Rattle.std.proofs.lemmas.List.Elements.{All-head, All-tail, All-cons, All-weaker}
+use Rattle.std.proofs.lemmas.List.Elements.{All-head, All-tail, All-cons}
 use Rattle.std.proofs.lemmas.Bool.{cond_both, eqb-true, and_parts, false≢true}
 use Rattle.std.proofs.lemmas.Nat.{mod_below, div_below, mul-le}
-use Rattle.std.proofs.lemmas.List.{get_or-map, take_all}
+use Rattle.std.proofs.lemmas.List.{take_all}
 use Rattle.std.proofs.Math.Nat.{mod-add-div, div-div-eq-div-mul, mul-le-mul_left}
 use Rattle.fdr.specs.Tasks.{ranges}
 use Rattle.abstraction.specs.Projections.{Projection}
@@ -15,10 +15,9 @@ use Rattle.abstraction.specs.ProjectionLaws.{quotient, remainder}
 use Rattle.pdb_regression.specs.declared.change.Change.{Change}
 use Rattle.pdb_regression.specs.declared.change.Change.TheVariants.{Kept, Required, Moved, Assigned}
 use Rattle.pdb_regression.specs.declared.change.DigitChange.{DigitChange}
-use Rattle.pdb_regression.specs.declared.rule.Ask.{Ask}
-use Rattle.pdb_regression.specs.Changes.{LeadsAt, LeadsBy, FitsIn, IsFit, enters_at, enters_digit, asked, put_at, taken_at, is_free, size_by}
-use Rattle.pdb_regression.specs.Tables.{IsChain, IsRow, no_change}
-use Rattle.pdb_regression.specs.Rules.{unpacked, ask_at, asks_from, meets, put_by, taken_by, free_in, IsWith}
+use Rattle.pdb_regression.specs.Changes.{LeadsAt, LeadsBy, FitsIn, IsFit, enters_at, enters_digit, put_at, taken_at, is_free, size_by}
+use Rattle.pdb_regression.specs.Tables.{IsChain, IsRow}
+use Rattle.pdb_regression.specs.Rules.{unpacked, put_by, taken_by, free_in, IsWith}
 use Rattle.pdb_walks.specs.declared.backward.Transition.{Transition}
 use Rattle.pdb_regression.proofs.Bounds.{leads_below}
 use Rattle.pdb_regression.proofs.WayLaws.{all_enter}
@@ -194,29 +193,6 @@ module _ (j : ℕ) where
     pub put_at_state : list_all (enters_digit j) cs ≡ true → put_by cs ≤ j
     put_at_state e = omega (arith, put_below cs 1 row.chain e)
 
--- ---- asks
-
-ask_told : (change : Change) (k y : ℕ) (values : List ℕ) (rest : List Ask) (b : Bool) → slice_index values k ≡ y → list_all (meets values) rest ≡ b →
-    list_all (meets values) (ask_at k (asked change) rest) ≡ (enters_at change y && b)
-ask_told Kept k y values rest b e h = h
-ask_told (Required c) k y values rest b e h = rw (e, h)
-ask_told (Moved from to) k y values rest b e h = rw (e, h)
-ask_told (Assigned c) k y values rest b e h = rw (e, h)
-
-asks_told : (cs : List DigitChange) (k j : ℕ) (values : List ℕ) → ((m : ℕ) → m < length cs → slice_index values (k + m) ≡ value_of (get_or cs m no_change).digit j) →
-    list_all (meets values) (asks_from k cs) ≡ list_all (enters_digit j) cs
-asks_told [] k j values at = refl
-asks_told (c ∷ cs) k j values at =
-    let here : slice_index values (k + 0) ≡ value_of c.digit j = at 0 (omega arith) in
-    let first : slice_index values k ≡ value_of c.digit j = ap (slice_index values) (let e : k ≡ k + 0 = omega arith in e) ∙ here in
-    let rest = asks_told cs (k + 1) j values (λ m l. ap (slice_index values) (let e : k + 1 + m ≡ k + suc m = omega arith in e) ∙ at (suc m) (omega arith)) in
-    ask_told c.change k (value_of c.digit j) values (asks_from (k + 1) cs) (list_all (enters_digit j) cs) first rest
-
-pub entered_told : (cs : List DigitChange) (j : ℕ) (values : List ℕ) → values ≡ map (λ c. value_of c.digit j) cs → list_all (meets values) (asks_from 0 cs) ≡ list_all (enters_digit j) cs
-entered_told cs j values e =
-    asks_told cs 0 j values (λ m l. let z : 0 + m ≡ m = omega arith in
-    ap (slice_index values) z ∙ ap (λ (xs : List ℕ). slice_index xs m) e ∙ get_or-map (λ (c : DigitChange). value_of c.digit j) cs m no_change 0 l)
-
 -- ---- the values at the digits
 
 pub unpacked_told : (rs : List ℕ) (w j : ℕ) (ps : List ℕ) → unpacked (j / w) (digits_from rs w ps) ≡ map (λ d. value_of d j) (digits_from rs w ps)
@@ -224,21 +200,6 @@ unpacked_told rs w j [] = refl
 unpacked_told rs w j (p ∷ ps) =
     let r = slice_index rs p in
     ap (λ (xs : List ℕ). j / w % r ∷ xs) (ap (λ (n : ℕ). unpacked n (digits_from rs (w * r) ps)) (div-div-eq-div-mul j w r) ∙ unpacked_told rs (w * r) j ps)
-
--- each place that is asked is one of a digit
-pub asks_below : (cs : List DigitChange) (k : ℕ) → All (λ a. a.place < k + length cs) (asks_from k cs)
-asks_below [] k = λ m d l. absurd (omega arith)
-asks_below (c ∷ cs) k = go (asks_below cs (k + 1)) (asked c.change)
-  where
-    go : All (λ a. a.place < k + 1 + length cs) (asks_from (k + 1) cs) → (r : Option ℕ) → All (λ a. a.place < k + suc (length cs)) (ask_at k r (asks_from (k + 1) cs))
-    go behind r = at r
-      where
-        rest : All (λ a. a.place < k + suc (length cs)) (asks_from (k + 1) cs)
-        rest = All-weaker (λ (a : Ask). a.place < k + 1 + length cs) (λ (a : Ask). a.place < k + suc (length cs)) (λ a l. omega arith) (asks_from (k + 1) cs) behind
-
-        at : (r : Option ℕ) → All (λ a. a.place < k + suc (length cs)) (ask_at k r (asks_from (k + 1) cs))
-        at None = rest
-        at (Some v) = All-cons (λ (a : Ask). a.place < k + suc (length cs)) (record { place = k; value = v }) (asks_from (k + 1) cs) (omega arith) rest
 
 pub free_fit : (cs : List DigitChange) → All IsFit cs → All (IsDigitBelow (2 ^ 24)) (free_in cs)
 free_fit [] all = λ k d l. absurd (omega arith)

@@ -1,21 +1,24 @@
 -- The classes of a projection's operators, and the transitions by them.
-use Rattle.std.proofs.Common.{◌≡◌, ℕ, zero, suc, ◌+◌, ◌^◌, ◌<◌, ◌≤◌, true, List, [], ◌∷◌, ◌++◌, length, map, get_or, refl, sym, ap, ◌∙◌, arith, Option, Some, None, subst, inl, inr, ⊎_elim}
-use Rattle.std.specs.Prelude.{◌⊎◌, ◌↔◌, Contains, All, IfSome, IsSomeAnd, slice_get, slice_index_or, option_map}
+use Rattle.std.proofs.Common.{◌≡◌, ℕ, zero, suc, ◌+◌, ◌<◌, ◌≤◌, true, List, [], ◌∷◌, ◌++◌, length, map, get_or, refl, sym, ap, ◌∙◌, arith, Option, Some, None, subst, inl, inr, ⊎_elim}
+use Rattle.std.specs.Prelude.{◌⊎◌, ◌↔◌, Contains, All, IfSome, IsSomeAnd, slice_get, slice_index, slice_index_or, option_map}
 use Rattle.std.proofs.lemmas.List.{get_or_append_left, get_or_past, length-append, length-map}
-use Rattle.std.proofs.lemmas.List.Elements.{All-push, All-head, All-tail, All-cons, All-weaker}
+use Rattle.std.proofs.lemmas.List.Elements.{All-nil, All-push, All-head, All-tail, All-weaker}
 use Rattle.std.proofs.lemmas.Option.{slice_get_past, slice_get-map}
 use Rattle.std.proofs.lemmas.Bool.{cases_lt}
 use Rattle.fdr.specs.Tasks.{Operator, ranges}
 use Rattle.abstraction.specs.Projections.{Projection, size_of, projection}
 use Rattle.abstraction.specs.declared.digit.Digit.{Digit}
-use Rattle.abstraction.specs.Digits.{digits_from, value_of, IsDigitBelow}
+use Rattle.abstraction.specs.Digits.{digits_from, value_of}
 use Rattle.pdb_walks.specs.declared.backward.Transition.{Transition}
 use Rattle.pdb_walks.specs.Entrances.{LeadsTo, AreClasses, AreEntering}
 use Rattle.pdb_regression.specs.declared.change.DigitChange.{DigitChange}
 use Rattle.pdb_regression.specs.Changes.{LeadsBy, size_by}
-use Rattle.pdb_regression.specs.Tables.{changes_in, enters, LeadsIn, IsRow, IsAlong, IsIn, AddsClass, AreGrouped, Place, IsUnder, AreIndexed, digits_of, classes_in}
+use Rattle.pdb_regression.specs.declared.place.Position.{Position}
+use Rattle.pdb_regression.specs.Words.{word_from, word_by}
+use Rattle.pdb_regression.specs.Tables.{changes_in, enters, LeadsIn, IsRow, IsAlong, IsIn, AddsClass, AreGrouped, Place, IsPositionIn, positions_of, IsReadAt, IsListed, AreIndexed, classes_in}
 use Rattle.pdb_regression.proofs.RowLaws.{along_size}
 use Rattle.pdb_regression.proofs.TableLaws.{enters_is}
+use Rattle.pdb_regression.proofs.WordLaws.{word_whole}
 use Rattle.pdb_regression.proofs.WayLaws.{all_enter, ways_from, untouched, own_source}
 
 -- ---- elements
@@ -84,7 +87,6 @@ grouped_none p = record {
   below = λ o c l. absurd (omega arith);
   some = λ c l. absurd (omega arith);
   rows = λ k d l. absurd (omega arith);
-  filled = λ k d l. absurd (omega arith);
   along = λ k d l. absurd (omega arith);
 }
 
@@ -100,11 +102,6 @@ grouped_more p old new class_of n changes c before at adds row along =
       rows = ⊎_elim
           (λ (a : new ≡ old). subst (All IsRow) (sym a) before.rows)
           (λ (a : (new ≡ old ++ changes ∷ []) × (c ≡ Some (length old)) × (changes ≡ [] → ⊥)). subst (All IsRow) (sym a.0) (All-push IsRow old changes before.rows row))
-          (grows old new changes c adds);
-      filled = ⊎_elim
-          (λ (a : new ≡ old). subst (All (λ cs. cs ≡ [] → ⊥)) (sym a) before.filled)
-          (λ (a : (new ≡ old ++ changes ∷ []) × (c ≡ Some (length old)) × (changes ≡ [] → ⊥)).
-          subst (All (λ cs. cs ≡ [] → ⊥)) (sym a.0) (All-push (λ (cs : List DigitChange). cs ≡ [] → ⊥) old changes before.filled a.2))
           (grows old new changes c adds);
       along = ⊎_elim
           (λ (a : new ≡ old). subst (All (IsAlong (digits_from (ranges p.task) 1 p.pattern))) (sym a) before.along)
@@ -203,9 +200,9 @@ module _ (p : Projection) (rules : List (List DigitChange)) (class_of : List (Op
     others = λ o i j e l step. ((own_source p j o l (untouched p rows refl o (no_changes o e)) i).0 step).0;
   }
 
-  pub entering_told : (places : List Place) (j : ℕ) (ts : List Transition) → AreIndexed places rules (length rules) → j < size_of (ranges p.task) p.pattern →
-      ((u : Transition) → Contains ts u ↔ (IsUnder places (length places) j u.class × LeadsIn rules u.class u.source j)) → AreEntering (projection p.task p.pattern) (classes_in (length rules) class_of) j ts
-  entering_told places j ts indexed l known u = (to, from)
+  pub entering_told : (rest : List ℕ) (places : List Place) (j : ℕ) (ts : List Transition) → AreIndexed rest places rules (length rules) → j < size_of (ranges p.task) p.pattern →
+      ((u : Transition) → Contains ts u ↔ (IsListed rest places j u.class × LeadsIn rules u.class u.source j)) → AreEntering (projection p.task p.pattern) (classes_in (length rules) class_of) j ts
+  entering_told rest places j ts indexed l known u = (to, from)
     where
       at_some : (r : Option (List DigitChange)) → slice_get rules u.class ≡ r → IsSomeAnd r (λ cs. LeadsBy cs u.source j) → (u.class < length rules) × (enters rules j u.class ≡ true)
       at_some None e h = absurd h
@@ -231,29 +228,32 @@ all_at {X = X} P [] n x all e = let none = slice_get_past {X = X} [] n (omega ar
 all_at P (z ∷ xs) zero x all e = let same : z ≡ x = cc in subst P same (All-head P z xs all)
 all_at P (z ∷ xs) (suc n) x all e = all_at P xs n x (All-tail P z xs all) e
 
-along_values : (j : ℕ) (cs : List DigitChange) (ds : List Digit) → IsAlong ds cs → map (λ d. value_of d j) ds ≡ map (λ c. value_of c.digit j) cs
-along_values j [] ds e = ap (λ (xs : List Digit). map (λ d. value_of d j) xs) (sym e)
-along_values j (c ∷ cs) ds e =
-    ap (λ (xs : List Digit). map (λ d. value_of d j) xs) (sym e) ∙ ap (λ (xs : List ℕ). value_of c.digit j ∷ xs) (along_values j cs (map (λ c. c.digit) cs) refl)
+pub read_none : (j : ℕ) (values : List ℕ) (places : List Place) → places ≡ [] → All (IsReadAt values j) (positions_of places)
+read_none j values places e = subst (λ (ps : List Place). All (IsReadAt values j) (positions_of ps)) (sym e) (All-nil (IsReadAt values j))
 
-pub place_values : (j : ℕ) (places : List Place) → map (λ d. value_of d j) (digits_of places) ≡ map (λ p. value_of p.digit j) places
-place_values j [] = refl
-place_values j (p ∷ ps) = ap (λ (xs : List ℕ). value_of p.digit j ∷ xs) (place_values j ps)
-
-pub place_digits : (places : List Place) → All (IsDigitBelow (2 ^ 24)) (digits_of places) → All (λ p. IsDigitBelow (2 ^ 24) p.digit) places
-place_digits [] all = λ k d l. absurd (omega arith)
-place_digits (p ∷ ps) all =
-    All-cons (λ (p : Place). IsDigitBelow (2 ^ 24) p.digit) p ps (All-head (IsDigitBelow (2 ^ 24)) p.digit (digits_of ps) all)
-    (place_digits ps (All-tail (IsDigitBelow (2 ^ 24)) p.digit (digits_of ps) all))
+-- the list has the value at the digit of each place
+pub read_at : (j : ℕ) (ds : List Digit) (values : List ℕ) (places : List Place) → All (IsPositionIn ds) (positions_of places) → values ≡ map (λ d. value_of d j) ds → All (IsReadAt values j) (positions_of places)
+read_at j ds values places all e = All-weaker (IsPositionIn ds) (IsReadAt values j) at (positions_of places) all
+  where
+    at : (p : Position) → IsPositionIn ds p → IsReadAt values j p
+    at p is = let l = below_some ds p.number p.digit is in record {
+      within = let long = ap length e in omega (arith, length-map ds (λ (d : Digit). value_of d j));
+      value = ap (λ (xs : List ℕ). slice_index xs p.number) e ∙ value_at ds p.number p.digit is;
+    }
+      where
+        value_at : (ds : List Digit) (n : ℕ) (d : Digit) → slice_get ds n ≡ Some d → slice_index (map (λ d. value_of d j) ds) n ≡ value_of d j
+        value_at [] n d e = let none = slice_get_past {X = Digit} [] n (omega arith) in absurd (cc)
+        value_at (x ∷ ds) zero d e = let same : x ≡ d = cc in ap (λ (y : Digit). value_of y j) same
+        value_at (x ∷ ds) (suc n) d e = value_at ds n d e
 
 module _ (p : Projection) (rules : List (List DigitChange)) (along : All (IsAlong (digits_from (ranges p.task) 1 p.pattern)) rules) (j : ℕ) where
   pub rules_states : j < size_of (ranges p.task) p.pattern → All (λ cs. j < size_by cs) rules
   rules_states l = All-weaker (IsAlong (digits_from (ranges p.task) 1 p.pattern)) (λ (cs : List DigitChange). j < size_by cs)
       (λ cs e. omega (arith, along_size (ranges p.task) 1 p.pattern cs e)) rules along
 
-  pub rules_values : (values : List ℕ) → values ≡ map (λ d. value_of d j) (digits_from (ranges p.task) 1 p.pattern) → All (λ cs. values ≡ map (λ c. value_of c.digit j) cs) rules
-  rules_values values is = All-weaker (IsAlong (digits_from (ranges p.task) 1 p.pattern)) (λ (cs : List DigitChange). values ≡ map (λ c. value_of c.digit j) cs)
-      (λ cs e. is ∙ along_values j cs (digits_from (ranges p.task) 1 p.pattern) e) rules along
+  pub rules_words : (word : ℕ) → word ≡ word_from j (digits_from (ranges p.task) 1 p.pattern) → All (λ cs. word ≡ word_by j cs) rules
+  rules_words word is = All-weaker (IsAlong (digits_from (ranges p.task) 1 p.pattern)) (λ (cs : List DigitChange). word ≡ word_by j cs)
+      (λ cs e. is ∙ word_whole p j cs e) rules along
 
 pub got : {X : Type 0} (xs : List X) (n : ℕ) (x : X) → n < length xs → x ≡ get_or xs n x → slice_get xs n ≡ Some x
 got [] n x l e = absurd (omega arith)

@@ -1,3 +1,4 @@
 pub mod Changes
+pub mod Words
 pub mod Tables
 pub mod Rules

@@ -1,29 +1,15 @@
 -- The changes of a class of operators as arithmetic on the number of an abstract state.
-use Rattle.std.specs.Prelude.{◌≡◌, ℕ, ◌+◌, ◌*◌, ◌/◌, ◌%◌, ◌<◌, Bool, ◌==◌, if◌then◌else◌, List, [], ◌∷◌, Option, Some, None, slice_index}
+use Rattle.std.specs.Prelude.{◌≡◌, ℕ, ◌+◌, ◌*◌, ◌/◌, ◌%◌, ◌<◌, if◌then◌else◌, List, [], ◌∷◌}
 use Rattle.abstraction.specs.declared.digit.Digit.{Digit}
 use Rattle.pdb_regression.specs.declared.change.DigitChange.{DigitChange}
-use Rattle.pdb_regression.specs.declared.rule.Ask.{Ask}
-use Rattle.pdb_regression.specs.Changes.{asked, put_at, taken_at, is_free}
+use Rattle.pdb_regression.specs.Changes.{put_at, taken_at, is_free}
+use Rattle.pdb_regression.specs.Words.{mask_by, want_by}
 use Rattle.pdb_regression.specs.Tables.{IsRow}
 
 -- the values at the digits, the lowest first
 abbrev pub unpacked : ℕ → List Digit → List ℕ
 unpacked n [] = []
 unpacked n (d ∷ ds) = n % d.range ∷ unpacked (n / d.range) ds
-
--- the value that a digit has to have, where one is asked
-abbrev pub ask_at : ℕ → Option ℕ → List Ask → List Ask
-ask_at k None asks = asks
-ask_at k (Some v) asks = record { place = k; value = v } ∷ asks
-
--- what the changes ask of the digits after them, where the first digit has this place
-abbrev pub asks_from : ℕ → List DigitChange → List Ask
-asks_from k [] = []
-asks_from k (c ∷ cs) = ask_at k (asked c.change) (asks_from (k + 1) cs)
-
--- whether a digit has the value that is asked
-abbrev pub meets : List ℕ → Ask → Bool
-meets values ask = slice_index values ask.place == ask.value
 
 -- what the effects put into the number, and what they take from it, in units of the first digit
 abbrev pub put_by : List DigitChange → ℕ
@@ -45,9 +31,10 @@ IsWith [] n m = n ≡ m
 IsWith (d ∷ ds) n m = (x : ℕ) × (x < d.range) × IsWith ds (n + x * d.weight) m
 
 -- the parts of a rule are those of the changes
-pub record IsRule (changes : List DigitChange) (asks : List Ask) (put taken : ℕ) (free : List Digit) : Type 0 where
+pub record IsRule (changes : List DigitChange) (mask want put taken : ℕ) (free : List Digit) : Type 0 where
   pub row : IsRow changes
-  pub asks_are : asks ≡ asks_from 0 changes
+  pub mask_is : mask ≡ mask_by changes
+  pub want_is : want ≡ want_by changes
   pub put_is : put ≡ put_by changes
   pub taken_is : taken ≡ taken_by changes
   pub free_are : free ≡ free_in changes

@@ -1,5 +1,5 @@
 -- The classes of operators, and the lists that answer which of them lead into an abstract state.
-use Rattle.std.specs.Prelude.{◌≡◌, ℕ, ◌*◌, ◌^◌, ◌<◌, ◌≤◌, Bool, true, false, if◌then◌else◌, List, [], ◌∷◌, ◌++◌, ◌⊎◌, length, map, Option, Some, None, IsSomeAnd, All, Contains, slice_get, slice_index_or}
+use Rattle.std.specs.Prelude.{◌≡◌, ℕ, ◌*◌, ◌^◌, ◌<◌, ◌≤◌, Bool, true, false, if◌then◌else◌, List, [], ◌∷◌, ◌++◌, ◌⊎◌, length, map, Option, Some, None, IsSomeAnd, All, Contains, slice_get, slice_index, slice_index_or}
 use Rattle.std.specs.List.{list_all}
 use Rattle.std.specs.Option.{option_map_or}
 use Rattle.fdr.specs.Tasks.{Operator, ranges}
@@ -10,7 +10,9 @@ use Rattle.abstraction.specs.Projections.{projection as projected}
 use Rattle.pdb_walks.specs.Entrances.{Classes, AreClasses}
 use Rattle.pdb_regression.specs.declared.change.Change.TheVariants.{Kept}
 use Rattle.pdb_regression.specs.declared.change.DigitChange.{DigitChange}
-use Rattle.pdb_regression.specs.Changes.{changes_of, LeadsBy, enters_digit, asked, IsFit, size_by}
+use Rattle.pdb_regression.specs.declared.place.Position.{Position}
+use Rattle.pdb_regression.specs.Words.{IsPlain}
+use Rattle.pdb_regression.specs.Changes.{changes_of, LeadsBy, enters_digit, IsFit, size_by}
 
 -- ---- the changes by each operator
 
@@ -36,49 +38,70 @@ pub record IsRow (changes : List DigitChange) : Type 0 where
   pub fit : All IsFit changes
   pub small : size_by changes ≤ 2 ^ 24
   pub chain : IsChain 1 changes
-  pub asks : All (λ c. asked c.change ≡ None) changes → changes ≡ []
 
 -- a default where there is no change at a place
 abbrev pub no_change : DigitChange
 no_change = record { digit = record { weight = 0; range = 0 }; change = Kept }
 
--- the change at this place asks this value
-pub record IsKey (changes : List DigitChange) (place value : ℕ) : Type 0 where
-  pub within : place < length changes
-  pub asked : asked (slice_index_or changes place no_change).change ≡ Some value
-  pub below : value < (slice_index_or changes place no_change).digit.range
+-- ---- the lists of the classes
 
--- ---- the classes by their keys
-
--- a digit of the pattern, and for each of its values the classes that ask it first
+-- a digit of the pattern, and for each of its values the classes that are listed under it
 pub record Place : Type 0 where
-  pub digit : Digit
+  pub position : Position
   pub lists : List (List ℕ)
+
+-- the digit with this number among the pattern's digits
+abbrev pub IsPositionIn : List Digit → Position → Type 0
+IsPositionIn digits p = slice_get digits p.number ≡ Some p.digit
+
+abbrev pub positions_of : List Place → List Position
+positions_of places = map (λ p. p.position) places
+
+-- the list has the value of the abstract state at the place's digit
+pub record IsReadAt (values : List ℕ) (j : ℕ) (p : Position) : Type 0 where
+  pub within : p.number < length values
+  pub value : slice_index values p.number ≡ value_of p.digit j
+
+-- no classes are listed under values, and abstract states are their own words
+pub record IsReadPlainly (digits : List Digit) (places : List Place) : Type 0 where
+  pub none : places ≡ []
+  pub plain : All IsPlain digits
 
 -- the classes listed under the value of the abstract state at the place
 abbrev pub list_at : ℕ → Place → List ℕ
-list_at j p = slice_index_or p.lists (value_of p.digit j) []
+list_at j p = slice_index_or p.lists (value_of p.position.digit j) []
 
 -- the class has been added to the place under the value
 pub record IsAdded (old new : Place) (value o : ℕ) : Type 0 where
-  pub digit : new.digit ≡ old.digit
+  pub position : new.position ≡ old.position
   pub kept : (j p : ℕ) → Contains (list_at j old) p → Contains (list_at j new) p
-  pub added : (j : ℕ) → value_of old.digit j ≡ value → Contains (list_at j new) o
+  pub added : (j : ℕ) → value_of old.position.digit j ≡ value → Contains (list_at j new) o
 
--- a default where there is no place
+-- defaults where there is no place
+abbrev pub no_position : Position
+no_position = record { number = 0; digit = record { weight = 0; range = 0 } }
+
 abbrev pub no_place : Place
-no_place = record { digit = record { weight = 0; range = 0 }; lists = [] }
+no_place = record { position = no_position; lists = [] }
+
+-- each abstract state into which the changes lead has this value at the place with this number
+pub record IsKey (places : List Place) (changes : List DigitChange) (place value : ℕ) : Type 0 where
+  pub within : place < length places
+  pub below : value < (slice_index_or places place no_place).position.digit.range
+  pub entered : (j : ℕ) → list_all (enters_digit j) changes ≡ true →
+      value_of (slice_index_or places place no_place).position.digit j ≡ value
 
 -- at one of the first n places the class is listed under the value of the abstract state
 abbrev pub IsUnder : List Place → ℕ → ℕ → ℕ → Type 0
 IsUnder places n j o = (k : ℕ) × (k < n) × Contains (list_at j (slice_index_or places k no_place)) o
 
--- each of the first n classes is listed under each abstract state to which it leads
-abbrev pub AreIndexed : List Place → List (List DigitChange) → ℕ → Type 0
-AreIndexed places rows n = (o j : ℕ) → o < n → enters rows j o ≡ true → IsUnder places (length places) j o
+-- the class is listed for every abstract state, or under a value of this one
+abbrev pub IsListed : List ℕ → List Place → ℕ → ℕ → Type 0
+IsListed rest places j o = Contains rest o ⊎ IsUnder places (length places) j o
 
-abbrev pub digits_of : List Place → List Digit
-digits_of places = map (λ p. p.digit) places
+-- each of the first n classes is listed for each abstract state into which it leads
+abbrev pub AreIndexed : List ℕ → List Place → List (List DigitChange) → ℕ → Type 0
+AreIndexed rest places rows n = (o j : ℕ) → o < n → enters rows j o ≡ true → IsListed rest places j o
 
 -- the changes are at these digits, in their order
 abbrev pub IsAlong : List Digit → List DigitChange → Type 0
@@ -104,7 +127,6 @@ pub record AreGrouped (p : Projection) (rules : List (List DigitChange)) (class_
   pub below : (o c : ℕ) → o < n → slice_index_or class_of o None ≡ Some c → c < length rules
   pub some : (c : ℕ) → c < length rules → (o : ℕ) × (o < n) × (slice_index_or class_of o None ≡ Some c)
   pub rows : All IsRow rules
-  pub filled : All (λ cs. cs ≡ [] → ⊥) rules
   pub along : All (IsAlong (digits_from (ranges p.task) 1 p.pattern)) rules
 
 -- the classes in lists

@@ -1,8 +1,9 @@
 //! The change that an operator makes to the value of one variable.
 
-ghost use Rattle.std.specs.Prelude.{◌≡◌, true};
+ghost use Rattle.std.specs.Prelude.{◌≡◌, ◌<◌, true};
 ghost use Rattle.abstraction.specs.Facts as fact;
 ghost use Rattle.pdb_regression.specs.Changes as spec;
+ghost use Rattle.pdb_regression.specs.Words as words;
 
 use abstraction::Digit;
 use fdr::{Fact, Operator};
@@ -60,6 +61,28 @@ impl Change {
             Change::Kept => None,
             Change::Required(value) => Some(value),
             Change::Moved { to, .. } | Change::Assigned(to) => Some(to),
+        }
+    }
+
+    /// Returns the value that the variable has to have after the change, and 0 if there is none.
+    pub(crate) fn want(self) -> u32
+        ensures { result ≡ words.want_at self }
+    {
+        match self {
+            Change::Kept => 0,
+            Change::Required(value) => value,
+            Change::Moved { to, .. } | Change::Assigned(to) => to,
+        }
+    }
+
+    /// Returns the greatest number below the room if the variable has to have some value after the change, and else 0.
+    pub(crate) fn mask(self, room: u64) -> u64
+        requires { 0 < room }
+        ensures { result ≡ words.mask_at room self }
+    {
+        match self {
+            Change::Kept => 0,
+            Change::Required(_) | Change::Moved { .. } | Change::Assigned(_) => room - 1,
         }
     }
 

@@ -9,6 +9,7 @@ mod place;
 mod row;
 mod rule;
 mod transitions;
+mod word;
 
 pub use backward::BackwardProjection;
 pub use transitions::ProjectionTransitions;

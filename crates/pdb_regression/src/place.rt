@@ -1,14 +1,26 @@
-//! The classes of operators, listed by the first value that they ask.
+//! The classes of operators, listed by a value that they ask.
 
-ghost use Rattle.std.specs.Prelude.{◌≡◌, [], ◌<◌, ◌≤◌, ◌^◌, All, IfOk, OnOk, length, slice_index_or};
+ghost use Rattle.std.specs.Prelude.{◌≡◌, true, [], ◌<◌, ◌≤◌, ◌^◌, All, IfOk, OnOk, IfSome, length, map, slice_index_or};
 ghost use Rattle.abstraction.specs.Digits.{IsDigitBelow};
 ghost use Rattle.pdb_regression.specs.Tables as spec;
-ghost use Rattle.pdb_regression.specs.Tables.{IsAdded, digits_of, IsAlong, AreIndexed};
+ghost use Rattle.pdb_regression.specs.Tables.{IsAdded, IsKey, IsPositionIn, positions_of, IsAlong, AreIndexed};
 
 use crate::rule::Rule;
+use crate::word::is_plain;
 use abstraction::Digit;
 use std::alloc::{AllocError, Global};
 use std::marker::Model;
+
+/// The least range of a digit under whose values classes are listed. Lists under the values of a narrower digit would
+/// still be long, so that looking for them costs more than it saves.
+const LISTED_RANGE: usize = 4;
+
+/// A digit of the pattern, and its number among the digits, counted from 0.
+#[derive(Clone, Copy)]
+pub(crate) struct Position {
+    pub(crate) number: usize,
+    pub(crate) digit: Digit,
+}
 
 /// A list of classes, by their numbers.
 #[derive(Drop)]
@@ -24,10 +36,10 @@ impl Model for ClassList {
     ghost view = { λ l. l.numbers.items };
 }
 
-/// A digit of the pattern, and for each of its values the classes that ask it first.
+/// A digit of the pattern, and for each of its values the classes that are listed under it.
 #[derive(Drop)]
 pub(crate) struct Place {
-    digit: Digit,
+    position: Position,
     lists: Vec<ClassList>,
 }
 
@@ -38,29 +50,44 @@ impl Model for Place {
 
     ghost Value = { spec.Place };
 
-    ghost view = { λ p. record { digit = p.digit; lists = p.lists.items } };
+    ghost view = { λ p. record { position = p.position; lists = p.lists.items } };
 
-    ghost invariant = { λ p. IsDigitBelow (2 ^ 24) p.digit × (length p.lists.items ≡ p.digit.range) };
+    ghost invariant = { λ p. IsDigitBelow (2 ^ 24) p.position.digit × (length p.lists.items ≡ p.position.digit.range) };
+}
+
+/// A place, by its number, and a value there.
+#[derive(Clone, Copy)]
+struct Key {
+    place: usize,
+    value: usize,
 }
 
 impl Place {
     /// Makes the place of a digit, without classes. Fails only if allocation fails.
-    fn new(alloc: Global, digit: Digit) -> Result<Place, AllocError>
-        requires { IsDigitBelow (2 ^ 24) digit }
-        ensures { IfOk result (λ p. p.digit ≡ digit) }
+    fn new(alloc: Global, position: Position) -> Result<Place, AllocError>
+        requires { IsDigitBelow (2 ^ 24) position.digit }
+        ensures { IfOk result (λ p. p.position ≡ position) }
     {
         let mut lists = Vec::new(alloc);
-        for _ in 0..digit.range {
+        for _ in 0..position.digit.range {
             lists.push(ClassList {
                 numbers: Vec::new(alloc),
             })?;
         }
-        Ok(Place { digit, lists })
+        Ok(Place { position, lists })
+    }
+
+    /// Returns the digit and its number.
+    pub(crate) fn position(&self) -> Position
+        ensures position { result ≡ self.now.position }
+        ensures below { IsDigitBelow (2 ^ 24) result.digit }
+    {
+        self.position
     }
 
     /// Returns the classes listed under the value.
     pub(crate) fn classes(&self, value: usize) -> &[u32]
-        requires { value < self.now.digit.range }
+        requires { value < self.now.position.digit.range }
         ensures { result.now ≡ slice_index_or self.now.lists value [] }
     {
         &self.lists[value].numbers
@@ -68,8 +95,8 @@ impl Place {
 
     /// Adds a class under a value. Fails only if allocation fails.
     fn add(&mut self, value: usize, class: u32) -> Result<(), AllocError>
-        requires { value < self.old.digit.range }
-        ensures digit { self.new.digit ≡ self.old.digit }
+        requires { value < self.old.position.digit.range }
+        ensures position { self.new.position ≡ self.old.position }
         ensures added { OnOk result (IsAdded self.old self.new value class) }
     {
         self.lists[value].numbers.push(class)?;
@@ -77,29 +104,64 @@ impl Place {
     }
 }
 
-/// The places of the digits, without classes. Fails only if allocation fails.
+/// The places of the digits under whose values classes are listed, without classes. Fails only if allocation fails.
 pub(crate) fn places_of(alloc: Global, digits: &[Digit]) -> Result<Vec<Place>, AllocError>
     requires { All (IsDigitBelow (2 ^ 24)) digits.now }
-    ensures { IfOk result (λ v. digits_of v.items ≡ digits.now) }
+    ensures { IfOk result (λ v. All (IsPositionIn digits.now) (positions_of v.items)) }
 {
     let mut places = Vec::new(alloc);
-    for digit in digits {
-        places.push(Place::new(alloc, *digit)?)?;
+    for number in 0..digits.len() {
+        let digit = digits[number];
+        if digit.range >= LISTED_RANGE {
+            places.push(Place::new(alloc, Position { number, digit })?)?;
+        }
     }
     Ok(places)
 }
 
-/// Adds each class under the first value that it asks. Fails only if allocation fails.
-pub(crate) fn add_classes(places: &mut [Place], rules: &[Rule]) -> Result<(), AllocError>
-    requires along { All (IsAlong (digits_of places.old)) rules.now }
-    requires filled { All (λ cs. cs ≡ [] → ⊥) rules.now }
+/// Whether no classes are listed under values, and abstract states are their own words.
+pub(crate) fn is_read_plainly(digits: &[Digit], places: &[Place]) -> bool
+    requires { All (IsDigitBelow (2 ^ 24)) digits.now }
+    ensures { result ≡ true → spec.IsReadPlainly digits.now places.now }
+{
+    places.is_empty() && is_plain(digits)
+}
+
+/// The first place at whose digit the class asks a value, and that value.
+fn key_of(places: &[Place], rule: &Rule) -> Option<Key>
+    requires { All (IsPositionIn (map (λ c. c.digit) rule.now)) (positions_of places.now) }
+    ensures { IfSome result (λ key. IsKey places.now rule.now key.place key.value) }
+{
+    for place in 0..places.len() {
+        let position = places[place].position();
+        if let Some(value) = rule.asked_of(position.number) {
+            return Some(Key {
+                place,
+                value: value as usize,
+            });
+        }
+    }
+    None
+}
+
+/// Adds each class under the value that it asks at the first of the places where it asks one, or else to the rest. Fails
+/// only if allocation fails.
+pub(crate) fn add_classes(
+    digits: &[Digit],
+    places: &mut [Place],
+    rest: &mut Vec<u32>,
+    rules: &[Rule],
+) -> Result<(), AllocError>
+    requires positions { All (IsPositionIn digits.now) (positions_of places.old) }
+    requires along { All (IsAlong digits.now) rules.now }
     requires few { length rules.now ≤ 4294967295 }
-    ensures digits { digits_of places.new ≡ digits_of places.old }
-    ensures indexed { OnOk result (AreIndexed places.new rules.now (length rules.now)) }
+    ensures positions { positions_of places.new ≡ positions_of places.old }
+    ensures indexed { OnOk result (AreIndexed rest.new.items places.new rules.now (length rules.now)) }
 {
     for class in 0..rules.len() {
-        if let Some(key) = rules[class].key() {
-            places[key.place].add(key.value, class as u32)?;
+        match key_of(places, &rules[class]) {
+            Some(key) => places[key.place].add(key.value, class as u32)?,
+            None => rest.push(class as u32)?,
         }
     }
     Ok(())

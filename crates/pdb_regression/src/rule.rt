@@ -1,36 +1,34 @@
 //! The changes of a class of operators as arithmetic on the numbers of abstract states.
 
-ghost use Rattle.std.specs.Prelude.{◌≡◌, ℕ, [], ◌+◌, ◌++◌, ◌<◌, ◌≤◌, true, ◌^◌, ◌⊎◌, ◌↔◌, All, Contains, length, map, IfSome, IfNone, IfOk, OnOk};
-ghost use Rattle.std.specs.List.{list_all};
+ghost use Rattle.std.specs.Prelude.{◌≡◌, ℕ, ◌+◌, ◌++◌, ◌<◌, ◌≤◌, ◌==◌, true, ◌^◌, ◌⊎◌, ◌↔◌, All, Contains, length, slice_index_or, IfSome, IfOk, OnOk};
+ghost use Rattle.std.specs.Int.RustNames.{bit_and};
 ghost use Rattle.pdb_walks.specs.declared.backward.Transition.{Transition};
-ghost use Rattle.abstraction.specs.Digits.{value_of, IsDigitBelow};
+ghost use Rattle.abstraction.specs.Digits.{IsDigitBelow};
 ghost use Rattle.pdb_regression.specs.Changes.{LeadsBy, IsFit, asked, size_by};
 ghost use Rattle.pdb_regression.specs.Rules as spec;
-ghost use Rattle.pdb_regression.specs.Rules.{asks_from, meets, free_in, IsWith};
-ghost use Rattle.pdb_regression.specs.Tables.{IsKey, IsRow};
+ghost use Rattle.pdb_regression.specs.Rules.{free_in, IsWith};
+ghost use Rattle.pdb_regression.specs.Words as words;
+ghost use Rattle.pdb_regression.specs.Words.{word_by};
+ghost use Rattle.pdb_regression.specs.Tables.{no_change, IsRow};
 
 use crate::change::DigitChange;
+use crate::word::room_of;
 use abstraction::Digit;
 use pdb_walks::Transition;
 use std::alloc::{AllocError, Global};
 use std::marker::Model;
 
-/// A value that a digit has to have. The places are those of the digits, counted from 0.
-#[derive(Clone, Copy)]
-pub(crate) struct Ask {
-    pub(crate) place: usize,
-    pub(crate) value: u32,
-}
-
 /// The changes that the operators of a class make to the values of the pattern. In contracts its value is the list of
 /// these changes.
 ///
-/// The operators lead to the abstract states that have the values that are asked. The number of the abstract state that
-/// they come from is greater by `taken` and less by `put`, and the free digits may have any value there.
+/// The operators lead to the abstract states whose word has the bits of `want` among those of `mask`, which are the bits of
+/// the digits of which a value is asked. The number of the abstract state that they come from is greater by `taken` and
+/// less by `put`, and the free digits may have any value there.
 #[derive(Drop)]
 pub(crate) struct Rule {
     changes: Vec<DigitChange>,
-    asks: Vec<Ask>,
+    mask: u64,
+    want: u64,
     put: usize,
     taken: usize,
     free: Vec<Digit>,
@@ -45,45 +43,33 @@ impl Model for Rule {
 
     ghost view = { λ r. r.changes.items };
 
-    ghost invariant = { λ r. IsRule r.changes.items r.asks.items r.put r.taken r.free.items };
+    ghost invariant = { λ r. IsRule r.changes.items r.mask r.want r.put r.taken r.free.items };
 }
 
-/// A place of the pattern and a value there.
-#[derive(Clone, Copy)]
-pub(crate) struct Key {
-    pub(crate) place: usize,
-    pub(crate) value: usize,
-}
-
-/// The first place at which a value is asked, and that value.
-fn first_asked(changes: &[DigitChange]) -> Option<Key>
-    requires { All IsFit changes.now }
-    ensures asked { IfSome result (λ k. IsKey changes.now k.place k.value) }
-    ensures absent { IfNone result (All (λ c. asked c.change ≡ None) changes.now) }
-{
-    for place in 0..changes.len() {
-        if let Some(value) = changes[place].change.asked() {
-            return Some(Key {
-                place,
-                value: value as usize,
-            });
-        }
-    }
-    None
-}
-
-/// Appends what the changes ask of the digits from a place on. Fails only if allocation fails.
-fn add_asks(place: usize, changes: &[DigitChange], asks: &mut Vec<Ask>) -> Result<(), AllocError>
-    requires { place + length changes.now < 2 ^ 64 }
-    ensures { OnOk result (asks.new.items ≡ asks.old.items ++ asks_from place changes.now) }
+/// The bits of the digits of which a value is asked.
+fn mask_by(changes: &[DigitChange]) -> u64
+    requires fit { All IsFit changes.now }
+    requires small { size_by changes.now ≤ 2 ^ 24 }
+    ensures { result ≡ words.mask_by changes.now }
 {
     let [change, others @ ..] = changes else {
-        return Ok(());
+        return 0;
     };
-    if let Some(value) = change.change.asked() {
-        asks.push(Ask { place, value })?;
-    }
-    add_asks(place + 1, others, asks)
+    let room = room_of(change.digit.range);
+    change.change.mask(room) + room * mask_by(others)
+}
+
+/// The values that are asked, each at the bits of its digit.
+fn want_by(changes: &[DigitChange]) -> u64
+    requires fit { All IsFit changes.now }
+    requires small { size_by changes.now ≤ 2 ^ 24 }
+    ensures { result ≡ words.want_by changes.now }
+{
+    let [change, others @ ..] = changes else {
+        return 0;
+    };
+    let room = room_of(change.digit.range);
+    u64::from(change.change.want()) + room * want_by(others)
 }
 
 /// Appends the digits that may have any value before. Fails only if allocation fails.
@@ -170,15 +156,16 @@ impl Rule {
         requires { IsRow changes.items }
         ensures { IfOk result (λ r. r ≡ changes.items) }
     {
-        let mut asks = Vec::new(alloc);
-        add_asks(0, &changes, &mut asks)?;
+        let mask = mask_by(&changes);
+        let want = want_by(&changes);
         let mut free = Vec::new(alloc);
         add_free(&changes, &mut free)?;
         let put = put_by(&changes);
         let taken = taken_by(&changes);
         Ok(Rule {
             changes,
-            asks,
+            mask,
+            want,
             put,
             taken,
             free,
@@ -192,42 +179,36 @@ impl Rule {
         are_same(&self.changes, changes)
     }
 
-    /// Returns the first place at which a value is asked, and that value. There is one unless there are no changes.
-    pub(crate) fn key(&self) -> Option<Key>
-        ensures key { IfSome result (λ k. IsKey self.now k.place k.value) }
-        ensures absent { IfNone result (self.now ≡ []) }
+    /// Returns the value that is asked of the digit with this number, if there is one.
+    pub(crate) fn asked_of(&self, digit: usize) -> Option<u32>
+        requires { digit < length self.now }
+        ensures asked { result ≡ asked (slice_index_or self.now digit no_change).change }
+        ensures below { IfSome result (λ value. value < (slice_index_or self.now digit no_change).digit.range) }
     {
-        first_asked(&self.changes)
+        self.changes[digit].change.asked()
     }
 
-    /// Whether the digits have the values that are asked.
-    fn enters(&self, values: &[u32]) -> bool
-        requires { length values.now ≡ length self.now }
-        ensures { result ≡ list_all (meets values.now) (asks_from 0 self.now) }
+    /// Whether the abstract state with this word has the values that are asked.
+    fn enters(&self, word: u64) -> bool
+        ensures { result ≡ (bit_and word (words.mask_by self.now) == words.want_by self.now) }
     {
-        for ask in &self.asks {
-            if values[ask.place] != ask.value {
-                return false;
-            }
-        }
-        true
+        word & self.mask == self.want
     }
 
-    /// Appends the transitions of the class into the abstract state, whose digits have these values. Fails only if
-    /// allocation fails.
+    /// Appends the transitions of the class into the abstract state, which has this word. Fails only if allocation fails.
     pub(crate) fn add_transitions(
         &self,
         class: u32,
         abstract_state: usize,
-        values: &[u32],
+        word: u64,
         transitions: &mut Vec<Transition>,
     ) -> Result<(), AllocError>
         requires state { abstract_state < size_by self.now }
-        requires values { values.now ≡ map (λ c. value_of c.digit abstract_state) self.now }
+        requires word { word ≡ word_by abstract_state self.now }
         ensures { OnOk result ((t : Transition) → Contains transitions.new.items t ↔
             (Contains transitions.old.items t ⊎ ((t.class ≡ class) × LeadsBy self.now t.source abstract_state))) }
     {
-        if self.enters(values) {
+        if self.enters(word) {
             let source = abstract_state + self.taken - self.put;
             add_sources(class, source, &self.free, transitions)?;
         }

@@ -1,10 +1,10 @@
-use Rattle.std.proofs.Common.{◌≡◌, ℕ, ◌<◌, List, map, get_or, refl, subst, arith}
+use Rattle.std.proofs.Common.{◌≡◌, ℕ, ◌<◌, List, get_or, refl, subst, arith}
 use Rattle.std.specs.Prelude.{◌↔◌, ◌⊎◌, Contains}
 use Rattle.std.proofs.lemmas.List.{take_all}
-use Rattle.abstraction.specs.Digits.{value_of}
 use Rattle.pdb_walks.specs.declared.backward.Transition.{Transition}
 use Rattle.pdb_regression.specs.declared.change.DigitChange.{DigitChange}
 use Rattle.pdb_regression.specs.Changes.{size_by}
+use Rattle.pdb_regression.specs.Words.{word_by}
 use Rattle.pdb_regression.specs.Tables.{LeadsIn}
 use Rattle.pdb_regression.proofs.TransitionLaws.{all_at}
 use Rattle.pdb_regression.proofs.TableLaws.{listed_more, listed_rule, listed_none}
@@ -14,8 +14,8 @@ use Rattle.pdb_regression.proofs.transitions.add_listed.Goals.{in-Some+in_ok-add
 pub add_transitions-requires-clause-state : goal.add_transitions-requires-clause-state
 add_transitions-requires-clause-state c = all_at (λ (cs : List DigitChange). c.args.abstract_state < size_by cs) c.args.rules.now (get_or c.args.classes.now c.loop-class.class-index 0) c.in-Some.rule.now c.requires.state c.in-Some.ensures.rule
 
-pub add_transitions-requires-clause-values : goal.add_transitions-requires-clause-values
-add_transitions-requires-clause-values c = all_at (λ (cs : List DigitChange). c.args.values.now ≡ map (λ (d : DigitChange). value_of d.digit c.args.abstract_state) cs) c.args.rules.now (get_or c.args.classes.now c.loop-class.class-index 0) c.in-Some.rule.now c.requires.values c.in-Some.ensures.rule
+pub add_transitions-requires-clause-word : goal.add_transitions-requires-clause-word
+add_transitions-requires-clause-word c = all_at (λ (cs : List DigitChange). c.args.word ≡ word_by c.args.abstract_state cs) c.args.rules.now (get_or c.args.classes.now c.loop-class.class-index 0) c.in-Some.rule.now c.requires.word c.in-Some.ensures.rule
 
 pub loop-class-preserved : goal.loop-class-preserved
 loop-class-preserved c =

@@ -7,10 +7,10 @@ pub returns-clause-added : goal.returns-clause-added
 returns-clause-added c =
     let inside = c.self.inside in
     let pushed = c.in_ok-push.ensures in
-    let below : c.args.value < inside.digit.range = rw (← c.self.view_is) at c.requires in
-    let long : length inside.lists.items ≡ inside.digit.range = c.self.invariant.1 in
+    let below : c.args.value < inside.position.digit.range = rw (← c.self.view_is) at c.requires in
+    let long : length inside.lists.items ≡ inside.position.digit.range = c.self.invariant.1 in
     let behind = c.behind-self.view_is in
     let read = c.index_mut.ensures.value in
     rw (← c.self.view_is)
-    (added_is inside.digit inside.lists.items (set inside.lists.items c.args.value c.push.new.self.items) c.args.value c.args.class (omega arith)
+    (added_is inside.position inside.lists.items (set inside.lists.items c.args.value c.push.new.self.items) c.args.value c.args.class (omega arith)
     (ap (λ (xs : List ℕ). set inside.lists.items c.args.value xs) (pushed.items ∙ ap (λ (xs : List ℕ). xs ++ c.args.class ∷ []) (behind ∙ read ∙ get_or_default inside.lists.items c.args.value c.index_mut.result.now [] (omega arith)))))

@@ -8,7 +8,8 @@ use Rattle.pdb_regression.specs.Changes.{enters_digit}
 use Rattle.pdb_regression.specs.Rules.{put_by, taken_by, free_in, IsWith}
 use Rattle.pdb_regression.specs.Tables.{IsRow}
 use Rattle.pdb_regression.proofs.Bounds.{put_small}
-use Rattle.pdb_regression.proofs.RuleLaws.{sources_small, put_at_state, entered_told, free_fit, rule_told, rule_out}
+use Rattle.pdb_regression.proofs.RuleLaws.{sources_small, put_at_state, free_fit, rule_told, rule_out}
+use Rattle.pdb_regression.proofs.WordLaws.{entered_told}
 use Rattle.pdb_regression.proofs.rule.Rule.add_transitions.Goals as goal
 
 pub overflow_add-source : goal.overflow_add-source
@@ -16,7 +17,7 @@ overflow_add-source c =
     let cs = c.args.self.now in
     let j = c.args.abstract_state in
     let row : IsRow cs = subst IsRow c.self.view_is c.self.invariant.row in
-    let entered : list_all (enters_digit j) cs ≡ true = sym (entered_told cs j c.args.values.now c.requires.values) ∙ sym c.enters.ensures ∙ c.if-enters.true in
+    let entered : list_all (enters_digit j) cs ≡ true = sym (entered_told cs j c.args.word row.fit c.requires.word) ∙ sym c.enters.ensures ∙ c.if-enters.true in
     let put : c.self.inside.put ≡ put_by cs = c.self.invariant.put_is ∙ ap put_by c.self.view_is in
     let taken : c.self.inside.taken ≡ taken_by cs = c.self.invariant.taken_is ∙ ap taken_by c.self.view_is in
     let both = put_small cs row.fit in
@@ -29,7 +30,7 @@ overflow_sub-source c =
     let cs = c.args.self.now in
     let j = c.args.abstract_state in
     let row : IsRow cs = subst IsRow c.self.view_is c.self.invariant.row in
-    let entered : list_all (enters_digit j) cs ≡ true = sym (entered_told cs j c.args.values.now c.requires.values) ∙ sym c.enters.ensures ∙ c.if-enters.true in
+    let entered : list_all (enters_digit j) cs ≡ true = sym (entered_told cs j c.args.word row.fit c.requires.word) ∙ sym c.enters.ensures ∙ c.if-enters.true in
     let put : c.self.inside.put ≡ put_by cs = c.self.invariant.put_is ∙ ap put_by c.self.view_is in
     let taken : c.self.inside.taken ≡ taken_by cs = c.self.invariant.taken_is ∙ ap taken_by c.self.view_is in
     let both = put_small cs row.fit in
@@ -42,7 +43,7 @@ add_sources-requires-clause-free c =
     let cs = c.args.self.now in
     let j = c.args.abstract_state in
     let row : IsRow cs = subst IsRow c.self.view_is c.self.invariant.row in
-    let entered : list_all (enters_digit j) cs ≡ true = sym (entered_told cs j c.args.values.now c.requires.values) ∙ sym c.enters.ensures ∙ c.if-enters.true in
+    let entered : list_all (enters_digit j) cs ≡ true = sym (entered_told cs j c.args.word row.fit c.requires.word) ∙ sym c.enters.ensures ∙ c.if-enters.true in
     let put : c.self.inside.put ≡ put_by cs = c.self.invariant.put_is ∙ ap put_by c.self.view_is in
     let taken : c.self.inside.taken ≡ taken_by cs = c.self.invariant.taken_is ∙ ap taken_by c.self.view_is in
     let both = put_small cs row.fit in
@@ -56,7 +57,7 @@ add_sources-requires-clause-small c =
     let cs = c.args.self.now in
     let j = c.args.abstract_state in
     let row : IsRow cs = subst IsRow c.self.view_is c.self.invariant.row in
-    let entered : list_all (enters_digit j) cs ≡ true = sym (entered_told cs j c.args.values.now c.requires.values) ∙ sym c.enters.ensures ∙ c.if-enters.true in
+    let entered : list_all (enters_digit j) cs ≡ true = sym (entered_told cs j c.args.word row.fit c.requires.word) ∙ sym c.enters.ensures ∙ c.if-enters.true in
     let put : c.self.inside.put ≡ put_by cs = c.self.invariant.put_is ∙ ap put_by c.self.view_is in
     let taken : c.self.inside.taken ≡ taken_by cs = c.self.invariant.taken_is ∙ ap taken_by c.self.view_is in
     let both = put_small cs row.fit in
@@ -71,7 +72,7 @@ returns-in_ok-add_sources c =
     let cs = c.args.self.now in
     let j = c.args.abstract_state in
     let row : IsRow cs = subst IsRow c.self.view_is c.self.invariant.row in
-    let entered : list_all (enters_digit j) cs ≡ true = sym (entered_told cs j c.args.values.now c.requires.values) ∙ sym c.enters.ensures ∙ c.if-enters.true in
+    let entered : list_all (enters_digit j) cs ≡ true = sym (entered_told cs j c.args.word row.fit c.requires.word) ∙ sym c.enters.ensures ∙ c.if-enters.true in
     let put : c.self.inside.put ≡ put_by cs = c.self.invariant.put_is ∙ ap put_by c.self.view_is in
     let taken : c.self.inside.taken ≡ taken_by cs = c.self.invariant.taken_is ∙ ap taken_by c.self.view_is in
     let both = put_small cs row.fit in
@@ -85,5 +86,6 @@ pub returns-else-enters : goal.returns-else-enters
 returns-else-enters c =
     let cs = c.args.self.now in
     let j = c.args.abstract_state in
+    let row : IsRow cs = subst IsRow c.self.view_is c.self.invariant.row in
     rule_out (λ (t : Transition). t.class ≡ c.args.class) cs j c.args.transitions.now.items
-    (sym (entered_told cs j c.args.values.now c.requires.values) ∙ sym c.enters.ensures ∙ c.if-enters.false)
+    (sym (entered_told cs j c.args.word row.fit c.requires.word) ∙ sym c.enters.ensures ∙ c.if-enters.false)
