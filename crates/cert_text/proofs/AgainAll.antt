@@ -1,17 +1,20 @@
 -- What is spelled is read again, all of it.
-use Rattle.std.proofs.Common.{◌≡◌, ◌≢◌, ℕ, suc, ◌+◌, ◌^◌, ◌<◌, ◌≤◌, Bool, true, false, List, [], ◌∷◌, ◌++◌, length, map, Option, Some, None, Result, Ok, refl, sym, ap, subst, ◌∙◌, arith, append_assoc, ◌⊎◌, inl, inr}
+use Rattle.std.proofs.Common.{◌≡◌, ◌≢◌, ℕ, suc, ◌+◌, ◌^◌, ◌<◌, ◌≤◌, Bool, true, false, List, [], ◌∷◌, ◌++◌, length, map, Option, Some, None, cond, eqb, Result, Ok, Err, refl, sym, ap, subst, ◌∙◌, arith, append_assoc, ◌⊎◌, inl, inr}
 use Rattle.std.specs.Prelude.{nat_lt, codes}
 use Rattle.std.specs.List.{flat_map, AllByRecursion}
 use Rattle.std.proofs.lemmas.Bool.Decides.{nat_tests}
 use Rattle.std.proofs.lemmas.List.{append-nil, map-append, length-append}
 use Rattle.cost.specs.Distances.{Distance, IsWithin, distance_text}
 use Rattle.cert_text.specs.declared.fault.CertFault.{CertFault}
+use Rattle.cert_text.specs.declared.fault.CertFault.TheVariants as fault
+use Rattle.std.proofs.lemmas.Bool.{false≢true}
 use Rattle.cert_value.specs.Certificates.{Kind, FiniteDomain, Planning, Variable, Table, Entry, CertificateValue, width_of}
-use Rattle.cert_text.specs.Pieces.{joined}
+use Rattle.cert_text.specs.Pieces.{joined, pieces, into_first}
 use Rattle.cert_text.specs.Spelling.{counted, variable_line, kind_line, kind_lines, pattern_line, shares_line, values_line, table_lines, column_lines, columns_lines, entry_line, closed_lines, lines, spelling}
 use Rattle.cert_text.specs.Lawful.{IsAtom, IsVariable, IsLawfulKind, IsTable, IsColumn, AreColumns, IsEntry, AreEntries, IsLawful}
-use Rattle.cert_text.specs.Reading.{◌>>=◌, Remaining, line_at, repeated, behind, count_at, fixed_at, header_at, kind_at, bound_at, atom_at, atoms_at, variable_at, variables_at, parts_at, table_at, column_at, columns_at, entry_at, entry_step, closed_at, end_at, certificate_at, certificate_of}
-use Rattle.cert_text.proofs.Joining.{IsPlain, lines_of_text}
+use Rattle.cert_text.specs.Reading.{◌>>=◌, Remaining, line_at, repeated, behind, count_at, fixed_at, header_at, kind_at, bound_at, atom_at, atoms_at, variable_at, variables_at, parts_at, table_at, column_at, columns_at, entry_at, entry_step, closed_at, is_nothing, end_at, certificate_at, certificate_of}
+use Rattle.cert_text.proofs.Joining.{IsPlain, lines_of_text, lines_behind}
+use Rattle.cert_text.proofs.PieceLaws.{some_piece}
 use Rattle.cert_text.proofs.Again.{lines_from, line_again, IsWord, plain_words, words_again, decimal_word, decimal_words, distance_word, distance_words, shares_words, count_again, bound_again, pattern_again, shares_line_again, values_again, variable_words, variable_again, atom_words, atom_again, entry_words, entry_again}
 
 -- the lines before what is left
@@ -282,14 +285,16 @@ plain_lines (l ∷ ls) all = (plain_words l all.0, plain_lines ls all.1)
 
 -- ---- the law
 
-all_again : (c : CertificateValue) → IsLawful c → certificate_at (lines_from 1 (before (lines c) ([] ∷ []))) ≡ Ok c
+-- after the lines of a certificate, what is left has to be nothing
+all_behind : (c : CertificateValue) → IsLawful c → (tail : List (List ℕ)) → 0 < length tail
+    → (m : ℕ) × (certificate_at (lines_from 1 (before (lines c) tail)) ≡ (end_at (lines_from m (before ((codes "end" ∷ []) ∷ []) tail)) >>= λ end. Ok c))
 unfolding certificate_at
-all_again c ok =
+all_behind c ok tail some =
     let one = codes "optplan-cert" ∷ codes "1" ∷ [] in
     let two = kind_line c.kind in
     let three = codes "bound" ∷ distance_text c.bound ∷ [] in
     let head = one ∷ two ∷ three ∷ kind_lines c.kind in
-    let last = before ((codes "end" ∷ []) ∷ []) ([] ∷ []) in
+    let last = before ((codes "end" ∷ []) ∷ []) tail in
     let closing = before (closed_lines c.closed) last in
     let middle = before (columns_lines c.columns) closing in
     let kinds = before (kind_lines c.kind) middle in
@@ -297,8 +302,8 @@ all_again c ok =
     let some5 = some_left (closed_lines c.closed) last some6 in
     let some4 = some_left (columns_lines c.columns) closing some5 in
     let some3 = some_left (kind_lines c.kind) middle some4 in
-    let regroup : before (lines c) ([] ∷ []) ≡ joined 32 one ∷ joined 32 two ∷ joined 32 three ∷ kinds =
-    before_append ((head ++ columns_lines c.columns) ++ closed_lines c.closed) ((codes "end" ∷ []) ∷ []) ([] ∷ [])
+    let regroup : before (lines c) tail ≡ joined 32 one ∷ joined 32 two ∷ joined 32 three ∷ kinds =
+    before_append ((head ++ columns_lines c.columns) ++ closed_lines c.closed) ((codes "end" ∷ []) ∷ []) tail
     ∙ before_append (head ++ columns_lines c.columns) (closed_lines c.closed) last ∙ before_append head (columns_lines c.columns) closing in
     let r1 = header_read 1 (joined 32 two ∷ joined 32 three ∷ kinds) (omega arith) in
     let r2 = kind_read c.kind 2 (joined 32 three ∷ kinds) (omega arith) in
@@ -306,7 +311,12 @@ all_again c ok =
     let r4 = parts_read c.kind ok.kind 4 middle some4 in
     let r5 = columns_read c.columns ok.columns r4.0 closing some5 in
     let r6 = closed_read c.closed ok.closed r5.0 last some6 in
-    rw (regroup, r1, r2, r3, r4.1, r5.1, r6.1, end_read r6.0) refl
+    (r6.0, rw (regroup, r1, r2, r3, r4.1, r5.1, r6.1) refl)
+
+all_again : (c : CertificateValue) → IsLawful c → certificate_at (lines_from 1 (before (lines c) ([] ∷ []))) ≡ Ok c
+all_again c ok =
+    let behind = all_behind c ok ([] ∷ []) (omega arith) in
+    behind.1 ∙ ap (λ (r : Result (Unit {0}) CertFault). r >>= λ end. Ok c) (end_read behind.0)
 
 -- what is spelled is read again
 pub certificate_again : (c : CertificateValue) → IsLawful c → length (spelling c) ≤ 2 ^ 30 → certificate_of (spelling c) ≡ Ok c
@@ -314,3 +324,45 @@ unfolding certificate_of
 certificate_again c ok short =
     let t : nat_lt (2 ^ 30) (length (spelling c)) ≡ false = grind (arith, nat_tests) in
     rw (t, lines_of_text (lines c) (plain_lines (lines c) (words_lines c ok))) (all_again c ok)
+
+-- ---- fronts
+
+end_left : (n : ℕ) (tail : List (List ℕ)) → 0 < length tail → is_nothing tail ≡ false → end_at (lines_from n (before ((codes "end" ∷ []) ∷ []) tail)) ≡ Err (fault.Trailing (n + 1))
+unfolding end_at fixed_at
+end_left n tail some left = rw (line_again n (codes "end") tail some, left) refl
+
+-- lines that are nothing are those of no byte
+no_bytes : (xs : List ℕ) → is_nothing (pieces 10 xs) ≡ true → xs ≡ []
+unfolding pieces
+no_bytes [] e = refl
+no_bytes (x ∷ xs) e = absurd (go (eqb x 10) e)
+  where
+    go : (b : Bool) → is_nothing (cond b ([] ∷ pieces 10 xs) (into_first x (pieces 10 xs))) ≡ true → ⊥
+    go true f = let more = some_piece 10 xs in let shown : is_nothing ([] ∷ more.0 ∷ more.1) ≡ true = rw more.2 at f in false≢true shown
+    go false f = let more = some_piece 10 xs in let shown : is_nothing (into_first x (more.0 ∷ more.1)) ≡ true = rw more.2 at f in false≢true shown
+
+-- no certificate's text goes on behind that of another
+pub no_front : (c d : CertificateValue) (rest : List ℕ) → IsLawful c → IsLawful d → spelling d ≡ spelling c ++ rest → length (spelling d) ≤ 2 ^ 30 → rest ≡ []
+unfolding certificate_of
+no_front c d rest ok fine is short = go (is_nothing (pieces 10 rest)) refl
+  where
+    some : 0 < length (pieces 10 rest)
+    some = let more = some_piece 10 rest in let long = ap (λ (xs : List (List ℕ)). length xs) more.2 in omega arith
+
+    split : pieces 10 (spelling d) ≡ before (lines c) (pieces 10 rest)
+    split = ap (pieces 10) is ∙ lines_behind (lines c) rest (plain_lines (lines c) (words_lines c ok))
+
+    again : certificate_at (lines_from 1 (before (lines c) (pieces 10 rest))) ≡ Ok d
+    again =
+        let t : nat_lt (2 ^ 30) (length (spelling d)) ≡ false = grind (arith, nat_tests) in
+        let whole : certificate_at (lines_from 1 (pieces 10 (spelling d))) ≡ Ok d = rw t at (certificate_again d fine short) in
+        ap (λ (ls : List (List ℕ)). certificate_at (lines_from 1 ls)) (sym split) ∙ whole
+
+    go : (b : Bool) → is_nothing (pieces 10 rest) ≡ b → rest ≡ []
+    go true e = no_bytes rest e
+    go false e =
+        let behind = all_behind c ok (pieces 10 rest) some in
+        let refused : certificate_at (lines_from 1 (before (lines c) (pieces 10 rest))) ≡ Err (fault.Trailing (behind.0 + 1)) =
+        behind.1 ∙ ap (λ (r : Result (Unit {0}) CertFault). r >>= λ end. Ok c) (end_left behind.0 (pieces 10 rest) some e) in
+        let both : Ok d ≡ Err (fault.Trailing (behind.0 + 1)) = sym again ∙ refused in
+        absurd cc

@@ -78,14 +78,18 @@ pub line_free : (ws : List (List ℕ)) → AllByRecursion IsPlain ws → IsFree 
 line_free [] plain = tt
 line_free (w ∷ ws) plain = free_append 10 w (flat_map (λ (q : List ℕ). 32 ∷ q) ws) (plain_free 10 w (omega arith) plain.0) (blanks_free ws plain.1)
 
+-- the lines of a text that begins with lines of plain words
+pub lines_behind : (ls : List (List (List ℕ))) (rest : List ℕ) → AllByRecursion (AllByRecursion IsPlain) ls → pieces 10 (text_of ls ++ rest) ≡ map (joined 32) ls ++ pieces 10 rest
+lines_behind [] rest plain = refl
+lines_behind (l ∷ ls) rest plain =
+    ap (pieces 10) (append_assoc (joined 32 l ++ 10 ∷ []) (text_of ls) rest ∙ append_assoc (joined 32 l) (10 ∷ []) (text_of ls ++ rest))
+    ∙ piece_first 10 (joined 32 l) (text_of ls ++ rest) (line_free l plain.0)
+    ∙ ap (λ (xs : List (List ℕ)). joined 32 l ∷ xs) (lines_behind ls rest plain.1)
+
 -- the lines of a text of lines of plain words
 pub lines_of_text : (ls : List (List (List ℕ))) → AllByRecursion (AllByRecursion IsPlain) ls → pieces 10 (text_of ls) ≡ map (joined 32) ls ++ [] ∷ []
 unfolding pieces
-lines_of_text [] plain = refl
-lines_of_text (l ∷ ls) plain =
-    ap (pieces 10) (append_assoc (joined 32 l) (10 ∷ []) (text_of ls))
-    ∙ piece_first 10 (joined 32 l) (text_of ls) (line_free l plain.0)
-    ∙ ap (λ (xs : List (List ℕ)). joined 32 l ∷ xs) (lines_of_text ls plain.1)
+lines_of_text ls plain = ap (pieces 10) (sym (append-nil (text_of ls))) ∙ lines_behind ls [] plain
 
 -- there is a last piece
 ends_filled : (xs : List (List ℕ)) → (p : List ℕ) × (ps : List (List ℕ)) × (xs ++ [] ∷ [] ≡ p ∷ ps)

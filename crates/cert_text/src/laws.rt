@@ -1,6 +1,6 @@
 //! Laws of the texts of certificates. Each function states one in its contract; its body is empty.
 
-ghost use Rattle.std.specs.Prelude.{◌≡◌, ◌≤◌, ◌^◌, ℕ, List, length};
+ghost use Rattle.std.specs.Prelude.{◌≡◌, ◌≤◌, ◌^◌, ◌++◌, [], ℕ, List, length};
 ghost use Rattle.cert_value.specs.Certificates.{CertificateValue};
 ghost use Rattle.cert_text.specs.Spelling.{spelling};
 ghost use Rattle.cert_text.specs.Lawful.{IsLawful};
@@ -19,4 +19,11 @@ pub fn one_certificate()
 pub fn spelled_or_not()
     ensures either { (bytes : List ℕ) → ((c : CertificateValue) × IsLawful c × (bytes ≡ spelling c)) ⊎ ((e : CertFault) × (certificate_of bytes ≡ Err e)) }
     ensures not_both { (c : CertificateValue) (e : CertFault) → IsLawful c → length (spelling c) ≤ 2 ^ 30 → certificate_of (spelling c) ≡ Err e → ⊥ }
+{}
+
+/// Proves that no text of at most 2^30 bytes that spells a certificate goes on behind another that spells one: neither is a
+/// proper front of the other.
+pub fn no_front()
+    ensures { (c d : CertificateValue) (rest : List ℕ) → IsLawful c → IsLawful d → spelling d ≡ spelling c ++ rest →
+        length (spelling d) ≤ 2 ^ 30 → rest ≡ [] }
 {}

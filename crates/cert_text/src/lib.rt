@@ -16,6 +16,6 @@ mod words;
 mod writing;
 
 pub use fault::CertFault;
-pub use laws::{one_certificate, spelled_or_not};
+pub use laws::{no_front, one_certificate, spelled_or_not};
 pub use reading::{MAX_LENGTH, read_cert};
 pub use writing::write_cert;
