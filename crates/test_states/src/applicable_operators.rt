@@ -1,66 +1,114 @@
 //! The operators that apply in states of small tasks, worked out by hand.
 
-use fdr::FdrTask;
+ghost use Rattle.std.specs.Prelude.{◌≡◌, length};
+
+use fdr::{Fact, FdrTask, Operator};
 use fdr_successors::SuccessorGenerator;
 use std::alloc::Global;
 use std::process::Abort;
-use std::test::Fail;
-use test_tasks::{fact, operator, task};
+use test_tasks::{fact, operator, states, task};
 
-/// Checks that these operators apply, whatever the vector holds before.
-fn applies(
+/// Checks that these operators are found, whatever the vector holds before.
+fn finds(
     rt: &impl Abort,
     alloc: Global,
-    task: &FdrTask,
+    generator: &SuccessorGenerator<'_>,
     state: &[u32],
     numbers: &[usize],
-) -> Result<(), Fail> {
-    let generator = SuccessorGenerator::new(alloc, task)?;
-    let mut found = Vec::from_slice(alloc, &[77, 5])?;
-    assert_eq!(rt; state.len(), task.variable_count());
-    generator.applicable(state, &mut found)?;
+)
+    requires { length state.now ≡ length generator.now.value_names }
+{
+    let mut found = Vec::from_slice(alloc, &[77, 5]).expect(rt, "memory");
+    generator.applicable(state, &mut found).expect(rt, "memory");
     assert_eq!(rt; found.as_slice(), numbers);
-    generator.applicable(state, &mut found)?;
+    generator.applicable(state, &mut found).expect(rt, "memory");
     assert_eq!(rt; found.as_slice(), numbers, "again");
-    Ok(())
+}
+
+/// Checks that these operators apply.
+fn applies(rt: &impl Abort, alloc: Global, task: &FdrTask, state: &[u32], numbers: &[usize]) {
+    assert_eq!(rt; state.len(), task.variable_count());
+    match SuccessorGenerator::new(alloc, task) {
+        Ok(generator) => finds(rt, alloc, &generator, state, numbers),
+        Err(_) => panic!(rt; "memory"),
+    }
+}
+
+/// Appends an operator.
+fn push(
+    rt: &impl Abort,
+    operators: &mut Vec<Operator>,
+    alloc: Global,
+    precondition: &[Fact],
+    effect: &[Fact],
+) {
+    let next = operator(alloc, precondition, effect).expect(rt, "memory");
+    operators.push(next).expect(rt, "memory");
 }
 
 /// Two variables, of 2 and 3 values. The groups of the first come before those of the second, and the operators do not.
-fn crossing(alloc: Global) -> Result<FdrTask, Fail> {
+fn crossing(rt: &impl Abort, alloc: Global) -> FdrTask {
     let mut operators = Vec::new(alloc);
-    operators.push(operator(alloc, &[fact(1, 1)], &[fact(1, 2)])?)?;
-    operators.push(operator(alloc, &[fact(0, 0)], &[fact(0, 1)])?)?;
-    operators.push(operator(alloc, &[], &[fact(0, 0)])?)?;
-    operators.push(operator(alloc, &[fact(0, 0), fact(1, 1)], &[fact(1, 0)])?)?;
-    operators.push(operator(alloc, &[fact(0, 1)], &[fact(0, 0)])?)?;
-    operators.push(operator(alloc, &[fact(1, 2), fact(0, 0)], &[fact(1, 1)])?)?;
-    Ok(task(alloc, &[2, 3], &[0, 0], &[fact(1, 2)], operators)?.ok_or("a task")?)
+    push(rt, &mut operators, alloc, &[fact(1, 1)], &[fact(1, 2)]);
+    push(rt, &mut operators, alloc, &[fact(0, 0)], &[fact(0, 1)]);
+    push(rt, &mut operators, alloc, &[], &[fact(0, 0)]);
+    push(
+        rt,
+        &mut operators,
+        alloc,
+        &[fact(0, 0), fact(1, 1)],
+        &[fact(1, 0)],
+    );
+    push(rt, &mut operators, alloc, &[fact(0, 1)], &[fact(0, 0)]);
+    push(
+        rt,
+        &mut operators,
+        alloc,
+        &[fact(1, 2), fact(0, 0)],
+        &[fact(1, 1)],
+    );
+    task(alloc, &[2, 3], &[0, 0], &[fact(1, 2)], operators)
+        .expect(rt, "memory")
+        .expect(rt, "a task")
 }
 
 #[test]
-fn finds_across_groups(rt: HostRuntime) -> Result<(), Fail> {
-    let task = crossing(rt.alloc())?;
-    applies(&rt, rt.alloc(), &task, &[0, 0], &[1, 2])?;
-    applies(&rt, rt.alloc(), &task, &[0, 1], &[0, 1, 2, 3])?;
-    applies(&rt, rt.alloc(), &task, &[0, 2], &[1, 2, 5])?;
-    applies(&rt, rt.alloc(), &task, &[1, 0], &[2, 4])?;
-    applies(&rt, rt.alloc(), &task, &[1, 1], &[0, 2, 4])?;
-    applies(&rt, rt.alloc(), &task, &[1, 2], &[2, 4])
+fn finds_across_groups(rt: HostRuntime) {
+    let task = crossing(&rt, rt.alloc());
+    applies(&rt, rt.alloc(), &task, &[0, 0], &[1, 2]);
+    applies(&rt, rt.alloc(), &task, &[0, 1], &[0, 1, 2, 3]);
+    applies(&rt, rt.alloc(), &task, &[0, 2], &[1, 2, 5]);
+    applies(&rt, rt.alloc(), &task, &[1, 0], &[2, 4]);
+    applies(&rt, rt.alloc(), &task, &[1, 1], &[0, 2, 4]);
+    applies(&rt, rt.alloc(), &task, &[1, 2], &[2, 4]);
 }
 
 #[test]
-fn finds_nothing_past_the_values(rt: HostRuntime) -> Result<(), Fail> {
-    let task = crossing(rt.alloc())?;
-    applies(&rt, rt.alloc(), &task, &[2, 3], &[2])?;
-    applies(&rt, rt.alloc(), &task, &[4_294_967_295, 1], &[0, 2])
+fn finds_nothing_past_the_values(rt: HostRuntime) {
+    let task = crossing(&rt, rt.alloc());
+    applies(&rt, rt.alloc(), &task, &[2, 3], &[2]);
+    applies(&rt, rt.alloc(), &task, &[4_294_967_295, 1], &[0, 2]);
+}
+
+/// A task without variables, of one operator.
+fn one_operator(rt: &impl Abort, alloc: Global) -> FdrTask {
+    let mut operators = Vec::new(alloc);
+    push(rt, &mut operators, alloc, &[], &[]);
+    task(alloc, &[], &[], &[], operators)
+        .expect(rt, "memory")
+        .expect(rt, "a task")
 }
 
 #[test]
-fn finds_without_variables(rt: HostRuntime) -> Result<(), Fail> {
-    let mut operators = Vec::new(rt.alloc());
-    operators.push(operator(rt.alloc(), &[], &[])?)?;
-    let one = task(rt.alloc(), &[], &[], &[], operators)?.ok_or("a task")?;
-    applies(&rt, rt.alloc(), &one, &[], &[0])?;
-    let none = task(rt.alloc(), &[3], &[0], &[], Vec::new(rt.alloc()))?.ok_or("a task")?;
-    applies(&rt, rt.alloc(), &none, &[1], &[])
+fn finds_without_variables(rt: HostRuntime) {
+    let one = one_operator(&rt, rt.alloc());
+    applies(&rt, rt.alloc(), &one, &[], &[0]);
+}
+
+#[test]
+fn finds_without_operators(rt: HostRuntime) {
+    let none = states(rt.alloc(), &[3], &[0])
+        .expect(&rt, "memory")
+        .expect(&rt, "a task");
+    applies(&rt, rt.alloc(), &none, &[1], &[]);
 }

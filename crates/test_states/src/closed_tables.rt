@@ -8,7 +8,7 @@ use closed::{ClosedTable, Entry, Message, Outcome, Parent};
 use fdr::FdrTask;
 use openlist::Rank;
 use packed::{Bits, Layout, Plain, StateForm};
-use std::alloc::Global;
+use std::alloc::{AllocError, Global};
 use std::process::Abort;
 use std::test::Fail;
 use test_tasks::states;
@@ -34,14 +34,15 @@ fn reaches<F: StateForm + Drop>(
     rank: Rank,
     from: usize,
     expected: Outcome,
-) -> Result<(), Fail>
+)
     requires { layout.now ≡ table.old.ranges }
     ensures { layout.now ≡ table.new.ranges }
 {
     assert!(rt; layout.is_state(state), "a state");
-    let outcome = table.improve(state, rank, Some(parent(from)))?;
+    let outcome = table
+        .improve(state, rank, Some(parent(from)))
+        .expect(rt, "memory");
     assert_eq!(rt; outcome, expected);
-    Ok(())
 }
 
 /// Checks the entry of the table at a place.
@@ -76,7 +77,7 @@ fn keeps_the_least_rank_in<F: StateForm + Drop, R: Abort>(
     alloc: Global,
     task: &FdrTask,
     layout: &Layout,
-) -> Result<(), Fail>
+) -> Result<(), AllocError>
     requires layout { layout.now ≡ ranges task.now }
     requires fits { F.Fits layout.now }
 {
@@ -90,7 +91,7 @@ fn keeps_the_least_rank_in<F: StateForm + Drop, R: Abort>(
         rank(5, 3),
         0,
         Outcome::New(0),
-    )?;
+    );
     reaches(
         rt,
         &mut table,
@@ -99,10 +100,10 @@ fn keeps_the_least_rank_in<F: StateForm + Drop, R: Abort>(
         rank(1, 1),
         4,
         Outcome::New(1),
-    )?;
+    );
     // the same rank, and a greater cost over fewer steps
-    reaches(rt, &mut table, layout, &state, rank(5, 3), 9, Outcome::Kept)?;
-    reaches(rt, &mut table, layout, &state, rank(6, 0), 9, Outcome::Kept)?;
+    reaches(rt, &mut table, layout, &state, rank(5, 3), 9, Outcome::Kept);
+    reaches(rt, &mut table, layout, &state, rank(6, 0), 9, Outcome::Kept);
     keeps(rt, &table, 0, rank(5, 3), 0, false);
     expands(rt, &mut table, 0);
     keeps(rt, &table, 0, rank(5, 3), 0, true);
@@ -115,7 +116,7 @@ fn keeps_the_least_rank_in<F: StateForm + Drop, R: Abort>(
         rank(5, 2),
         8,
         Outcome::Better(0),
-    )?;
+    );
     keeps(rt, &table, 0, rank(5, 2), 8, false);
     keeps(rt, &table, 1, rank(1, 1), 4, false);
     Ok(())
@@ -126,8 +127,33 @@ fn keeps_the_least_rank(rt: HostRuntime) -> Result<(), Fail> {
     let task = states(rt.alloc(), &[2, 3], &[0, 0])?.ok_or("a task")?;
     let layout = Layout::new(rt.alloc(), &task)?;
     assert!(rt; Bits::<1>::fits(&layout), "states of one word");
-    keeps_the_least_rank_in::<Bits<1>, HostRuntime>(&rt, rt.alloc(), &task, &layout)?;
-    keeps_the_least_rank_in::<Plain, HostRuntime>(&rt, rt.alloc(), &task, &layout)
+    keeps_the_least_rank_in::<Bits<1>, HostRuntime>(&rt, rt.alloc(), &task, &layout).expect(
+        &rt, "memory",
+    );
+    keeps_the_least_rank_in::<Plain, HostRuntime>(&rt, rt.alloc(), &task, &layout).expect(
+        &rt, "memory",
+    );
+    Ok(())
+}
+
+/// Checks that the table of no states takes the initial state and gives it back.
+fn gives_back<F: StateForm + Drop>(
+    rt: &impl Abort,
+    alloc: Global,
+    task: &FdrTask,
+    table: &mut ClosedTable<F>,
+)
+    requires { table.old.ranges ≡ ranges task.now }
+{
+    let outcome = table
+        .improve(task.initial(), rank(0, 0), None)
+        .expect(rt, "memory");
+    assert_eq!(rt; outcome, Outcome::New(0));
+    assert_eq!(rt; table.len(), 1);
+    assert_eq!(rt; table.entry(0).parent, None);
+    let mut state = vec![in alloc; 9; task.variable_count()].expect(rt, "memory");
+    table.copy_state(0, &mut state);
+    assert_eq!(rt; state.as_slice(), [1, 2].as_slice());
 }
 
 /// A table gives back the state that it was given.
@@ -136,18 +162,12 @@ fn gives_states_back_in<F: StateForm + Drop, R: Abort>(
     alloc: Global,
     task: &FdrTask,
     layout: &Layout,
-) -> Result<(), Fail>
+) -> Result<(), AllocError>
     requires layout { layout.now ≡ ranges task.now }
     requires fits { F.Fits layout.now }
 {
     let mut table: ClosedTable<F> = ClosedTable::new(alloc, task)?;
-    let outcome = table.improve(task.initial(), rank(0, 0), None)?;
-    assert_eq!(rt; outcome, Outcome::New(0));
-    assert_eq!(rt; table.len(), 1);
-    assert_eq!(rt; table.entry(0).parent, None);
-    let mut state = vec![in alloc; 9; task.variable_count()]?;
-    table.copy_state(0, &mut state);
-    assert_eq!(rt; state.as_slice(), [1, 2].as_slice());
+    gives_back(rt, alloc, task, &mut table);
     Ok(())
 }
 
@@ -156,8 +176,13 @@ fn gives_states_back(rt: HostRuntime) -> Result<(), Fail> {
     let task = states(rt.alloc(), &[2, 3], &[1, 2])?.ok_or("a task")?;
     let layout = Layout::new(rt.alloc(), &task)?;
     assert!(rt; Bits::<1>::fits(&layout), "states of one word");
-    gives_states_back_in::<Bits<1>, HostRuntime>(&rt, rt.alloc(), &task, &layout)?;
-    gives_states_back_in::<Plain, HostRuntime>(&rt, rt.alloc(), &task, &layout)
+    gives_states_back_in::<Bits<1>, HostRuntime>(&rt, rt.alloc(), &task, &layout).expect(
+        &rt, "memory",
+    );
+    gives_states_back_in::<Plain, HostRuntime>(&rt, rt.alloc(), &task, &layout).expect(
+        &rt, "memory",
+    );
+    Ok(())
 }
 
 /// Messages of these states and ranks.
@@ -166,20 +191,20 @@ fn messages<F: StateForm + Drop, R: Abort>(
     alloc: Global,
     layout: &Layout,
     reached: &[([u32; 2], Rank)],
-) -> Result<Vec<Message<F>>, Fail>
+) -> Vec<Message<F>>
     requires { F.Fits layout.now }
 {
     let mut messages = Vec::new(alloc);
     for (state, rank) in reached {
         assert!(rt; layout.is_state(state), "a state");
-        let state = F::pack(alloc, layout, state)?;
-        messages.push(Message {
-            state,
+        let message = Message {
+            state: F::pack(alloc, layout, state).expect(rt, "memory"),
             rank: *rank,
             parent: parent(6),
-        })?;
+        };
+        messages.push(message).expect(rt, "memory");
     }
-    Ok(messages)
+    messages
 }
 
 /// Whether the messages are of states of the layout.
@@ -221,7 +246,7 @@ fn takes_messages_one_after_the_other_in<F: StateForm + Drop, R: Abort>(
     alloc: Global,
     task: &FdrTask,
     layout: &Layout,
-) -> Result<(), Fail>
+) -> Result<(), AllocError>
     requires layout { layout.now ≡ ranges task.now }
     requires fits { F.Fits layout.now }
 {
@@ -234,7 +259,7 @@ fn takes_messages_one_after_the_other_in<F: StateForm + Drop, R: Abort>(
         rank(2, 2),
         5,
         Outcome::New(0),
-    )?;
+    );
     expands(rt, &mut table, 0);
     let reached = [
         ([0, 1], rank(1, 1)),
@@ -250,7 +275,7 @@ fn takes_messages_one_after_the_other_in<F: StateForm + Drop, R: Abort>(
         Outcome::Better(0),
         Outcome::Kept,
     ];
-    let messages: Vec<Message<F>> = messages(rt, alloc, layout, &reached)?;
+    let messages: Vec<Message<F>> = messages(rt, alloc, layout, &reached);
     assert!(rt; are_of(layout, &messages), "states");
     if takes(rt, alloc, &mut table, &messages, &expected) {
         keeps(rt, &table, 0, rank(1, 5), 6, false);
@@ -266,6 +291,17 @@ fn takes_messages_one_after_the_other(rt: HostRuntime) -> Result<(), Fail> {
     let task = states(rt.alloc(), &[2, 3], &[0, 0])?.ok_or("a task")?;
     let layout = Layout::new(rt.alloc(), &task)?;
     assert!(rt; Bits::<1>::fits(&layout), "states of one word");
-    takes_messages_one_after_the_other_in::<Bits<1>, HostRuntime>(&rt, rt.alloc(), &task, &layout)?;
-    takes_messages_one_after_the_other_in::<Plain, HostRuntime>(&rt, rt.alloc(), &task, &layout)
+    takes_messages_one_after_the_other_in::<Bits<1>, HostRuntime>(
+        &rt,
+        rt.alloc(),
+        &task,
+        &layout,
+    ).expect(&rt, "memory");
+    takes_messages_one_after_the_other_in::<Plain, HostRuntime>(
+        &rt,
+        rt.alloc(),
+        &task,
+        &layout,
+    ).expect(&rt, "memory");
+    Ok(())
 }

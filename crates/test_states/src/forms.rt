@@ -3,9 +3,8 @@
 ghost use Rattle.fdr.specs.Tasks.{IsState};
 
 use packed::{Bits, Layout, Plain, StateForm};
-use std::alloc::Global;
+use std::alloc::{AllocError, Global};
 use std::process::Abort;
-use std::test::Fail;
 use test_tasks::states;
 
 /// Checks the form of one state, which is then made that of another.
@@ -15,12 +14,12 @@ fn keeps_states<F: StateForm + Drop>(
     layout: &Layout,
     first: &[u32],
     second: &[u32],
-) -> Result<(), Fail>
+) -> Result<(), AllocError>
     requires first { IsState layout.now first.now }
     requires second { IsState layout.now second.now }
 {
     assert!(rt; F::fits(layout), "states have this form");
-    let mut values = vec![in alloc; 9; layout.variable_count()]?;
+    let mut values = vec![in alloc; 9; layout.variable_count()].expect(rt, "memory");
     let mut form = F::pack(alloc, layout, first)?;
     let kept = form.copy(alloc)?;
     assert!(rt; form == kept, "a copy");
@@ -44,11 +43,33 @@ fn keeps<F: StateForm + Drop>(
     ranges: &[usize],
     first: &[u32],
     second: &[u32],
-) -> Result<(), Fail> {
-    let task = states(alloc, ranges, first)?.ok_or("a task")?;
-    let layout = Layout::new(alloc, &task)?;
+) {
+    let layout = layout_of(rt, alloc, ranges, first);
     assert!(rt; layout.is_state(first) && layout.is_state(second), "states");
-    keeps_states::<F>(rt, alloc, &layout, first, second)
+    keeps_states::<F>(rt, alloc, &layout, first, second).expect(rt, "memory");
+}
+
+/// The layout of states of variables with these ranges, of which this is one.
+fn layout_of(rt: &impl Abort, alloc: Global, ranges: &[usize], state: &[u32]) -> Layout {
+    let task = states(alloc, ranges, state)
+        .expect(rt, "memory")
+        .expect(rt, "a task");
+    Layout::new(alloc, &task).expect(rt, "memory")
+}
+
+/// The form of a state of variables with these ranges.
+fn form_of<F: StateForm + Drop>(
+    rt: &impl Abort,
+    alloc: Global,
+    ranges: &[usize],
+    state: &[u32],
+) -> F {
+    let layout = layout_of(rt, alloc, ranges, state);
+    assert!(rt;
+        layout.is_state(state) && F::fits(&layout),
+        "a state of this form"
+    );
+    F::pack(alloc, &layout, state).expect(rt, "memory")
 }
 
 /// Whether the form of a state over variables with some ranges is one over variables with other ranges.
@@ -59,22 +80,13 @@ fn is_also<F: StateForm + Drop>(
     state: &[u32],
     others: &[usize],
     other: &[u32],
-) -> Result<bool, Fail> {
-    let task = states(alloc, ranges, state)?.ok_or("a task")?;
-    let layout = Layout::new(alloc, &task)?;
-    assert!(rt;
-        layout.is_state(state) && F::fits(&layout),
-        "a state of this form"
-    );
-    let form = F::pack(alloc, &layout, state)?;
-    let task = states(alloc, others, other)?.ok_or("another task")?;
-    Ok(form.is_form(&Layout::new(alloc, &task)?))
+) -> bool {
+    let form: F = form_of(rt, alloc, ranges, state);
+    form.is_form(&layout_of(rt, alloc, others, other))
 }
 
-#[test]
-fn which_values_are_states(rt: HostRuntime) -> Result<(), Fail> {
-    let task = states(rt.alloc(), &[2, 3], &[0, 0])?.ok_or("a task")?;
-    let layout = Layout::new(rt.alloc(), &task)?;
+/// Checks which values are states of two variables, of 2 and 3 values.
+fn tells_states(rt: &impl Abort, layout: &Layout) {
     assert!(rt;
         layout.is_state(&[1, 2]) && layout.is_state(&[1, 0]),
         "states"
@@ -87,125 +99,144 @@ fn which_values_are_states(rt: HostRuntime) -> Result<(), Fail> {
         !layout.is_state(&[1]) && !layout.is_state(&[1, 2, 0]),
         "other widths"
     );
-    Ok(())
 }
 
 #[test]
-fn two_variables(rt: HostRuntime) -> Result<(), Fail> {
-    keeps::<Plain>(&rt, rt.alloc(), &[2, 3], &[1, 2], &[1, 0])?;
-    keeps::<Bits<1>>(&rt, rt.alloc(), &[2, 3], &[1, 2], &[1, 0])?;
-    keeps::<Bits<2>>(&rt, rt.alloc(), &[2, 3], &[1, 2], &[1, 0])
+fn which_values_are_states(rt: HostRuntime) {
+    tells_states(&rt, &layout_of(&rt, rt.alloc(), &[2, 3], &[0, 0]));
+}
+
+#[test]
+fn two_variables(rt: HostRuntime) {
+    keeps::<Plain>(&rt, rt.alloc(), &[2, 3], &[1, 2], &[1, 0]);
+    keeps::<Bits<1>>(&rt, rt.alloc(), &[2, 3], &[1, 2], &[1, 0]);
+    keeps::<Bits<2>>(&rt, rt.alloc(), &[2, 3], &[1, 2], &[1, 0]);
+}
+
+/// Checks the forms of states of so many variables, of three values each.
+fn keeps_wide(rt: &impl Abort, alloc: Global, width: usize) {
+    let ranges = vec![in alloc; 3; width].expect(rt, "memory");
+    let first = vec![in alloc; 0u32; width].expect(rt, "memory");
+    let second = vec![in alloc; 2u32; width].expect(rt, "memory");
+    keeps::<Plain>(rt, alloc, &ranges, &first, &second);
+    keeps::<Bits<1>>(rt, alloc, &ranges, &first, &second);
 }
 
 /// States of the greatest number of values that are stored in the form itself, and of one more.
 #[test]
-fn wide_states(rt: HostRuntime) -> Result<(), Fail> {
-    for width in [12, 13] {
-        let ranges = vec![in rt.alloc(); 3; width]?;
-        let first = vec![in rt.alloc(); 0u32; width]?;
-        let second = vec![in rt.alloc(); 2u32; width]?;
-        keeps::<Plain>(&rt, rt.alloc(), &ranges, &first, &second)?;
-        keeps::<Bits<1>>(&rt, rt.alloc(), &ranges, &first, &second)?;
-    }
-    Ok(())
+fn wide_states(rt: HostRuntime) {
+    keeps_wide(&rt, rt.alloc(), 12);
+    keeps_wide(&rt, rt.alloc(), 13);
 }
 
 /// A variable of one value takes no bits, also after the last bit of a word; one of 65,536 values takes 16.
 #[test]
-fn ranges_of_each_kind(rt: HostRuntime) -> Result<(), Fail> {
+fn ranges_of_each_kind(rt: HostRuntime) {
     let ranges = [1, 2, 3, 65_536, 1];
     let first = [0, 1, 2, 65_535, 0];
     let second = [0, 0, 1, 32_768, 0];
-    keeps::<Plain>(&rt, rt.alloc(), &ranges, &first, &second)?;
-    keeps::<Bits<1>>(&rt, rt.alloc(), &ranges, &first, &second)?;
+    keeps::<Plain>(&rt, rt.alloc(), &ranges, &first, &second);
+    keeps::<Bits<1>>(&rt, rt.alloc(), &ranges, &first, &second);
     let ranges = [65_536, 65_536, 65_536, 65_536, 1, 1];
     let first = [65_535, 0, 1, 65_535, 0, 0];
     let second = [0, 65_535, 32_768, 1, 0, 0];
-    keeps::<Plain>(&rt, rt.alloc(), &ranges, &first, &second)?;
-    keeps::<Bits<1>>(&rt, rt.alloc(), &ranges, &first, &second)
+    keeps::<Plain>(&rt, rt.alloc(), &ranges, &first, &second);
+    keeps::<Bits<1>>(&rt, rt.alloc(), &ranges, &first, &second);
+}
+
+/// Checks the numbers of words that states of this layout take.
+fn takes_two_words(rt: &impl Abort, layout: &Layout) {
+    assert_eq!(rt; layout.word_count(), 2);
+    assert!(rt; Plain::fits(layout) && Bits::<3>::fits(layout));
+    assert!(rt; !Bits::<1>::fits(layout), "one word is too few");
 }
 
 /// A field that does not fit in the rest of a word begins the next one.
 #[test]
-fn fields_of_a_second_word(rt: HostRuntime) -> Result<(), Fail> {
-    let mut ranges = vec![in rt.alloc(); 2; 64]?;
-    let mut first = vec![in rt.alloc(); 1u32; 64]?;
-    let mut second = vec![in rt.alloc(); 0u32; 64]?;
-    keeps::<Plain>(&rt, rt.alloc(), &ranges, &first, &second)?;
-    keeps::<Bits<1>>(&rt, rt.alloc(), &ranges, &first, &second)?;
+fn fields_of_a_second_word(rt: HostRuntime) {
+    let mut ranges = [2; 64];
+    let mut first = [1; 64];
+    let mut second = [0; 64];
+    keeps::<Plain>(&rt, rt.alloc(), &ranges, &first, &second);
+    keeps::<Bits<1>>(&rt, rt.alloc(), &ranges, &first, &second);
     ranges[63] = 3;
     first[63] = 2;
     second[62] = 1;
-    keeps::<Plain>(&rt, rt.alloc(), &ranges, &first, &second)?;
-    keeps::<Bits<2>>(&rt, rt.alloc(), &ranges, &first, &second)?;
-    let task = states(rt.alloc(), &ranges, &first)?.ok_or("a task")?;
-    let layout = Layout::new(rt.alloc(), &task)?;
-    assert_eq!(rt; layout.word_count(), 2);
-    assert!(rt; Plain::fits(&layout) && Bits::<3>::fits(&layout));
-    assert!(rt; !Bits::<1>::fits(&layout), "one word is too few");
-    Ok(())
+    keeps::<Plain>(&rt, rt.alloc(), &ranges, &first, &second);
+    keeps::<Bits<2>>(&rt, rt.alloc(), &ranges, &first, &second);
+    takes_two_words(&rt, &layout_of(&rt, rt.alloc(), &ranges, &first));
 }
 
 /// 12 variables of 5 bits in each word.
 #[test]
-fn many_variables(rt: HostRuntime) -> Result<(), Fail> {
-    let ranges = vec![in rt.alloc(); 17; 1_000]?;
-    let first = vec![in rt.alloc(); 16u32; 1_000]?;
-    let second = vec![in rt.alloc(); 9u32; 1_000]?;
-    keeps::<Plain>(&rt, rt.alloc(), &ranges, &first, &second)?;
-    keeps::<Bits<84>>(&rt, rt.alloc(), &ranges, &first, &second)
+fn many_variables(rt: HostRuntime) {
+    let ranges = vec![in rt.alloc(); 17; 1_000].expect(&rt, "memory");
+    let first = vec![in rt.alloc(); 16u32; 1_000].expect(&rt, "memory");
+    let second = vec![in rt.alloc(); 9u32; 1_000].expect(&rt, "memory");
+    keeps::<Plain>(&rt, rt.alloc(), &ranges, &first, &second);
+    keeps::<Bits<84>>(&rt, rt.alloc(), &ranges, &first, &second);
+}
+
+/// Whether a form of the state of no values is equal to its copy, and a form of its layout.
+fn is_kept_without_values<F: StateForm + Drop>(
+    rt: &impl Abort,
+    alloc: Global,
+    layout: &Layout,
+) -> bool {
+    assert!(rt; layout.is_state(&[]) && F::fits(layout));
+    let form = F::pack(alloc, layout, &[]).expect(rt, "memory");
+    let copy = form.copy(alloc).expect(rt, "memory");
+    form == copy && form.is_form(layout)
 }
 
 #[test]
-fn states_of_no_values(rt: HostRuntime) -> Result<(), Fail> {
-    let task = states(rt.alloc(), &[], &[])?.ok_or("a task")?;
-    let layout = Layout::new(rt.alloc(), &task)?;
+fn states_of_no_values(rt: HostRuntime) {
+    let layout = layout_of(&rt, rt.alloc(), &[], &[]);
     assert!(rt; layout.is_state(&[]) && !layout.is_state(&[0]));
-    let form = Plain::pack(rt.alloc(), &layout, &[])?;
-    assert!(rt; form == form.copy(rt.alloc())?);
-    assert!(rt; Bits::<1>::fits(&layout));
-    let form = Bits::<1>::pack(rt.alloc(), &layout, &[])?;
-    assert!(rt; form == form.copy(rt.alloc())? && form.is_form(&layout));
-    Ok(())
+    assert!(rt; is_kept_without_values::<Plain>(&rt, rt.alloc(), &layout));
+    assert!(rt; is_kept_without_values::<Bits<1>>(&rt, rt.alloc(), &layout));
 }
 
 /// Words that are those of a state over some variables may be those of no state over others.
 #[test]
-fn words_of_no_state(rt: HostRuntime) -> Result<(), Fail> {
+fn words_of_no_state(rt: HostRuntime) {
     let alloc = rt.alloc();
     assert!(rt;
-        is_also::<Bits<1>>(&rt, alloc, &[4], &[2], &[3], &[0])?,
+        is_also::<Bits<1>>(&rt, alloc, &[4], &[2], &[3], &[0]),
         "a value in range"
     );
     assert!(rt;
-        !is_also::<Bits<1>>(&rt, alloc, &[4], &[3], &[3], &[0])?,
+        !is_also::<Bits<1>>(&rt, alloc, &[4], &[3], &[3], &[0]),
         "a value at its range"
     );
     assert!(rt;
-        is_also::<Bits<1>>(&rt, alloc, &[2, 2], &[1, 0], &[2], &[0])?,
+        is_also::<Bits<1>>(&rt, alloc, &[2, 2], &[1, 0], &[2], &[0]),
         "no bit left over"
     );
     assert!(rt;
-        !is_also::<Bits<1>>(&rt, alloc, &[2, 2], &[0, 1], &[2], &[0])?,
+        !is_also::<Bits<1>>(&rt, alloc, &[2, 2], &[0, 1], &[2], &[0]),
         "a bit left over"
     );
     assert!(rt;
-        !is_also::<Bits<1>>(&rt, alloc, &[2], &[1], &[1], &[0])?,
+        !is_also::<Bits<1>>(&rt, alloc, &[2], &[1], &[1], &[0]),
         "a bit where none is used"
     );
-    let ranges = vec![in alloc; 65_536; 5]?;
-    let zeros = vec![in alloc; 0u32; 5]?;
     assert!(rt;
-        !is_also::<Bits<1>>(&rt, alloc, &[2], &[0], &ranges, &zeros)?,
+        !is_also::<Plain>(&rt, alloc, &[4], &[3], &[3], &[0]),
+        "a plain value at its range"
+    );
+}
+
+#[test]
+fn words_of_no_state_of_two_words(rt: HostRuntime) {
+    let alloc = rt.alloc();
+    let ranges = [65_536, 65_536, 65_536, 65_536, 65_536];
+    assert!(rt;
+        !is_also::<Bits<1>>(&rt, alloc, &[2], &[0], &ranges, &[0, 0, 0, 0, 0]),
         "more than one word"
     );
     assert!(rt;
-        !is_also::<Bits<2>>(&rt, alloc, &ranges, &[0, 0, 0, 0, 1], &[2], &[0])?,
+        !is_also::<Bits<2>>(&rt, alloc, &ranges, &[0, 0, 0, 0, 1], &[2], &[0]),
         "a bit of a second word"
     );
-    assert!(rt;
-        !is_also::<Plain>(&rt, alloc, &[4], &[3], &[3], &[0])?,
-        "a plain value at its range"
-    );
-    Ok(())
 }

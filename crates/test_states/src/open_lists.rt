@@ -2,7 +2,6 @@
 
 use openlist::{Buckets, Heap, OpenEntry, OpenList, Rank};
 use std::process::Abort;
-use std::test::Fail;
 
 fn entry(f: u64, cost: u64, steps: u64, index: usize) -> OpenEntry {
     OpenEntry {
@@ -12,55 +11,69 @@ fn entry(f: u64, cost: u64, steps: u64, index: usize) -> OpenEntry {
     }
 }
 
-fn indices<L: OpenList>(rt: &impl Abort, mut list: L) -> Result<(), Fail> {
-    list.reserve(&[5, 3, 3, 65_536, 65_535])?;
-    for (f, cost, steps, index) in [
-        (5, 5, 1, 0),
-        (3, 1, 2, 1),
-        (3, 1, 1, 2),
-        (65_536, 0, 0, 3),
-        (65_535, 9, 9, 4),
-    ] {
-        list.push(entry(f, cost, steps, index))?;
+/// The f-value, cost, steps and index of the entries that are pushed.
+const ENTRIES: &[(u64, u64, u64, usize)] = &[
+    (5, 5, 1, 0),
+    (3, 1, 2, 1),
+    (3, 1, 1, 2),
+    (65_536, 0, 0, 3),
+    (65_535, 9, 9, 4),
+];
+
+/// The order in which they are popped.
+const ORDER: &[usize] = &[2, 1, 0, 4, 3];
+
+fn push_entries<L: OpenList>(rt: &impl Abort, list: &mut L) {
+    list.reserve(&[5, 3, 3, 65_536, 65_535])
+        .expect(rt, "memory");
+    for (f, cost, steps, index) in ENTRIES {
+        list.push(entry(*f, *cost, *steps, *index))
+            .expect(rt, "memory");
     }
-    for index in [2, 1, 0, 4, 3] {
-        assert_eq!(rt; list.least().map(|e| e.index), Some(index));
-        assert_eq!(rt; list.pop().map(|e| e.index), Some(index));
+}
+
+fn pop_in_order<L: OpenList>(rt: &impl Abort, list: &mut L) {
+    for index in ORDER {
+        assert_eq!(rt; list.least().map(|e| e.index), Some(*index));
+        assert_eq!(rt; list.pop().map(|e| e.index), Some(*index));
     }
     assert_eq!(rt; list.least(), None);
     assert_eq!(rt; list.pop(), None);
-    Ok(())
 }
 
-fn lower_after_a_pop<L: OpenList>(rt: &impl Abort, mut list: L) -> Result<(), Fail> {
-    list.reserve(&[5, 2, 4])?;
-    list.push(entry(5, 0, 0, 0))?;
+fn indices<L: OpenList>(rt: &impl Abort, list: &mut L) {
+    push_entries(rt, list);
+    pop_in_order(rt, list);
+}
+
+fn lower_after_a_pop<L: OpenList>(rt: &impl Abort, list: &mut L) {
+    list.reserve(&[5, 2, 4]).expect(rt, "memory");
+    list.push(entry(5, 0, 0, 0)).expect(rt, "memory");
     assert_eq!(rt; list.pop().map(|e| e.f), Some(5));
-    list.push(entry(2, 0, 0, 1))?;
-    list.push(entry(4, 0, 0, 2))?;
+    list.push(entry(2, 0, 0, 1)).expect(rt, "memory");
+    list.push(entry(4, 0, 0, 2)).expect(rt, "memory");
     assert_eq!(rt; list.pop().map(|e| e.f), Some(2));
     assert_eq!(rt; list.pop().map(|e| e.f), Some(4));
-    Ok(())
 }
 
 #[test]
-fn heap_gives_the_order_of_entries(rt: HostRuntime) -> Result<(), Fail> {
-    indices(&rt, Heap::new(rt.alloc()))
+fn heap_gives_the_order_of_entries(rt: HostRuntime) {
+    indices(&rt, &mut Heap::new(rt.alloc()));
 }
 
 #[test]
-fn heap_takes_a_lower_f_after_a_pop(rt: HostRuntime) -> Result<(), Fail> {
-    lower_after_a_pop(&rt, Heap::new(rt.alloc()))
+fn heap_takes_a_lower_f_after_a_pop(rt: HostRuntime) {
+    lower_after_a_pop(&rt, &mut Heap::new(rt.alloc()));
 }
 
 #[test]
-fn buckets_give_the_order_of_entries(rt: HostRuntime) -> Result<(), Fail> {
-    indices(&rt, Buckets::new(rt.alloc()))
+fn buckets_give_the_order_of_entries(rt: HostRuntime) {
+    indices(&rt, &mut Buckets::new(rt.alloc()));
 }
 
 #[test]
-fn buckets_take_a_lower_f_after_a_pop(rt: HostRuntime) -> Result<(), Fail> {
-    lower_after_a_pop(&rt, Buckets::new(rt.alloc()))
+fn buckets_take_a_lower_f_after_a_pop(rt: HostRuntime) {
+    lower_after_a_pop(&rt, &mut Buckets::new(rt.alloc()));
 }
 
 /// The next of a sequence of numbers that looks drawn (Marsaglia 2003, with the shifts 13, 7 and 17).
@@ -71,11 +84,7 @@ fn next_drawn(drawn: u64) -> u64 {
 }
 
 /// Pushes and pops the same drawn entries on both lists, two pushes for each pop. The f-values are on both sides of 65536.
-fn push_and_pop<L: OpenList, M: OpenList>(
-    rt: &impl Abort,
-    first: &mut L,
-    second: &mut M,
-) -> Result<(), Fail> {
+fn push_and_pop<L: OpenList, M: OpenList>(rt: &impl Abort, first: &mut L, second: &mut M) {
     let mut drawn = 88_172_645_463_325_252;
     for index in 0..100_000usize {
         drawn = next_drawn(drawn);
@@ -85,31 +94,25 @@ fn push_and_pop<L: OpenList, M: OpenList>(
         } else {
             let f = 65_436 + drawn % 200;
             let entry = entry(f, drawn >> 60, (drawn >> 58) % 4, index);
-            first.push(entry)?;
-            second.push(entry)?;
+            first.push(entry).expect(rt, "memory");
+            second.push(entry).expect(rt, "memory");
         }
     }
-    Ok(())
 }
 
 /// Pops what is left of at most 100,000 entries.
-fn pop_all<L: OpenList, M: OpenList>(
-    rt: &impl Abort,
-    mut first: L,
-    mut second: M,
-) -> Result<(), Fail> {
+fn pop_all<L: OpenList, M: OpenList>(rt: &impl Abort, first: &mut L, second: &mut M) {
     for _ in 0..100_000 {
         assert_eq!(rt; first.pop(), second.pop());
     }
     assert_eq!(rt; first.pop(), None);
     assert_eq!(rt; second.pop(), None);
-    Ok(())
 }
 
 #[test]
-fn heap_and_buckets_give_the_same_order(rt: HostRuntime) -> Result<(), Fail> {
+fn heap_and_buckets_give_the_same_order(rt: HostRuntime) {
     let mut heap = Heap::new(rt.alloc());
     let mut buckets = Buckets::new(rt.alloc());
-    push_and_pop(&rt, &mut heap, &mut buckets)?;
-    pop_all(&rt, heap, buckets)
+    push_and_pop(&rt, &mut heap, &mut buckets);
+    pop_all(&rt, &mut heap, &mut buckets);
 }

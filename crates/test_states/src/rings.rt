@@ -7,19 +7,26 @@ ghost use Rattle.links.specs.Ranks.{HasSmallRank};
 use links::{In, LinkTable, Message, Out, link, match_up};
 use openlist::Rank;
 use packed::{Layout, Plain, StateForm};
-use std::alloc::Global;
+use std::alloc::{AllocError, Global};
 use std::process::Abort;
 use std::test::Fail;
 use test_tasks::states;
 
+/// The layout of the one state of a variable with one value.
+fn layout_of_one(rt: &impl Abort, alloc: Global) -> Layout {
+    let task = states(alloc, &[1], &[0])
+        .expect(rt, "memory")
+        .expect(rt, "a task");
+    Layout::new(alloc, &task).expect(rt, "memory")
+}
+
 /// The message of the one state of a variable with one value, at this cost.
-fn message(rt: &impl Abort, alloc: Global, cost: u64) -> Result<Message<Plain>, Fail>
+fn message(rt: &impl Abort, alloc: Global, cost: u64) -> Result<Message<Plain>, AllocError>
     requires { cost ≤ 2 ^ 62 }
     ensures { IfOk result HasSmallRank }
 {
-    let task = states(alloc, &[1], &[0])?.ok_or("a task")?;
-    let layout = Layout::new(alloc, &task)?;
-    assert!(rt; layout.is_state(&[0]), "a state");
+    let layout = layout_of_one(rt, alloc);
+    assert!(rt; layout.is_state(&[0]) && Plain::fits(&layout), "a state");
     Ok(Message {
         state: Plain::pack(alloc, &layout, &[0])?,
         rank: Rank { cost, steps: 1 },
@@ -51,7 +58,7 @@ fn takes_one(
     rt: &impl Abort,
     alloc: Global,
     sender: &mut Out<Plain>,
-) -> Result<Message<Plain>, Fail>
+) -> Result<Message<Plain>, AllocError>
     ensures ring { SameOut sender.old sender.new }
     ensures back { IfOk result HasSmallRank }
 {
@@ -78,17 +85,14 @@ fn a_ring_of_one(rt: HostRuntime) -> Result<(), Fail> {
 }
 
 /// Sends a message of this cost to the last of the workers.
-fn send_last(
-    rt: &impl Abort,
-    alloc: Global,
-    outs: &mut Vec<Out<Plain>>,
-    cost: u64,
-) -> Result<(), Fail>
+fn send_last(rt: &impl Abort, alloc: Global, outs: &mut Vec<Out<Plain>>, cost: u64)
     requires { cost ≤ 2 ^ 62 }
 {
-    let sender = outs.last_mut().ok_or("a worker")?;
-    assert!(rt; is_sent(sender, message(rt, alloc, cost)?));
-    Ok(())
+    let Ok(message) = message(rt, alloc, cost) else {
+        panic!(rt; "memory")
+    };
+    let sender = outs.last_mut().expect(rt, "a worker");
+    assert!(rt; is_sent(sender, message));
 }
 
 /// The cost of the message that is taken from the first worker, if there is one.
@@ -97,20 +101,19 @@ fn from_first(ins: &mut Vec<In<Plain>>) -> Option<u64> {
 }
 
 #[test]
-fn a_link_for_each_pair(rt: HostRuntime) -> Result<(), Fail> {
-    let LinkTable { mut outs, mut ins } = LinkTable::new(rt.alloc(), 2, 4)?;
+fn a_link_for_each_pair(rt: HostRuntime) {
+    let LinkTable { mut outs, mut ins } = LinkTable::new(rt.alloc(), 2, 4).expect(&rt, "memory");
     assert_eq!(rt; (outs.len(), ins.len()), (2, 2));
-    let mut from_second = outs.pop().ok_or("a row")?;
-    let mut from_the_first = outs.pop().ok_or("a row")?;
-    let mut to_second = ins.pop().ok_or("a row")?;
-    let mut to_first = ins.pop().ok_or("a row")?;
-    send_last(&rt, rt.alloc(), &mut from_the_first, 7)?;
+    let mut from_second = outs.pop().expect(&rt, "a row");
+    let mut from_the_first = outs.pop().expect(&rt, "a row");
+    let mut to_second = ins.pop().expect(&rt, "a row");
+    let mut to_first = ins.pop().expect(&rt, "a row");
+    send_last(&rt, rt.alloc(), &mut from_the_first, 7);
     assert_eq!(rt; from_first(&mut to_first), None);
     assert_eq!(rt; from_first(&mut to_second), Some(7));
-    send_last(&rt, rt.alloc(), &mut from_second, 8)?;
+    send_last(&rt, rt.alloc(), &mut from_second, 8);
     assert_eq!(rt;
         (from_first(&mut to_first), from_first(&mut to_second)),
         (None, None)
     );
-    Ok(())
 }

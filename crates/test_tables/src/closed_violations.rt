@@ -8,27 +8,25 @@ use cost::Dist;
 use fdr::FdrTask;
 use std::alloc::{AllocError, Global};
 use std::process::Abort;
-use std::test::*;
 use std::thread::Threads;
-use test_tasks::{fact, operator, task};
+use test_tasks::walk;
 
 const HUGE: u64 = 18_446_744_073_709_551_615;
 
 /// One variable with the values 0, 1 and 2, at first 0; the goal is 2. Operators: 0 to 1 and 1 to 2, at 1 each.
-fn road(alloc: Global) -> Result<FdrTask, Fail> {
-    let mut operators = Vec::new(alloc);
-    operators.push(operator(alloc, &[fact(0, 0)], &[fact(0, 1)])?)?;
-    operators.push(operator(alloc, &[fact(0, 1)], &[fact(0, 2)])?)?;
-    Ok(task(alloc, &[3], &[0], &[fact(0, 2)], operators)?.ok_or("a task")?)
+fn road(rt: &impl Abort, alloc: Global) -> FdrTask {
+    walk(alloc, 3, 2, &[(0, 1, 1), (1, 2, 1)])
+        .expect(rt, "memory")
+        .expect(rt, "a task")
 }
 
 /// States of one value each, with their costs.
-fn listed(alloc: Global, states: &[(u64, u32)]) -> Result<ClosedList, Fail> {
+fn listed(rt: &impl Abort, alloc: Global, states: &[(u64, u32)]) -> ClosedList {
     let mut closed = ClosedList::new(alloc);
     for &(cost, value) in states {
-        closed.push(cost, &[value])?;
+        closed.push(cost, &[value]).expect(rt, "memory");
     }
-    Ok(closed)
+    closed
 }
 
 /// The first violation of the clauses from the initial state on.
@@ -68,53 +66,64 @@ fn first_violation<R: Threads + Sync>(
 }
 
 /// The first violation of the clauses 4 to 8 of a certificate without tables.
-fn found<R: Threads + Sync>(
+fn found<R: Threads + Sync + Abort>(
     rt: &R,
     alloc: Global,
     task: &FdrTask,
     bound: Dist,
     closed: ClosedList,
-) -> Result<Option<Violation>, Fail> {
+) -> Option<Violation> {
     let certificate = Certificate::new(CertificateKind::Sas, bound, Vec::new(alloc), closed);
-    Ok(first_violation(rt, alloc, task, &certificate)?)
+    first_violation(rt, alloc, task, &certificate).expect(rt, "memory")
+}
+
+/// The bound, listed states, and the first violation.
+type Row = (Option<u64>, &'static [(u64, u32)], Option<Violation>);
+
+const TWO: &[(u64, u32)] = &[(0, 0), (1, 1)];
+
+const THREE: &[(u64, u32)] = &[(0, 0), (1, 1), (2, 2)];
+
+const ROWS: &[Row] = &[
+    (Some(2), TWO, None),
+    (Some(3), TWO, Some(Violation::Successor(1, 1))),
+    (None, TWO, Some(Violation::Successor(1, 1))),
+    (Some(2), THREE, None),
+    (Some(3), THREE, Some(Violation::ClosedGoal(2))),
+    (None, THREE, Some(Violation::ClosedGoal(2))),
+    (Some(2), &[(1, 1), (0, 0)], Some(Violation::ClosedState(1))),
+    (Some(2), &[(0, 3)], Some(Violation::ClosedState(0))),
+    (Some(2), &[(0, 1), (0, 1)], Some(Violation::ClosedState(1))),
+    (Some(2), &[], Some(Violation::Start)),
+    (Some(0), &[], None),
+    (Some(2), &[(1, 0)], Some(Violation::Start)),
+    // the second state is listed above the cost at which it is reached
+    (Some(2), &[(0, 0), (2, 1)], Some(Violation::Successor(0, 0))),
+    // 2^64 - 1 and 1 more
+    (Some(1), &[(0, 0), (HUGE, 1)], None),
+];
+
+/// Checks the first violation of a row.
+fn has_violation<R: Threads + Sync + Abort>(rt: &R, alloc: Global, task: &FdrTask, row: &Row) {
+    let (bound, states, want) = row;
+    let bound = bound.and_then(Dist::fin).unwrap_or(Dist::inf());
+    let closed = listed(rt, alloc, states);
+    assert_eq!(rt; found(rt, alloc, task, bound, closed), *want);
 }
 
 #[test]
-fn finds_the_first_violation(rt: HostRuntime) -> Result<(), Fail> {
-    let task = road(rt.alloc())?;
-    let two: &[(u64, u32)] = &[(0, 0), (1, 1)];
-    let three: &[(u64, u32)] = &[(0, 0), (1, 1), (2, 2)];
-    for (bound, states, want) in [
-        (Some(2), two, None),
-        (Some(3), two, Some(Violation::Successor(1, 1))),
-        (None, two, Some(Violation::Successor(1, 1))),
-        (Some(2), three, None),
-        (Some(3), three, Some(Violation::ClosedGoal(2))),
-        (None, three, Some(Violation::ClosedGoal(2))),
-        (Some(2), &[(1, 1), (0, 0)], Some(Violation::ClosedState(1))),
-        (Some(2), &[(0, 3)], Some(Violation::ClosedState(0))),
-        (Some(2), &[(0, 1), (0, 1)], Some(Violation::ClosedState(1))),
-        (Some(2), &[], Some(Violation::Start)),
-        (Some(0), &[], None),
-        (Some(2), &[(1, 0)], Some(Violation::Start)),
-        // the second state is listed above the cost at which it is reached
-        (Some(2), &[(0, 0), (2, 1)], Some(Violation::Successor(0, 0))),
-        // 2^64 - 1 and 1 more
-        (Some(1), &[(0, 0), (HUGE, 1)], None),
-    ] {
-        let bound = bound.and_then(Dist::fin).unwrap_or(Dist::inf());
-        let closed = listed(rt.alloc(), states)?;
-        assert_eq!(rt; found(&rt, rt.alloc(), &task, bound, closed)?, want);
+fn finds_the_first_violation(rt: HostRuntime) {
+    let task = road(&rt, rt.alloc());
+    for row in ROWS {
+        has_violation(&rt, rt.alloc(), &task, row);
     }
-    Ok(())
 }
 
 #[test]
-fn refuses_states_of_two_values(rt: HostRuntime) -> Result<(), Fail> {
-    let task = road(rt.alloc())?;
+fn refuses_states_of_two_values(rt: HostRuntime) {
+    let task = road(&rt, rt.alloc());
     let mut closed = ClosedList::new(rt.alloc());
-    closed.push(0, &[0, 0])?;
-    let got = found(&rt, rt.alloc(), &task, Dist::ZERO, closed)?;
+    closed.push(0, &[0, 0]).expect(&rt, "memory");
+    let got = found(&rt, rt.alloc(), &task, Dist::ZERO, closed);
     assert_eq!(rt; got, Some(Violation::ClosedState(0)));
-    Ok(())
 }

@@ -1,7 +1,8 @@
 //! Costs and distances: their limits, sums, order and text.
 
 use cost::{Cost, Dist, MAX_COST, MAX_DISTANCE};
-use std::test::Fail;
+use std::alloc::Global;
+use std::process::Abort;
 
 fn dist(value: u64) -> Dist {
     Dist::fin(value).unwrap_or(Dist::inf())
@@ -57,19 +58,25 @@ fn adds_and_orders(rt: HostRuntime) {
     }
 }
 
+/// Checks the text of a distance.
+fn prints_as(rt: &impl Abort, alloc: Global, value: Dist, text: &str) {
+    let printed = value.to_string(alloc).expect(rt, "memory");
+    assert_eq!(rt; printed.as_str(), text);
+}
+
+/// Checks the text of the cost of 10.
+fn prints_ten(rt: &impl Abort, alloc: Global) {
+    let ten = Cost::new(10).expect(rt, "a cost");
+    let printed = ten.to_string(alloc).expect(rt, "memory");
+    assert_eq!(rt; printed.as_str(), "10");
+}
+
 #[test]
-fn prints(rt: HostRuntime) -> Result<(), Fail> {
-    for (value, text) in [
-        (dist(0), "0"),
-        (dist(MAX_DISTANCE), "9223372036854775808"),
-        (Dist::inf(), "inf"),
-    ] {
-        assert_eq!(rt; value.to_string(rt.alloc())?.as_str(), text);
-    }
+fn prints(rt: HostRuntime) {
+    prints_as(&rt, rt.alloc(), dist(0), "0");
+    prints_as(&rt, rt.alloc(), dist(MAX_DISTANCE), "9223372036854775808");
+    prints_as(&rt, rt.alloc(), Dist::inf(), "inf");
     let greatest = Cost::new(MAX_COST).map(Dist::from).unwrap_or(Dist::inf());
-    assert_eq!(rt; greatest.to_string(rt.alloc())?.as_str(), "2147483647");
-    if let Some(cost) = Cost::new(10) {
-        assert_eq!(rt; cost.to_string(rt.alloc())?.as_str(), "10");
-    }
-    Ok(())
+    prints_as(&rt, rt.alloc(), greatest, "2147483647");
+    prints_ten(&rt, rt.alloc());
 }

@@ -3,6 +3,7 @@
 ghost use Rattle.std.specs.Prelude.{ℕ, ◌<◌, ◌^◌, slice_index, IsTrue};
 
 use crate::stairs::Stairs;
+use cert_value::Values;
 use pdb::{Job, build_all, distances, saturate};
 use std::alloc::Global;
 use std::process::Abort;
@@ -22,6 +23,15 @@ fn are_small(shares: &[u32]) -> bool
         }
     }
     true
+}
+
+/// Checks the values of a table.
+fn are_distances(rt: &impl Abort, values: &Values, expected: &[u64]) {
+    assert_eq!(rt; values.len(), expected.len());
+    for state in 0..expected.len() {
+        let value = values.get(state).get().unwrap_or(NONE);
+        assert_eq!(rt; value, expected[state]);
+    }
 }
 
 /// Whether the distances and the saturated shares of a staircase with these goals are those worked out, where the first
@@ -45,12 +55,8 @@ fn agrees(
         operators: shares.len(),
     };
     let values = distances(alloc, &stairs, shares)?;
-    let needed = saturate(alloc, &stairs, shares, &values)?;
-    assert_eq!(rt; values.len(), expected.len());
-    for state in 0..expected.len() {
-        let value = values.get(state).get().unwrap_or(NONE);
-        assert_eq!(rt; value, expected[state]);
-    }
+    let needed = saturate(alloc, &stairs, shares, &values).expect(rt, "memory");
+    are_distances(rt, &values, expected);
     assert_eq!(rt; needed.as_slice(), saturated);
     Ok(())
 }
@@ -134,6 +140,17 @@ fn takes_any_goals(rt: HostRuntime) -> Result<(), Fail> {
     )
 }
 
+/// Checks the values of two tables.
+fn are_two_tables(rt: &impl Abort, tables: &[Values]) {
+    match tables {
+        [first, second] => {
+            are_distances(rt, first, &[0, 3, 4, 7]);
+            are_distances(rt, second, &[0, 1, 2, 3]);
+        }
+        _ => panic!(rt; "two tables"),
+    }
+}
+
 #[test]
 fn makes_the_table_of_each_job(rt: HostRuntime) -> Result<(), Fail> {
     let alloc = rt.alloc();
@@ -152,16 +169,18 @@ fn makes_the_table_of_each_job(rt: HostRuntime) -> Result<(), Fail> {
             shares: &[1, 7],
         },
     ];
-    let tables = build_all(alloc, &jobs)?;
-    let mut text = String::new(alloc);
-    for values in &tables {
-        for state in 0..values.len() {
-            let value = values.get(state);
-            text.push_str(format!(in alloc; "{value} ")?.as_str())?;
-        }
-    }
-    assert_eq!(rt; text.as_str(), "0 3 4 7 0 1 2 3 ");
-    let none: [Job<'_, Stairs>; 0] = [];
-    assert!(rt; build_all(alloc, &none)?.is_empty());
+    let tables = build_all(alloc, &jobs).expect(&rt, "memory");
+    are_two_tables(&rt, &tables);
     Ok(())
+}
+
+/// The number of tables of no job.
+fn count_of_no_tables(rt: &impl Abort, alloc: Global) -> usize {
+    let none: [Job<'_, Stairs>; 0] = [];
+    build_all(alloc, &none).expect(rt, "memory").len()
+}
+
+#[test]
+fn makes_no_table_of_no_job(rt: HostRuntime) {
+    assert_eq!(rt; count_of_no_tables(&rt, rt.alloc()), 0);
 }

@@ -1,4 +1,4 @@
-ghost use Rattle.std.specs.Prelude.{◌≡◌, IfOk};
+ghost use Rattle.std.specs.Prelude.{◌≡◌, ◌<◌, IfOk};
 
 use cert_value::{Certificate, CertificateKind, ClosedList, PatternTable, Share, Values};
 use checker_clauses::Violation;
@@ -7,9 +7,9 @@ use cost::Dist;
 use fdr::FdrTask;
 use std::alloc::Global;
 use std::process::Abort;
-use std::test::*;
+use std::test::Fail;
 use std::thread::Threads;
-use test_tasks::{fact, is_state_of, operator, task};
+use test_tasks::{fact, is_state_of, task, walk};
 
 const INF: u64 = u64::MAX;
 
@@ -27,63 +27,83 @@ fn dist(value: u64) -> Dist {
     Dist::fin(value).unwrap_or(Dist::inf())
 }
 
-fn table(alloc: Global, given: Given) -> Result<PatternTable, Fail> {
+fn table(rt: &impl Abort, alloc: Global, given: &Given<'_>) -> PatternTable {
     let mut shares = Vec::new(alloc);
     for &(operator, amount) in given.shares {
-        shares.push(Share { operator, amount })?;
+        shares.push(Share { operator, amount }).expect(rt, "memory");
     }
     let mut values = Values::new(alloc);
     for value in given.values {
-        values.push(dist(*value))?;
+        values.push(dist(*value)).expect(rt, "memory");
     }
-    Ok(PatternTable {
-        pattern: Vec::from_slice(alloc, given.pattern)?,
+    PatternTable {
+        pattern: Vec::from_slice(alloc, given.pattern).expect(rt, "memory"),
         shares,
         values,
-    })
+    }
 }
 
-fn column(alloc: Global, tables: &[Given]) -> Result<Vec<PatternTable>, Fail> {
+fn column(rt: &impl Abort, alloc: Global, tables: &[Given<'_>]) -> Vec<PatternTable> {
     let mut column = Vec::new(alloc);
     for given in tables {
-        column.push(table(alloc, *given)?)?;
+        column.push(table(rt, alloc, given)).expect(rt, "memory");
     }
-    Ok(column)
+    column
 }
 
-fn certificate(alloc: Global, columns: &[&[Given]]) -> Result<Certificate, Fail> {
+fn certificate(rt: &impl Abort, alloc: Global, columns: &[&[Given<'_>]]) -> Certificate {
     let mut all = Vec::new(alloc);
     for tables in columns {
-        all.push(column(alloc, tables)?)?;
+        all.push(column(rt, alloc, tables)).expect(rt, "memory");
     }
-    Ok(Certificate::new(
+    Certificate::new(
         CertificateKind::Sas,
         Dist::inf(),
         all,
         ClosedList::new(alloc),
-    ))
+    )
 }
 
-/// The violation that the tests of the two clauses find.
-fn found<R: Threads + Sync>(
+/// The violation that the test of the third clause finds.
+fn share_violation(
+    rt: &impl Abort,
+    alloc: Global,
+    task: &FdrTask,
+    columns: &[&[Given<'_>]],
+) -> Option<Violation> {
+    let certificate = certificate(rt, alloc, columns);
+    first_share_violation(alloc, task, &certificate).expect(rt, "memory")
+}
+
+/// The violation that the test of the fourth clause finds.
+fn table_violation<R: Threads + Sync + Abort>(
     rt: &R,
     alloc: Global,
     task: &FdrTask,
-    columns: &[&[Given]],
-) -> Result<(Option<Violation>, Option<Violation>), Fail> {
-    let certificate = certificate(alloc, columns)?;
-    let shares = first_share_violation(alloc, task, &certificate)?;
-    let tables = first_table_violation(rt, alloc, task, &certificate)?;
-    Ok((shares, tables))
+    columns: &[&[Given<'_>]],
+) -> Option<Violation> {
+    let certificate = certificate(rt, alloc, columns);
+    first_table_violation(rt, alloc, task, &certificate).expect(rt, "memory")
+}
+
+/// Checks the violations that the tests of the two clauses find.
+fn has_violations<R: Threads + Sync + Abort>(
+    rt: &R,
+    alloc: Global,
+    task: &FdrTask,
+    columns: &[&[Given<'_>]],
+    shares: Option<Violation>,
+    tables: Option<Violation>,
+) {
+    assert_eq!(rt; share_violation(rt, alloc, task, columns), shares);
+    assert_eq!(rt; table_violation(rt, alloc, task, columns), tables);
 }
 
 /// One variable with the values 0, 1 and 2, at first 0; the goal is 2. Operators: 0 to 1 and 1 to 2, at 1 each.
-fn chain(alloc: Global) -> Result<FdrTask, Fail> {
-    let mut operators = Vec::new(alloc);
-    for value in 0..2 {
-        operators.push(operator(alloc, &[fact(0, value)], &[fact(0, value + 1)])?)?;
-    }
-    Ok(task(alloc, &[3], &[0], &[fact(0, 2)], operators)?.ok_or("a task")?)
+fn chain(rt: &impl Abort, alloc: Global) -> FdrTask {
+    walk(alloc, 3, 2, &[(0, 1, 1), (1, 2, 1)])
+        .expect(rt, "memory")
+        .expect(rt, "a task")
 }
 
 /// The distances of the chain, and each operator's whole cost.
@@ -93,82 +113,108 @@ const DISTANCES: Given<'static> = Given {
     values: &[2, 1, 0],
 };
 
+const IDLE: Given<'static> = Given {
+    pattern: &[],
+    shares: &[],
+    values: &[0],
+};
+
 #[test]
-fn accepts_distances(rt: HostRuntime) -> Result<(), Fail> {
-    let chain = chain(rt.alloc())?;
-    let idle = Given {
-        pattern: &[],
-        shares: &[],
-        values: &[0],
+fn accepts_distances(rt: HostRuntime) {
+    let chain = chain(&rt, rt.alloc());
+    has_violations(&rt, rt.alloc(), &chain, &[], None, None);
+    has_violations(&rt, rt.alloc(), &chain, &[&[]], None, None);
+    let columns: &[&[Given<'_>]] = &[&[DISTANCES, IDLE], &[DISTANCES]];
+    has_violations(&rt, rt.alloc(), &chain, columns, None, None);
+}
+
+/// Shares of the second column, and the operator at fault.
+const SHARE_ROWS: &[(&[(u32, u32)], Option<usize>)] = &[
+    (&[(0, 1), (1, 2)], Some(1)),
+    (&[(0, 1), (1, 1), (7, 1)], Some(7)),
+    (&[(4_294_967_295, 1), (9, 1), (7, 1)], Some(7)),
+    (&[(7, 0), (7, 5), (9, 1)], Some(9)),
+    (&[(0, 1), (1, 1), (0, 4), (7, 0)], None),
+    (&[(1, 4_294_967_295), (0, 2)], Some(0)),
+];
+
+/// Checks which operator is at fault in the second column with these shares.
+fn spends(
+    rt: &impl Abort,
+    alloc: Global,
+    chain: &FdrTask,
+    shares: &[(u32, u32)],
+    at_fault: Option<usize>,
+) {
+    let spending = Given {
+        pattern: &[0],
+        shares,
+        values: &[2, 1, 0],
     };
-    assert_eq!(rt; found(&rt, rt.alloc(), &chain, &[])?, (None, None));
-    assert_eq!(rt; found(&rt, rt.alloc(), &chain, &[&[]])?, (None, None));
-    let columns: &[&[Given]] = &[&[DISTANCES, idle], &[DISTANCES]];
-    assert_eq!(rt; found(&rt, rt.alloc(), &chain, columns)?, (None, None));
-    Ok(())
+    let violation = share_violation(rt, alloc, chain, &[&[DISTANCES], &[spending]]);
+    assert_eq!(rt; violation, at_fault.map(|o| Violation::Shares(1, o)));
 }
 
 #[test]
-fn spent_costs(rt: HostRuntime) -> Result<(), Fail> {
-    let chain = chain(rt.alloc())?;
-    for (shares, at_fault) in [
-        (&[(0, 1), (1, 2)][..], Some(1)),
-        (&[(0, 1), (1, 1), (7, 1)], Some(7)),
-        (&[(4_294_967_295, 1), (9, 1), (7, 1)], Some(7)),
-        (&[(7, 0), (7, 5), (9, 1)], Some(9)),
-        (&[(0, 1), (1, 1), (0, 4), (7, 0)], None),
-        (&[(1, 4_294_967_295), (0, 2)], Some(0)),
-    ] {
-        let spending = Given {
-            shares,
-            ..DISTANCES
-        };
-        let (violation, _) = found(&rt, rt.alloc(), &chain, &[&[DISTANCES], &[spending]])?;
-        assert_eq!(rt; violation, at_fault.map(|o| Violation::Shares(1, o)));
+fn spent_costs(rt: HostRuntime) {
+    let chain = chain(&rt, rt.alloc());
+    for (shares, at_fault) in SHARE_ROWS {
+        spends(&rt, rt.alloc(), &chain, shares, *at_fault);
     }
-    let twice = found(&rt, rt.alloc(), &chain, &[&[DISTANCES, DISTANCES]])?;
-    assert_eq!(rt; twice, (Some(Violation::Shares(0, 0)), None));
-    Ok(())
+    let twice: &[&[Given<'_>]] = &[&[DISTANCES, DISTANCES]];
+    has_violations(
+        &rt,
+        rt.alloc(),
+        &chain,
+        twice,
+        Some(Violation::Shares(0, 0)),
+        None,
+    );
+}
+
+/// A pattern and values, and the violation of the table with these and the whole costs as shares.
+type TableRow = (&'static [u32], &'static [u64], Violation);
+
+const TABLE_ROWS: &[TableRow] = &[
+    (&[1], &[0, 0], Violation::TableForm(0, 1)),
+    (
+        &[0, 0],
+        &[2, 1, 0, 2, 1, 0, 2, 1, 0],
+        Violation::TableForm(0, 1),
+    ),
+    (&[0], &[2, 1, 0, 0], Violation::TableForm(0, 1)),
+    (&[0], &[2, 1], Violation::TableForm(0, 1)),
+    (&[0], &[2, 1, INF], Violation::GoalValue(0, 1, 2)),
+    (&[0], &[9, 9, 1], Violation::GoalValue(0, 1, 2)),
+    (&[0], &[3, 1, 0], Violation::Fall(0, 1, 0, 0)),
+    (&[0], &[INF, 1, 0], Violation::Fall(0, 1, 0, 0)),
+    (&[0], &[HUGE, INF, 0], Violation::Fall(0, 1, 1, 1)),
+];
+
+/// Checks that the table of a row fails so, behind one that does not and before others.
+fn fails<R: Threads + Sync + Abort>(rt: &R, alloc: Global, chain: &FdrTask, row: &TableRow) {
+    let (pattern, values, violation) = row;
+    let failing = Given {
+        pattern,
+        shares: &[(0, 1), (1, 1)],
+        values,
+    };
+    let at_fault = table_violation(rt, alloc, chain, &[&[DISTANCES, failing], &[failing]]);
+    assert_eq!(rt; at_fault, Some(*violation));
 }
 
 #[test]
-fn faults_of_tables(rt: HostRuntime) -> Result<(), Fail> {
-    let chain = chain(rt.alloc())?;
-    for (pattern, values, violation) in [
-        (&[1][..], &[0, 0][..], Violation::TableForm(0, 1)),
-        (
-            &[0, 0],
-            &[2, 1, 0, 2, 1, 0, 2, 1, 0],
-            Violation::TableForm(0, 1),
-        ),
-        (&[0], &[2, 1, 0, 0], Violation::TableForm(0, 1)),
-        (&[0], &[2, 1], Violation::TableForm(0, 1)),
-        (&[0], &[2, 1, INF], Violation::GoalValue(0, 1, 2)),
-        (&[0], &[9, 9, 1], Violation::GoalValue(0, 1, 2)),
-        (&[0], &[3, 1, 0], Violation::Fall(0, 1, 0, 0)),
-        (&[0], &[INF, 1, 0], Violation::Fall(0, 1, 0, 0)),
-        (&[0], &[HUGE, INF, 0], Violation::Fall(0, 1, 1, 1)),
-    ] {
-        let failing = Given {
-            pattern,
-            values,
-            ..DISTANCES
-        };
-        let (_, at_fault) = found(
-            &rt,
-            rt.alloc(),
-            &chain,
-            &[&[DISTANCES, failing], &[failing]],
-        )?;
-        assert_eq!(rt; at_fault, Some(violation));
+fn faults_of_tables(rt: HostRuntime) {
+    let chain = chain(&rt, rt.alloc());
+    for row in TABLE_ROWS {
+        fails(&rt, rt.alloc(), &chain, row);
     }
     let unpaid = Given {
         shares: &[(0, 1), (1, 0), (1, 1)],
         ..DISTANCES
     };
-    let (_, at_fault) = found(&rt, rt.alloc(), &chain, &[&[unpaid]])?;
+    let at_fault = table_violation(&rt, rt.alloc(), &chain, &[&[unpaid]]);
     assert_eq!(rt; at_fault, Some(Violation::Fall(0, 0, 1, 1)));
-    Ok(())
 }
 
 /// The heuristic of a certificate whose tables are tested.
@@ -187,87 +233,121 @@ fn heuristic<'a, R: Abort + Threads + Sync>(
 }
 
 /// Two variables with the values 0 and 1, at first 0 both; the goal is 1 for both, and there is no operator.
-fn stuck(alloc: Global) -> Result<FdrTask, Fail> {
-    let operators = Vec::new(alloc);
+fn stuck(rt: &impl Abort, alloc: Global) -> FdrTask {
     let goal = [fact(0, 1), fact(1, 1)];
-    Ok(task(alloc, &[2, 2], &[0, 0], &goal, operators)?.ok_or("a task")?)
+    task(alloc, &[2, 2], &[0, 0], &goal, Vec::new(alloc))
+        .expect(rt, "memory")
+        .expect(rt, "a task")
+}
+
+/// Whether the heuristic of the certificate reaches the bound from the state, reached at the cost.
+fn certificate_reaches<R: Abort + Threads + Sync>(
+    rt: &R,
+    alloc: Global,
+    task: &FdrTask,
+    certificate: &Certificate,
+    state: &[u32],
+    cost: u64,
+    bound: u64,
+) -> Result<bool, Fail> {
+    assert!(rt; is_state_of(task, state), "a state");
+    let heuristic = heuristic(rt, alloc, task, certificate)?;
+    Ok(heuristic.reaches(state, cost, dist(bound)))
 }
 
 /// Whether the columns' heuristic reaches the bound from the state, reached at the cost.
 fn reaches<R: Abort + Threads + Sync>(
     rt: &R,
     alloc: Global,
-    columns: &[&[Given]],
-    state: [u32; 2],
+    columns: &[&[Given<'_>]],
+    state: &[u32],
     cost: u64,
     bound: u64,
 ) -> Result<bool, Fail> {
-    let stuck = stuck(alloc)?;
-    let certificate = certificate(alloc, columns)?;
-    let heuristic = heuristic(rt, alloc, &stuck, &certificate)?;
-    assert!(rt; is_state_of(&stuck, &state), "a state");
-    Ok(heuristic.reaches(&state, cost, dist(bound)))
+    let stuck = stuck(rt, alloc);
+    let certificate = certificate(rt, alloc, columns);
+    certificate_reaches(rt, alloc, &stuck, &certificate, state, cost, bound)
 }
 
-#[test]
-fn sums_and_the_greatest(rt: HostRuntime) -> Result<(), Fail> {
-    let first = Given {
-        pattern: &[0],
-        shares: &[],
-        values: &[3, 0],
-    };
-    let both = Given {
-        pattern: &[0, 1],
-        shares: &[],
-        values: &[6, 5, 4, 0],
-    };
-    let far = Given {
-        pattern: &[1],
-        shares: &[],
-        values: &[8, 0],
-    };
-    // the sums of the columns: 9 and 8; 5 and 8; 7 and 0; 0 and 0
-    let columns: &[&[Given]] = &[&[first, both], &[far]];
-    for (state, h) in [([0, 0], 9), ([1, 0], 8), ([0, 1], 7), ([1, 1], 0)] {
-        for (cost, bound, is_reached) in [
-            (0, h, true),
-            (0, h + 1, false),
-            (5, h + 5, true),
-            (5, h + 6, false),
-            (INF, HUGE, true),
-            (INF, INF, false),
-        ] {
-            let reached = reaches(&rt, rt.alloc(), columns, state, cost, bound)?;
-            assert_eq!(rt; reached, is_reached);
-        }
-    }
+const FIRST: Given<'static> = Given {
+    pattern: &[0],
+    shares: &[],
+    values: &[3, 0],
+};
+
+const BOTH: Given<'static> = Given {
+    pattern: &[0, 1],
+    shares: &[],
+    values: &[6, 5, 4, 0],
+};
+
+const FAR: Given<'static> = Given {
+    pattern: &[1],
+    shares: &[],
+    values: &[8, 0],
+};
+
+/// The sums of the columns, from the states 0 0, 1 0, 0 1 and 1 1: 9 and 8; 5 and 8; 7 and 0; 0 and 0.
+const SUMS: &[&[Given<'static>]] = &[&[FIRST, BOTH], &[FAR]];
+
+/// A state and its heuristic value by the sums.
+const SUM_ROWS: &[([u32; 2], u64)] = &[([0, 0], 9), ([1, 0], 8), ([0, 1], 7), ([1, 1], 0)];
+
+/// Checks which bounds the sums reach from a state with this heuristic value.
+fn reaches_by_sums<R: Abort + Threads + Sync>(
+    rt: &R,
+    alloc: Global,
+    state: &[u32],
+    h: u64,
+) -> Result<(), Fail>
+    requires { h < 10 }
+{
+    assert!(rt; reaches(rt, alloc, SUMS, state, 0, h)?);
+    assert!(rt; !reaches(rt, alloc, SUMS, state, 0, h + 1)?);
+    assert!(rt; reaches(rt, alloc, SUMS, state, 5, h + 5)?);
+    assert!(rt; !reaches(rt, alloc, SUMS, state, 5, h + 6)?);
+    assert!(rt; reaches(rt, alloc, SUMS, state, INF, HUGE)?);
+    assert!(rt; !reaches(rt, alloc, SUMS, state, INF, INF)?);
     Ok(())
 }
 
 #[test]
-fn large_sums(rt: HostRuntime) -> Result<(), Fail> {
-    let huge = Given {
-        pattern: &[0],
-        shares: &[],
-        values: &[HUGE, 0],
-    };
-    let endless = Given {
-        pattern: &[1],
-        shares: &[],
-        values: &[INF, 0],
-    };
-    let one: &[&[Given]] = &[&[huge, huge]];
-    let two: &[&[Given]] = &[&[huge], &[huge, endless, huge]];
-    for (bound, by_one, by_two) in [(HUGE, true, true), (INF, false, true)] {
-        assert_eq!(rt; reaches(&rt, rt.alloc(), one, [0, 0], 0, bound)?, by_one);
-        assert_eq!(rt; reaches(&rt, rt.alloc(), two, [0, 0], 0, bound)?, by_two);
+fn sums_and_the_greatest(rt: HostRuntime) -> Result<(), Fail> {
+    for (state, h) in SUM_ROWS {
+        assert!(rt; *h < 10);
+        reaches_by_sums(&rt, rt.alloc(), state, *h)?;
     }
+    Ok(())
+}
+
+const HUGE_TABLE: Given<'static> = Given {
+    pattern: &[0],
+    shares: &[],
+    values: &[HUGE, 0],
+};
+
+const ENDLESS: Given<'static> = Given {
+    pattern: &[1],
+    shares: &[],
+    values: &[INF, 0],
+};
+
+const ONE: &[&[Given<'static>]] = &[&[HUGE_TABLE, HUGE_TABLE]];
+
+const TWO: &[&[Given<'static>]] = &[&[HUGE_TABLE], &[HUGE_TABLE, ENDLESS, HUGE_TABLE]];
+
+#[test]
+fn large_sums(rt: HostRuntime) -> Result<(), Fail> {
+    assert!(rt; reaches(&rt, rt.alloc(), ONE, &[0, 0], 0, HUGE)?);
+    assert!(rt; reaches(&rt, rt.alloc(), TWO, &[0, 0], 0, HUGE)?);
+    assert!(rt; !reaches(&rt, rt.alloc(), ONE, &[0, 0], 0, INF)?);
+    assert!(rt; reaches(&rt, rt.alloc(), TWO, &[0, 0], 0, INF)?);
     assert!(rt;
-        reaches(&rt, rt.alloc(), &[], [0, 0], 0, 0)?,
+        reaches(&rt, rt.alloc(), &[], &[0, 0], 0, 0)?,
         "0 without a column"
     );
     assert!(rt;
-        !reaches(&rt, rt.alloc(), &[], [0, 0], 0, 1)?,
+        !reaches(&rt, rt.alloc(), &[], &[0, 0], 0, 1)?,
         "no more than 0"
     );
     Ok(())

@@ -1,9 +1,14 @@
 //! Tables, shares and lower bounds.
 
+ghost use Rattle.std.specs.Prelude.{◌≡◌};
+
 use crate::tasks::*;
 use crate::texts::{columns_text, patterns_text, task_of};
-use scp::choose_columns;
-use std::test::*;
+use fdr::FdrTask;
+use scp::{Columns, choose_columns};
+use std::alloc::Global;
+use std::process::Abort;
+use std::thread::Threads;
 
 /// A task, the greatest number of abstract states of a pattern, the columns, and the lower bound of the initial state.
 struct Row {
@@ -100,35 +105,63 @@ const ROWS: &[Row] = &[
     },
 ];
 
-#[test]
-fn columns_and_bounds_are_those_by_hand(rt: HostRuntime) -> Result<(), Fail> {
-    let alloc = rt.alloc();
-    for row in ROWS {
-        let task = task_of(alloc, row.task)?.expect(&rt, "a task");
-        assert!(rt; 1 <= row.limit && row.limit <= 16_777_216);
-        let columns = choose_columns(&rt, alloc, &task, row.limit)?;
-        let text = columns_text(alloc, &columns)?;
-        assert_eq!(rt; text.as_str(), row.columns);
-        let bound = columns.h(task.initial());
-        let bound = format!(in alloc; "{bound}")?;
-        assert_eq!(rt; bound.as_str(), row.bound);
+/// Checks the columns and the bound of a row's task.
+fn has_columns<R: Threads + Sync + Abort>(rt: &R, alloc: Global, task: &FdrTask, row: &Row) {
+    assert!(rt; 1 <= row.limit && row.limit <= 16_777_216);
+    match choose_columns(rt, alloc, task, row.limit) {
+        Ok(columns) => are_columns(rt, alloc, task, &columns, row),
+        Err(_) => panic!(rt; "memory"),
     }
-    Ok(())
+}
+
+/// Checks columns, and the bound of the initial state.
+fn are_columns(rt: &impl Abort, alloc: Global, task: &FdrTask, columns: &Columns<'_>, row: &Row)
+    requires { columns.now.task ≡ task.now }
+{
+    let text = columns_text(alloc, columns).expect(rt, "memory");
+    assert_eq!(rt; text.as_str(), row.columns);
+    let bound = columns.h(task.initial());
+    let bound = bound.to_string(alloc).expect(rt, "memory");
+    assert_eq!(rt; bound.as_str(), row.bound);
+}
+
+/// Checks a row.
+fn is_row<R: Threads + Sync + Abort>(rt: &R, alloc: Global, row: &Row) {
+    let task = task_of(alloc, row.task)
+        .expect(rt, "memory")
+        .expect(rt, "a task");
+    has_columns(rt, alloc, &task, row);
 }
 
 #[test]
-fn patterns_grow_by_causes(rt: HostRuntime) -> Result<(), Fail> {
-    let alloc = rt.alloc();
-    let task = task_of(alloc, GRIPPER)?.expect(&rt, "a task");
-    for (limit, want) in [
-        (2, ""),
-        (3, "1 /2 /"),
-        (6, "0 1 /0 2 /"),
-        (12, "0 1 3 /0 2 3 /"),
-        (36, "0 1 2 3 /"),
-    ] {
-        let found = patterns_text(alloc, &task, limit)?;
-        assert_eq!(rt; found.as_str(), want);
+fn columns_and_bounds_are_those_by_hand(rt: HostRuntime) {
+    for row in ROWS {
+        is_row(&rt, rt.alloc(), row);
     }
-    Ok(())
+}
+
+/// Limits, and the patterns of the gripper's task.
+const PATTERN_ROWS: &[(usize, &str)] = &[
+    (2, ""),
+    (3, "1 /2 /"),
+    (6, "0 1 /0 2 /"),
+    (12, "0 1 3 /0 2 3 /"),
+    (36, "0 1 2 3 /"),
+];
+
+/// Checks the patterns below a limit.
+fn has_patterns(rt: &impl Abort, alloc: Global, task: &FdrTask, limit: usize, want: &str) {
+    assert!(rt; 1 <= limit);
+    let found = patterns_text(alloc, task, limit).expect(rt, "memory");
+    assert_eq!(rt; found.as_str(), want);
+}
+
+#[test]
+fn patterns_grow_by_causes(rt: HostRuntime) {
+    let task = task_of(rt.alloc(), GRIPPER)
+        .expect(&rt, "memory")
+        .expect(&rt, "a task");
+    for (limit, want) in PATTERN_ROWS {
+        has_patterns(&rt, rt.alloc(), &task, *limit, want);
+    }
 }

@@ -3,4 +3,4 @@ use Rattle.std.specs.List.{AllByRecursion}
 use Rattle.test_tables.proofs.closed_violations.listed.Given as goal
 
 abbrev pub invariant-loop-cost : goal.invariant-loop-cost
-invariant-loop-cost l = AllByRecursion (λ e. length e.state ≡ 1) l.closed
+invariant-loop-cost g l = AllByRecursion (λ e. length e.state ≡ 1) l.closed
