@@ -1,27 +1,25 @@
 -- Where a search by a schedule may end, and why it may be refused.
-use Rattle.std.specs.Prelude.{◌≡◌, ℕ, Option, Some, None}
+use Rattle.std.specs.Prelude.{◌≡◌, ℕ, ◌⊎◌, Some}
 use Rattle.fdr.specs.Tasks.{FiniteDomainTask}
 use Rattle.packed_spread.specs.Spreads as spread
 use Rattle.extract.specs.Ends.{EndOf}
 use Rattle.engine_round.specs.Turns.{MayStop}
 use Rattle.engine_round.specs.declared.gate.Stop.TheVariants.{Limit}
 use Rattle.optplan_sas.specs.Choices.{Choices}
-use Rattle.optplan_sas.specs.Searches.{EndsByThreads, IsRefusedByThreads, EndsBySeed, IsRefusedBySeed, no_stop}
+use Rattle.optplan_sas.specs.Searches.{EndsByThreads, IsRefusedByThreads, EndsBySeed, IsRefusedBySeed}
 use Rattle.optplan_sas.specs.declared.fault.SearchFault.{SearchFault}
 use Rattle.optplan_solve.specs.declared.settings.Watch.{Watch}
 use Rattle.optplan_solve.specs.declared.settings.Schedule.{Schedule}
 use Rattle.optplan_solve.specs.declared.settings.Schedule.TheVariants.{Threads, Drawn}
 
--- how a search may be ended from outside that has these seconds, or this memory, if any: as at a limit, before any turn of any worker; and not
--- at all where neither is given
-abbrev pub ends_within : Option ℕ → Option ℕ → MayStop
-ends_within None None = no_stop
-ends_within None (Some mebibytes) = λ worker turn stop. stop ≡ Limit
-ends_within (Some seconds) mebibytes = λ worker turn stop. stop ≡ Limit
+-- seconds or a memory are given
+abbrev pub IsLimited : Watch → Type 0
+IsLimited watch = ((s : ℕ) × (watch.seconds ≡ Some s)) ⊎ ((m : ℕ) × (watch.mebibytes ≡ Some m))
 
--- how a search may be ended that is watched so
+-- how a search that is watched so may be ended from outside: as at a limit, before any turn of any worker, and only where seconds or a memory
+-- are given
 abbrev pub ends_in : Watch → MayStop
-ends_in watch = ends_within watch.seconds watch.mebibytes
+ends_in watch worker turn stop = (stop ≡ Limit) × IsLimited watch
 
 -- the end of a search for a task: by threads, within the seconds and the memory that they have, if these are given, or by steps that are drawn from a seed
 abbrev pub EndsBy : Choices → Schedule → FiniteDomainTask → EndOf spread.Zobrist → Type 0
