@@ -44,8 +44,10 @@ fn solved<R: Threads + Wait + Clock + Eprint + Sync + AllocGlobal>(
 {
     match settings.schedule {
         Schedule::Threads(watch) => {
-            let watcher = Watcher::new(rt, rt.alloc(), watch, settings.options.workers())?;
-            solve_sas(rt, sas, &settings.options, &watcher)
+            match Watcher::new(rt, rt.alloc(), watch, settings.options.workers()) {
+                Ok(watcher) => solve_sas(rt, sas, &settings.options, &watcher),
+                Err(_) => Err(SasSolveFault::OutOfMemory),
+            }
         }
         Schedule::Drawn(seed) => simulate_sas(rt, sas, &settings.options, seed),
     }

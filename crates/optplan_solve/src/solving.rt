@@ -49,8 +49,10 @@ fn planned<R: Threads + Wait + Clock + Eprint + Sync + AllocGlobal>(
 {
     match settings.schedule {
         Schedule::Threads(watch) => {
-            let watcher = Watcher::new(rt, rt.alloc(), watch, settings.options.workers())?;
-            solve(rt, domain, problem, &settings.options, &watcher)
+            match Watcher::new(rt, rt.alloc(), watch, settings.options.workers()) {
+                Ok(watcher) => solve(rt, domain, problem, &settings.options, &watcher),
+                Err(_) => Err(PlanningFault::OutOfMemory),
+            }
         }
         Schedule::Drawn(seed) => simulate(rt, domain, problem, &settings.options, seed),
     }

@@ -71,7 +71,12 @@ impl Tally {
     pub(crate) fn report<R: Eprint>(&self, rt: &R, now: u64) {
         let due = self.due.load(Ordering::SeqCst);
         let next = now.saturating_add(1);
-        if now < due || self.due.compare_exchange(due, next, Ordering::SeqCst, Ordering::SeqCst).is_err() {
+        if now < due
+            || self
+                .due
+                .compare_exchange(due, next, Ordering::SeqCst, Ordering::SeqCst)
+                .is_err()
+        {
             return;
         }
         let (mut expanded, mut kept, mut open) = (0u64, 0u64, INFINITE);
@@ -82,9 +87,13 @@ impl Tally {
         }
         let best = self.best.load(Ordering::SeqCst);
         let printed = if best == INFINITE {
-            eprintln!(rt; "optplan: {now} s, {expanded} expanded, {kept} kept, least f {open}, no plan yet")
+            eprintln!(rt;
+                "optplan: {now} s, {expanded} expanded, {kept} kept, least f {open}, no plan yet"
+            )
         } else {
-            eprintln!(rt; "optplan: {now} s, {expanded} expanded, {kept} kept, least f {open}, best cost {best}")
+            eprintln!(rt;
+                "optplan: {now} s, {expanded} expanded, {kept} kept, least f {open}, best cost {best}"
+            )
         };
         let _ = printed;
     }

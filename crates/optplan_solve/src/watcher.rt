@@ -35,7 +35,9 @@ pub(crate) struct Watcher<'a, R: Clock + Eprint + Sync> {
 /// The bytes that a worker keeps: those of its states and of the messages in its outboxes. States are counted as packed.
 fn kept_bytes(progress: Progress) -> u128 {
     let count = (progress.states as u128).saturating_add(progress.messages);
-    let size = (progress.words as u128).saturating_mul(BYTES_OF_A_WORD).saturating_add(BYTES_BESIDE_WORDS);
+    let size = (progress.words as u128)
+        .saturating_mul(BYTES_OF_A_WORD)
+        .saturating_add(BYTES_BESIDE_WORDS);
     count.saturating_mul(size)
 }
 
