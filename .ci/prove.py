@@ -7,49 +7,64 @@ usage: .ci/prove.py [--jobs N] [NAME..]    these crates and all that they stand 
 """
 
 import functools
+import importlib.machinery
+import importlib.util
 import os
-import subprocess
+import shutil
 import sys
 import threading
 import time
 
-from repository import Repository
-
 TOP = os.path.dirname(os.path.dirname(os.path.abspath(__file__)))
 
 
+def toolchain():
+    """The toolchain's library, which lies beside the command `rt`. It has no public interface for this."""
+    sys.dont_write_bytecode = True
+    path = os.path.join(os.path.dirname(os.path.realpath(shutil.which("rt"))), "rtlib.py")
+    loader = importlib.machinery.SourceFileLoader("rtlib", path)
+    made = importlib.util.module_from_spec(importlib.util.spec_from_loader("rtlib", loader))
+    sys.modules["rtlib"] = made
+    loader.exec_module(made)
+    return made
+
+
+def remembered(method):
+    """A method of crates whose answer stays the same while nothing is edited, and is found anew for each path otherwise."""
+    answers = {}
+
+    @functools.wraps(method)
+    def answer(crate):
+        if crate.folder not in answers:
+            answers[crate.folder] = method(crate)
+        return answers[crate.folder]
+
+    return answer
+
+
 class Side:
-    """Crates of a repository, with all that they stand on, that are proved by some threads, the longest way up first.
+    """Crates that are proved by some threads, the longest way up first."""
 
-    `begun` and `ended` are called with a crate's name, `ended` also with whether it is proved and the seconds that it took. Where one is
-    not proved, those that do not stand on it are proved all the same, or, if it does not go on, none is begun any more.
-    """
-
-    def __init__(self, repository, names, processors, goes_on=True, begun=lambda name: None, ended=lambda name, is_proved, seconds: None):
-        self.repository, self.processors, self.goes_on = repository, processors, goes_on
-        self.crates = repository.closure(names)
-        self.begun, self.ended = begun, ended
-        self.used = {it for uses in repository.uses.values() for it in uses}
+    def __init__(self, crates, used, processors):
+        self.crates, self.used, self.processors = crates, used, processors
         self.started, self.proved, self.failed = set(), set(), set()
         self.turn = threading.Condition()
 
     @functools.lru_cache(maxsize=None)
     def height(self, crate):
         """How many crates stand on one another above this one."""
-        return 1 + max((self.height(it) for it in self.crates if crate in self.repository.uses[it]), default=0)
+        return 1 + max((self.height(it) for it in self.crates if crate in it.deps), default=0)
 
     def next(self):
-        """The crate to prove now, or None where no more is to be started. Waits until one is ready."""
+        """The crate to prove now, or None where all are started. Waits until one is ready."""
         with self.turn:
             while True:
-                if self.failed and not self.goes_on:
-                    return None
                 for it in self.crates:
-                    if it not in self.started and self.failed.intersection(self.repository.below(it)):
+                    if it not in self.started and self.failed.intersection(it.below()):
                         self.started.add(it)
                         self.failed.add(it)
                 rest = [it for it in self.crates if it not in self.started]
-                ready = [it for it in rest if self.proved.issuperset(self.repository.below(it))]
+                ready = [it for it in rest if self.proved.issuperset(it.deps)]
                 if ready:
                     crate = max(ready, key=self.height)
                     self.started.add(crate)
@@ -63,36 +78,25 @@ class Side:
         that few others run beside gets their processors too."""
         with self.turn:
             beside = len(self.started) - len(self.proved) - len(self.failed)
-        jobs = str(max(1, self.processors // max(1, beside)))
-        words = ["lib"] if crate in self.used else ["check", "--test"]
-        os.makedirs(f"{self.repository.folder(crate)}/out", exist_ok=True)
-        with open(self.report(crate), "w", encoding="utf-8") as report:
-            return not subprocess.run(["rt", *words, "--jobs", jobs], cwd=self.repository.folder(crate), stdin=subprocess.DEVNULL,
-                                      stdout=report, stderr=subprocess.STDOUT, check=False).returncode
-
-    def report(self, crate):
-        return f"{self.repository.folder(crate)}/out/proved.txt"
+        jobs = ["--jobs", str(max(1, self.processors // max(1, beside)))]
+        os.makedirs(f"{crate.folder}/out", exist_ok=True)
+        with open(f"{crate.folder}/out/proved.txt", "w", encoding="utf-8") as crate.out:
+            if crate in self.used:
+                return crate.is_built() or not crate.build_rlib(jobs, anew=False)
+            return not crate.check(["--test"] * crate.has_tests() + jobs)
 
     def work(self):
         while crate := self.next():
-            self.begun(crate)
-            started, is_proved = time.time(), False
+            started = time.time()
+            is_proved = False
             try:
                 is_proved = self.prove(crate)
             finally:
                 with self.turn:
                     (self.proved if is_proved else self.failed).add(crate)
                     self.turn.notify_all()
-            self.ended(crate, is_proved, time.time() - started)
-
-    def run(self):
-        """Whether all are proved."""
-        threads = [threading.Thread(target=self.work, daemon=True) for _ in range(self.processors)]
-        for it in threads:
-            it.start()
-        for it in threads:
-            it.join()
-        return not self.failed
+            print(f"{crate.name}: {'proved' if is_proved else 'NOT PROVED'}, {time.time() - started:.0f} s, "
+                  f"{len(self.proved)} of {len(self.crates)}", flush=True)
 
 
 def main(words):
@@ -102,14 +106,22 @@ def main(words):
     if any(it.startswith("-") for it in words):
         print(__doc__)
         return 0 if words == ["--help"] else 2
-    repository = Repository(TOP)
-
-    def tell(crate, is_proved, seconds):
-        print(f"{crate}: {'proved' if is_proved else 'NOT PROVED'}, {seconds:.0f} s, {len(side.proved)} of {len(side.crates)}", flush=True)
-
-    side = Side(repository, words or list(repository.uses), jobs, ended=tell)
-    side.run()
-    print(f"not proved: {' '.join(sorted(side.failed)) or 'none'}")
+    os.chdir(TOP)
+    library = toolchain()
+    library.Crate.stamp, library.Crate.below = remembered(library.Crate.stamp), remembered(library.Crate.below)
+    library.guarded()
+    crates = library.crates_below(TOP)
+    used = {it for crate in crates for it in crate.deps}
+    if words:
+        kept = {it for crate in crates if crate.name in words for it in [*crate.below(), crate]}
+        crates = [it for it in crates if it in kept]
+    side = Side(crates, used, jobs)
+    threads = [threading.Thread(target=side.work) for _ in range(jobs)]
+    for it in threads:
+        it.start()
+    for it in threads:
+        it.join()
+    print(f"not proved: {' '.join(sorted(it.name for it in side.failed)) or 'none'}")
     return int(bool(side.failed))
 
 
