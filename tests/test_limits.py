@@ -1,6 +1,4 @@
-"""Searches that are stopped by `--limit` or `--steps`: the bound, the best plan so far, and the certificate of the bound."""
-
-import re
+"""Searches that are stopped by `--limit`, `--steps` or `--memory`: the bound, the best plan so far, and the certificate of the bound."""
 
 from program import Outcome, ProgramTest, checked, checked_sas, example, run
 from test_threads import HANOI, tower
@@ -138,12 +136,8 @@ class LimitTest(StoppedTest):
                 least = bound
 
 
-# A line of progress: seconds, states expanded and kept, the least f of those that are open, and the least cost of a goal state.
-LINE_OF_PROGRESS = re.compile(r"optplan: \d+ s, \d+ expanded, \d+ kept, least f \d+, (no plan yet|best cost \d+)")
-
-
 class WatchTest(StoppedTest):
-    """Searches by threads that time or memory ends, and their progress."""
+    """Searches by threads that memory ends."""
 
     def test_no_memory(self):
         # the initial state takes memory, so the first turn is not taken
@@ -171,23 +165,3 @@ class WatchTest(StoppedTest):
     def test_memory_of_a_simulation_is_not_limited(self):
         plan = b"(go a b)\n(go b c)\n; cost = 7 (general cost)\n"
         self.is_solved(solved(DRIVE, D1, "--memory", "0"), plan, 0, plan)
-
-    def test_progress_changes_nothing_else(self):
-        for name in SMALL_TASKS:
-            domain, problem = example(name, "domain.pddl"), example(name, "problem.pddl")
-            for words in (("--workers", "1"), ("--workers", "1", "--limit", "3")):
-                plain, told = (solved(domain, problem, *words, *more, seed=None) for more in ((), ("--progress",)))
-                with self.subTest(name=name, words=words):
-                    self.assertEqual((plain.out, plain.status, plain.files), (told.out, told.status, told.files))
-                    self.are_lines_of_progress(told.err)
-
-    def test_progress_of_a_search_of_seconds(self):
-        # the look at which the time is over tells the progress first
-        outcome = solved(HANOI, tower(16), "--table", "1", "--time", "1", "--progress", seed=None)
-        self.assertEqual(outcome.status, STOPPED)
-        self.assertGreaterEqual(len(outcome.err.splitlines()), 1)
-        self.are_lines_of_progress(outcome.err)
-
-    def are_lines_of_progress(self, text):
-        for line in text.decode().splitlines():
-            self.assertRegex(line, f"^{LINE_OF_PROGRESS.pattern}$")

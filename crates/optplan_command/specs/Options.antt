@@ -52,7 +52,7 @@ abbrev pub schedule_by : Option ℕ → Watch → Schedule
 schedule_by (Some seed) watch = Drawn seed
 schedule_by None watch = Threads watch
 
--- the schedule by the values of the options that name a seed, seconds and memory; whether the search reports how far it is may be either
+-- the schedule by the values of the options that name a seed, seconds and memory
 pub record IsScheduleOf (value : List ℕ → Option (List ℕ)) (schedule : Schedule) : Type 0 where
   pub seed : Option ℕ
   pub seed_is : IsNumberOf 0 9223372036854775807 (value (codes "simulate")) seed

@@ -8,7 +8,7 @@ ghost use Rattle.optplan_command.specs.SolveWords.{SolvesByWords, SolvesSasByWor
 
 use crate::file_words::file;
 use crate::options::{RefusedValue, number_for, ties_for};
-use clap::{Arg, ArgAction, ArgMatches, Command, Error};
+use clap::{Arg, ArgMatches, Command, Error};
 use optplan_device::Device;
 use optplan_replies::Status;
 use optplan_sas::{MAX_RING, MAX_TABLE, MAX_WORKERS, Options};
@@ -32,8 +32,7 @@ Reads a domain and a problem in PDDL 2.1 level 1 with types, negative preconditi
 Workers in threads of their own share the states. With --simulate one thread does their steps, in an order that is drawn
 from the seed, so it finds the same plan each time. The seconds of --time count from when the files are read, but only
 the search can be ended: what comes before it may take longer. --memory counts the states and the messages of a search by
-threads, of which each worker may keep its share, and no tables. --progress tells the seconds, the states expanded and
-kept, the least f of those that are open, and the least cost of a goal state that was reached.
+threads, of which each worker may keep its share, and no tables.
 
 Among states of the same f-value, the cost to reach the state plus the lower bound for what is left, --ties shallow expands
 the one reached at the least cost first, which is the order of earlier versions, and --ties deep the one reached at the
@@ -60,8 +59,7 @@ effects), and prints:
 Workers in threads of their own share the states. With --simulate one thread does their steps, in an order that is drawn
 from the seed, so it finds the same plan each time. The seconds of --time count from when the files are read, but only
 the search can be ended: what comes before it may take longer. --memory counts the states and the messages of a search by
-threads, of which each worker may keep its share, and no tables. --progress tells the seconds, the states expanded and
-kept, the least f of those that are open, and the least cost of a goal state that was reached.
+threads, of which each worker may keep its share, and no tables.
 
 Among states of the same f-value, the cost to reach the state plus the lower bound for what is left, --ties shallow expands
 the one reached at the least cost first, which is the order of earlier versions, and --ties deep the one reached at the
@@ -101,14 +99,6 @@ fn with_ending_options<'a>(alloc: Global, command: Command<'a>) -> Result<Comman
             "MIB",
             "Ends the search by threads once its states take so many MiB, as at a limit",
         ))?
-        .arg(
-            Arg::new(alloc, "progress")
-                .long("progress")
-                .action(ArgAction::SetTrue)
-                .help(
-                    "Prints about once a second to standard error how far the search by threads is",
-                ),
-        )?
         .arg(option(
             alloc,
             "steps",
@@ -226,14 +216,9 @@ fn schedule_of<'a>(words: &ArgMatches<'a>) -> Result<Schedule, RefusedValue<'a>>
     let seed = number_for(words, "simulate", 0, MAX_NUMBER)?;
     let seconds = number_for(words, "time", 0, MAX_NUMBER)?;
     let mebibytes = number_for(words, "memory", 0, MAX_NUMBER)?;
-    let reports = words.get_flag("progress");
     match seed {
         Some(seed) => Ok(Schedule::Drawn(seed)),
-        None => Ok(Schedule::Threads(Watch {
-            seconds,
-            mebibytes,
-            reports,
-        })),
+        None => Ok(Schedule::Threads(Watch { seconds, mebibytes })),
     }
 }
 
@@ -253,7 +238,7 @@ fn settings_of<'a>(words: &ArgMatches<'a>) -> Result<Settings<'a>, RefusedValue<
 
 /// Solves a planning task as the words request, and returns the exit status. Fails with the command's error for the first
 /// value that is refused, or if allocation fails.
-pub(crate) fn solve_by_words<D: Device, R: Threads + Wait + Clock + Eprint + Sync + AllocGlobal>(
+pub(crate) fn solve_by_words<D: Device, R: Threads + Wait + Clock + Sync + AllocGlobal>(
     rt: &R,
     device: &mut D,
     words: &ArgMatches<'_>,
@@ -277,10 +262,11 @@ pub(crate) fn solve_by_words<D: Device, R: Threads + Wait + Clock + Eprint + Syn
 
 /// Solves a finite-domain task as the words request, and returns the exit status. Fails with the command's error for the
 /// first value that is refused, or if allocation fails.
-pub(crate) fn solve_sas_by_words<
-    D: Device,
-    R: Threads + Wait + Clock + Eprint + Sync + AllocGlobal,
->(rt: &R, device: &mut D, words: &ArgMatches<'_>) -> Result<Status, Error>
+pub(crate) fn solve_sas_by_words<D: Device, R: Threads + Wait + Clock + Sync + AllocGlobal>(
+    rt: &R,
+    device: &mut D,
+    words: &ArgMatches<'_>,
+) -> Result<Status, Error>
     ensures done { IfOk result (λ status. (h : List Event) → D.history device.old ≡ Some h → D.failure_count device.new ≡ D.failure_count device.old → status ≢ Status.OutOfMemory →
         (new : List Event) × (D.history device.new ≡ Some new) × SolvesSasByWords (λ name. first_value (found_of words.now) name) h new status) }
     ensures counted { IfOk result (λ status. status ≡ Status.DeviceFailed → D.failure_count device.old + 1 ≤ D.failure_count device.new) }

@@ -34,7 +34,7 @@ fn solve_fault(fault: SasSolveFault) -> Fault
 
 /// The answer for the task that the text spells, by the schedule that the settings request, whose seconds count from now on. Fails as the
 /// solver does.
-fn solved<R: Threads + Wait + Clock + Eprint + Sync + AllocGlobal>(
+fn solved<R: Threads + Wait + Clock + Sync + AllocGlobal>(
     rt: &R,
     sas: &[u8],
     settings: &Settings<'_>,
@@ -44,10 +44,8 @@ fn solved<R: Threads + Wait + Clock + Eprint + Sync + AllocGlobal>(
 {
     match settings.schedule {
         Schedule::Threads(watch) => {
-            match Watcher::new(rt, rt.alloc(), watch, settings.options.workers()) {
-                Ok(watcher) => solve_sas(rt, sas, &settings.options, &watcher),
-                Err(_) => Err(SasSolveFault::OutOfMemory),
-            }
+            let watcher = Watcher::new(rt, watch, settings.options.workers());
+            solve_sas(rt, sas, &settings.options, &watcher)
         }
         Schedule::Drawn(seed) => simulate_sas(rt, sas, &settings.options, seed),
     }
@@ -56,7 +54,7 @@ fn solved<R: Threads + Wait + Clock + Eprint + Sync + AllocGlobal>(
 /// The answer for the task that the text spells.
 ///
 /// Fails with the first fault of the text, with `TotalTooLarge` if a path's total is too large, or with `OutOfMemory`.
-fn answer_of<R: Threads + Wait + Clock + Eprint + Sync + AllocGlobal>(
+fn answer_of<R: Threads + Wait + Clock + Sync + AllocGlobal>(
     rt: &R,
     sas: &[u8],
     settings: &Settings<'_>,
@@ -75,7 +73,7 @@ fn answer_of<R: Threads + Wait + Clock + Eprint + Sync + AllocGlobal>(
 ///
 /// Returns the exit status: `Done` with a cheapest plan, `Unsolvable` if there is none, `Limited` at a limit, or the fault's.
 /// No plan is written where there is none.
-pub fn run_solve_sas<D: Device, R: Threads + Wait + Clock + Eprint + Sync + AllocGlobal>(
+pub fn run_solve_sas<D: Device, R: Threads + Wait + Clock + Sync + AllocGlobal>(
     rt: &R,
     device: &mut D,
     sas: &str,

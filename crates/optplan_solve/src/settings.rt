@@ -2,15 +2,13 @@
 
 use optplan_sas::Options;
 
-/// What may end a search by threads from outside, as at a limit and at the next turn of each owner, and whether the search reports how far it is.
+/// What may end a search by threads from outside, as at a limit and at the next turn of each owner.
 #[derive(Clone, Copy, Debug, PartialEq, Eq)]
 pub struct Watch {
     /// The seconds after which it ends, if any. They count from when the files are read, but only the search can be ended.
     pub seconds: Option<u64>,
     /// The memory in MiB that the states and the messages of all owners together may take, if there is a limit. Each owner has the same share of it.
     pub mebibytes: Option<u64>,
-    /// Whether a line is printed to standard error about once a second.
-    pub reports: bool,
 }
 
 /// How the owners' steps follow each other.

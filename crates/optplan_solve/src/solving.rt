@@ -38,7 +38,7 @@ fn solve_fault(alloc: Global, fault: PlanningFault, domain: &[u8], problem: &[u8
 
 /// The answer for the task that the texts spell, by the schedule that the settings request, whose seconds count from now on. Fails as the
 /// planner does.
-fn planned<R: Threads + Wait + Clock + Eprint + Sync + AllocGlobal>(
+fn planned<R: Threads + Wait + Clock + Sync + AllocGlobal>(
     rt: &R,
     domain: &[u8],
     problem: &[u8],
@@ -49,10 +49,8 @@ fn planned<R: Threads + Wait + Clock + Eprint + Sync + AllocGlobal>(
 {
     match settings.schedule {
         Schedule::Threads(watch) => {
-            match Watcher::new(rt, rt.alloc(), watch, settings.options.workers()) {
-                Ok(watcher) => solve(rt, domain, problem, &settings.options, &watcher),
-                Err(_) => Err(PlanningFault::OutOfMemory),
-            }
+            let watcher = Watcher::new(rt, watch, settings.options.workers());
+            solve(rt, domain, problem, &settings.options, &watcher)
         }
         Schedule::Drawn(seed) => simulate(rt, domain, problem, &settings.options, seed),
     }
@@ -62,7 +60,7 @@ fn planned<R: Threads + Wait + Clock + Eprint + Sync + AllocGlobal>(
 ///
 /// Fails with the fault of the texts that comes first, if the task, its translation or a path's total exceeds a limit, or
 /// with `OutOfMemory`.
-fn answer_of<R: Threads + Wait + Clock + Eprint + Sync + AllocGlobal>(
+fn answer_of<R: Threads + Wait + Clock + Sync + AllocGlobal>(
     rt: &R,
     domain: &[u8],
     problem: &[u8],
@@ -82,7 +80,7 @@ fn answer_of<R: Threads + Wait + Clock + Eprint + Sync + AllocGlobal>(
 ///
 /// Returns the exit status: `Done` with a cheapest plan, `Unsolvable` if there is none, `Limited` at a limit, or the fault's.
 /// No plan is written where there is none.
-pub fn run_solve<D: Device, R: Threads + Wait + Clock + Eprint + Sync + AllocGlobal>(
+pub fn run_solve<D: Device, R: Threads + Wait + Clock + Sync + AllocGlobal>(
     rt: &R,
     device: &mut D,
     domain: &str,

@@ -52,7 +52,7 @@ impl Tally {
     }
 
     /// Notes what a worker has come to before a turn.
-    pub(crate) fn note(&self, worker: usize, progress: Progress) {
+    pub(crate) fn note(&self, worker: usize, progress: &Progress) {
         let Some(row) = self.rows.get(worker) else {
             return;
         };
