@@ -4,7 +4,6 @@ use Rattle.std.specs.Str.Parse.{IsNumeral, digits_value}
 use Rattle.owner.specs.declared.ties.Ties.{Ties}
 use Rattle.owner.specs.declared.ties.Ties.TheVariants.{Shallow, Deep}
 use Rattle.optplan_sas.specs.Choices.{Choices}
-use Rattle.optplan_solve.specs.declared.settings.Watch.{Watch}
 use Rattle.optplan_solve.specs.declared.settings.Schedule.{Schedule}
 use Rattle.optplan_solve.specs.declared.settings.Schedule.TheVariants.{Threads, Drawn}
 use Rattle.optplan_solve.specs.declared.settings.Settings.{Settings}
@@ -46,20 +45,21 @@ pub record AreChoicesOf (value : List ℕ → Option (List ℕ)) (choices : Choi
   pub steps : IsNumberOr 1000000 0 9223372036854775807 (value (codes "steps")) choices.steps
   pub ties : IsTiesOf (value (codes "ties")) choices.ties
 
--- the schedule by a seed and by what may end threads: steps drawn from the seed, whatever that is; or where there is none, threads that are
--- watched so
-abbrev pub schedule_by : Option ℕ → Watch → Schedule
-schedule_by (Some seed) watch = Drawn seed
-schedule_by None watch = Threads watch
+-- the schedule by a seed, by seconds and by a memory: steps drawn from the seed, whatever the others; or where there is none, threads, which
+-- have these seconds and this memory, if there are any
+abbrev pub schedule_by : Option ℕ → Option ℕ → Option ℕ → Schedule
+schedule_by (Some seed) seconds mebibytes = Drawn seed
+schedule_by None seconds mebibytes = Threads (record { seconds = seconds; mebibytes = mebibytes })
 
 -- the schedule by the values of the options that name a seed, seconds and memory
 pub record IsScheduleOf (value : List ℕ → Option (List ℕ)) (schedule : Schedule) : Type 0 where
   pub seed : Option ℕ
   pub seed_is : IsNumberOf 0 9223372036854775807 (value (codes "simulate")) seed
-  pub watch : Watch
-  pub seconds_are : IsNumberOf 0 9223372036854775807 (value (codes "time")) watch.seconds
-  pub mebibytes_are : IsNumberOf 0 9223372036854775807 (value (codes "memory")) watch.mebibytes
-  pub is : schedule ≡ schedule_by seed watch
+  pub seconds : Option ℕ
+  pub seconds_are : IsNumberOf 0 9223372036854775807 (value (codes "time")) seconds
+  pub mebibytes : Option ℕ
+  pub mebibytes_are : IsNumberOf 0 9223372036854775807 (value (codes "memory")) mebibytes
+  pub is : schedule ≡ schedule_by seed seconds mebibytes
 
 -- what is requested beside the task, by the values of the command's options
 pub record AreSettingsOf (value : List ℕ → Option (List ℕ)) (settings : Settings) : Type 0 where
