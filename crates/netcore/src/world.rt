@@ -357,6 +357,13 @@ impl<'a, S: Spread + Drop, F: StateForm + Drop> World<'a, S, F> {
         Joined::new(self.space, self.owners, self.underway)
     }
 
+    /// The owners, each at its number.
+    pub fn owners(&self) -> &[Owner<'a, S, F>]
+        ensures { result.now ≡ self.now.owners }
+    {
+        &self.owners
+    }
+
     /// Whether a step ran out of memory halfway. Such a world must not be used again.
     pub fn is_spent(&self) -> bool
         ensures { result ≡ self.now.spent }

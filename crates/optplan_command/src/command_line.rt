@@ -57,7 +57,7 @@ fn program_command<'a>(alloc: Global) -> Result<Command<'a>, AllocError> {
 
 /// Runs the command that `clap` finds in the words, and returns the exit status. Fails with the error in the words, with
 /// help or the version if they are requested, or if allocation fails.
-fn run_words<D: Device, R: Threads + Wait + Clock + Sync + AllocGlobal>(
+fn run_words<D: Device, R: Threads + Wait + Clock + Eprint + Sync + AllocGlobal>(
     rt: &R,
     words: &[String],
     device: &mut D,
@@ -100,7 +100,7 @@ fn show<D: Device>(alloc: Global, device: &mut D, error: &Error) -> Status
 ///
 /// Files are read and texts are written through the device. A report on standard error that fails leaves the status as it
 /// is.
-pub fn run<D: Device, R: Threads + Wait + Clock + Sync + AllocGlobal>(
+pub fn run<D: Device, R: Threads + Wait + Clock + Eprint + Sync + AllocGlobal>(
     words: &[String],
     device: &mut D,
     rt: &R,

@@ -8,7 +8,7 @@ ghost use Rattle.optplan_command.specs.SolveWords.{SolvesByWords, SolvesSasByWor
 
 use crate::file_words::file;
 use crate::options::{RefusedValue, number_for, ties_for};
-use clap::{Arg, ArgMatches, Command, Error};
+use clap::{Arg, ArgAction, ArgMatches, Command, Error};
 use optplan_device::Device;
 use optplan_replies::Status;
 use optplan_sas::{MAX_RING, MAX_TABLE, MAX_WORKERS, Options};
@@ -32,7 +32,12 @@ Reads a domain and a problem in PDDL 2.1 level 1 with types, negative preconditi
 Workers in threads of their own share the states. With --simulate one thread does their steps, in an order that is drawn
 from the seed, so it finds the same plan each time. The seconds of --time count from when the files are read, but only
 the search can be ended: what comes before it may take longer. --memory counts the states and the messages of a search by
-threads, of which each worker may keep its share, and no tables.
+threads, of which each worker may keep its share, and no tables. --progress prints lines such as
+
+  optplan: 3 s, 1200000 expanded, 900000 kept, least open f 12, best cost inf
+
+about once a second, with --simulate once in 100000 steps: the states that were expanded and are kept, the least f-value of
+those yet to be expanded, and the least cost of a plan so far.
 
 Among states of the same f-value, the cost to reach the state plus the lower bound for what is left, --ties shallow expands
 the one reached at the least cost first, which is the order of earlier versions, and --ties deep the one reached at the
@@ -59,7 +64,12 @@ effects), and prints:
 Workers in threads of their own share the states. With --simulate one thread does their steps, in an order that is drawn
 from the seed, so it finds the same plan each time. The seconds of --time count from when the files are read, but only
 the search can be ended: what comes before it may take longer. --memory counts the states and the messages of a search by
-threads, of which each worker may keep its share, and no tables.
+threads, of which each worker may keep its share, and no tables. --progress prints lines such as
+
+  optplan: 3 s, 1200000 expanded, 900000 kept, least open f 12, best cost inf
+
+about once a second, with --simulate once in 100000 steps: the states that were expanded and are kept, the least f-value of
+those yet to be expanded, and the least cost of a plan so far.
 
 Among states of the same f-value, the cost to reach the state plus the lower bound for what is left, --ties shallow expands
 the one reached at the least cost first, which is the order of earlier versions, and --ties deep the one reached at the
@@ -148,9 +158,15 @@ fn with_search_options<'a>(alloc: Global, command: Command<'a>) -> Result<Comman
     with_ending_options(alloc, command)
 }
 
-/// Adds the options that name files.
-fn with_file_options<'a>(alloc: Global, command: Command<'a>) -> Result<Command<'a>, AllocError> {
+/// Adds the options for what is written beside the answer.
+fn with_output_options<'a>(alloc: Global, command: Command<'a>) -> Result<Command<'a>, AllocError> {
     command
+        .arg(
+            Arg::new(alloc, "progress")
+                .long("progress")
+                .action(ArgAction::SetTrue)
+                .help("Tells on standard error, about once a second, how far the search is"),
+        )?
         .arg(option(alloc, "plan", "FILE", "Writes the plan to this file too"))?
         .arg(option(
             alloc,
@@ -167,7 +183,7 @@ pub(crate) fn solve_command<'a>(alloc: Global, name: &'a str) -> Result<Command<
         .long_about(SOLVE_LONG)
         .arg(file(alloc, "DOMAIN", "The domain's file"))?
         .arg(file(alloc, "PROBLEM", "The problem's file"))?;
-    with_file_options(alloc, with_search_options(alloc, command)?)
+    with_output_options(alloc, with_search_options(alloc, command)?)
 }
 
 /// The command `solve-sas`, by this name. Fails only if allocation fails.
@@ -179,7 +195,7 @@ pub(crate) fn solve_sas_command<'a>(
         .about(SOLVE_SAS_ABOUT)
         .long_about(SOLVE_SAS_LONG)
         .arg(file(alloc, "SAS", "The task's file"))?;
-    with_file_options(alloc, with_search_options(alloc, command)?)
+    with_output_options(alloc, with_search_options(alloc, command)?)
 }
 
 /// The options of the search, as in `Options::new` where the words leave them out. Fails with the first value that is
@@ -231,6 +247,7 @@ fn settings_of<'a>(words: &ArgMatches<'a>) -> Result<Settings<'a>, RefusedValue<
     Ok(Settings {
         options,
         schedule,
+        progress: words.get_flag("progress"),
         plan: words.get_str("plan"),
         cert: words.get_str("cert"),
     })
@@ -238,7 +255,7 @@ fn settings_of<'a>(words: &ArgMatches<'a>) -> Result<Settings<'a>, RefusedValue<
 
 /// Solves a planning task as the words request, and returns the exit status. Fails with the command's error for the first
 /// value that is refused, or if allocation fails.
-pub(crate) fn solve_by_words<D: Device, R: Threads + Wait + Clock + Sync + AllocGlobal>(
+pub(crate) fn solve_by_words<D: Device, R: Threads + Wait + Clock + Eprint + Sync + AllocGlobal>(
     rt: &R,
     device: &mut D,
     words: &ArgMatches<'_>,
@@ -262,7 +279,7 @@ pub(crate) fn solve_by_words<D: Device, R: Threads + Wait + Clock + Sync + Alloc
 
 /// Solves a finite-domain task as the words request, and returns the exit status. Fails with the command's error for the
 /// first value that is refused, or if allocation fails.
-pub(crate) fn solve_sas_by_words<D: Device, R: Threads + Wait + Clock + Sync + AllocGlobal>(
+pub(crate) fn solve_sas_by_words<D: Device, R: Threads + Wait + Clock + Eprint + Sync + AllocGlobal>(
     rt: &R,
     device: &mut D,
     words: &ArgMatches<'_>,

@@ -7,5 +7,5 @@ mod preparing;
 mod solving;
 
 pub use fault::PlanningFault;
-pub use optplan_sas::{Gate, Open, Options, Stop};
+pub use optplan_sas::{Gate, Observer, Open, Options, Stop, Unobserved};
 pub use solving::{PlanningAnswer, simulate, solve, solve_steps};

@@ -20,7 +20,7 @@ use cert_text::write_cert;
 use netcore::WorldStep;
 use optplan_plans::named_steps;
 use optplan_sas::{
-    Answer, CheapestPlan, Found, FoundPlan, Gate, KnownSoFar, Options, SoFar, Solution,
+    Answer, CheapestPlan, Found, FoundPlan, Gate, KnownSoFar, Observer, Options, SoFar, Solution,
     WrittenPlan, found_after, found_by_seed, found_by_threads,
 };
 use sasfile_writer::sas_plan_text;
@@ -153,20 +153,21 @@ pub fn solve_steps<R: AllocGlobal + Threads + Sync>(
 
 /// The answer for the task that the texts spell, after steps drawn from the seed, at most as many as the options allow:
 /// each is the step whose number is the next word of Xoshiro256++ modulo the number of steps that would change something.
-/// The guarantees are those of `solve_steps` for these steps.
-pub fn simulate<R: AllocGlobal + Threads + Sync>(
+/// The guarantees are those of `solve_steps` for these steps. The observer is told how far they are.
+pub fn simulate<R: AllocGlobal + Threads + Sync, O: Observer>(
     rt: &R,
     domain: &[u8],
     problem: &[u8],
     options: &Options,
     seed: u64,
+    observer: &O,
 ) -> Result<PlanningAnswer, PlanningFault>
     ensures answer { IfOk result (IsPlanningAnswer domain.now problem.now (EndsBySeed options.now seed)) }
     ensures refused { IfErr result (IsPlanningRefusal domain.now problem.now (IsRefusedBySeed options.now seed)) }
 {
     let alloc = rt.alloc();
     let Prepared { translated, kind } = prepare(alloc, domain, problem)?;
-    let found = found_by_seed(rt, alloc, translated.task(), options, seed, kind)?;
+    let found = found_by_seed(rt, alloc, translated.task(), options, seed, kind, observer)?;
     Ok(answer_texts(alloc, &translated, found)?)
 }
 

@@ -26,7 +26,7 @@ pub fn program_words(alloc: Global, words: &[&str]) -> Result<Vec<String>, Alloc
 }
 
 /// The outcome of the program over these files, each a name and bytes.
-pub fn run_over<R: Threads + Wait + Clock + Sync + AllocGlobal>(
+pub fn run_over<R: Threads + Wait + Clock + Eprint + Sync + AllocGlobal>(
     rt: &R,
     words: &[&str],
     files: &[(&str, &[u8])],

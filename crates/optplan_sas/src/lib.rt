@@ -5,6 +5,7 @@
 mod answer;
 mod fault;
 mod found;
+mod observer;
 mod options;
 mod sas;
 mod schedule;
@@ -14,6 +15,7 @@ pub use answer::{Answer, CheapestPlan, KnownSoFar, WrittenPlan};
 pub use engine::{Gate, Open, Progress, Stop};
 pub use fault::{SasSolveFault, SearchFault};
 pub use found::{Found, FoundPlan, SoFar, Solution, found_by};
+pub use observer::{Observer, Reached, STEPS_BETWEEN_REPORTS, Unobserved};
 pub use options::{MAX_RING, MAX_TABLE, MAX_WORKERS, Options};
 pub use owner::Ties;
 pub use sas::{SasAnswer, simulate_sas, solve_sas, solve_sas_steps};

@@ -14,6 +14,7 @@ ghost use Rattle.optplan_sas.specs.SasAnswers.{IsSasAnswer, IsSasAnswerFor, IsSa
 use crate::answer::{Answer, CheapestPlan, KnownSoFar, WrittenPlan};
 use crate::fault::SasSolveFault;
 use crate::found::{Found, FoundPlan, SoFar, Solution};
+use crate::observer::Observer;
 use crate::options::Options;
 use crate::searching::{found_after, found_by_seed, found_by_threads};
 use cert_text::write_cert;
@@ -147,19 +148,21 @@ pub fn solve_sas_steps<R: AllocGlobal + Threads + Sync>(
 
 /// The answer for the task that the text spells, after steps drawn from the seed, at most as many as the options allow:
 /// each is the step whose number is the next word of Xoshiro256++ modulo the number of steps that would change something.
-/// The guarantees are those of `solve_sas_steps` for these steps.
-pub fn simulate_sas<R: AllocGlobal + Threads + Sync>(
+/// The guarantees are those of `solve_sas_steps` for these steps. The observer is told how far they are.
+pub fn simulate_sas<R: AllocGlobal + Threads + Sync, O: Observer>(
     rt: &R,
     sas: &[u8],
     options: &Options,
     seed: u64,
+    observer: &O,
 ) -> Result<SasAnswer, SasSolveFault>
     ensures answer { IfOk result (IsSasAnswer sas.now (EndsBySeed options.now seed)) }
     ensures refused { IfErr result (IsSasRefusal sas.now (IsRefusedBySeed options.now seed)) }
 {
     let alloc = rt.alloc();
     let task = read_task(alloc, sas)?;
-    let found = found_by_seed(rt, alloc, &task, options, seed, CertificateKind::Sas)?;
+    let kind = CertificateKind::Sas;
+    let found = found_by_seed(rt, alloc, &task, options, seed, kind, observer)?;
     Ok(answer_texts(alloc, &task, found)?)
 }
 

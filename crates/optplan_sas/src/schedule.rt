@@ -5,6 +5,7 @@ ghost use Rattle.fdr.specs.Tasks.{ranges};
 ghost use Rattle.netcore.specs.Possible.{possible_steps};
 ghost use Rattle.optplan_sas.specs.Schedules.{word_of, IsAfterWords, Draws, IsSimulated, IsSimulationRefusal};
 
+use crate::observer::{Observer, Tally};
 use netcore::{World, WorldStep};
 use owner::{OwnerFault, Space};
 use packed::StateForm;
@@ -30,13 +31,14 @@ fn drawn<'a, S: Spread + Drop, F: StateForm + Drop>(
 /// The world after steps drawn one after another: each is, of the steps that would change something, in the world's order,
 /// the one whose number is the next word of Xoshiro256++ (Blackman and Vigna 2021) from this seed modulo their number.
 /// The run ends when the world's count is 0, after `steps` steps, or before a step that asks an owner for more nodes than its limit
-/// allows. A fault is that of a step, or `OutOfMemory`.
-pub fn simulated<'a, S: Spread + Drop, F: StateForm + Drop>(
+/// allows. A fault is that of a step, or `OutOfMemory`. The observer is told how far the run is.
+pub fn simulated<'a, S: Spread + Drop, O: Observer, F: StateForm + Drop>(
     alloc: Global,
     space: &'a Space<'a, S>,
     owners: usize,
     seed: u64,
     steps: u64,
+    observer: &O,
 ) -> Result<World<'a, S, F>, OwnerFault>
     requires owners { 0 < owners }
     requires fits { F.Fits (ranges space.now.task) }
@@ -46,13 +48,14 @@ pub fn simulated<'a, S: Spread + Drop, F: StateForm + Drop>(
 {
     let mut world = World::start(alloc, space, owners)?;
     let mut generator = Xoshiro256PlusPlus::seed_from_u64(seed);
+    let mut tally = Tally::new();
     for _ in 0..steps {
         if world.count() == 0 {
             return Ok(world);
         }
         let step = drawn(&world, &mut generator);
         match world.step(step) {
-            Ok(_) => {}
+            Ok(_) => tally.count(step, world.owners(), observer),
             Err(OwnerFault::LimitReached) => return Ok(world),
             Err(OwnerFault::TotalTooLarge) => return Err(OwnerFault::TotalTooLarge),
             Err(OwnerFault::OutOfMemory) => return Err(OwnerFault::OutOfMemory),

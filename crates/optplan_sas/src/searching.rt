@@ -8,6 +8,7 @@ ghost use Rattle.optplan_sas.specs.Searches.{IsSpaceFor, EndsAfter, IsRefusedAft
 
 use crate::fault::SearchFault;
 use crate::found::{Found, found_by};
+use crate::observer::Observer;
 use crate::options::Options;
 use crate::schedule::simulated;
 use cert_value::CertificateKind;
@@ -15,7 +16,7 @@ use engine::{EngineFault, Gate, Searched, search};
 use fdr::FdrTask;
 use netcore::{World, WorldStep};
 use owner::{OwnerFault, Space};
-use packed::{Bits, Plain, StateForm, in_smallest_form};
+use packed::{StateForm, in_smallest_form};
 use packed_spread::Zobrist;
 use scp::choose_columns;
 use std::alloc::{AllocError, Global};
@@ -61,19 +62,21 @@ fn after_steps<'a, F: StateForm + Drop>(
 }
 
 /// The finding after steps drawn from the seed, as `found_by_seed` returns it, of owners whose states have the form `F`.
-fn by_seed<'a, F: StateForm + Drop>(
+fn by_seed<'a, O: Observer, F: StateForm + Drop>(
     alloc: Global,
     space: &'a Space<'a, Zobrist<'a>>,
     options: &Options,
     seed: u64,
     kind: CertificateKind,
+    observer: &O,
 ) -> Result<Found, SearchFault>
     requires fits { F.Fits (ranges space.now.task) }
     requires space { IsSpaceFor space.now.task options.now space.now }
     ensures found { IfOk result (IsFinding space.now.task (kind_of kind) (EndsBySeed options.now seed space.now.task)) }
     ensures refused { IfErr result (IsRefusedBySeed options.now seed space.now.task) }
 {
-    match simulated::<Zobrist<'a>, F>(alloc, space, options.workers(), seed, options.steps()) {
+    let (workers, steps) = (options.workers(), options.steps());
+    match simulated::<Zobrist<'a>, O, F>(alloc, space, workers, seed, steps, observer) {
         Ok(world) => Ok(found_by(alloc, &world.joined(), kind)?),
         Err(OwnerFault::LimitReached) => unreachable!(),
         Err(OwnerFault::TotalTooLarge) => Err(SearchFault::TotalTooLarge),
@@ -124,18 +127,22 @@ fn after_steps_in_smallest_form<'a>(
 }
 
 /// The finding after steps drawn from the seed, of owners whose states have the smallest form.
-fn by_seed_in_smallest_form<'a>(
+fn by_seed_in_smallest_form<'a, O: Observer>(
     alloc: Global,
     space: &'a Space<'a, Zobrist<'a>>,
     options: &Options,
     seed: u64,
     kind: CertificateKind,
+    observer: &O,
 ) -> Result<Found, SearchFault>
     requires { IsSpaceFor space.now.task options.now space.now }
     ensures found { IfOk result (IsFinding space.now.task (kind_of kind) (EndsBySeed options.now seed space.now.task)) }
     ensures refused { IfErr result (IsRefusedBySeed options.now seed space.now.task) }
 {
-    in_smallest_form!(space.layout(), by_seed(alloc, space, options, seed, kind))
+    in_smallest_form!(
+        space.layout(),
+        by_seed::<O>(alloc, space, options, seed, kind, observer)
+    )
 }
 
 /// The finding of a search by threads, of owners whose states have the smallest form.
@@ -151,19 +158,10 @@ fn by_threads_in_smallest_form<'a, R: Threads + Wait + Clock + Sync, G: Gate + S
     ensures found { IfOk result (IsFinding space.now.task (kind_of kind) (EndsByThreads options.now (G.may_stop gate.now) space.now.task)) }
     ensures refused { IfErr result (IsRefusedByThreads options.now (G.may_stop gate.now) space.now.task) }
 {
-    let layout = space.layout();
-    // `in_smallest_form!` calls a function that has no type parameter but the form
-    if Bits::<1>::fits(layout) {
-        by_threads::<R, G, Bits<1>>(rt, alloc, space, options, kind, gate)
-    } else if Bits::<2>::fits(layout) {
-        by_threads::<R, G, Bits<2>>(rt, alloc, space, options, kind, gate)
-    } else if Bits::<4>::fits(layout) {
-        by_threads::<R, G, Bits<4>>(rt, alloc, space, options, kind, gate)
-    } else if Bits::<8>::fits(layout) {
-        by_threads::<R, G, Bits<8>>(rt, alloc, space, options, kind, gate)
-    } else {
-        by_threads::<R, G, Plain>(rt, alloc, space, options, kind, gate)
-    }
+    in_smallest_form!(
+        space.layout(),
+        by_threads::<R, G>(rt, alloc, space, options, kind, gate)
+    )
 }
 
 /// The finding for the task after these steps of a world of owners, with a certificate of that kind: a cheapest plan, or that there is
@@ -191,19 +189,20 @@ pub fn found_after<'a, R: Threads + Sync>(
 /// that asks an owner for more nodes than its limit allows.
 ///
 /// Fails with `TotalTooLarge` if a path would have a cost or a number of operators above 2^62, or if allocation fails.
-pub fn found_by_seed<'a, R: Threads + Sync>(
+pub fn found_by_seed<'a, R: Threads + Sync, O: Observer>(
     rt: &R,
     alloc: Global,
     task: &'a FdrTask,
     options: &Options,
     seed: u64,
     kind: CertificateKind,
+    observer: &O,
 ) -> Result<Found, SearchFault>
     ensures found { IfOk result (IsFinding task.now (kind_of kind) (EndsBySeed options.now seed task.now)) }
     ensures refused { IfErr result (IsRefusedBySeed options.now seed task.now) }
 {
     let space: Space<'a, Zobrist<'a>> = space_for(rt, alloc, task, options)?;
-    by_seed_in_smallest_form(alloc, &space, options, seed, kind)
+    by_seed_in_smallest_form(alloc, &space, options, seed, kind, observer)
 }
 
 /// The finding for the task by the chosen number of workers, each in a thread of its own, with a certificate of that kind: a cheapest plan,

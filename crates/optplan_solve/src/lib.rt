@@ -5,6 +5,7 @@ mod outputs;
 mod sas_solving;
 mod settings;
 mod solving;
+mod tally;
 mod watcher;
 
 pub use sas_solving::run_solve_sas;

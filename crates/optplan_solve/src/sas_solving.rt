@@ -11,7 +11,7 @@ ghost use Rattle.optplan_solve.specs.SasSolving.{IsSasSolveRefusal, SolvesSas};
 
 use crate::outputs::reply_answer;
 use crate::settings::{Schedule, Settings};
-use crate::watcher::Watcher;
+use crate::watcher::{Narrator, Watcher};
 use optplan_device::Device;
 use optplan_replies::{Fault, FileWord, Status, read_file, report};
 use optplan_sas::{SasAnswer, SasSolveFault, simulate_sas, solve_sas};
@@ -34,7 +34,7 @@ fn solve_fault(fault: SasSolveFault) -> Fault
 
 /// The answer for the task that the text spells, by the schedule that the settings request, whose seconds count from now on. Fails as the
 /// solver does.
-fn solved<R: Threads + Wait + Clock + Sync + AllocGlobal>(
+fn solved<R: Threads + Wait + Clock + Eprint + Sync + AllocGlobal>(
     rt: &R,
     sas: &[u8],
     settings: &Settings<'_>,
@@ -44,17 +44,21 @@ fn solved<R: Threads + Wait + Clock + Sync + AllocGlobal>(
 {
     match settings.schedule {
         Schedule::Threads(watch) => {
-            let watcher = Watcher::new(rt, watch, settings.options.workers());
+            let workers = settings.options.workers();
+            let watcher = Watcher::new(rt, rt.alloc(), watch, workers, settings.progress)?;
             solve_sas(rt, sas, &settings.options, &watcher)
         }
-        Schedule::Drawn(seed) => simulate_sas(rt, sas, &settings.options, seed),
+        Schedule::Drawn(seed) => {
+            let narrator = Narrator::new(rt, settings.progress);
+            simulate_sas(rt, sas, &settings.options, seed, &narrator)
+        }
     }
 }
 
 /// The answer for the task that the text spells.
 ///
 /// Fails with the first fault of the text, with `TotalTooLarge` if a path's total is too large, or with `OutOfMemory`.
-fn answer_of<R: Threads + Wait + Clock + Sync + AllocGlobal>(
+fn answer_of<R: Threads + Wait + Clock + Eprint + Sync + AllocGlobal>(
     rt: &R,
     sas: &[u8],
     settings: &Settings<'_>,
@@ -73,7 +77,7 @@ fn answer_of<R: Threads + Wait + Clock + Sync + AllocGlobal>(
 ///
 /// Returns the exit status: `Done` with a cheapest plan, `Unsolvable` if there is none, `Limited` at a limit, or the fault's.
 /// No plan is written where there is none.
-pub fn run_solve_sas<D: Device, R: Threads + Wait + Clock + Sync + AllocGlobal>(
+pub fn run_solve_sas<D: Device, R: Threads + Wait + Clock + Eprint + Sync + AllocGlobal>(
     rt: &R,
     device: &mut D,
     sas: &str,

@@ -27,6 +27,8 @@ pub struct Settings<'a> {
     pub options: Options,
     /// How the owners' steps follow each other.
     pub schedule: Schedule,
+    /// Whether lines on standard error tell how far the search is.
+    pub progress: bool,
     /// The name of the file to which the plan is written, if requested.
     pub plan: Option<&'a str>,
     /// The name of the file to which the certificate is written, if requested.

@@ -11,7 +11,7 @@ ghost use Rattle.optplan_solve.specs.Solving.{IsSolveRefusal, Solves};
 
 use crate::outputs::reply_answer;
 use crate::settings::{Schedule, Settings};
-use crate::watcher::Watcher;
+use crate::watcher::{Narrator, Watcher};
 use optplan_device::Device;
 use optplan_pddl::{PlanningAnswer, PlanningFault, simulate, solve};
 use optplan_replies::{Fault, Status, read_task_files, report, task_fault};
@@ -38,7 +38,7 @@ fn solve_fault(alloc: Global, fault: PlanningFault, domain: &[u8], problem: &[u8
 
 /// The answer for the task that the texts spell, by the schedule that the settings request, whose seconds count from now on. Fails as the
 /// planner does.
-fn planned<R: Threads + Wait + Clock + Sync + AllocGlobal>(
+fn planned<R: Threads + Wait + Clock + Eprint + Sync + AllocGlobal>(
     rt: &R,
     domain: &[u8],
     problem: &[u8],
@@ -49,10 +49,14 @@ fn planned<R: Threads + Wait + Clock + Sync + AllocGlobal>(
 {
     match settings.schedule {
         Schedule::Threads(watch) => {
-            let watcher = Watcher::new(rt, watch, settings.options.workers());
+            let workers = settings.options.workers();
+            let watcher = Watcher::new(rt, rt.alloc(), watch, workers, settings.progress)?;
             solve(rt, domain, problem, &settings.options, &watcher)
         }
-        Schedule::Drawn(seed) => simulate(rt, domain, problem, &settings.options, seed),
+        Schedule::Drawn(seed) => {
+            let narrator = Narrator::new(rt, settings.progress);
+            simulate(rt, domain, problem, &settings.options, seed, &narrator)
+        }
     }
 }
 
@@ -60,7 +64,7 @@ fn planned<R: Threads + Wait + Clock + Sync + AllocGlobal>(
 ///
 /// Fails with the fault of the texts that comes first, if the task, its translation or a path's total exceeds a limit, or
 /// with `OutOfMemory`.
-fn answer_of<R: Threads + Wait + Clock + Sync + AllocGlobal>(
+fn answer_of<R: Threads + Wait + Clock + Eprint + Sync + AllocGlobal>(
     rt: &R,
     domain: &[u8],
     problem: &[u8],
@@ -80,7 +84,7 @@ fn answer_of<R: Threads + Wait + Clock + Sync + AllocGlobal>(
 ///
 /// Returns the exit status: `Done` with a cheapest plan, `Unsolvable` if there is none, `Limited` at a limit, or the fault's.
 /// No plan is written where there is none.
-pub fn run_solve<D: Device, R: Threads + Wait + Clock + Sync + AllocGlobal>(
+pub fn run_solve<D: Device, R: Threads + Wait + Clock + Eprint + Sync + AllocGlobal>(
     rt: &R,
     device: &mut D,
     domain: &str,

@@ -1,9 +1,11 @@
-//! What ends a search by threads from outside, as at a limit.
+//! What ends a search from outside, as at a limit, and what tells how far it is.
 
-ghost use Rattle.std.specs.Prelude.{◌≡◌};
+ghost use Rattle.std.specs.Prelude.{◌≡◌, IfOk};
 
 use crate::settings::Watch;
-use optplan_sas::{Gate, Progress, Stop};
+use crate::tally::Tally;
+use optplan_sas::{Gate, Observer, Progress, Reached, Stop};
+use std::alloc::{AllocError, Global};
 use std::time::{Clock, Instant};
 
 /// The bytes that a state or a message takes beside the words of its values: its entry, its hash, its place in the index, and in
@@ -15,15 +17,17 @@ const BYTES_OF_A_WORD: u128 = 8;
 const BYTES_OF_A_MEBIBYTE: u128 = 1_048_576;
 
 /// The gate that ends a search as at a limit once its seconds have passed since the gate was made, or a worker keeps more than its share
-/// of the memory.
+/// of the memory; and that tells once a second how far the search is, where it is to.
 #[derive(Drop)]
-pub(crate) struct Watcher<'a, R: Clock + Sync> {
+pub(crate) struct Watcher<'a, R: Clock + Eprint + Sync> {
     rt: &'a R,
     watch: Watch,
     /// The number of workers among which the memory is divided.
     workers: usize,
     /// When it was made; `None` if the clock could not be read, or need not be.
     start: Option<Instant>,
+    /// What the workers have told; `None` if no line is to be printed.
+    tally: Option<Tally>,
 }
 
 /// Whether a worker, one of this number, keeps more than its share of the memory: its states and the messages in its outboxes, as packed.
@@ -34,42 +38,98 @@ fn is_past(mebibytes: u64, workers: usize, progress: &Progress) -> bool {
     kept.saturating_mul(workers as u128) > (mebibytes as u128).saturating_mul(BYTES_OF_A_MEBIBYTE)
 }
 
-impl<'a, R: Clock + Sync> Watcher<'a, R> {
-    /// The watcher of a search by so many workers. The time runs from now on; where the clock cannot be read now, no time ends the search.
-    pub(crate) fn new(rt: &'a R, watch: Watch, workers: usize) -> Watcher<'a, R>
-        ensures { result.watch ≡ watch }
+impl<'a, R: Clock + Eprint + Sync> Watcher<'a, R> {
+    /// The watcher of a search by so many workers, which tells how far it is or does not. The time runs from now on; where the clock cannot
+    /// be read now, no time ends the search, and nothing is told. Fails only if allocation fails.
+    pub(crate) fn new(
+        rt: &'a R,
+        alloc: Global,
+        watch: Watch,
+        workers: usize,
+        tells: bool,
+    ) -> Result<Watcher<'a, R>, AllocError>
+        ensures { IfOk result (λ w. w.watch ≡ watch) }
     {
-        let start = match watch.seconds {
-            Some(_) => Instant::now(rt).ok(),
-            None => None,
+        let start = if watch.seconds.is_some() || tells {
+            Instant::now(rt).ok()
+        } else {
+            None
         };
-        Watcher {
+        let tally = if tells {
+            Some(Tally::new(alloc, workers)?)
+        } else {
+            None
+        };
+        Ok(Watcher {
             rt,
             watch,
             workers,
             start,
-        }
+            tally,
+        })
     }
 }
 
-impl<'a, R: Clock + Sync> Gate for Watcher<'a, R> {
+impl<'a, R: Clock + Eprint + Sync> Gate for Watcher<'a, R> {
     ghost use Rattle.optplan_solve.specs.Schedules.{ends_in};
 
     ghost may_stop = { λ g worker turn stop. ends_in g.watch worker turn stop };
 
-    /// Lets a turn pass where the clock cannot be read, and does not read it where there is no limit.
-    fn turn(&self, _worker: usize, _turn: u64, progress: Progress) -> Result<(), Stop> {
+    /// Lets a turn pass where the clock cannot be read, and does not read it where there is no need. A line that cannot be printed is
+    /// left out.
+    fn turn(&self, worker: usize, _turn: u64, progress: Progress) -> Result<(), Stop> {
         if let Some(mebibytes) = self.watch.mebibytes {
             if is_past(mebibytes, self.workers, &progress) {
                 return Err(Stop::Limit);
             }
         }
-        let (Some(start), Some(seconds)) = (self.start, self.watch.seconds) else {
+        if let Some(tally) = &self.tally {
+            tally.note(worker, &progress);
+        }
+        let Some(start) = self.start else {
             return Ok(());
         };
-        match start.elapsed(self.rt) {
-            Ok(elapsed) if elapsed.as_secs() >= seconds => Err(Stop::Limit),
+        let Ok(elapsed) = start.elapsed(self.rt) else {
+            return Ok(());
+        };
+        let now = elapsed.as_secs();
+        if let Some(tally) = &self.tally {
+            if tally.is_due(now) {
+                let reached = tally.reached();
+                let _ = eprintln!(self.rt;
+                    "optplan: {now} s, {} expanded, {} kept, least open f {}, best cost {}",
+                    reached.expanded, reached.kept, reached.least_open, reached.best
+                );
+            }
+        }
+        match self.watch.seconds {
+            Some(seconds) if now >= seconds => Err(Stop::Limit),
             _ => Ok(()),
+        }
+    }
+}
+
+/// Tells how far a search by drawn steps is, where it is to.
+#[derive(Drop)]
+pub(crate) struct Narrator<'a, R: Eprint> {
+    rt: &'a R,
+    tells: bool,
+}
+
+impl<'a, R: Eprint> Narrator<'a, R> {
+    pub(crate) fn new(rt: &'a R, tells: bool) -> Narrator<'a, R> {
+        Narrator { rt, tells }
+    }
+}
+
+impl<'a, R: Eprint> Observer for Narrator<'a, R> {
+    /// A line that cannot be printed is left out.
+    fn observe(&self, steps: u64, reached: Reached) {
+        if self.tells {
+            let _ = eprintln!(self.rt;
+                "optplan: {steps} steps, {} expanded, {} kept, least open f {}, best cost {}",
+                reached.expanded, reached.kept, reached.least_open, reached.best
+            );
         }
     }
 }

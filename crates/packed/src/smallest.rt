@@ -1,20 +1,20 @@
 //! The choice of a form.
 
-/// Calls a function that is generic over the form of states, with the smallest form that states of a layout (`&Layout`)
-/// have: packed words, as few as they need, or the list of their values if they need more than eight words.
+/// Calls a function that is generic over the form of states, its last type, with the smallest form that states of a layout
+/// (`&Layout`) have: packed words, as few as they need, or the list of their values if they need more than eight words.
 #[macro_export]
 macro_rules! in_smallest_form {
-    ($layout:expr, $function:ident($($argument:expr),*)) => {
+    ($layout:expr, $function:ident $(::<$($type:ty),+>)? ($($argument:expr),*)) => {
         if $crate::Bits::<1>::fits($layout) {
-            $function::<$crate::Bits<1>>($($argument),*)
+            $function::<$($($type,)+)? $crate::Bits<1>>($($argument),*)
         } else if $crate::Bits::<2>::fits($layout) {
-            $function::<$crate::Bits<2>>($($argument),*)
+            $function::<$($($type,)+)? $crate::Bits<2>>($($argument),*)
         } else if $crate::Bits::<4>::fits($layout) {
-            $function::<$crate::Bits<4>>($($argument),*)
+            $function::<$($($type,)+)? $crate::Bits<4>>($($argument),*)
         } else if $crate::Bits::<8>::fits($layout) {
-            $function::<$crate::Bits<8>>($($argument),*)
+            $function::<$($($type,)+)? $crate::Bits<8>>($($argument),*)
         } else {
-            $function::<$crate::Plain>($($argument),*)
+            $function::<$($($type,)+)? $crate::Plain>($($argument),*)
         }
     };
 }

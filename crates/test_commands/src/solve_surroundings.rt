@@ -168,7 +168,7 @@ const MEMORY_ROWS: &[Row] = &[
 ];
 
 /// Checks the outcome of the program if one call of its device fails with this fault.
-fn does<R: Threads + Wait + Clock + Sync + Abort + AllocGlobal>(
+fn does<R: Threads + Wait + Clock + Eprint + Sync + Abort + AllocGlobal>(
     rt: &R,
     row: &Row,
     fault: DeviceFault,

@@ -26,7 +26,7 @@ fn wanted(alloc: Global, texts: Texts) -> Result<Outcome, AllocError> {
 }
 
 /// Checks that the program over these files puts this out, and reports nothing.
-fn puts<R: Threads + Wait + Clock + Sync + Abort + AllocGlobal>(
+fn puts<R: Threads + Wait + Clock + Eprint + Sync + Abort + AllocGlobal>(
     rt: &R,
     words: &[&str],
     files: &[(&str, &[u8])],
@@ -53,7 +53,7 @@ fn a_file_whose_name_is_empty(rt: HostRuntime) -> Result<(), Fail> {
 }
 
 /// The outcome of the program if one call of its device fails with a fault.
-fn run_with_fault<R: Threads + Wait + Clock + Sync + AllocGlobal>(
+fn run_with_fault<R: Threads + Wait + Clock + Eprint + Sync + AllocGlobal>(
     rt: &R,
     words: &[&str],
     plan: &str,

@@ -1,0 +1,97 @@
+//! How far a search by threads is, as its workers have told.
+
+use cost::{Dist, MAX_DISTANCE};
+use optplan_sas::{Progress, Reached};
+use std::alloc::{AllocError, Global};
+use std::sync::atomic::{AtomicU64, Ordering};
+
+/// The number that stands for the infinite distance: one that no distance has.
+const INFINITE: u64 = MAX_DISTANCE + 1;
+
+/// What a worker has told last.
+#[derive(Drop)]
+struct Row {
+    /// The turns that it began with a state to expand below the least cost known by then: an expansion in each, unless the worker
+    /// learned of a lesser cost meanwhile.
+    expanded: AtomicU64,
+    /// The states that it keeps.
+    kept: AtomicU64,
+    /// The least f-value of its open states.
+    least_open: AtomicU64,
+}
+
+/// What the workers have told, and when the next line is due.
+#[derive(Drop)]
+pub(crate) struct Tally {
+    rows: Vec<Row>,
+    /// The least cost at which any of them has taken a goal state.
+    best: AtomicU64,
+    /// The second from which on the next line may be printed.
+    due: AtomicU64,
+}
+
+fn number_of(distance: Dist) -> u64 {
+    distance.get().unwrap_or(INFINITE)
+}
+
+fn distance_of(number: u64) -> Dist {
+    Dist::fin(number).unwrap_or(Dist::inf())
+}
+
+impl Tally {
+    /// Nothing is told yet by so many workers. Fails only if allocation fails.
+    pub(crate) fn new(alloc: Global, workers: usize) -> Result<Tally, AllocError> {
+        let mut rows = Vec::new(alloc);
+        for _ in 0..workers {
+            rows.push(Row {
+                expanded: AtomicU64::new(0),
+                kept: AtomicU64::new(0),
+                least_open: AtomicU64::new(INFINITE),
+            })?;
+        }
+        Ok(Tally {
+            rows,
+            best: AtomicU64::new(INFINITE),
+            due: AtomicU64::new(1),
+        })
+    }
+
+    /// Notes what a worker has come to before a turn.
+    pub(crate) fn note(&self, worker: usize, progress: &Progress) {
+        let Some(row) = self.rows.get(worker) else {
+            return;
+        };
+        let open = number_of(progress.least_open);
+        let best = number_of(progress.best);
+        let known = self.best.fetch_min(best, Ordering::Relaxed).min(best);
+        row.kept.store(progress.states as u64, Ordering::Relaxed);
+        row.least_open.store(open, Ordering::Relaxed);
+        if open < known {
+            row.expanded.fetch_add(1, Ordering::Relaxed);
+        }
+    }
+
+    /// Whether a line is to be printed at this second, by who asks: once in a second at most, and not in the first one.
+    pub(crate) fn is_due(&self, second: u64) -> bool {
+        let due = self.due.load(Ordering::Relaxed);
+        let next = second.saturating_add(1);
+        let ordering = Ordering::Relaxed;
+        second >= due && self.due.compare_exchange(due, next, ordering, ordering).is_ok()
+    }
+
+    /// What the workers have come to together, as each told last.
+    pub(crate) fn reached(&self) -> Reached {
+        let (mut expanded, mut kept, mut least_open) = (0u64, 0u64, INFINITE);
+        for row in &self.rows {
+            expanded = expanded.saturating_add(row.expanded.load(Ordering::Relaxed));
+            kept = kept.saturating_add(row.kept.load(Ordering::Relaxed));
+            least_open = least_open.min(row.least_open.load(Ordering::Relaxed));
+        }
+        Reached {
+            expanded,
+            kept,
+            least_open: distance_of(least_open),
+            best: distance_of(self.best.load(Ordering::Relaxed)),
+        }
+    }
+}
