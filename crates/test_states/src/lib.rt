@@ -1,5 +1,5 @@
-//! Tests of what an owner of states keeps and shares: forms of states, tables, open lists, applicable operators, and the boards
-//! and rings between workers.
+//! Tests of what an owner of states keeps and shares: costs, forms of states, tables, open lists, applicable operators, and the
+//! boards and rings between workers.
 #![tactic(auto)]
 
 #[cfg(test)]
@@ -8,6 +8,8 @@ mod applicable_operators;
 mod boards;
 #[cfg(test)]
 mod closed_tables;
+#[cfg(test)]
+mod costs;
 #[cfg(test)]
 mod forms;
 #[cfg(test)]

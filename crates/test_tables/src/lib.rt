@@ -1,12 +1,8 @@
-//! Tests of costs, distances, patterns, tables and columns of tasks, worked out by hand.
+//! Tests of distances, patterns, tables and columns of tasks, and of their check, worked out by hand.
 #![tactic(auto)]
 
 #[cfg(test)]
 mod closed_violations;
-#[cfg(test)]
-mod costs;
-#[cfg(test)]
-mod projections;
 #[cfg(test)]
 mod stair_distances;
 #[cfg(test)]

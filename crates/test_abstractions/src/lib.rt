@@ -1,0 +1,5 @@
+//! Tests of projections, worked out by hand.
+#![tactic(auto)]
+
+#[cfg(test)]
+mod projections;
