@@ -2,7 +2,7 @@
 """Lists the files of definitions on which statements stand: what has to be read to believe them.
 
 usage: .ci/definitions.py [CRATE/FILE..]    the files in the `specs/` of crates from which to start, as `pddl/Texts`; without any, those of the
-                                            headline: what two texts spell, what a valid plan is and costs, and a plan's text. The last line
+                                            headline: what two texts spell, what a valid plan is and costs, a lower bound, and a plan's text. The last line
                                             is the number of lines and of files
 """
 
@@ -11,7 +11,7 @@ import re
 import sys
 
 CRATES = os.path.join(os.path.dirname(os.path.dirname(os.path.abspath(__file__))), "crates")
-HEADLINE = ("pddl/Texts", "pddl_task/Plans", "optplan_plans/Plans", "validate/Written")
+HEADLINE = ("pddl/Texts", "pddl_task/Plans", "translate_theory/Bounds", "optplan_plans/Plans", "validate/Written")
 # A name that a file uses: a crate, a file of its definitions, and what follows.
 USE = re.compile(r"(?:pub )?use Rattle\.(\w+)\.specs\.(\w+)")
 
