@@ -1,5 +1,5 @@
 -- Falls of values over the transitions of classes of operators.
-use Rattle.std.proofs.Common.{◌≡◌, ℕ, ◌<◌, ◌≤◌, ◌⊎◌, max, List, length, Option, Some, None, slice_index, slice_set, get_or, refl, sym, ap, ◌∙◌, subst, inl, inr, ⊎_elim, arith}
+use Rattle.std.proofs.Common.{◌≡◌, ℕ, ◌<◌, ◌≤◌, ◌⊎◌, max, List, length, Option, Some, None, slice_index, slice_set, refl, sym, ap, subst, inl, inr, ⊎_elim, arith}
 use Rattle.std.specs.Prelude.{IfSome, IsSomeAnd, slice_get}
 use Rattle.std.specs.Option.{option_map_or}
 use Rattle.std.proofs.lemmas.Bool.{cases_lt}
@@ -10,8 +10,9 @@ use Rattle.abstraction.specs.Abstractions.{Abstraction, Table, IsAbstractionOf}
 use Rattle.pdb_walks.specs.Walks.{AreDistances, value_in, fall, IsGreatestFall}
 use Rattle.pdb_walks.specs.Entrances.{LeadsTo, Classes, AreClasses}
 use Rattle.pdb_walks.proofs.Saturation.{distances_consistent}
-use Rattle.pdb.specs.Classes.{share_by}
-use Rattle.pdb.specs.Saturations.{IsFallOf, AreFalls, IsCoveredAt}
+use Rattle.pdb.specs.Classes.{share_by, AreLeast}
+use Rattle.pdb.specs.Saturations.{IsFallOf, AreFalls, AreFull, AreWithin, IsCoveredAt}
+use Rattle.pdb.proofs.ClassLaws.{operator_below}
 use Rattle.pdb.proofs.Lowering.{cases_set}
 use Rattle.pdb.proofs.Expansion.{share_told, share_none}
 
@@ -39,6 +40,23 @@ fall_within_share task a share values o i j abs exact step =
     let t : Table = record { abstraction = a; share = share; value = value_in values } in
     let consistent = distances_consistent task t abs exact.exact in
     fall_at_most (value_in values i) (value_in values j) (share o) (rw step.1 at (consistent.steps i o step.0))
+
+-- no fall over a transition is greater than the least share of the operator's class
+pub falls_within_least : (task : FiniteDomainTask) (a b : Abstraction) (classes : Classes) (shares least : List ℕ) (values : List Distance) → b ≡ a → IsAbstractionOf task a → AreClasses b classes →
+    AreDistances a (λ o. slice_index shares o) values → length shares ≡ length task.operators → AreLeast classes shares least → AreWithin b classes (value_in values) least
+falls_within_least task a b classes shares least values e abs grouped exact long are j below o i c of step =
+    let share : ℕ → ℕ = λ o. slice_index shares o in
+    let abstracts : IsAbstractionOf task b = subst (λ (x : Abstraction). IsAbstractionOf task x) (sym e) abs in
+    let distances : AreDistances b share values = subst (λ (x : Abstraction). AreDistances x share values) (sym e) exact in
+    let p = are.reached o c (omega (arith, long, operator_below task b o i j abstracts step)) of in
+    let also = grouped.alike o p.0 c i j of p.1 below step in
+    omega (arith, fall_within_share task b share values p.0 i j abstracts distances also, p.2)
+
+-- where each number is the least share of its class at least, no fall is greater
+pub covered_full : (a : Abstraction) (classes : Classes) (value : ℕ → Distance) (least numbers : List ℕ) (n : ℕ) → AreClasses a classes → classes.count ≤ n → AreWithin a classes value least → AreFull n least numbers →
+    (j : ℕ) → j < a.size → IsCoveredAt a classes value j numbers
+covered_full a classes value least numbers n grouped long within full j below o i c e step =
+    omega (arith, within j below o i c e step, full c (omega (arith, long, grouped.below o c e)))
 
 -- one class more is raised to the fall over one of its transitions
 module _ (a : Abstraction) (classes : Classes) (value : ℕ → Distance) (numbers : List ℕ) (c n m : ℕ) (inside : c < length numbers) (is : m ≡ max (slice_index numbers c) n) where

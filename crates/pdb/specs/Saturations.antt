@@ -17,3 +17,11 @@ AreFalls a classes value numbers = (c : ℕ) → IsFallOf a classes value c (sli
 abbrev pub IsCoveredAt : Abstraction → Classes → (ℕ → Distance) → ℕ → List ℕ → Type 0
 IsCoveredAt a classes value j numbers =
     (o i c : ℕ) → classes.class o ≡ Some c → LeadsTo a o i j → fall (value i) (value j) ≤ slice_index numbers c
+
+-- no fall over a transition is greater than the number of the operator's class
+abbrev pub AreWithin : Abstraction → Classes → (ℕ → Distance) → List ℕ → Type 0
+AreWithin a classes value numbers = (j : ℕ) → j < a.size → IsCoveredAt a classes value j numbers
+
+-- the numbers of the first n classes are not below those of the first list
+abbrev pub AreFull : ℕ → List ℕ → List ℕ → Type 0
+AreFull n least numbers = (c : ℕ) → c < n → slice_index least c ≤ slice_index numbers c

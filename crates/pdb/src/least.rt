@@ -1,27 +1,25 @@
 //! Shares of classes of operators.
 
-ghost use Rattle.std.specs.Prelude.{◌≡◌, ℕ, ◌^◌, ◌<◌, length, slice_index, IfOk};
+ghost use Rattle.std.specs.Prelude.{◌≡◌, ℕ, ◌<◌, ◌≤◌, length, slice_index, IfOk};
 ghost use Rattle.pdb.specs.Classes.{AreLeast, share_by};
 
 use pdb_walks::BackwardTransitions;
 use std::alloc::{AllocError, Global};
 
-/// The greatest share of an operator.
-const GREATEST_SHARE: u32 = 2_147_483_647;
-
-/// The least share of the operators of each class. A class without operators has the greatest share. Fails only if
-/// allocation fails.
+/// The least share of the operators of each class. No share is above `most`, which a class without operators has. Fails
+/// only if allocation fails.
 pub(crate) fn least_shares<T: BackwardTransitions>(
     alloc: Global,
     transitions: &T,
     shares: &[u32],
+    most: u32,
 ) -> Result<Vec<u32>, AllocError>
-    requires { (o : ℕ) → slice_index shares.now o < 2 ^ 31 }
+    requires { (o : ℕ) → slice_index shares.now o ≤ most }
     ensures len { IfOk result (λ least. length least.items ≡ (T.classes transitions.now).count) }
-    ensures small { IfOk result (λ least. (c : ℕ) → slice_index least.items c < 2 ^ 31) }
+    ensures small { IfOk result (λ least. (c : ℕ) → slice_index least.items c ≤ most) }
     ensures least { IfOk result (λ least. AreLeast (T.classes transitions.now) shares.now least.items) }
 {
-    let mut least = vec![in alloc; GREATEST_SHARE; transitions.class_count()]?;
+    let mut least = vec![in alloc; most; transitions.class_count()]?;
     for operator in 0..shares.len() {
         if let Some(class) = transitions.class_of(operator) {
             least[class] = least[class].min(shares[operator]);

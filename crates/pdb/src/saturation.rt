@@ -1,13 +1,13 @@
 //! The saturated cost function of a table of distances.
 
-ghost use Rattle.std.specs.Prelude.{◌≡◌, ℕ, ◌^◌, ◌<◌, ◌≤◌, length, slice_index, IfOk, OnOk};
+ghost use Rattle.std.specs.Prelude.{◌≡◌, ℕ, ◌^◌, ◌<◌, ◌≤◌, length, slice_index, Some, IfOk, OnOk};
 ghost use Rattle.cost.specs.Distances.{Finite};
 ghost use Rattle.fdr.specs.Tasks.{FiniteDomainTask};
 ghost use Rattle.pdb_walks.specs.Walks.{AreDistances, IsGreatestFall, value_in, fall};
 ghost use Rattle.pdb_walks.specs.Entrances.{LeadsTo};
-ghost use Rattle.pdb.specs.Saturations.{AreFalls, IsCoveredAt};
+ghost use Rattle.pdb.specs.Saturations.{AreFalls, AreFull, AreWithin, IsCoveredAt};
 
-use crate::least::shares_by_class;
+use crate::least::{least_shares, shares_by_class};
 use cert_value::Values;
 use pdb_walks::{BackwardAbstraction, BackwardTransitions, Transition};
 use std::alloc::{AllocError, Global};
@@ -37,7 +37,7 @@ fn cover<T: BackwardTransitions>(
     requires len { length greatest.old ≡ (T.classes transitions.now).count }
     requires values { length values.now ≡ (T.abstraction transitions.now).size }
     requires state { state < (T.abstraction transitions.now).size }
-    requires falls { (o i : ℕ) → LeadsTo (T.abstraction transitions.now) o i state →
+    requires falls { (o i c : ℕ) → (T.classes transitions.now).class o ≡ Some c → LeadsTo (T.abstraction transitions.now) o i state →
         fall (value_in values.now i) (value_in values.now state) < 2 ^ 32 }
     requires reached { AreFalls (T.abstraction transitions.now) (T.classes transitions.now) (value_in values.now) greatest.old }
     ensures reached { OnOk result
@@ -58,15 +58,66 @@ fn cover<T: BackwardTransitions>(
     Ok(())
 }
 
-/// The greatest fall of the values over the transitions of each class. Fails only if allocation fails.
+/// The first class from `first` on whose number is below its least share, or the number of classes if there is none.
+fn first_below(greatest: &[u32], least: &[u32], first: usize) -> usize
+    requires len { length least.now ≡ length greatest.now }
+    requires first { first ≤ length greatest.now }
+    requires full { AreFull first least.now greatest.now }
+    ensures within { result ≤ length greatest.now }
+    ensures full { AreFull result least.now greatest.now }
+    ensures below { result < length greatest.now → slice_index greatest.now result < slice_index least.now result }
+{
+    for class in first..greatest.len() {
+        if greatest[class] < least[class] {
+            return class;
+        }
+    }
+    greatest.len()
+}
+
+/// Raises the numbers of the classes to the falls of the values over all transitions. It ends as soon as each number is
+/// the least share of its class, since no fall is greater. The lists are buffers for `cover`. Fails only if allocation
+/// fails.
+fn cover_all<T: BackwardTransitions>(
+    transitions: &T,
+    values: &Values,
+    least: &[u32],
+    greatest: &mut [u32],
+    digits: &mut Vec<u32>,
+    entering: &mut Vec<Transition>,
+) -> Result<(), AllocError>
+    requires len { length greatest.old ≡ (T.classes transitions.now).count }
+    requires least_len { length least.now ≡ (T.classes transitions.now).count }
+    requires values { length values.now ≡ (T.abstraction transitions.now).size }
+    requires falls { AreWithin (T.abstraction transitions.now) (T.classes transitions.now) (value_in values.now) least.now }
+    requires reached { AreFalls (T.abstraction transitions.now) (T.classes transitions.now) (value_in values.now) greatest.old }
+    ensures reached { OnOk result
+        (AreFalls (T.abstraction transitions.now) (T.classes transitions.now) (value_in values.now) greatest.new) }
+    ensures covered { OnOk result ((j : ℕ) → j < (T.abstraction transitions.now).size →
+        IsCoveredAt (T.abstraction transitions.now) (T.classes transitions.now) (value_in values.now) j greatest.new) }
+{
+    let mut first = 0;
+    for state in 0..values.len() {
+        first = first_below(greatest, least, first);
+        if first == greatest.len() {
+            return Ok(());
+        }
+        cover(transitions, values, state, greatest, digits, entering)?;
+    }
+    Ok(())
+}
+
+/// The greatest fall of the values over the transitions of each class. `least` has the least share of each class, which
+/// no fall exceeds. Fails only if allocation fails.
 fn greatest_falls<T: BackwardTransitions>(
     alloc: Global,
     transitions: &T,
     values: &Values,
+    least: &[u32],
 ) -> Result<Vec<u32>, AllocError>
+    requires least_len { length least.now ≡ (T.classes transitions.now).count }
     requires values { length values.now ≡ (T.abstraction transitions.now).size }
-    requires falls { (o i j : ℕ) → j < (T.abstraction transitions.now).size → LeadsTo (T.abstraction transitions.now) o i j →
-        fall (value_in values.now i) (value_in values.now j) < 2 ^ 32 }
+    requires falls { AreWithin (T.abstraction transitions.now) (T.classes transitions.now) (value_in values.now) least.now }
     ensures len { IfOk result (λ greatest. length greatest.items ≡ (T.classes transitions.now).count) }
     ensures reached { IfOk result (λ greatest.
         AreFalls (T.abstraction transitions.now) (T.classes transitions.now) (value_in values.now) greatest.items) }
@@ -76,16 +127,14 @@ fn greatest_falls<T: BackwardTransitions>(
     let mut greatest = vec![in alloc; 0; transitions.class_count()]?;
     let mut digits = Vec::new(alloc);
     let mut entering = Vec::new(alloc);
-    for state in 0..values.len() {
-        cover(
-            transitions,
-            values,
-            state,
-            &mut greatest,
-            &mut digits,
-            &mut entering,
-        )?;
-    }
+    cover_all(
+        transitions,
+        values,
+        least,
+        &mut greatest,
+        &mut digits,
+        &mut entering,
+    )?;
     Ok(greatest)
 }
 
@@ -106,6 +155,7 @@ pub fn saturate<A: BackwardAbstraction>(
         IsGreatestFall (A.abstraction abstraction.now) (value_in values.now) o (slice_index needed.items o)) }
 {
     let transitions = abstraction.transitions();
-    let greatest = greatest_falls(alloc, transitions, values)?;
+    let least = least_shares(alloc, transitions, shares, u32::MAX)?;
+    let greatest = greatest_falls(alloc, transitions, values, &least)?;
     shares_by_class(alloc, transitions, &greatest, shares.len())
 }

@@ -16,6 +16,9 @@ use cost::Dist;
 use pdb_walks::{BackwardAbstraction, BackwardTransitions, Transition};
 use std::alloc::{AllocError, Global};
 
+/// The greatest share of an operator.
+const GREATEST_SHARE: u32 = 2_147_483_647;
+
 /// The value of an abstract state from which no walk to an abstract goal has been found.
 const UNREACHED: u64 = 18_446_744_073_709_551_615;
 
@@ -137,7 +140,7 @@ pub fn distances<A: BackwardAbstraction>(
         (λ values. AreDistances (A.abstraction abstraction.now) (λ o. slice_index shares.now o) values) }
 {
     let transitions = abstraction.transitions();
-    let least = least_shares(alloc, transitions, shares)?;
+    let least = least_shares(alloc, transitions, shares, GREATEST_SHARE)?;
     let size = abstraction.size();
     let mut values = vec![in alloc; UNREACHED; size]?;
     let mut queue = Queue::new(alloc, size)?;

@@ -1,5 +1,5 @@
 -- The numbers from which changes lead are below the product of the ranges.
-use Rattle.std.proofs.Common.{◌≡◌, ℕ, zero, suc, ◌+◌, ◌*◌, ◌/◌, ◌%◌, ◌^◌, ◌<◌, ◌≤◌, List, [], ◌∷◌, length, drop, get_or, refl, arith, add-one, drop-cons}
+use Rattle.std.proofs.Common.{◌≡◌, ℕ, zero, suc, ◌+◌, ◌*◌, ◌/◌, ◌%◌, ◌^◌, ◌-◌, ◌<◌, ◌≤◌, List, [], ◌∷◌, length, take, drop, get_or, refl, subst, arith, add-one, drop-cons}
 use Rattle.std.specs.Prelude.{All}
 use Rattle.std.proofs.lemmas.List.Elements.{All-head, All-tail}
 use Rattle.std.proofs.Math.Nat.{mod-add-div}
@@ -9,6 +9,8 @@ use Rattle.pdb_regression.specs.declared.change.Change.{Change}
 use Rattle.pdb_regression.specs.declared.change.Change.TheVariants.{Kept, Required, Moved, Assigned}
 use Rattle.pdb_regression.specs.Changes.{LeadsBy, FitsIn, IsFit, put_at, taken_at, size_by}
 use Rattle.pdb_regression.specs.Rules.{put_by, taken_by}
+use Rattle.pdb_regression.specs.Tables.{no_change}
+use Rattle.pdb_regression.proofs.Elements.{first_and_rest}
 
 pub leads_below : (cs : List DigitChange) (i j : ℕ) → All IsFit cs → LeadsBy cs i j → i < size_by cs
 leads_below [] i j all h = omega arith
@@ -52,7 +54,28 @@ put_small (c ∷ cs) all =
       below_product c.digit.range (size_by cs) (taken_at c.change) (taken_by cs) here.1 rest.1,
     )
 
+-- one more digit: the product and the sum that put a value below its room beside a part below a size
+pub digit_more : (r s x n k : ℕ) → x < r → n < s → r * s ≤ k → (r * n < k) × (x + r * n < k)
+digit_more r s x n k l m small = let sum = below_product r s x n l m in (omega arith, omega arith)
+
+-- what holds of the first change and the rest, for each way to take the changes apart
+pub at_first : (P : DigitChange → List DigitChange → Type 0) (cs : List DigitChange) → 1 ≤ length cs → All IsFit cs → size_by cs ≤ 2 ^ 24 →
+    ((c : DigitChange) (rest : List DigitChange) → All IsFit (c ∷ rest) → size_by (c ∷ rest) ≤ 2 ^ 24 → P c rest) → P (get_or cs 0 no_change) (take (length cs - 1) (drop 1 cs))
+at_first P cs long all small each =
+    let first : DigitChange = get_or cs 0 no_change in
+    let rest : List DigitChange = take (length cs - 1) (drop 1 cs) in
+    let whole : cs ≡ first ∷ rest = first_and_rest cs no_change long in
+    each first rest (subst (All IsFit) whole all) (subst (λ (xs : List DigitChange). size_by xs ≤ 2 ^ 24) whole small)
+
 -- the product and the sum that make up one more change
-pub put_steps : (c : DigitChange) (cs : List DigitChange) → All IsFit (c ∷ cs) → size_by (c ∷ cs) ≤ 2 ^ 24 →
-    (c.digit.range * put_by cs < 2 ^ 24) × (put_at c.change + c.digit.range * put_by cs < 2 ^ 24) × (c.digit.range * taken_by cs < 2 ^ 24) × (taken_at c.change + c.digit.range * taken_by cs < 2 ^ 24)
-put_steps c cs all small = let both = put_small (c ∷ cs) all in let l = both.0 in let m = both.1 in (omega arith, omega arith, omega arith, omega arith)
+abbrev pub PutSteps : DigitChange → List DigitChange → Type 0
+PutSteps c cs = (c.digit.range * put_by cs < 2 ^ 24) × (put_at c.change + c.digit.range * put_by cs < 2 ^ 24) × (c.digit.range * taken_by cs < 2 ^ 24) × (taken_at c.change + c.digit.range * taken_by cs < 2 ^ 24)
+
+pub put_steps : (cs : List DigitChange) → 1 ≤ length cs → All IsFit cs → size_by cs ≤ 2 ^ 24 → PutSteps (get_or cs 0 no_change) (take (length cs - 1) (drop 1 cs))
+put_steps cs long all small = at_first PutSteps cs long all small (λ c rest fit few.
+    let digit = All-head IsFit c rest fit in
+    let here = put_fits c.digit.range c.change digit.digit.range digit.change in
+    let behind = put_small rest (All-tail IsFit c rest fit) in
+    let put = digit_more c.digit.range (size_by rest) (put_at c.change) (put_by rest) (2 ^ 24) here.0 behind.0 few in
+    let taken = digit_more c.digit.range (size_by rest) (taken_at c.change) (taken_by rest) (2 ^ 24) here.1 behind.1 few in
+    (put.0, put.1, taken.0, taken.1))

@@ -1,11 +1,10 @@
 -- The arithmetic of a rule tells the ways by its changes.
-use Rattle.std.proofs.Common.{◌≡◌, ℕ, suc, ◌+◌, ◌*◌, ◌/◌, ◌%◌, ◌^◌, ◌<◌, ◌≤◌, ◌-◌, true, false, List, [], ◌∷◌, length, map, take, drop, inl, inr, ⊎_elim, get_or, refl, sym, ap, ◌∙◌, subst, arith, cond}
+use Rattle.std.proofs.Common.{◌≡◌, ℕ, ◌+◌, ◌*◌, ◌/◌, ◌%◌, ◌^◌, ◌<◌, ◌≤◌, true, false, List, [], ◌∷◌, map, inl, inr, ⊎_elim, refl, sym, ap, ◌∙◌, subst, arith, cond}
 use Rattle.std.specs.Prelude.{◌⊎◌, ◌↔◌, All, Contains, slice_index}
 use Rattle.std.specs.List.{list_all}
 use Rattle.std.proofs.lemmas.List.Elements.{All-head, All-tail, All-cons}
 use Rattle.std.proofs.lemmas.Bool.{cond_both, eqb-true, and_parts, false≢true}
 use Rattle.std.proofs.lemmas.Nat.{mod_below, div_below, mul-le}
-use Rattle.std.proofs.lemmas.List.{take_all}
 use Rattle.std.proofs.Math.Nat.{mod-add-div, div-div-eq-div-mul, mul-le-mul_left}
 use Rattle.fdr.specs.Tasks.{ranges}
 use Rattle.abstraction.specs.Projections.{Projection}
@@ -208,13 +207,6 @@ free_fit (c ∷ cs) all =
     let rest = free_fit cs (All-tail IsFit c cs all) in
     cond_both (is_free c.change) (c.digit ∷ free_in cs) (free_in cs) (All (IsDigitBelow (2 ^ 24)))
     (λ _. All-cons (IsDigitBelow (2 ^ 24)) c.digit (free_in cs) fit.digit rest) (λ _. rest)
-
--- a list with an element is its first and the rest of a slice
-pub first_and_rest : {X : Type 0} (xs : List X) (d : X) → 1 ≤ length xs → xs ≡ get_or xs 0 d ∷ take (length xs - 1) (drop 1 xs)
-first_and_rest [] d l = absurd (omega arith)
-first_and_rest (x ∷ xs) d l =
-    let long : length xs ≤ suc (length xs) - 1 = omega arith in
-    ap (λ (ys : List _). x ∷ ys) (sym (take_all (suc (length xs) - 1) xs long))
 
 -- ---- one value more of a free digit
 

@@ -1,5 +1,5 @@
 -- The word of an abstract state tells which classes lead into it.
-use Rattle.std.proofs.Common.{◌≡◌, ℕ, ◌+◌, ◌-◌, ◌*◌, ◌/◌, ◌%◌, ◌^◌, ◌<◌, ◌≤◌, Bool, true, false, List, [], ◌∷◌, ◌++◌, length, map, drop, get_or, refl, sym, ap, ◌∙◌, subst, arith, ⊎_elim, eq-eqb, append_assoc, add-one, drop-cons}
+use Rattle.std.proofs.Common.{◌≡◌, ℕ, ◌+◌, ◌-◌, ◌*◌, ◌/◌, ◌%◌, ◌^◌, ◌<◌, ◌≤◌, Bool, true, false, List, [], ◌∷◌, ◌++◌, length, map, take, drop, get_or, refl, sym, ap, ◌∙◌, subst, arith, ⊎_elim, eq-eqb, append_assoc, add-one, drop-cons}
 use Rattle.std.specs.Prelude.{◌==◌, ◌↔◌, All, slice_index}
 use Rattle.std.specs.List.{list_all}
 use Rattle.std.specs.Int.RustNames.{bit_and}
@@ -20,8 +20,8 @@ use Rattle.pdb_regression.specs.declared.change.DigitChange.{DigitChange}
 use Rattle.pdb_regression.specs.Changes.{FitsIn, IsFit, enters_at, enters_digit, size_by}
 use Rattle.pdb_regression.specs.Words.{bits_of, room_of, size_from, rooms_of, word_from, word_by, mask_at, want_at, mask_by, want_by, IsPlain}
 use Rattle.pdb_regression.specs.Rules.{unpacked}
-use Rattle.pdb_regression.specs.Tables.{IsAlong}
-use Rattle.pdb_regression.proofs.Bounds.{below_product}
+use Rattle.pdb_regression.specs.Tables.{IsAlong, no_change}
+use Rattle.pdb_regression.proofs.Bounds.{at_first, below_product, digit_more}
 use Rattle.pdb_regression.proofs.RowLaws.{projection_digits}
 
 -- ---- rooms
@@ -190,24 +190,28 @@ masks_small (c ∷ cs) all =
       below_product room (rooms_of (digits_by cs)) (want_at c.change) (want_by cs) here.1 rest.1,
     )
 
--- the products and the sums that make up one more change
-pub mask_steps : (c : DigitChange) (cs : List DigitChange) → All IsFit (c ∷ cs) → size_by (c ∷ cs) ≤ 2 ^ 24 →
-    (room_of c.digit.range * mask_by cs < 2 ^ 64) × (mask_at (room_of c.digit.range) c.change + room_of c.digit.range * mask_by cs < 2 ^ 64)
-    × (room_of c.digit.range * want_by cs < 2 ^ 64) × (want_at c.change + room_of c.digit.range * want_by cs < 2 ^ 64)
-mask_steps c cs all small =
-    let ds = digits_by (c ∷ cs) in
-    let same : size_from ds ≡ size_by (c ∷ cs) = size_same (c ∷ cs) in
-    let few : rooms_of ds ≤ 2 ^ 48 = square_small (size_from ds) (rooms_of ds) (omega arith) (rooms_square ds (fit_digits (c ∷ cs) all)) in
-    let both = masks_small (c ∷ cs) all in
-    let l = both.0 in
-    let m = both.1 in
-    (omega arith, omega arith, omega arith, omega arith)
+-- the ranges of the first change, and the products and the sums that make up one more change
+pub record MaskSteps (c : DigitChange) (cs : List DigitChange) : Type 0 where
+  pub some : 0 < c.digit.range
+  pub small : c.digit.range ≤ 2 ^ 24
+  pub mask_product : room_of c.digit.range * mask_by cs < 2 ^ 64
+  pub mask_sum : mask_at (room_of c.digit.range) c.change + room_of c.digit.range * mask_by cs < 2 ^ 64
+  pub want_product : room_of c.digit.range * want_by cs < 2 ^ 64
+  pub want_sum : want_at c.change + room_of c.digit.range * want_by cs < 2 ^ 64
 
--- the number and the range at the first change
-pub first_range : (c : DigitChange) (cs : List DigitChange) → All IsFit (c ∷ cs) → (0 < c.digit.range) × (c.digit.range ≤ 2 ^ 24) × (0 < room_of c.digit.range)
-first_range c cs all =
-    let fit = All-head IsFit c cs all in
-    (fit.digit.range, range_small c.digit fit.digit, pow_pos (bits_of c.digit.range))
+pub mask_steps : (cs : List DigitChange) → 1 ≤ length cs → All IsFit cs → size_by cs ≤ 2 ^ 24 → MaskSteps (get_or cs 0 no_change) (take (length cs - 1) (drop 1 cs))
+mask_steps cs long all small = at_first MaskSteps cs long all small (λ c rest fit few.
+    let ds = digits_by (c ∷ rest) in
+    let room = room_of c.digit.range in
+    let digit = All-head IsFit c rest fit in
+    let here = change_fits c.digit.range room c.change digit.digit.range (digit_room c.digit digit.digit).0 digit.change in
+    let behind = masks_small rest (All-tail IsFit c rest fit) in
+    let same : size_from ds ≡ size_by (c ∷ rest) = size_same (c ∷ rest) in
+    let few_rooms : rooms_of ds ≤ 2 ^ 48 = square_small (size_from ds) (rooms_of ds) (omega arith) (rooms_square ds (fit_digits (c ∷ rest) fit)) in
+    let within : room * rooms_of (digits_by rest) ≤ 2 ^ 64 = omega arith in
+    let mask = digit_more room (rooms_of (digits_by rest)) (mask_at room c.change) (mask_by rest) (2 ^ 64) here.0 behind.0 within in
+    let want = digit_more room (rooms_of (digits_by rest)) (want_at c.change) (want_by rest) (2 ^ 64) here.1 behind.1 within in
+    record { some = digit.digit.range; small = range_small c.digit digit.digit; mask_product = mask.0; mask_sum = mask.1; want_product = want.0; want_sum = want.1 })
 
 -- ---- tests
 

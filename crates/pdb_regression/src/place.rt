@@ -127,24 +127,50 @@ pub(crate) fn is_read_plainly(digits: &[Digit], places: &[Place]) -> bool
     places.is_empty() && is_plain(digits)
 }
 
-/// The first place at whose digit the class asks a value, and that value.
+/// The place with this number and the value that the class asks at its digit, if it asks one.
+fn key_at(places: &[Place], rule: &Rule, place: usize) -> Option<Key>
+    requires positions { All (IsPositionIn (map (λ c. c.digit) rule.now)) (positions_of places.now) }
+    requires place { place < length places.now }
+    ensures at { IfSome result (λ key. key.place ≡ place) }
+    ensures key { IfSome result (λ key. IsKey places.now rule.now key.place key.value) }
+{
+    let position = places[place].position();
+    let value = rule.asked_of(position.number)?;
+    Some(Key {
+        place,
+        value: value as usize,
+    })
+}
+
+/// Whether the digit at the place is wider than that of the key, which is so if there is no key.
+fn is_wider(places: &[Place], place: usize, key: Option<Key>) -> bool
+    requires place { place < length places.now }
+    requires key { IfSome key (λ key. key.place < length places.now) }
+{
+    match key {
+        None => true,
+        Some(key) => {
+            places[key.place].position().digit.range < places[place].position().digit.range
+        }
+    }
+}
+
+/// The place with the widest digit at which the class asks a value, and that value. The wider a digit, the more seldom
+/// an abstract state has the value, and the more seldom the class is tested. Of equally wide digits it is the first.
 fn key_of(places: &[Place], rule: &Rule) -> Option<Key>
     requires { All (IsPositionIn (map (λ c. c.digit) rule.now)) (positions_of places.now) }
     ensures { IfSome result (λ key. IsKey places.now rule.now key.place key.value) }
 {
+    let mut widest = None;
     for place in 0..places.len() {
-        let position = places[place].position();
-        if let Some(value) = rule.asked_of(position.number) {
-            return Some(Key {
-                place,
-                value: value as usize,
-            });
+        if is_wider(places, place, widest) {
+            widest = key_at(places, rule, place).or(widest);
         }
     }
-    None
+    widest
 }
 
-/// Adds each class under the value that it asks at the first of the places where it asks one, or else to the rest. Fails
+/// Adds each class under the value that it asks at the widest of the places where it asks one, or else to the rest. Fails
 /// only if allocation fails.
 pub(crate) fn add_classes(
     digits: &[Digit],

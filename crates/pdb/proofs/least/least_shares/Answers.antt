@@ -1,4 +1,4 @@
-use Rattle.std.proofs.Common.{◌≡◌, ◌∙◌, ℕ, ◌<◌, ◌≤◌, List, Some, min, length, set, slice_index, sym, ap, below_more, ⊎_elim, arith}
+use Rattle.std.proofs.Common.{◌≡◌, ◌∙◌, ℕ, ◌<◌, ◌≤◌, Some, min, length, set, slice_index, sym, ap, below_more, ⊎_elim, arith}
 use Rattle.std.proofs.lemmas.List.{get_or_default}
 use Rattle.std.proofs.Math.ListN.{length-set}
 use Rattle.pdb.proofs.ClassLaws.{least_kept, least_here, least_reached}
@@ -27,7 +27,7 @@ loop-operator-preserved g c =
             small = λ q. omega (arith, kept q, inv.small q);
             at_most = λ n q h. below_more (λ n. (q : ℕ) → classes.class n ≡ Some q → slice_index (set least p m) q ≤ slice_index shares n) o
                 (λ n h q e. omega (arith, kept q, inv.at_most n q h e)) (least_here classes shares least o p m inside of is) n h q;
-            reached = λ q l. least_reached classes shares least o p m inside of is 2147483647 q (inv.reached q (omega arith));
+            reached = λ q l. least_reached classes shares least o p m inside of is c.args.most q (inv.reached q (omega arith));
           })
       | in_default w ↦
           rw w.least-is (record {
@@ -49,7 +49,7 @@ returns-clause-least g c =
           let below = (g.met.T.BackwardTransitions.grouped c.args.transitions.now).below o p e in
           let most = inv.at_most o p (omega (arith, c.loop-operator-test.false)) e in
           ⊎_elim
-          (λ (h : slice_index c.loop-operator.least.items p ≡ 2147483647). let small = c.requires o in (o, e, omega arith))
+          (λ (h : slice_index c.loop-operator.least.items p ≡ c.args.most). let small = c.requires o in (o, e, omega arith))
           (λ (w : (q : ℕ) × (classes.class q ≡ Some p) × (slice_index c.args.shares.now q ≡ slice_index c.loop-operator.least.items p)). w)
           (inv.reached p (omega (arith, inv.len)));
     }

@@ -1,5 +1,5 @@
-use Rattle.std.proofs.Common.{◌≡◌, ◌∙◌, ℕ, ◌<◌, ◌≤◌, length, max, slice_index, slice_set, get_or, inr, subst, below_more, arith}
-use Rattle.cost.specs.Distances.{Distance, Finite}
+use Rattle.std.proofs.Common.{◌≡◌, ◌∙◌, ℕ, ◌<◌, ◌≤◌, length, max, slice_index, slice_set, get_or, inr, below_more, arith}
+use Rattle.cost.specs.Distances.{Finite}
 use Rattle.pdb_walks.specs.declared.backward.Transition.{Transition}
 use Rattle.pdb_walks.specs.Walks.{value_in, fall}
 use Rattle.pdb_walks.specs.Entrances.{AreEntering}
@@ -47,7 +47,7 @@ fall_from-fall-requires-clause-small g c =
     let are : AreEntering a classes c.args.state items = rw c.deref-transition-items.ensures.value c.in_ok-entering.ensures in
     let w = listed_leads a classes c.args.state items are k c.loop-transition-test.true in
     let at : value_in c.args.values.now c.args.state ≡ Finite c.in-Some.value = value_in-get c.args.values.now c.args.state c.get.result c.get.ensures ∙ c.in-Some.ensures.value in
-    rw at at (c.requires.falls w.0 (get_or items k no_transition).source w.2)
+    rw at at (c.requires.falls w.0 (get_or items k no_transition).source (get_or items k no_transition).class w.1 w.2)
 
 pub loop-transition-preserved : goal.loop-transition-preserved
 loop-transition-preserved g c =

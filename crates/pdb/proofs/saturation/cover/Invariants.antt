@@ -1,4 +1,4 @@
-use Rattle.std.proofs.Common.{◌≡◌, ℕ, ◌<◌, ◌≤◌, length, slice_index, get_or}
+use Rattle.std.proofs.Common.{ℕ, ◌<◌, ◌≤◌, slice_index, get_or}
 use Rattle.pdb_walks.specs.Walks.{value_in, fall}
 use Rattle.pdb.specs.Saturations.{AreFalls}
 use Rattle.pdb.proofs.Expansion.{no_transition}

@@ -1,4 +1,4 @@
-use Rattle.std.proofs.Common.{◌≡◌, ◌∙◌, ℕ, ◌^◌, ◌<◌, length, map, subst, sym, ap, slice_index, arith}
+use Rattle.std.proofs.Common.{◌≡◌, ◌∙◌, ℕ, ◌^◌, ◌<◌, ◌≤◌, length, map, subst, sym, ap, slice_index, arith}
 use Rattle.std.specs.Vec.{with_items}
 use Rattle.std.proofs.lemmas.List.{with_items_is}
 use Rattle.std.proofs.lemmas.Result.{IfOk-weaker}
@@ -22,6 +22,11 @@ settle-requires-clause-search g c =
     (subst (λ (a : Abstraction). IsSearch a (share_by classes c.deref.result.now) c.add_goals.new.values c.add_goals.new.queue) (sym c.transitions-transitions.ensures)
     (c.add_goals.ensures (share_by classes c.deref.result.now)))
 
+pub settle-requires-clause-small : goal.settle-requires-clause-small
+settle-requires-clause-small g c =
+    let low : (p : ℕ) → slice_index c.deref.result.now p ≤ 2147483647 = rw c.deref.ensures.value c.in_ok-least.ensures.small in
+    λ p. omega (arith, low p)
+
 pub returns-clause-distances : goal.returns-clause-distances
 returns-clause-distances g c =
     let a = g.A.Abstraction.abstraction c.args.abstraction.now in
@@ -32,8 +37,8 @@ returns-clause-distances g c =
     let abs : IsAbstractionOf task b = subst (λ (x : Abstraction). IsAbstractionOf task x) (sym same) (g.met.A.Abstraction.abstracts c.args.abstraction.now) in
     let least = c.deref.result.now in
     let share = share_by classes least in
-    let low : (p : ℕ) → slice_index least p < 2 ^ 31 = rw c.deref.ensures.value c.in_ok-least.ensures.small in
-    let small : (o : ℕ) → share o < 2 ^ 31 = shares_small classes least (2 ^ 31) (omega arith) low in
+    let low : (p : ℕ) → slice_index least p ≤ 2147483647 = rw c.deref.ensures.value c.in_ok-least.ensures.small in
+    let small : (o : ℕ) → share o < 2 ^ 31 = shares_small classes least (2 ^ 31) (omega arith) (λ p. omega (arith, low p)) in
     let values = c.settle.new.values in
     let kept = with_items c.in_ok-values.values c.add_goals.new.values in
     let long : length values ≡ kept.len = omega (arith, c.settle.auto.values, c.deref_mut-2.ensures.len) in
@@ -55,8 +60,8 @@ returns-clause-small g c =
     let abs : IsAbstractionOf task b = subst (λ (x : Abstraction). IsAbstractionOf task x) (sym same) (g.met.A.Abstraction.abstracts c.args.abstraction.now) in
     let least = c.deref.result.now in
     let share = share_by classes least in
-    let low : (p : ℕ) → slice_index least p < 2 ^ 31 = rw c.deref.ensures.value c.in_ok-least.ensures.small in
-    let small : (o : ℕ) → share o < 2 ^ 31 = shares_small classes least (2 ^ 31) (omega arith) low in
+    let low : (p : ℕ) → slice_index least p ≤ 2147483647 = rw c.deref.ensures.value c.in_ok-least.ensures.small in
+    let small : (o : ℕ) → share o < 2 ^ 31 = shares_small classes least (2 ^ 31) (omega arith) (λ p. omega (arith, low p)) in
     let values = c.settle.new.values in
     let kept = with_items c.in_ok-values.values c.add_goals.new.values in
     let long : length values ≡ kept.len = omega (arith, c.settle.auto.values, c.deref_mut-2.ensures.len) in

@@ -5,7 +5,8 @@ use Rattle.abstraction.specs.declared.digit.Digit.{Digit}
 use Rattle.abstraction.specs.Digits.{IsDigitBelow}
 use Rattle.pdb_walks.specs.declared.backward.Transition.{Transition}
 use Rattle.pdb_regression.specs.Rules.{IsWith}
-use Rattle.pdb_regression.proofs.RuleLaws.{first_and_rest, with_itself, weighted, value_more, value_all}
+use Rattle.pdb_regression.proofs.Elements.{first_and_rest}
+use Rattle.pdb_regression.proofs.RuleLaws.{with_itself, weighted, value_more, value_all}
 use Rattle.pdb_regression.proofs.rule.+add_sources.Goals as goal
 
 pub overflow_cast-source : goal.overflow_cast-source

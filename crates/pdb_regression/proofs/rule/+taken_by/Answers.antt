@@ -1,26 +1,11 @@
-use Rattle.std.proofs.Common.{◌≡◌, ◌∷◌, ◌^◌, ◌≤◌, ◌-◌, List, length, get_or, take, drop, subst, arith}
-use Rattle.std.specs.Prelude.{All}
-use Rattle.pdb_regression.specs.declared.change.DigitChange.{DigitChange}
-use Rattle.pdb_regression.specs.Changes.{IsFit, size_by}
-use Rattle.pdb_regression.specs.Tables.{no_change}
+use Rattle.std.proofs.Common.{arith}
 use Rattle.pdb_regression.proofs.Bounds.{put_steps}
-use Rattle.pdb_regression.proofs.RuleLaws.{first_and_rest}
 use Rattle.pdb_regression.proofs.rule.+taken_by.Goals as goal
 
 pub overflow_mul-result : goal.overflow_mul-result
 overflow_mul-result t c =
-    let cs = c.args.changes.now in
-    let first : DigitChange = get_or cs 0 no_change in
-    let rest : List DigitChange = take (length cs - 1) (drop 1 cs) in
-    let whole : cs ≡ first ∷ rest = first_and_rest cs no_change c.in-len1-up.len_at_least in
-    let steps = put_steps first rest (subst (All IsFit) whole c.requires.fit) (subst (λ (xs : List DigitChange). size_by xs ≤ 2 ^ 24) whole c.requires.small) in
-    rw c.taken_by.ensures (omega (arith, steps.2))
+    let steps = put_steps c.args.changes.now c.in-len1-up.len_at_least c.requires.fit c.requires.small in rw c.taken_by.ensures (omega (arith, steps.2))
 
 pub overflow_add-result : goal.overflow_add-result
 overflow_add-result t c =
-    let cs = c.args.changes.now in
-    let first : DigitChange = get_or cs 0 no_change in
-    let rest : List DigitChange = take (length cs - 1) (drop 1 cs) in
-    let whole : cs ≡ first ∷ rest = first_and_rest cs no_change c.in-len1-up.len_at_least in
-    let steps = put_steps first rest (subst (All IsFit) whole c.requires.fit) (subst (λ (xs : List DigitChange). size_by xs ≤ 2 ^ 24) whole c.requires.small) in
-    rw (c.taken_by.ensures, c.taken.ensures) (omega (arith, steps.3))
+    let steps = put_steps c.args.changes.now c.in-len1-up.len_at_least c.requires.fit c.requires.small in rw (c.taken_by.ensures, c.taken.ensures) (omega (arith, steps.3))

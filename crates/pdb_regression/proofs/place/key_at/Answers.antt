@@ -5,25 +5,25 @@ use Rattle.pdb_regression.specs.declared.change.DigitChange.{DigitChange}
 use Rattle.pdb_regression.specs.Changes.{asked}
 use Rattle.pdb_regression.specs.Tables.{Place, no_place, no_change}
 use Rattle.pdb_regression.proofs.TableLaws.{position_at, key_is}
-use Rattle.pdb_regression.proofs.place.key_of.Goals as goal
+use Rattle.pdb_regression.proofs.place.key_at.Goals as goal
 
 pub asked_of-requires : goal.asked_of-requires
 asked_of-requires c =
     let places : List Place = c.args.places.now in
-    let k = c.loop-place.place in
-    let same = c.index-places-place.is ∙ get_or_default places k c.index-places-place.result no_place c.loop-place-test.true in
+    let k = c.args.place in
+    let same = c.index-places-place.is ∙ get_or_default places k c.index-places-place.result no_place c.requires.place in
     let at : c.position-position.result ≡ (get_or places k no_place).position = c.position-position.ensures.position ∙ ap (λ (p : Place). p.position) same in
-    subst (λ (p : Position). p.number < length c.args.rule.now) (sym at) (position_at places c.args.rule.now k c.requires c.loop-place-test.true).0
+    subst (λ (p : Position). p.number < length c.args.rule.now) (sym at) (position_at places c.args.rule.now k c.requires.positions c.requires.place).0
 
-pub returns-in-Some : goal.returns-in-Some
-returns-in-Some c =
+pub returns-clause-key : goal.returns-clause-key
+returns-clause-key c =
     let places : List Place = c.args.places.now in
     let cs : List DigitChange = c.args.rule.now in
-    let k = c.loop-place.place in
-    let same = c.index-places-place.is ∙ get_or_default places k c.index-places-place.result no_place c.loop-place-test.true in
+    let k = c.args.place in
+    let same = c.index-places-place.is ∙ get_or_default places k c.index-places-place.result no_place c.requires.place in
     let at : c.position-position.result ≡ (get_or places k no_place).position = c.position-position.ensures.position ∙ ap (λ (p : Place). p.position) same in
-    let asks = c.in-Some.ensures.asked in
-    let below = c.in-Some.ensures.below in
-    key_is places cs k c.in-Some.value c.requires c.loop-place-test.true
-    (subst (λ (p : Position). asked (get_or cs p.number no_change).change ≡ Some c.in-Some.value) at (sym asks))
-    (subst (λ (p : Position). c.in-Some.value < (get_or cs p.number no_change).digit.range) at below)
+    let asks = c.in_ok-value.ensures.asked in
+    let below = c.in_ok-value.ensures.below in
+    key_is places cs k c.in_ok-value.value c.requires.positions c.requires.place
+    (subst (λ (p : Position). asked (get_or cs p.number no_change).change ≡ Some c.in_ok-value.value) at (sym asks))
+    (subst (λ (p : Position). c.in_ok-value.value < (get_or cs p.number no_change).digit.range) at below)
