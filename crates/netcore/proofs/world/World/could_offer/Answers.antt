@@ -1,7 +1,6 @@
-use Rattle.std.proofs.Common.{◌<◌, ◌∙◌, sym, length, arith}
+use Rattle.std.proofs.Common.{◌<◌, ◌∙◌, length, arith}
 use Rattle.netcore.proofs.Places.{at_here, at_some}
-use Rattle.netcore.proofs.Expanding.{at_owner_here}
-use Rattle.netcore.proofs.Changing.{less}
+use Rattle.netcore.proofs.Changing.{less, offer_test}
 use Rattle.netcore.proofs.world.World.could_offer.Goals as goal
 
 pub returns : goal.returns
@@ -11,4 +10,4 @@ returns g c =
     let at = at_here c.self.inside.owners.items c.args.worker o lt c.index.ensures in
     let (b, seen) = at_some c.self.inside.seen.items c.args.worker (omega (arith, lt, c.self.invariant.bounds)) in
     rw (← c.self.view_is, c.lt.ensures, c.best_goal.ensures)
-    (less o.best c.self.inside.bound ∙ sym (at_owner_here g.S.Spread.owner _ c.args.worker o b _ at seen))
+    (less o.best c.self.inside.bound ∙ offer_test g.S.Spread.owner _ c.args.worker o b c.self.invariant at seen)
