@@ -224,6 +224,63 @@ impl<F: StateForm + Drop> ClosedTable<F> {
         self.write(state, entry, outcome)
     }
 
+    /// The outcome that reaching the state of a form at a rank would have, as `look` gives it.
+    pub fn look_form(&self, form: &F, rank: Rank) -> Outcome
+        requires { F.IsForm self.now.ranges form.now }
+        ensures { (parent : Option Parent) →
+            result ≡ outcome_of self.now.nodes (fresh (F.values self.now.ranges form.now) rank parent) }
+    {
+        outcome_among(&self.entries, form, rank)
+    }
+
+    /// Writes the outcome of reaching the state of a form, as `write` does. A new state is stored as a copy of the form.
+    fn write_form(
+        &mut self,
+        form: &F,
+        entry: SmallEntry,
+        outcome: Outcome,
+    ) -> Result<(), AllocError>
+        requires form { F.IsForm self.old.ranges form.now }
+        requires outcome { outcome ≡ outcome_of self.old.nodes (node_with (F.values self.old.ranges form.now) (entry_in entry)) }
+        ensures nodes { OnOk result (self.new.nodes ≡ reached self.old.nodes (node_with (F.values self.old.ranges form.now) (entry_in entry))) }
+        ensures ranges { self.new.ranges ≡ self.old.ranges }
+        ensures unchanged { OnErr result (self.new.nodes ≡ self.old.nodes) }
+        ensures refused { OnErr result (outcome ≡ New (length self.old.nodes)) }
+    {
+        match outcome {
+            Outcome::New(_) => {
+                let alloc = *self.entries.allocator();
+                let key = form.copy(alloc)?;
+                self.entries.insert(key, entry)?;
+            }
+            Outcome::Better(place) => self.entries[place] = entry,
+            Outcome::Kept => {}
+        }
+        Ok(())
+    }
+
+    /// Records that the state of a form was reached, where `look_form` told the outcome. Fails as `reach` does, and then
+    /// leaves the table as it was.
+    pub fn reach_form(
+        &mut self,
+        form: &F,
+        rank: Rank,
+        parent: Option<Parent>,
+        outcome: Outcome,
+    ) -> Result<(), AllocError>
+        requires form { F.IsForm self.old.ranges form.now }
+        requires outcome { outcome ≡ outcome_of self.old.nodes (fresh (F.values self.old.ranges form.now) rank parent) }
+        ensures nodes { OnOk result (self.new.nodes ≡ reached self.old.nodes (fresh (F.values self.old.ranges form.now) rank parent)) }
+        ensures ranges { self.new.ranges ≡ self.old.ranges }
+        ensures unchanged { OnErr result (self.new ≡ self.old) }
+        ensures refused { OnErr result ((outcome ≡ New (length self.old.nodes)) ⊎ IsPastEntry rank parent) }
+    {
+        let Some(entry) = SmallEntry::of(rank, parent) else {
+            return Err(AllocError);
+        };
+        self.write_form(form, entry, outcome)
+    }
+
     /// Records that a state was reached, and returns the outcome. Fails as `reach` does, and then leaves the table as it
     /// was.
     pub fn improve(

@@ -13,7 +13,7 @@ use Rattle.owner_theory.specs.Owners.{At, SearchSpace, Node, Message, list_at, f
 use Rattle.owner_theory.specs.Worlds.{no_open, idle, is_empty}
 use Rattle.owner.specs.Outboxes.{count_in_use}
 use Rattle.owner.specs.Owned.{OwnerOf, under, space_of, least_open}
-use Rattle.netcore.specs.declared.step.WorldStep.TheVariants.{Expand, Send, Rest}
+use Rattle.netcore.specs.declared.step.WorldStep.TheVariants.{Expand, Send, Offer, Rest}
 use Rattle.netcore.specs.Worlds.{WorldOf, space_in}
 use Rattle.netcore.specs.Possible.{would_change, sends_of, below}
 use Rattle.netcore.specs.Kept.{IsWorld}
@@ -114,6 +114,10 @@ module _ {S : Type 0} (owner : S → List ℕ → ℕ → ℕ) where
       used_from (would_change owner w) (Send v) o.outboxes 0 (λ k. let same : 0 + k ≡ k = omega arith in
       ap (λ n. would_change owner w (Send v n)) same ∙ at_owner_here owner w v o b _ at seen)
       ∙ ap (λ n. length (filter (would_change owner w) (map (Send v) (below n)))) (is.outboxes v o at)
+
+  pub offer_test : (w : WorldOf S) (v : ℕ) (o : OwnerOf S) (b : Distance) → IsWorld owner w → At w.owners v o → At w.seen v b
+      → is_below o.best w.bound ≡ would_change owner w (Offer v)
+  offer_test w v o b is at seen = sym (at_owner_here owner w v o b _ at seen)
 
   pub rest_test : (w : WorldOf S) (v : ℕ) (o : OwnerOf S) (b : Distance) → IsWorld owner w → At w.owners v o → At w.seen v b
       → At w.resting v false → idle (space_of owner o) (under o b) ≡ would_change owner w (Rest v)

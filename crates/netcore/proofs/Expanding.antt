@@ -14,7 +14,7 @@ use Rattle.owner_theory.proofs.Lists.{at_once}
 use Rattle.owner.specs.Spaces.{searched}
 use Rattle.owner.specs.Owned as owned
 use Rattle.owner.specs.Owned.{OwnerOf, under, space_of, IsNext, is_open, goes_before, IsExpansion, IsRefusal}
-use Rattle.owner.specs.declared.ties.Ties.{Ties}
+use Rattle.owner_space.specs.declared.ties.Ties.{Ties}
 use Rattle.owner.specs.declared.fault.OwnerFault.{OwnerFault}
 use Rattle.owner.specs.declared.fault.OwnerFault.TheVariants.{OutOfMemory, TotalTooLarge, LimitReached}
 use Rattle.netcore.specs.declared.step.WorldStep.{WorldStep}

@@ -107,10 +107,10 @@ impl<'a, S: Spread + Drop, F: StateForm + Drop> World<'a, S, F> {
     fn could_offer(&self, worker: usize) -> bool
         ensures { result ≡ would_change S.owner self.now (Offer worker) }
     {
-        match self.owners.get(worker) {
-            Some(owner) => owner.best_goal() < self.bound,
-            None => false,
+        if worker >= self.owners.len() {
+            return false;
         }
+        self.owners[worker].best_goal() < self.bound
     }
 
     /// Whether the bound that the worker has seen last is not the present one.

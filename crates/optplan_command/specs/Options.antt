@@ -1,8 +1,8 @@
 -- The options of a solve command.
 use Rattle.std.specs.Prelude.{◌≡◌, ℕ, ◌≤◌, ◌<◌, ◌^◌, List, Option, Some, None, codes}
 use Rattle.std.specs.Str.Parse.{IsNumeral, digits_value}
-use Rattle.owner.specs.declared.ties.Ties.{Ties}
-use Rattle.owner.specs.declared.ties.Ties.TheVariants.{Shallow, Deep}
+use Rattle.owner_space.specs.declared.ties.Ties.{Ties}
+use Rattle.owner_space.specs.declared.ties.Ties.TheVariants.{Shallow, Deep}
 use Rattle.optplan_sas.specs.Choices.{Choices}
 use Rattle.optplan_solve.specs.declared.settings.Schedule.{Schedule}
 use Rattle.optplan_solve.specs.declared.settings.Schedule.TheVariants.{Threads, Drawn}

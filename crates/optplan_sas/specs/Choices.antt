@@ -1,6 +1,6 @@
 -- Options of the solver.
 use Rattle.std.specs.Prelude.{ℕ, Option}
-use Rattle.owner.specs.declared.ties.Ties.{Ties}
+use Rattle.owner_space.specs.declared.ties.Ties.{Ties}
 
 -- the number of owners, the greatest number of abstract states of a table, the greatest number of nodes that each owner
 -- may expand, if there is a limit, the room of a link between two workers in messages, the greatest number of steps of a simulation, and

@@ -1,5 +1,5 @@
 -- A queue of the list is an outbox.
-use Rattle.std.proofs.Common.{◌≡◌, ℕ, zero, suc, ◌+◌, ◌*◌, ◌^◌, ◌<◌, ◌≤◌, List, [], ◌∷◌, ◌++◌, map, length, length-append, deque_len, Option, Some, None, refl, sym, ap, ◌∙◌, subst, arith, get_or, false, ◌==◌}
+use Rattle.std.proofs.Common.{◌≡◌, ℕ, zero, suc, ◌+◌, ◌*◌, ◌^◌, ◌<◌, ◌≤◌, List, [], ◌∷◌, ◌++◌, length, length-append, deque_len, Option, Some, None, refl, sym, ap, ◌∙◌, subst, arith, get_or, false, ◌==◌}
 use Rattle.std.specs.Prelude.{slice_set, replicate, MatchOption, IfNone}
 use Rattle.std.specs.Global.{Global}
 use Rattle.std.specs.declared.collections.VecDeque.{VecDeque}

@@ -9,7 +9,7 @@ use Rattle.cost.proofs.DistanceLaws.{at_most_itself, at_most_through, at_most_bo
 use Rattle.owner_theory.specs.Owners.{At, SearchSpace, Node, Owner, f_value, may_expand}
 use Rattle.owner_theory.specs.Worlds.{no_open}
 use Rattle.openlist.specs.declared.entry.OpenEntry.{OpenEntry}
-use Rattle.owner.specs.declared.ties.Ties.{Ties}
+use Rattle.owner_space.specs.declared.ties.Ties.{Ties}
 use Rattle.owner.specs.Queues.{IsLeast, HasNoneOpen}
 use Rattle.owner.specs.Owned.{IsNext, least_open, ties_first}
 

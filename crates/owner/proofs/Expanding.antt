@@ -21,7 +21,7 @@ use Rattle.owner.specs.Queues.{IsLeast, h_of}
 use Rattle.owner.specs.Held.{IsOwner, IsSmallStep}
 use Rattle.owner.proofs.Outcomes.{at_below}
 use Rattle.owner.proofs.Choosing.{is_next, may_be_expanded}
-use Rattle.owner.proofs.Stepping.{applied_step}
+use Rattle.owner_space.proofs.Applying.{applied_step}
 
 -- ---- tests of the operators that apply
 

@@ -1,3 +1,4 @@
+pub mod Passing
 pub mod Entries
 pub mod TieLaws
 pub mod Outcomes

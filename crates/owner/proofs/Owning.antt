@@ -19,8 +19,8 @@ use Rattle.closed.specs.declared.message.Parent.{Parent}
 use Rattle.closed.specs.declared.message.Message.{Message}
 use Rattle.closed.specs.declared.table.Outcome.TheVariants.{Kept}
 use Rattle.closed.specs.Tables.{reached, outcome_of, fresh}
-use Rattle.owner.specs.declared.ties.Ties.{Ties}
-use Rattle.owner.specs.Spaces.{SpaceOf, searched}
+use Rattle.owner_space.specs.declared.ties.Ties.{Ties}
+use Rattle.owner_space.specs.Spaces.{SpaceOf, searched}
 use Rattle.owner.specs.Owned.{OwnerOf, space_of, under, IsMessageTo, IsKept}
 use Rattle.owner.specs.Queues.{ReachedOf, message_at, h_of, IsLeast}
 use Rattle.owner.specs.Held.{IsOwner}

@@ -18,9 +18,10 @@ use Rattle.closed.specs.declared.message.Parent.{Parent}
 use Rattle.closed.specs.declared.table.Outcome.{Outcome}
 use Rattle.closed.specs.declared.table.Outcome.TheVariants.{New, Better, Kept}
 use Rattle.closed.specs.Tables.{reached, outcome_of, fresh}
-use Rattle.owner.specs.declared.ties.Ties.{Ties}
+use Rattle.owner_space.specs.declared.ties.Ties.{Ties}
 use Rattle.owner.specs.Owned.{ties_first}
-use Rattle.owner.specs.Queues.{turned, HasWords, IsOf, IsCurrent, AreQueued, IsQueue, IsLeast, HasNoneOpen, added}
+use Rattle.owner_space.specs.Turned.{turned}
+use Rattle.owner.specs.Queues.{HasWords, IsOf, IsCurrent, AreQueued, IsQueue, IsLeast, HasNoneOpen, added}
 use Rattle.owner.proofs.Entries.{in_front_of, in_rest, first_or_rest, not_in_none, all_contained, contains_map, contains_back, first_of_fewer, first_before, first_both}
 use Rattle.owner.proofs.TieLaws.{turned_words, turned_twice, turned_order}
 use Rattle.owner.proofs.Outcomes.{last_at, push_at, at_below, set_elsewhere, get_at, IsNew, IsBetter, IsKeptAs, comes}

@@ -1,17 +1,15 @@
 -- Outboxes, and the messages that they are, where a form of a state has these values.
-use Rattle.std.proofs.Common.{◌≡◌, ℕ, zero, suc, List, [], ◌∷◌, ◌++◌, map, length, Option, Some, None, refl, sym, ap, ◌∙◌, true, false, not, cond, ◌+◌}
+use Rattle.std.proofs.Common.{◌≡◌, ℕ, zero, suc, List, [], ◌∷◌, ◌++◌, map, length, Option, Some, None, refl, sym, ap, ◌∙◌, not, cond, ◌+◌}
 use Rattle.std.specs.Prelude.{slice_set, replicate, IfNone}
 use Rattle.std.specs.List.{list_all}
 use Rattle.std.specs.Option.{option_to_list}
 use Rattle.std.proofs.lemmas.List.{map_push, map-append, map-set, length-map}
-use Rattle.std.proofs.lemmas.List.Sums.{sum_by-cons}
-use Rattle.owner_theory.specs.Owners as machine
 use Rattle.owner_theory.specs.Owners.{list_at}
 use Rattle.owner_theory.specs.Worlds.{is_empty, waiting}
 use Rattle.closed.specs.declared.message.Message.{Message}
 use Rattle.closed.specs.Tables.{message_of}
 use Rattle.owner.specs.Outboxes.{shown, count_in_use, message_count}
-use Rattle.owner.proofs.Using.{use_of, one_more}
+use Rattle.owner.proofs.Using.{one_more}
 
 module _ {F : Type 0} (values : F → List ℕ) where
   pub shown_length : (bs : List (List (Message F))) → length (shown values bs) ≡ length bs

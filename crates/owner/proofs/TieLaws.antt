@@ -6,10 +6,11 @@ use Rattle.std.proofs.lemmas.Bool.{cases_lt, cases_eq, lt-ltb, le-ltb, le-leb, l
 use Rattle.owner_theory.specs.Owners.{Node, rank_less}
 use Rattle.openlist.specs.declared.entry.OpenEntry.{OpenEntry}
 use Rattle.openlist.specs.OpenLists.{comes_first}
-use Rattle.owner.specs.declared.ties.Ties.{Ties}
-use Rattle.owner.specs.declared.ties.Ties.TheVariants.{Shallow, Deep}
+use Rattle.owner_space.specs.declared.ties.Ties.{Ties}
+use Rattle.owner_space.specs.declared.ties.Ties.TheVariants.{Shallow, Deep}
 use Rattle.owner.specs.Owned.{ties_first}
-use Rattle.owner.specs.Queues.{counted_down, turned, HasWords}
+use Rattle.owner.specs.Queues.{HasWords}
+use Rattle.owner_space.specs.Turned.{counted_down, turned}
 
 -- ---- a number
 

@@ -4,7 +4,7 @@ use Rattle.fdr.specs.Tasks.{FiniteDomainTask, cost_of}
 use Rattle.owner_theory.specs.Owners.{At, Node, list_at}
 use Rattle.openlist.specs.declared.entry.Rank.{Rank}
 use Rattle.scp.specs.Places.{PlacesOf}
-use Rattle.owner.specs.Spaces.{SpaceOf}
+use Rattle.owner_space.specs.Spaces.{SpaceOf}
 use Rattle.owner.specs.Owned.{OwnerOf, space_of, max_total, IsKept, IsMessageTo}
 
 -- the owner is one of several, its nodes are its own, its messages are in the outboxes of their owners, and no more nodes

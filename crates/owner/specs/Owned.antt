@@ -7,9 +7,9 @@ use Rattle.owner_theory.specs.Owners.{At, SearchSpace, Message, Node, Owner, f_v
 use Rattle.owner_theory.specs.Worlds.{no_open, waiting}
 use Rattle.owner.specs.declared.fault.OwnerFault.{OwnerFault}
 use Rattle.owner.specs.declared.fault.OwnerFault.TheVariants.{OutOfMemory, TotalTooLarge, LimitReached}
-use Rattle.owner.specs.declared.ties.Ties.{Ties}
-use Rattle.owner.specs.declared.ties.Ties.TheVariants.{Shallow, Deep}
-use Rattle.owner.specs.Spaces.{SpaceOf, searched}
+use Rattle.owner_space.specs.declared.ties.Ties.{Ties}
+use Rattle.owner_space.specs.declared.ties.Ties.TheVariants.{Shallow, Deep}
+use Rattle.owner_space.specs.Spaces.{SpaceOf, searched}
 
 -- the space and the owner's number; its nodes; an outbox for each owner, the oldest message first; the least cost at
 -- which a goal state was taken; and, under a limit, the number of nodes that it has expanded

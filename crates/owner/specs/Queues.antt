@@ -3,7 +3,7 @@
 --
 -- The list is in the order of Shallow. For Deep, entries are turned over as they go into the list, and turned back as they
 -- come out.
-use Rattle.std.specs.Prelude.{◌≡◌, ℕ, ◌-◌, ◌<◌, ◌≤◌, ◌^◌, true, false, ◌&&◌, ◌||◌, ◌==◌, nat_lt, List, [], ◌∷◌, map, All, Option, Some, None, Contains}
+use Rattle.std.specs.Prelude.{◌≡◌, ℕ, ◌<◌, ◌≤◌, ◌^◌, true, false, ◌&&◌, ◌||◌, ◌==◌, nat_lt, List, [], ◌∷◌, map, All, Option, Some, None, Contains}
 use Rattle.cost.specs.Distances.{Distance, Finite, ◌+ᵈ◌}
 use Rattle.checker_clauses.specs.Clauses.{heuristic_of}
 use Rattle.owner_theory.specs.Owners as machine
@@ -15,9 +15,9 @@ use Rattle.closed.specs.declared.message.Parent.{Parent}
 use Rattle.closed.specs.declared.table.Outcome.{Outcome}
 use Rattle.closed.specs.declared.table.Outcome.TheVariants.{New, Better, Kept}
 use Rattle.closed.specs.Tables.{parent_of}
-use Rattle.owner.specs.declared.ties.Ties.{Ties}
-use Rattle.owner.specs.declared.ties.Ties.TheVariants.{Shallow, Deep}
-use Rattle.owner.specs.Spaces.{SpaceOf}
+use Rattle.owner_space.specs.declared.ties.Ties.{Ties}
+use Rattle.owner_space.specs.Turned.{turned}
+use Rattle.owner_space.specs.Spaces.{SpaceOf}
 use Rattle.owner.specs.Owned.{ties_first}
 
 -- the space and the states that were reached in it
@@ -31,22 +31,6 @@ h_of space = heuristic_of space.task space.columns
 -- the message with these parts
 abbrev pub message_at : List ℕ → Rank → Parent → machine.Message
 message_at state rank parent = record { state = state; cost = rank.cost; steps = rank.steps; parent = parent_of parent }
-
--- ---- entries that are turned over
-
--- the number counted down from the greatest number of 64 bits
-abbrev pub counted_down : ℕ → ℕ
-counted_down x = 2 ^ 64 - 1 - x
-
--- the entry as the open list keeps it, and also the entry that one in the list stands for
-abbrev pub turned : Ties → OpenEntry → OpenEntry
-turned Shallow e = e
-turned Deep e =
-    record {
-      f = e.f;
-      rank = record { cost = counted_down e.rank.cost; steps = counted_down e.rank.steps };
-      index = counted_down e.index;
-    }
 
 -- the numbers that are turned over have at most 64 bits
 pub record HasWords (e : OpenEntry) : Type 0 where

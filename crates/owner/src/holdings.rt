@@ -9,7 +9,7 @@ ghost use Rattle.owner_theory.specs.Worlds.{idle, no_open, waiting};
 ghost use Rattle.openlist.specs.declared.entry.OpenEntry.{OpenEntry as EntryOf};
 ghost use Rattle.closed.specs.declared.message.Parent.{Parent};
 ghost use Rattle.closed.specs.Tables.{message_of, node_with, outcome_of, fresh};
-ghost use Rattle.owner.specs.Spaces.{searched};
+ghost use Rattle.owner_space.specs.Spaces.{searched};
 ghost use Rattle.owner.specs.Owned.{space_of, under, max_total, IsMessageTo, IsNext, least_open};
 ghost use Rattle.owner.specs.Queues.{h_of, message_at, IsLeast};
 ghost use Rattle.owner.specs.Outboxes.{count_in_use};
@@ -17,11 +17,11 @@ ghost use Rattle.owner.specs.Held.{IsOwner, places_in};
 
 use crate::outboxes::Outboxes;
 use crate::reached::Reached;
-use crate::space::{Space, f_after};
 use closed::{Entry, Message, Outcome, Parent};
 use cost::Dist;
 use fdr::FdrTask;
 use openlist::{OpenEntry, Rank};
+use owner_space::{Space, f_after};
 use packed::StateForm;
 use packed_spread::Spread;
 use scp::Places;
@@ -148,25 +148,28 @@ impl<'a, S: Spread + Drop, F: StateForm + Drop> Holdings<'a, S, F> {
         Ok(())
     }
 
-    /// The outcome that reaching a state at a rank would have. Nothing is changed.
-    fn look(&mut self, state: &[u32], rank: Rank) -> Outcome
-        requires { IsState (ranges self.old.space.task) state.now }
-        ensures outcome { (parent : Option Parent) → result ≡ outcome_of self.old.nodes (fresh state.now rank parent) }
-        ensures same { self.new ≡ self.old }
+    /// The outcome that reaching the state of a form at a rank would have.
+    pub(crate) fn look_form(&self, form: &F, rank: Rank) -> Outcome
+        requires { F.IsForm (ranges self.now.space.task) form.now }
+        ensures { (parent : Option Parent) →
+            result ≡ outcome_of self.now.nodes (fresh (F.values (ranges self.now.space.task) form.now) rank parent) }
     {
-        self.reached.look(state, rank)
+        self.reached.look_form(form, rank)
     }
 
-    /// Takes a state of its own of this f-value, where `look` told the outcome. Fails only if allocation fails, and then
-    /// changes nothing.
+    /// Takes a state of its own of this form and this f-value, where `look_form` told the outcome. Fails only if allocation
+    /// fails, and then changes nothing.
     fn take_at(
         &mut self,
+        form: &F,
         state: &[u32],
         rank: Rank,
         parent: Parent,
         outcome: Outcome,
         f: Dist,
     ) -> Result<(), AllocError>
+        requires form { F.IsForm (ranges self.old.space.task) form.now }
+        requires values { F.values (ranges self.old.space.task) form.now ≡ state.now }
         requires message { IsMessageTo (space_of S.owner self.old) self.old.worker (message_at state.now rank parent) }
         requires outcome { outcome ≡ outcome_of self.old.nodes (fresh state.now rank (Some parent)) }
         requires f { f ≡ Finite rank.cost +ᵈ h_of self.old.space state.now }
@@ -177,7 +180,7 @@ impl<'a, S: Spread + Drop, F: StateForm + Drop> Holdings<'a, S, F> {
         ensures unchanged { OnErr result (self.new ≡ self.old) }
     {
         self.reached
-            .reach_at(state, rank, Some(parent), outcome, f)?;
+            .reach_form_at(form, rank, Some(parent), outcome, f)?;
         self.best = best_with(self.reached.space().task(), self.best, state, rank.cost);
         Ok(())
     }
@@ -189,10 +192,13 @@ impl<'a, S: Spread + Drop, F: StateForm + Drop> Holdings<'a, S, F> {
         &mut self,
         bound: Dist,
         places: &mut Places<'_>,
+        form: &F,
         state: &[u32],
         rank: Rank,
         parent: Parent,
     ) -> Result<(), AllocError>
+        requires form { F.IsForm (ranges self.old.space.task) form.now }
+        requires values { F.values (ranges self.old.space.task) form.now ≡ state.now }
         requires message { IsMessageTo (space_of S.owner self.old) self.old.worker (message_at state.now rank parent) }
         requires places { places.old ≡ places_in self.old.space places.old.state }
         requires step { step self.old.space.task places.old.state parent.operator ≡ Some state.now }
@@ -204,7 +210,7 @@ impl<'a, S: Spread + Drop, F: StateForm + Drop> Holdings<'a, S, F> {
         ensures unchanged { OnErr result (self.new ≡ self.old) }
         ensures places { places.new ≡ places.old }
     {
-        let outcome = self.look(state, rank);
+        let outcome = self.look_form(form, rank);
         let space = self.space();
         if let Outcome::Kept = outcome {
             if !space.task().is_goal(state) {
@@ -215,21 +221,24 @@ impl<'a, S: Spread + Drop, F: StateForm + Drop> Holdings<'a, S, F> {
         if is_within(bound, f) {
             return Ok(());
         }
-        self.take_at(state, rank, parent, outcome, f)?;
+        self.take_at(form, state, rank, parent, outcome, f)?;
         Ok(())
     }
 
     /// Treats a successor of the state whose places these are: drops it if its f-value reaches the bound, takes it if it is this owner's, and else puts it
-    /// into the outbox for its owner. Returns whether it was put into an outbox. Fails only if allocation fails.
+    /// into the outbox for its owner. The state is given with its form. Returns whether it was put into an outbox. Fails only if allocation fails.
     pub(crate) fn treat(
         &mut self,
         alloc: Global,
         bound: Dist,
         places: &mut Places<'_>,
+        form: &F,
         state: &[u32],
         rank: Rank,
         parent: Parent,
     ) -> Result<bool, AllocError>
+        requires form { F.IsForm (ranges self.old.space.task) form.now }
+        requires values { F.values (ranges self.old.space.task) form.now ≡ state.now }
         requires state { IsState (ranges self.old.space.task) state.now }
         requires places { places.old ≡ places_in self.old.space places.old.state }
         requires step { step self.old.space.task places.old.state parent.operator ≡ Some state.now }
@@ -246,14 +255,13 @@ impl<'a, S: Spread + Drop, F: StateForm + Drop> Holdings<'a, S, F> {
         let space = self.reached.space();
         let to = space.owner_of(state, self.outboxes.len());
         if to == self.worker {
-            self.treat_own(bound, places, state, rank, parent)?;
+            self.treat_own(bound, places, form, state, rank, parent)?;
             return Ok(false);
         }
         if is_within(bound, f_after(places, parent.operator, state, rank.cost)) {
             return Ok(false); // no memory is taken for it
         }
-        self.reached.recall(); // states of the task have the form
-        let state = F::pack(alloc, space.layout(), state)?;
+        let state = form.copy(alloc)?;
         let message = Message {
             state,
             rank,
@@ -364,6 +372,13 @@ impl<'a, S: Spread + Drop, F: StateForm + Drop> Holdings<'a, S, F> {
         ensures { result ≡ count_in_use self.now.outboxes }
     {
         self.outboxes.in_use()
+    }
+
+    /// The number of owners.
+    pub(crate) fn owners(&self) -> usize
+        ensures { result ≡ length self.now.outboxes }
+    {
+        self.outboxes.len()
     }
 
     pub(crate) fn messages(&self) -> u128

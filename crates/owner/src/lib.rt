@@ -6,14 +6,11 @@ mod holdings;
 mod outboxes;
 mod owner;
 mod reached;
-mod space;
 mod successors;
-mod ties;
 
 pub use closed::{Entry, Message, Parent};
 pub use fault::OwnerFault;
 pub use openlist::Rank;
 pub use owner::Owner;
-pub use space::Space;
+pub use owner_space::{Space, Ties};
 pub use successors::MAX_TOTAL;
-pub use ties::Ties;

@@ -8,16 +8,16 @@ ghost use Rattle.owner_theory.specs.Owners.{Node, list_at, took, start_owner};
 ghost use Rattle.owner_theory.specs.Worlds.{idle, waiting};
 ghost use Rattle.owner_theory.specs.Families.{IsSearchSpace, IsLowerBound};
 ghost use Rattle.closed.specs.Tables.{message_of, node_with};
-ghost use Rattle.owner.specs.Spaces.{searched};
+ghost use Rattle.owner_space.specs.Spaces.{searched};
 ghost use Rattle.owner.specs.Outboxes.{count_in_use};
 ghost use Rattle.owner.specs.Owned.{space_of, under, IsMessageTo, IsExpansion, IsRefusal, IsKept, least_open};
 
 use crate::fault::OwnerFault;
 use crate::holdings::Holdings;
-use crate::space::Space;
-use crate::successors::{has_large_successor, treat_successors};
+use crate::successors::{Successor, has_large_successor, treat_successors};
 use closed::{Entry, Message};
 use cost::Dist;
+use owner_space::Space;
 use packed::{Layout, StateForm};
 use packed_spread::Spread;
 use scp::Places;
@@ -38,6 +38,10 @@ pub struct Owner<'a, S: Spread + Drop, F: StateForm + Drop> {
     successor: Vec<u32>,
     /// A buffer for the operators that apply in that state.
     applicable: Vec<usize>,
+    /// A buffer for the successors of that state.
+    successors: Vec<Successor<F>>,
+    /// A buffer: for each successor whether it is known that nothing changes when it is treated.
+    known: Vec<bool>,
     /// The places of that state in the columns, while its successors are treated.
     places: Places<'a>,
 }
@@ -108,6 +112,8 @@ impl<'a, S: Spread + Drop, F: StateForm + Drop> Owner<'a, S, F> {
             state,
             successor,
             applicable: Vec::new(alloc),
+            successors: Vec::new(alloc),
+            known: Vec::new(alloc),
             places,
         })
     }
@@ -168,6 +174,8 @@ impl<'a, S: Spread + Drop, F: StateForm + Drop> Owner<'a, S, F> {
             &mut self.places,
             &self.applicable,
             &mut self.successor,
+            &mut self.successors,
+            &mut self.known,
         )?;
         Ok(Some(posted))
     }

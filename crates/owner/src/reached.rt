@@ -8,13 +8,13 @@ ghost use Rattle.owner_theory.specs.Owners.{At, Node, marked};
 ghost use Rattle.openlist.specs.declared.entry.OpenEntry.{OpenEntry as EntryOf};
 ghost use Rattle.closed.specs.declared.message.Parent.{Parent};
 ghost use Rattle.closed.specs.Tables.{reached, outcome_of, fresh, node_with};
-ghost use Rattle.owner.specs.Queues.{added, turned, HasWords, h_of, IsCurrent, AreQueued, IsQueue, IsLeast, HasNoneOpen};
+ghost use Rattle.owner_space.specs.Turned.{turned};
+ghost use Rattle.owner.specs.Queues.{added, HasWords, h_of, IsCurrent, AreQueued, IsQueue, IsLeast, HasNoneOpen};
 
-use crate::space::Space;
-use crate::ties::Ties;
 use closed::{ClosedTable, Entry, Outcome, Parent};
 use cost::Dist;
 use openlist::{Buckets, OpenEntry, OpenList, Rank};
+use owner_space::{Space, Ties};
 use packed::StateForm;
 use packed_spread::Spread;
 use std::alloc::{AllocError, Global};
@@ -226,5 +226,42 @@ impl<'a, S: Spread + Drop, F: StateForm + Drop> Reached<'a, S, F> {
         ensures { (n : Node) → slice_get self.now.nodes index ≡ Some n → state.new ≡ n.state }
     {
         self.table.copy_state(index, state)
+    }
+
+    /// The outcome that reaching the state of a form at a rank would have.
+    pub(crate) fn look_form(&self, form: &F, rank: Rank) -> Outcome
+        requires { F.IsForm (ranges self.now.space.task) form.now }
+        ensures { (parent : Option Parent) →
+            result ≡ outcome_of self.now.nodes (fresh (F.values (ranges self.now.space.task) form.now) rank parent) }
+    {
+        self.table.look_form(form, rank)
+    }
+
+    /// Records that a state of this form and f-value was reached, where `look_form` told the outcome. Fails only if
+    /// allocation fails, and then changes nothing.
+    pub(crate) fn reach_form_at(
+        &mut self,
+        form: &F,
+        rank: Rank,
+        parent: Option<Parent>,
+        outcome: Outcome,
+        f: Dist,
+    ) -> Result<(), AllocError>
+        requires form { F.IsForm (ranges self.old.space.task) form.now }
+        requires outcome { outcome ≡ outcome_of self.old.nodes (fresh (F.values (ranges self.old.space.task) form.now) rank parent) }
+        requires f { f ≡ Finite rank.cost +ᵈ h_of self.old.space (F.values (ranges self.old.space.task) form.now) }
+        ensures nodes { OnOk result (self.new.nodes ≡ reached self.old.nodes (fresh (F.values (ranges self.old.space.task) form.now) rank parent)) }
+        ensures space { self.new.space ≡ self.old.space }
+        ensures unchanged { OnErr result (self.new ≡ self.old) }
+    {
+        let f = f.get();
+        make_room(&mut self.queue, f)?;
+        self.table.reach_form(form, rank, parent, outcome)?;
+        let ties = self.space.ties();
+        put_in(&mut self.queue, ties, f, rank, outcome);
+        if let Outcome::Better(_) = outcome {
+            drop_stale(&self.table, ties, &mut self.queue); // the old entry of the state may be on top
+        }
+        Ok(())
     }
 }

@@ -233,7 +233,7 @@ read_back words word bit low (range ∷ ranges) (value ∷ values) state below t
     rest_state : IsState ranges values
     rest_state = tail_state range value ranges values state
 
-word_of : (count : ℕ) (ranges values : List ℕ) (k : ℕ) → k < count → slice_index (words_of count ranges values) k ≡ word_at k (fields ranges) values
+pub word_of : (count : ℕ) (ranges values : List ℕ) (k : ℕ) → k < count → slice_index (words_of count ranges values) k ≡ word_at k (fields ranges) values
 word_of count ranges values k within = get_or-map-range_with_len (λ k. word_at k (fields ranges) values) 0 count k k 0 within (omega arith)
 
 -- the values of a state are read back from its words

@@ -1,12 +1,13 @@
 //! States packed into bits.
 
-ghost use Rattle.std.specs.Prelude.{◌≡◌, ◌+◌, ◌<◌, ◌≤◌, ◌↔◌, ℕ, List, length, IsTrue, IfOk};
-ghost use Rattle.fdr.specs.Tasks.{IsState};
+ghost use Rattle.std.specs.Prelude.{◌≡◌, ◌+◌, ◌<◌, ◌≤◌, ◌↔◌, ℕ, List, length, slice_set, IsTrue, IfOk, All};
+ghost use Rattle.fdr.specs.Tasks.{IsState, IsInRange, with_values};
 ghost use Rattle.packed.specs.Fields as spec;
 
 use crate::field::Field;
 use crate::form::StateForm;
 use crate::layout::Layout;
+use fdr::Fact;
 use std::alloc::{AllocError, Global};
 
 /// A state as `WORDS` words of 64 bits, which lie in the form itself. A variable takes as many bits as its greatest value has
@@ -37,6 +38,31 @@ impl<const WORDS: usize> Bits<WORDS> {
         ensures { result ≡ spec.value_in self.now.words field }
     {
         self.words[field.word].wrapping_shr(field.shift) & ((1 << field.width) - 1)
+    }
+
+    /// Writes the value of a fact into its variable's bits.
+    fn set_value(&mut self, layout: &Layout, fact: Fact)
+        requires form { spec.ArePacked WORDS layout.now self.old.words }
+        requires fact { IsInRange layout.now fact }
+        ensures form { spec.ArePacked WORDS layout.now self.new.words }
+        ensures values { spec.values_in self.new.words layout.now ≡ slice_set (spec.values_in self.old.words layout.now) fact.variable fact.value }
+    {
+        let field = layout.fields()[fact.variable];
+        let old = self.value(field).wrapping_shl(field.shift);
+        let new = (fact.value as u64).wrapping_shl(field.shift);
+        self.words[field.word] = self.words[field.word] - old + new;
+    }
+
+    /// Writes the values of facts into their variables' bits.
+    fn set_values(&mut self, layout: &Layout, facts: &[Fact])
+        requires form { spec.ArePacked WORDS layout.now self.old.words }
+        requires facts { All (IsInRange layout.now) facts.now }
+        ensures form { spec.ArePacked WORDS layout.now self.new.words }
+        ensures values { spec.values_in self.new.words layout.now ≡ with_values facts.now (spec.values_in self.old.words layout.now) }
+    {
+        for fact in facts {
+            self.set_value(layout, *fact);
+        }
     }
 
     /// Whether the number in each variable's bits is below the variable's range.
@@ -116,5 +142,17 @@ impl<const WORDS: usize> StateForm for Bits<WORDS> {
     fn copy(&self, alloc: Global) -> Result<Bits<WORDS>, AllocError> {
         let _ = alloc;
         Ok(*self)
+    }
+
+    fn changed(
+        &self,
+        alloc: Global,
+        layout: &Layout,
+        facts: &[Fact],
+    ) -> Result<Bits<WORDS>, AllocError> {
+        let _ = alloc;
+        let mut changed = *self;
+        changed.set_values(layout, facts);
+        Ok(changed)
     }
 }

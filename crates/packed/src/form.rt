@@ -1,6 +1,7 @@
 //! The trait of forms of states.
 
 use crate::layout::Layout;
+use fdr::Fact;
 use std::alloc::{AllocError, Global};
 use std::hash::Hash;
 
@@ -8,7 +9,7 @@ use std::hash::Hash;
 /// exactly if their states are.
 pub trait StateForm: Eq + Hash {
     ghost use Rattle.std.specs.Prelude.{◌≡◌, ◌↔◌, ℕ, List, length, IsTrue, IfOk};
-    ghost use Rattle.fdr.specs.Tasks.{IsState};
+    ghost use Rattle.fdr.specs.Tasks.{IsState, IsAssignment, with_values};
 
     /// States over variables with these ranges have this form.
     ghost Fits: { List ℕ → Type 0 };
@@ -59,6 +60,14 @@ pub trait StateForm: Eq + Hash {
         ensures form { (ranges : List ℕ) → IsForm ranges self.now → IfOk result (IsForm ranges) }
         ensures values { (ranges : List ℕ) → IsForm ranges self.now →
             IfOk result (λ f. values ranges f ≡ values ranges self.now) };
+
+    /// The form of the state in which the variables of these facts have the facts' values, and the others those of this
+    /// form's state. Fails only if allocation fails.
+    fn changed(&self, alloc: Global, layout: &Layout, facts: &[Fact]) -> Result<Self, AllocError>
+        requires form { IsForm layout.now self.now }
+        requires facts { IsAssignment layout.now facts.now }
+        ensures form { IfOk result (IsForm layout.now) }
+        ensures values { IfOk result (λ f. values layout.now f ≡ with_values facts.now (values layout.now self.now)) };
 
     /// The values of a form are a state.
     ghost state: { (ranges : List ℕ) (f : Self) → IsForm ranges f → IsState ranges (values ranges f) };

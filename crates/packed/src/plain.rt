@@ -1,9 +1,11 @@
 //! States as lists of values.
 
-ghost use Rattle.std.specs.Prelude.{◌≡◌, ◌↔◌, ℕ, List, length, IsTrue, IfOk};
+ghost use Rattle.std.specs.Prelude.{◌≡◌, ◌↔◌, ◌<◌, ℕ, List, length, All, IsTrue, IfOk};
+ghost use Rattle.fdr.specs.Tasks.{with_values};
 
 use crate::form::StateForm;
 use crate::layout::Layout;
+use fdr::Fact;
 use smallvec::SmallVec;
 use std::alloc::{AllocError, Global};
 
@@ -15,6 +17,16 @@ const INLINE_VALUES: usize = 12;
 #[derive(Drop, Debug, PartialEq, Eq, Hash)]
 pub struct Plain {
     values: SmallVec<u32, INLINE_VALUES>,
+}
+
+/// Sets the variables of the facts to the facts' values, in their order. The other variables keep their values.
+fn set_values(facts: &[Fact], state: &mut [u32])
+    requires { All (λ f. f.variable < length state.old) facts.now }
+    ensures { state.new ≡ with_values facts.now state.old }
+{
+    for fact in facts {
+        state[fact.variable] = fact.value;
+    }
 }
 
 impl StateForm for Plain {
@@ -67,5 +79,12 @@ impl StateForm for Plain {
         Ok(Plain {
             values: SmallVec::from_slice(alloc, self.values.as_slice())?,
         })
+    }
+
+    fn changed(&self, alloc: Global, layout: &Layout, facts: &[Fact]) -> Result<Plain, AllocError> {
+        let _ = layout;
+        let mut changed = self.copy(alloc)?;
+        set_values(facts, changed.values.as_mut_slice());
+        Ok(changed)
     }
 }

@@ -3,7 +3,8 @@ use Rattle.std.specs.Prelude.{map}
 use Rattle.std.proofs.lemmas.List.Elements.{All-contains}
 use Rattle.std.proofs.lemmas.List.Sorted.{IsPermutation-map}
 use Rattle.openlist.specs.declared.entry.OpenEntry.{OpenEntry}
-use Rattle.owner.specs.Queues.{turned, IsCurrent}
+use Rattle.owner.specs.Queues.{IsCurrent}
+use Rattle.owner_space.specs.Turned.{turned}
 use Rattle.owner.proofs.Entries.{contains_map}
 use Rattle.owner.proofs.Queues.{current_queue, empty_queue, popped_first, fewer, rest_below, rest_words, stale_queued}
 use Rattle.owner.proofs.reached.drop_stale.Goals as goal

@@ -1,7 +1,8 @@
 use Rattle.std.proofs.Common.{ℕ, ◌<◌, length, List, All}
 use Rattle.std.specs.Prelude.{map}
 use Rattle.cost.specs.Distances.{Distance}
-use Rattle.owner.specs.Queues.{turned, HasWords, AreQueued}
+use Rattle.owner.specs.Queues.{HasWords, AreQueued}
+use Rattle.owner_space.specs.Turned.{turned}
 use Rattle.owner.proofs.reached.drop_stale.Given as goal
 
 abbrev pub invariant-loop-entry : goal.invariant-loop-entry

@@ -1,6 +1,6 @@
 use Rattle.std.proofs.Common.{◌≡◌, ◌+◌, suc, true, false, Some, add-one, sym, ap, ◌∙◌, subst, cond}
 use Rattle.std.specs.Prelude.{is_some}
-use Rattle.owner.specs.Spaces.{SpaceOf}
+use Rattle.owner_space.specs.Spaces.{SpaceOf}
 use Rattle.owner.specs.Queues.{IsLeast, h_of}
 use Rattle.owner.specs.Owned.{OwnerOf}
 use Rattle.openlist.specs.declared.entry.OpenEntry.{OpenEntry}

@@ -2,7 +2,7 @@ use Rattle.std.proofs.Common.{rules, ◌≡◌, ◌==◌, [], replicate, subst, 
 use Rattle.cost.specs.Distances.{Infinite}
 use Rattle.fdr.specs.Tasks.{FiniteDomainTask, ranges, IsState}
 use Rattle.owner_theory.specs.Owners.{start_owner}
-use Rattle.owner.specs.Spaces.{searched}
+use Rattle.owner_space.specs.Spaces.{searched}
 use Rattle.owner.specs.Queues.{ReachedOf}
 use Rattle.owner.specs.Held.{IsOwner}
 use Rattle.owner.specs.Outboxes.{shown}

@@ -2,7 +2,7 @@ use Rattle.std.proofs.Common.{sym, ap, ◌∙◌, subst, cond}
 use Rattle.cost.specs.Distances.{Finite, lesser}
 use Rattle.fdr.specs.Tasks.{FiniteDomainTask, is_goal_state}
 use Rattle.owner_theory.specs.Owners.{took}
-use Rattle.owner.specs.Spaces.{SpaceOf}
+use Rattle.owner_space.specs.Spaces.{SpaceOf}
 use Rattle.owner.specs.Owned.{OwnerOf, space_of, under, IsMessageTo}
 use Rattle.owner.specs.Queues.{ReachedOf, message_at}
 use Rattle.owner.specs.Held.{IsOwner}

@@ -3,7 +3,6 @@ use Rattle.std.specs.Prelude.{slice_set}
 use Rattle.fdr.specs.Tasks.{ranges, IsState}
 use Rattle.owner_theory.specs.Owners.{list_at, treat}
 use Rattle.owner_theory.specs.Worlds.{waiting}
-use Rattle.owner.specs.Spaces.{SpaceOf}
 use Rattle.owner.specs.Owned.{OwnerOf, space_of, under}
 use Rattle.owner.specs.Queues.{message_at}
 use Rattle.owner.proofs.Boxing.{count_posted}
@@ -16,9 +15,9 @@ use Rattle.owner.proofs.holdings.Holdings.treat.Goals.{In_ok-post}
 values_are : (g : _) (c : In_ok-post g)
     → g.F.StateForm.values (ranges c.self.inside.reached.space.task) c.in_ok-state.state ≡ c.args.state.now
 values_are g c =
-    ap (λ rs. g.F.StateForm.values rs c.in_ok-state.state)
-    (sym (c.layout.ensures ∙ ap (λ (s : SpaceOf g.row.S.Denot). ranges s.task) c.space-space.ensures))
-    ∙ c.in_ok-state.ensures.values
+    c.in_ok-state.ensures.values (ranges c.self.inside.reached.space.task)
+    (subst (λ (o : OwnerOf g.row.S.Denot). g.F.StateForm.IsForm (ranges o.space.task) c.args.form.now) (sym c.self.view_is) c.requires.form)
+    ∙ (ap (λ (o : OwnerOf g.row.S.Denot). g.F.StateForm.values (ranges o.space.task) c.args.form.now) c.self.view_is ∙ c.requires.values)
 
 pub invariant_of-self-2 : goal.invariant_of-self-2
 invariant_of-self-2 g c =

@@ -4,7 +4,7 @@ use Rattle.fdr.specs.Tasks.{FiniteDomainTask, ranges, IsState, applies_at}
 use Rattle.fdr_successors.specs.Applicable.{applicable_operators}
 use Rattle.owner_theory.specs.Worlds.{no_open}
 use Rattle.owner.specs.declared.fault.OwnerFault.TheVariants.{TotalTooLarge}
-use Rattle.owner.specs.Spaces.{SpaceOf}
+use Rattle.owner_space.specs.Spaces.{SpaceOf}
 use Rattle.owner.specs.Owned.{OwnerOf, space_of, under, IsRefusal, Expands}
 use Rattle.scp.specs.Places.{PlacesOf}
 use Rattle.owner.specs.Held.{IsSmallStep, places_in}

@@ -2,7 +2,7 @@ use Rattle.std.proofs.Common.{◌≡◌, ap, ◌∙◌}
 use Rattle.fdr.specs.Tasks.{ranges}
 use Rattle.owner_theory.specs.Owners.{took}
 use Rattle.closed.specs.Tables.{message_of}
-use Rattle.owner.specs.Spaces.{SpaceOf}
+use Rattle.owner_space.specs.Spaces.{SpaceOf}
 use Rattle.owner.specs.Owned.{OwnerOf, space_of, under}
 use Rattle.owner.specs.Queues.{message_at}
 use Rattle.owner.proofs.owner.Owner.take.Goals as goal

@@ -3,8 +3,9 @@ use Rattle.std.specs.Prelude.{map, slice_get, slice_set}
 use Rattle.owner_theory.specs.Owners.{Node, marked}
 use Rattle.openlist.specs.declared.entry.OpenEntry.{OpenEntry}
 use Rattle.openlist.specs.BucketLists.{all_entries}
-use Rattle.owner.specs.declared.ties.Ties.{Ties}
-use Rattle.owner.specs.Queues.{h_of, turned, AreQueued, IsQueue}
+use Rattle.owner_space.specs.declared.ties.Ties.{Ties}
+use Rattle.owner.specs.Queues.{h_of, AreQueued, IsQueue}
+use Rattle.owner_space.specs.Turned.{turned}
 use Rattle.owner.proofs.Queues.{after_marking, marks_least, popped_below, no_least, entries_below, rest_words}
 use Rattle.owner.proofs.reached.Reached.expand_least.Goals as goal
 

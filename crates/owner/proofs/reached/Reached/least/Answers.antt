@@ -1,8 +1,9 @@
 use Rattle.std.proofs.Common.{sym, ap, ◌∙◌, subst}
 use Rattle.openlist.specs.declared.entry.OpenEntry.{OpenEntry}
 use Rattle.openlist.specs.BucketLists.{all_entries}
-use Rattle.owner.specs.declared.ties.Ties.{Ties}
-use Rattle.owner.specs.Queues.{h_of, turned, IsLeast}
+use Rattle.owner_space.specs.declared.ties.Ties.{Ties}
+use Rattle.owner.specs.Queues.{h_of, IsLeast}
+use Rattle.owner_space.specs.Turned.{turned}
 use Rattle.owner.proofs.Queues.{is_least, least_none}
 use Rattle.owner.proofs.reached.Reached.least.Goals as goal
 

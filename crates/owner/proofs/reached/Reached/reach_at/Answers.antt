@@ -4,8 +4,9 @@ use Rattle.cost.specs.Distances.{Finite, ◌+ᵈ◌}
 use Rattle.owner_theory.specs.Owners.{Node}
 use Rattle.openlist.specs.BucketLists.{all_entries}
 use Rattle.closed.specs.Tables.{outcome_of, fresh}
-use Rattle.owner.specs.declared.ties.Ties.{Ties}
-use Rattle.owner.specs.Queues.{turned, AreQueued, IsQueue, ReachedOf, h_of}
+use Rattle.owner_space.specs.declared.ties.Ties.{Ties}
+use Rattle.owner.specs.Queues.{AreQueued, IsQueue, ReachedOf, h_of}
+use Rattle.owner_space.specs.Turned.{turned}
 use Rattle.owner.proofs.Queues.{queue_permuted, improve_queued, reach_queue, entries_below}
 use Rattle.owner.proofs.reached.Reached.reach_at.Goals as goal
 

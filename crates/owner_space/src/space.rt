@@ -37,7 +37,7 @@ pub struct Space<'a, S: Spread + Drop> {
 }
 
 impl<'a, S: Spread + Drop> Model for Space<'a, S> {
-    ghost use Rattle.owner.specs.Spaces.{SpaceOf};
+    ghost use Rattle.owner_space.specs.Spaces.{SpaceOf};
 
     ghost Value = { SpaceOf S };
 
@@ -58,12 +58,7 @@ fn sum(cost: u64, h: Dist) -> Dist
 
 /// The f-value of the successor, by the operator, of the state whose places these are, where that is reached at this
 /// cost, as `Space::f` gives it.
-pub(crate) fn f_after(
-    places: &mut Places<'_>,
-    operator: usize,
-    successor: &[u32],
-    cost: u64,
-) -> Dist
+pub fn f_after(places: &mut Places<'_>, operator: usize, successor: &[u32], cost: u64) -> Dist
     requires step { step places.old.task places.old.state operator ≡ Some successor.now }
     requires cost { cost ≤ 2 ^ 62 }
     ensures value { result ≡ Finite cost +ᵈ heuristic_of places.old.task places.old.columns successor.now }

@@ -16,11 +16,11 @@ pub enum Ties {
 }
 
 impl Ties {
-    ghost use Rattle.owner.specs.Queues.{turned};
+    ghost use Rattle.owner_space.specs.Turned.{turned};
 
     /// The entry as an open list keeps it, which gives the least rank first, and among equal ranks the earliest place. An
     /// entry that is turned twice is as it was.
-    pub(crate) fn turned(self, entry: OpenEntry) -> OpenEntry
+    pub fn turned(self, entry: OpenEntry) -> OpenEntry
         ensures { result ≡ turned self entry }
     {
         match self {

@@ -1,0 +1,28 @@
+-- The successors of a node, and those of which it is known that nothing changes when they are treated.
+use Rattle.std.specs.Prelude.{◌≡◌, ℕ, true, false, List, Some, slice_index, slice_index_or, Bool}
+use Rattle.fdr.specs.Tasks.{ranges, step, is_goal_state}
+use Rattle.owner_theory.specs.Owners.{SearchSpace, Message, Node, node_of, message_to}
+use Rattle.closed.specs.declared.table.Outcome.TheVariants.{Kept}
+use Rattle.closed.specs.Tables.{outcome_of}
+use Rattle.owner.specs.declared.successors.Successor.{Successor}
+
+-- the successor of the state by its operator, where forms have these values, with what is said about it
+pub record IsSuccessor {F : Type 0} (IsForm : List ℕ → F → Type 0) (values : List ℕ → F → List ℕ) (space : SearchSpace) (me : ℕ)
+    (state : List ℕ) (s : Successor F) : Type 0 where
+  pub form : IsForm (ranges space.task) s.state
+  pub leads : step space.task state s.operator ≡ Some (values (ranges space.task) s.state)
+  pub own : s.is_own ≡ true → space.owner_of (values (ranges space.task) s.state) ≡ me
+  pub no_goal : s.is_goal ≡ false → is_goal_state space.task (values (ranges space.task) s.state) ≡ false
+
+-- the message's state is this owner's and no goal state, and is known at the message's rank or a lesser one, so that
+-- nothing changes when it is treated
+pub record ChangesNothing (space : SearchSpace) (me : ℕ) (nodes : List Node) (m : Message) : Type 0 where
+  pub own : space.owner_of m.state ≡ me
+  pub no_goal : is_goal_state space.task m.state ≡ false
+  pub kept : outcome_of nodes (node_of m) ≡ Kept
+
+-- where it is known of the successor by one of these operators that it changes nothing, that is so
+abbrev pub AreKnown : SearchSpace → ℕ → ℕ → Node → List Node → List ℕ → List Bool → Type 0
+AreKnown space me index n nodes operators known =
+    (k : ℕ) → slice_index_or known k false ≡ true → (t : List ℕ) → step space.task n.state (slice_index operators k) ≡ Some t
+    → ChangesNothing space me nodes (message_to space.task me index n (slice_index operators k) t)

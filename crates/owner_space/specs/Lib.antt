@@ -1,0 +1,3 @@
+pub mod Spaces
+pub mod Turned
+pub mod Steps

@@ -1,0 +1,10 @@
+//! The space that owners search, and the steps that lead through it.
+#![tactic(auto)]
+
+mod space;
+mod steps;
+mod ties;
+
+pub use space::{Space, f_after};
+pub use steps::{effect_of, write_successor};
+pub use ties::Ties;

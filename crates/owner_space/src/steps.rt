@@ -1,0 +1,31 @@
+//! Steps of a task: what an operator does to a state.
+
+ghost use Rattle.std.specs.Prelude.{◌≡◌, length, Some, true};
+ghost use Rattle.fdr.specs.Tasks.{ranges, IsState, IsAssignment, applies_at, step};
+ghost use Rattle.owner_space.specs.Steps.{effect_at};
+
+use fdr::{Fact, FdrTask};
+
+/// The effect of the operator with this number, which is empty if there is no such operator.
+pub fn effect_of(task: &FdrTask, operator: usize) -> &[Fact]
+    ensures effect { result.now ≡ effect_at task.now operator }
+    ensures assignment { IsAssignment (ranges task.now) result.now }
+{
+    match task.operators().get(operator) {
+        Some(operator) => &operator.effect,
+        None => &[],
+    }
+}
+
+/// Writes the successor, by an operator that applies, of a state into `values`.
+pub fn write_successor(task: &FdrTask, state: &[u32], operator: usize, values: &mut [u32])
+    requires state { IsState (ranges task.now) state.now }
+    requires applies { applies_at task.now operator state.now ≡ true }
+    requires buffer { length values.old ≡ length state.now }
+    ensures step { step task.now state.now operator ≡ Some values.new }
+    ensures state { IsState (ranges task.now) values.new }
+{
+    task.recall(); // a successor of a state is a state
+    values.copy_from_slice(state);
+    task.apply(operator, values);
+}
