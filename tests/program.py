@@ -26,9 +26,9 @@ def as_bytes(text):
     return text.encode() if isinstance(text, str) else text
 
 
-def run(*words, files=None, memory=None):
+def run(*words, files=None, memory=None, environment=None, descriptors=()):
     """The outcome of the program with these words, in a folder that has these files: texts or bytes by their names. Its addresses take at most
-    `memory` bytes, if these are given."""
+    `memory` bytes, if these are given. It has these variables beside those of the environment, and these descriptors stay open for it."""
     given = {name: as_bytes(text) for name, text in (files or {}).items()}
     with tempfile.TemporaryDirectory(prefix="optplan-test-") as folder:
         for name, text in given.items():
@@ -36,7 +36,8 @@ def run(*words, files=None, memory=None):
                 file.write(text)
         cap = memory and (lambda: resource.setrlimit(resource.RLIMIT_AS, (memory, memory)))
         ended = subprocess.run([os.environ["OPTPLAN"], *words], cwd=folder, stdin=subprocess.DEVNULL, stdout=subprocess.PIPE,
-                               stderr=subprocess.PIPE, timeout=SECONDS_OF_A_RUN, check=False, preexec_fn=cap)
+                               stderr=subprocess.PIPE, timeout=SECONDS_OF_A_RUN, check=False, preexec_fn=cap,
+                               env=os.environ | (environment or {}), pass_fds=descriptors)
         return Outcome(ended.stdout, ended.stderr, ended.returncode, written(folder, given))
 
 

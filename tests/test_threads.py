@@ -4,16 +4,13 @@ a limit or their time ends."""
 from program import run
 from test_planner import PlannerTest, solved
 from test_planner_hanoi import DOMAIN as HANOI
-from texts import DRIVE_DOMAIN, DRIVE_PROBLEM, GRIP_DOMAIN, GRIP_PROBLEM, ROAD_DOMAIN, ROAD_PROBLEM
+from texts import DRIVE_DOMAIN, DRIVE_PROBLEM, GRIP_DOMAIN, GRIP_PROBLEM, ROAD_DOMAIN, ROAD_PROBLEM, ROAD_TO_NOWHERE
 
 WORKERS = (1, 2, 4, 64)
 
 # Tasks with the costs of their cheapest plans: two roads; a way around that is shorter; and with one hand two ways there with a ball and one
 # back, and each ball picked up and dropped.
 TASKS = ((ROAD_DOMAIN, ROAD_PROBLEM, 2), (DRIVE_DOMAIN, DRIVE_PROBLEM, 7), (GRIP_DOMAIN, GRIP_PROBLEM, 7))
-
-# No road leads to d.
-ROAD_TO_NOWHERE = ROAD_PROBLEM.replace("a b c", "a b c d").replace("(:goal (at c))", "(:goal (at d))")
 
 SEARCHES = 50
 

@@ -17,6 +17,9 @@ ROAD_PROBLEM = """(define (problem r1) (:domain road)
  (:goal (at c)))
 """
 
+# The roads of `ROAD_PROBLEM`, of which none leads to the goal d.
+ROAD_TO_NOWHERE = ROAD_PROBLEM.replace("a b c", "a b c d").replace("(:goal (at c))", "(:goal (at d))")
+
 # The roads of `ROAD_PROBLEM`, with the start as the goal.
 ROAD_PROBLEM_AT_ITS_GOAL = """(define (problem r1) (:domain road)
  (:objects a b c - loc)

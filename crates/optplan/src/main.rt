@@ -2,20 +2,20 @@
 //! certificate that the separate checker provably accepts, if the certificate's text has at most 2^30 bytes.
 #![tactic(auto)]
 
-use optplan_command::{Status, run};
+use optplan_command::run;
 use optplan_device::ProcessDevice;
-use std::alloc::AllocError;
+use optplan_replies::{Fault, report};
 use std::process::ExitCode;
 
 fn main(rt: HostRuntime) -> ExitCode {
-    let words: Vec<String> = match std::env::args(&rt) {
-        Ok(args) => match args.collect(rt.alloc()) {
-            Ok(words) => words,
-            Err(_) => return ExitCode::from(Status::OutOfMemory.code()),
-        },
-        Err(_) => return ExitCode::from(Status::OutOfMemory.code()),
-    };
     let mut device = ProcessDevice::new(&rt);
-    let status = run(&words, &mut device, &rt);
+    let words: Option<Vec<String>> = match std::env::args(&rt) {
+        Ok(args) => args.collect(rt.alloc()).ok(),
+        Err(_) => None,
+    };
+    let status = match words {
+        Some(words) => run(&words, &mut device, &rt),
+        None => report(rt.alloc(), &mut device, &Fault::OutOfMemory),
+    };
     ExitCode::from(status.code())
 }

@@ -16,7 +16,7 @@ use crate::solve_words::{solve_by_words, solve_command, solve_sas_by_words, solv
 use clap::error::ErrorKind;
 use clap::{Command, Error};
 use optplan_device::Device;
-use optplan_replies::{Status, put_text};
+use optplan_replies::{Fault, Status, put_text, report};
 use std::alloc::{AllocError, Global};
 use std::sync::Wait;
 use std::thread::Threads;
@@ -84,10 +84,10 @@ fn show<D: Device>(alloc: Global, device: &mut D, error: &Error) -> Status
     ensures counted { result ≡ Status.DeviceFailed → D.failure_count device.old + 1 ≤ D.failure_count device.new }
 {
     let Ok(text) = format!(in alloc; "{error}") else {
-        return Status::OutOfMemory;
+        return report(alloc, device, &Fault::OutOfMemory);
     };
     if error.kind() == ErrorKind::OutOfMemory {
-        return Status::OutOfMemory;
+        return report(alloc, device, &Fault::OutOfMemory);
     }
     if error.use_stderr() {
         let _ = device.err(text.as_bytes());

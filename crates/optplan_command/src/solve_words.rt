@@ -279,11 +279,10 @@ pub(crate) fn solve_by_words<D: Device, R: Threads + Wait + Clock + Eprint + Syn
 
 /// Solves a finite-domain task as the words request, and returns the exit status. Fails with the command's error for the
 /// first value that is refused, or if allocation fails.
-pub(crate) fn solve_sas_by_words<D: Device, R: Threads + Wait + Clock + Eprint + Sync + AllocGlobal>(
-    rt: &R,
-    device: &mut D,
-    words: &ArgMatches<'_>,
-) -> Result<Status, Error>
+pub(crate) fn solve_sas_by_words<
+    D: Device,
+    R: Threads + Wait + Clock + Eprint + Sync + AllocGlobal,
+>(rt: &R, device: &mut D, words: &ArgMatches<'_>) -> Result<Status, Error>
     ensures done { IfOk result (λ status. (h : List Event) → D.history device.old ≡ Some h → D.failure_count device.new ≡ D.failure_count device.old → status ≢ Status.OutOfMemory →
         (new : List Event) × (D.history device.new ≡ Some new) × SolvesSasByWords (λ name. first_value (found_of words.now) name) h new status) }
     ensures counted { IfOk result (λ status. status ≡ Status.DeviceFailed → D.failure_count device.old + 1 ≤ D.failure_count device.new) }

@@ -63,21 +63,26 @@ fn put<D: Device>(device: &mut D, text: &[u8]) -> Result<(), Fault>
     }
 }
 
+/// The line that says that memory ran out, with its line feed. It takes no memory to make.
+const OUT_OF_MEMORY_LINE: &[u8] = b"optplan: out of memory\n";
+
 /// The line of a fault, with its line feed. Fails only if allocation fails.
 fn fault_line(alloc: Global, fault: &Fault) -> Result<String, AllocError> {
     format!(in alloc; "optplan: {fault}\n")
 }
 
-/// Reports a fault on standard error, unless that fails or memory runs out, and returns the fault's exit status.
+/// Reports a fault on standard error, unless that fails, and returns the fault's exit status. Where there is no memory for the fault's line,
+/// the line says that.
 pub fn report<D: Device>(alloc: Global, device: &mut D, fault: &Fault) -> Status
     ensures told { (h : List Event) → D.history device.old ≡ Some h →
         (later : List Event) × (D.history device.new ≡ Some (h ++ later)) × IsQuiet later }
     ensures counted { D.failure_count device.old ≤ D.failure_count device.new }
     ensures status { result ≡ fault_status fault.now }
 {
-    if let Ok(line) = fault_line(alloc, fault) {
-        let _ = device.err(line.as_bytes());
-    }
+    let _ = match fault_line(alloc, fault) {
+        Ok(line) => device.err(line.as_bytes()),
+        Err(_) => device.err(OUT_OF_MEMORY_LINE),
+    };
     fault.status()
 }
 

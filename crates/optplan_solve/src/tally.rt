@@ -76,7 +76,11 @@ impl Tally {
         let due = self.due.load(Ordering::Relaxed);
         let next = second.saturating_add(1);
         let ordering = Ordering::Relaxed;
-        second >= due && self.due.compare_exchange(due, next, ordering, ordering).is_ok()
+        second >= due
+            && self
+                .due
+                .compare_exchange(due, next, ordering, ordering)
+                .is_ok()
     }
 
     /// What the workers have come to together, as each told last.

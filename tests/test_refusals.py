@@ -1,0 +1,19 @@
+"""The system refuses one call of a run. A share of all growths of memory, and each other call; `refusals.py` refuses all."""
+
+from program import ProgramTest, run
+from refusals import KINDS, commands, is_right, refused_in_turn
+
+# Every so-manieth growth is refused.
+STEP = 97
+
+
+class Refusals(ProgramTest):
+    def test_each_command(self):
+        for command, files in commands():
+            plain = run(*command, files=files)
+            for kind in KINDS:
+                with self.subTest(command=command, kind=kind):
+                    ended = list(refused_in_turn(kind, command, files, STEP if kind == "growth" else 1))
+                    self.assertEqual([it for it in ended if not is_right(kind, plain, it[1])], [])
+                    if kind != "thread" or "--workers" in command:
+                        self.assertTrue(ended)
