@@ -1,0 +1,85 @@
+-- The commands of the program, with their operands and options, as the parser of command lines sees them.
+use Rattle.std.specs.Prelude.{◌≡◌, true, false, List, [], ◌∷◌, ◌++◌, Some, codes}
+use Rattle.clap.specs.Words.{App, Rule, Shape, Text, app_of, new_rule}
+use Rattle.clap.specs.Simple.{new_shape}
+use Rattle.clap.specs.declared.builder.action.ArgAction.TheVariants.{SetTrue}
+use Rattle.clap.specs.declared.builder.command.Command.{Command}
+use Rattle.clap.specs.declared.builder.command.Command.TheViews.{out-Command}
+
+-- ---- operands and options
+
+-- a file that must be named
+abbrev pub operand : Text → Rule
+operand name = record (new_rule name) { required = true }
+
+-- an option with a value
+abbrev pub option : Text → Rule
+option name = record (new_rule name) { long = Some name; value_names = 1 }
+
+-- an option that has this value where the words do not name it
+abbrev pub option_or : Text → Text → Rule
+option_or name value = record (option name) { defaults = value ∷ [] }
+
+-- an option without a value
+abbrev pub flag : Text → Rule
+flag name = record (new_rule name) { long = Some name; action = Some SetTrue }
+
+abbrev pub ending_options : List Rule
+ending_options = option (codes "limit") ∷ option (codes "time") ∷ option (codes "memory") ∷ option_or (codes "steps") (codes "1000000") ∷ []
+
+abbrev pub search_options : List Rule
+search_options =
+    option (codes "simulate") ∷ option_or (codes "workers") (codes "4") ∷ option_or (codes "ring") (codes "64")
+    ∷ option_or (codes "table") (codes "100000") ∷ option_or (codes "ties") (codes "shallow") ∷ ending_options
+
+abbrev pub output_options : List Rule
+output_options = flag (codes "progress") ∷ option (codes "plan") ∷ option (codes "cert") ∷ []
+
+-- ---- commands
+
+-- the command of this name with these operands and options, in this order
+abbrev pub command : Text → List Rule → Shape
+command name rules = record (new_shape name) { rules = rules }
+
+abbrev pub validate : Shape
+validate = command (codes "validate") (operand (codes "DOMAIN") ∷ operand (codes "PROBLEM") ∷ operand (codes "PLAN") ∷ [])
+
+abbrev pub check : Shape
+check = command (codes "check") (operand (codes "DOMAIN") ∷ operand (codes "PROBLEM") ∷ operand (codes "CERT") ∷ [])
+
+abbrev pub check_sas : Shape
+check_sas = command (codes "check-sas") (operand (codes "SAS") ∷ operand (codes "CERT") ∷ [])
+
+abbrev pub translate : Shape
+translate = command (codes "translate") (operand (codes "DOMAIN") ∷ operand (codes "PROBLEM") ∷ [])
+
+abbrev pub solve : Text → Shape
+solve name = command name (operand (codes "DOMAIN") ∷ operand (codes "PROBLEM") ∷ (search_options ++ output_options))
+
+abbrev pub solve_sas : Text → Shape
+solve_sas name = command name (operand (codes "SAS") ∷ (search_options ++ output_options))
+
+-- the program: one of its commands must be named, and without words it prints its help
+abbrev pub program : App
+program = record {
+  top = record (new_shape (codes "optplan")) {
+    is_leaf = false;
+    has_version = true;
+    subcommand_required = true;
+    arg_required_else_help = true;
+    disable_help_subcommand = true;
+  };
+  subs = validate ∷ check_sas ∷ check ∷ translate ∷ solve (codes "solve") ∷ solve_sas (codes "solve-sas") ∷ [];
+}
+
+-- ---- what is made of them
+
+-- the command has this shape, no commands of its own, and no argument that commands below it have too
+abbrev pub IsCommand : Shape → Command → Type 0
+IsCommand shape c = (app_of c ≡ record { top = shape; subs = [] }) × ((out-Command c).has_globals ≡ false)
+
+-- the second command is the first with these operands and options behind its own
+abbrev pub AddsRules : Command → List Rule → Command → Type 0
+AddsRules old rules new =
+    (app_of new ≡ record (app_of old) { top = record (app_of old).top { rules = (app_of old).top.rules ++ rules } })
+    × ((out-Command new).has_globals ≡ (out-Command old).has_globals)

@@ -1,0 +1,50 @@
+//! The commands of the program.
+
+ghost use Rattle.std.specs.Prelude.{◌≡◌, true, IfOk, IfErr, map};
+ghost use Rattle.std.specs.String.{string_bytes};
+ghost use Rattle.clap.specs.Words.{app_of, kind_of, subcommand_of, subcommand_rows_of, takes};
+ghost use Rattle.clap.specs.declared.error.kind.ErrorKind.TheVariants.{OutOfMemory};
+ghost use Rattle.optplan_words.specs.Commands.{program};
+
+use crate::files::{check_command, check_sas_command, translate_command, validate_command};
+use crate::solving::{solve_command, solve_sas_command};
+use clap::{ArgMatches, Command, Error};
+use std::alloc::{AllocError, Global};
+
+/// The program's version, which `--version` prints.
+const VERSION: &str = "0.1.0";
+
+const ABOUT: &str =
+    "Validates PDDL plans, checks certificates of lower bounds, and translates and solves planning tasks, with a proved verdict";
+
+/// The program without its commands.
+fn bare_program<'a>(alloc: Global) -> Command<'a> {
+    Command::new(alloc, "optplan")
+        .about(ABOUT)
+        .version(VERSION)
+        .subcommand_required(true)
+        .arg_required_else_help(true)
+        .disable_help_subcommand(true)
+}
+
+/// The program: its commands, help and version. Fails only if allocation fails.
+fn program_command<'a>(alloc: Global) -> Result<Command<'a>, AllocError>
+    ensures { IfOk result (λ c. app_of c ≡ program) }
+{
+    bare_program(alloc)
+        .subcommand(validate_command(alloc)?)?
+        .subcommand(check_sas_command(alloc)?)?
+        .subcommand(check_command(alloc)?)?
+        .subcommand(translate_command(alloc)?)?
+        .subcommand(solve_command(alloc, "solve")?)?
+        .subcommand(solve_sas_command(alloc, "solve-sas")?)
+}
+
+/// What these words request, the first of which is the program's name: a command with the values of its operands and options. Fails
+/// with the error in the words, with help or the version if they are requested, or if allocation fails.
+pub fn requested<'a>(alloc: Global, words: &'a [String]) -> Result<ArgMatches<'a>, Error>
+    ensures found { IfOk result (λ m. subcommand_rows_of m ≡ subcommand_of program (map string_bytes words.now)) }
+    ensures refused { IfErr result (λ e. takes program (map string_bytes words.now) ≡ true → kind_of e ≡ OutOfMemory) }
+{
+    program_command(alloc)?.try_get_matches_from(words)
+}
