@@ -37,7 +37,7 @@ impl Observer for Unobserved {
 }
 
 /// What these owners have come to, after so many expansions.
-fn reached<'a, S: Spread + Drop, F: StateForm + Drop>(
+fn sum_of<'a, S: Spread + Drop, F: StateForm + Drop>(
     owners: &[Owner<'a, S, F>],
     expanded: u64,
 ) -> Reached {
@@ -83,7 +83,7 @@ impl Tally {
             self.expanded = self.expanded.saturating_add(1);
         }
         if self.steps % STEPS_BETWEEN_REPORTS == 0 {
-            observer.observe(self.steps, reached(owners, self.expanded));
+            observer.observe(self.steps, sum_of(owners, self.expanded));
         }
     }
 }
