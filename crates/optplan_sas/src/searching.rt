@@ -75,8 +75,14 @@ fn by_seed<'a, O: Observer, F: StateForm + Drop>(
     ensures found { IfOk result (IsFinding space.now.task (kind_of kind) (EndsBySeed options.now seed space.now.task)) }
     ensures refused { IfErr result (IsRefusedBySeed options.now seed space.now.task) }
 {
-    let (workers, steps) = (options.workers(), options.steps());
-    match simulated::<Zobrist<'a>, O, F>(alloc, space, workers, seed, steps, observer) {
+    match simulated::<Zobrist<'a>, O, F>(
+        alloc,
+        space,
+        options.workers(),
+        seed,
+        options.steps(),
+        observer,
+    ) {
         Ok(world) => Ok(found_by(alloc, &world.joined(), kind)?),
         Err(OwnerFault::LimitReached) => unreachable!(),
         Err(OwnerFault::TotalTooLarge) => Err(SearchFault::TotalTooLarge),
