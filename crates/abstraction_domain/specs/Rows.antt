@@ -1,0 +1,32 @@
+-- Classes of the values of a variable (Hernádvölgyi and Holte 2000; Kreft, Büchner, Sievers and Helmert 2023).
+use Rattle.std.specs.Prelude.{ℕ, ◌+◌, ◌<◌, max, ◌⊎◌, List, [], ◌∷◌, length, take, slice_index, Contains}
+
+-- a variable, and the class of each of its values
+pub record Row : Type 0 where
+  pub variable : ℕ
+  pub classes : List ℕ
+
+-- the number of classes: one more than the greatest, and 0 if there is none
+abbrev pub class_count : List ℕ → ℕ
+class_count [] = 0
+class_count (c ∷ cs) = max (c + 1) (class_count cs)
+
+-- the least number that is not in the list
+pub record IsLeastAbsent (xs : List ℕ) (c : ℕ) : Type 0 where
+  pub absent : Contains xs c → ⊥
+  pub below : (d : ℕ) → d < c → Contains xs d
+
+-- the class at the place is one that stood earlier, or the least number that did not
+abbrev pub IsNumberedAt : List ℕ → ℕ → Type 0
+IsNumberedAt classes k =
+    Contains (take k classes) (slice_index classes k) ⊎ IsLeastAbsent (take k classes) (slice_index classes k)
+
+-- the classes are numbered in the order in which they first stand in the row
+abbrev pub AreNumbered : List ℕ → Type 0
+AreNumbered classes = (k : ℕ) → k < length classes → IsNumberedAt classes k
+
+-- the first place whose class is not numbered so
+pub record IsFirstMisnumbered (classes : List ℕ) (k : ℕ) : Type 0 where
+  pub within : k < length classes
+  pub before : (j : ℕ) → j < k → IsNumberedAt classes j
+  pub misnumbered : IsNumberedAt classes k → ⊥

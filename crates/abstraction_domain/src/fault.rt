@@ -1,0 +1,28 @@
+//! Faults of rows of classes.
+
+use std::alloc::AllocError;
+
+/// Why rows of classes have no domain abstraction. Places are counted from 0.
+#[derive(Clone, Copy, Debug, PartialEq, Eq)]
+pub enum DomainFault {
+    /// Memory ran out.
+    OutOfMemory,
+    /// The row at this place is on a variable that the task does not have. Each row before it fits the task.
+    UnknownVariable(usize),
+    /// The row at this place does not have a class for each value of its variable and no more. Each row before it fits
+    /// the task.
+    WrongRange(usize),
+    /// There are more than 2^24 abstract states, and each row fits the task.
+    TableTooLarge,
+}
+
+impl From<AllocError> for DomainFault {
+    ghost use Rattle.std.specs.Prelude.{◌≡◌};
+    ghost use Rattle.abstraction_domain.specs.declared.fault.DomainFault.TheVariants.{OutOfMemory};
+
+    ghost from_gives = { λ e fault. fault ≡ OutOfMemory };
+
+    fn from(_: AllocError) -> DomainFault {
+        DomainFault::OutOfMemory
+    }
+}

@@ -1,0 +1,12 @@
+//! Domain abstractions of finite-domain tasks: values that are in one class are not told apart.
+#![tactic(auto)]
+
+mod domain;
+mod fault;
+mod laws;
+mod row;
+
+pub use domain::{ClassDigit, DomainAbstraction, are_increasing};
+pub use fault::DomainFault;
+pub use laws::{domain_is_abstraction, identity_rows_give_projection};
+pub use row::{ClassFault, ClassRow};

@@ -1,0 +1,7 @@
+//! Domain abstractions followed backwards: which operators lead into an abstract state, and from which abstract states.
+#![tactic(auto)]
+
+mod backward;
+mod lists;
+
+pub use backward::BackwardDomain;
