@@ -1,6 +1,6 @@
 -- What every reading line by line keeps: a reader looks at one line after the other, and tells a fault of a line at
 -- which it has looked. A frame is what is to be kept, of one reading or of two readings side by side.
-use Rattle.std.proofs.Common.{◌⊎◌, inl, inr, ◌≡◌, ℕ, zero, suc, ◌+◌, List, [], ◌∷◌, refl, sym, ap, subst, ◌∙◌, Result, Ok, Err}
+use Rattle.std.proofs.Common.{◌⊎◌, inl, inr, ◌≡◌, ℕ, zero, suc, List, [], ◌∷◌, refl, sym, ap, subst, Result, Ok, Err}
 use Rattle.sasfile.specs.declared.fault.SasFault.{SasFault}
 use Rattle.sasfile.specs.declared.fault.SasFault.TheVariants as fault
 use Rattle.sasfile.specs.Reading.{◌>>=◌, Remaining, first_of, line_at, repeated}

@@ -1,12 +1,11 @@
 -- Three frames: what stands in the first n lines, what follows whole lines, and how many lines there are.
-use Rattle.std.proofs.Common.{◌⊎◌, inl, inr, ◌≡◌, ◌≢◌, ℕ, zero, suc, ◌+◌, ◌≤◌, ◌<◌, List, [], ◌∷◌, ◌++◌, length, take, drop, refl, sym, ap, subst, ◌∙◌, arith, append_assoc, Option, Some, None, Result, Ok, Err}
-use Rattle.std.proofs.lemmas.List.{length-append, append-nil, take-append-drop}
+use Rattle.std.proofs.Common.{◌⊎◌, inl, inr, ◌≡◌, ◌≢◌, ℕ, suc, ◌+◌, ◌≤◌, ◌<◌, List, [], ◌∷◌, ◌++◌, length, refl, sym, ap, subst, ◌∙◌, arith, Some, Result, Ok, Err}
 use Rattle.sasfile.specs.declared.fault.SasFault.{SasFault}
 use Rattle.sasfile.specs.declared.fault.SasFault.TheVariants as fault
 use Rattle.sasfile.specs.Reading.{Remaining, first_of, line_at, task_at}
 use Rattle.sasfile.proofs.Endings.{line_is}
 use Rattle.sasfile_laws.specs.FaultLines.{line_of, IsWithin}
-use Rattle.sasfile_laws.proofs.Frames.{Frame, IsOn, Finishes, Ends, Like}
+use Rattle.sasfile_laws.proofs.Frames.{Frame, IsOn, Ends, Like}
 use Rattle.sasfile_laws.proofs.WholeTexts.{lines_from, task}
 
 -- a line is there
@@ -45,8 +44,15 @@ shares_step : (n : ℕ) (r q : Remaining) (ls here there : List (List ℕ)) → 
     → (n < r.number) ⊎ ((l : List ℕ) × (s : Remaining) × (t : Remaining) × (r.number ≡ q.number) × (line_at r ≡ Ok (l, s)) × (line_at q ≡ Ok (l, t)) × Shares n s t)
 shares_step n r q [] here there number is other count = inl (omega arith)
 shares_step n r q (l ∷ ls) here there number is other count =
-    inr (l, lines_from (r.number + 1) (ls ++ here), lines_from (q.number + 1) (ls ++ there), number, line_of_more r l (ls ++ here) is, line_of_more q l (ls ++ there) other,
-    record { number = ap (λ m. m + 1) number; shared = ls; here = here; there = there; here_is = refl; there_is = refl; count = omega arith })
+    inr (
+      l,
+      lines_from (r.number + 1) (ls ++ here),
+      lines_from (q.number + 1) (ls ++ there),
+      number,
+      line_of_more r l (ls ++ here) is,
+      line_of_more q l (ls ++ there) other,
+      record { number = ap (λ m. m + 1) number; shared = ls; here = here; there = there; here_is = refl; there_is = refl; count = omega arith },
+    )
 
 pub within_frame : ℕ → Frame
 within_frame n = record {

@@ -1,7 +1,6 @@
 -- Readers of one line, and what they test behind it.
 use Rattle.std.proofs.Common.{◌≡◌, ℕ, Bool, true, false, cond, List, Option, Some, None, refl, ap, ◌∙◌, Result, Ok, Err}
 use Rattle.sasfile.specs.declared.fault.SasFault.{SasFault}
-use Rattle.sasfile.specs.declared.fault.SasFault.TheVariants as fault
 use Rattle.sasfile.specs.Reading.{◌>>=◌, Remaining, formed, ranged, line_at}
 use Rattle.sasfile_laws.proofs.Frames.{Frame, Reads, Pairs, reads_then, OnLine, on_then, IsOn, one, Single, reads_one}
 

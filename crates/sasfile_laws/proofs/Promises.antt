@@ -1,5 +1,5 @@
 -- What the laws promise.
-use Rattle.std.proofs.Common.{◌⊎◌, inl, inr, ◌≡◌, ◌≢◌, ℕ, ◌+◌, ◌≤◌, ◌<◌, ◌-◌, ◌^◌, List, [], ◌∷◌, ◌++◌, length, map, min, take, drop, refl, sym, ap, subst, ◌∙◌, arith, Option, Some, None, Result, Ok, Err}
+use Rattle.std.proofs.Common.{◌⊎◌, inl, inr, ◌≡◌, ◌≢◌, ℕ, ◌≤◌, ◌<◌, ◌-◌, ◌^◌, List, [], ◌∷◌, ◌++◌, length, map, min, take, drop, refl, sym, ap, subst, ◌∙◌, arith, Some, Result, Ok, Err}
 use Rattle.std.proofs.lemmas.List.{take-append-drop, length-take, length-take-le, take_all}
 use Rattle.fdr.specs.Tasks.{FiniteDomainTask, IsTask}
 use Rattle.sasfile.specs.declared.fault.SasFault.{SasFault}

@@ -1,5 +1,5 @@
 -- Each reader of a part of the text keeps every frame.
-use Rattle.std.proofs.Common.{◌⊎◌, inl, inr, ◌≡◌, ℕ, ◌+◌, Bool, true, false, cond, eqb, ltb, List, [], ◌∷◌, ◌++◌, length, map, get_or, refl, sym, ap, ◌∙◌, Result, Ok, Err}
+use Rattle.std.proofs.Common.{◌≡◌, ℕ, Bool, true, false, cond, eqb, ltb, List, [], ◌∷◌, ◌++◌, refl, sym, Result, Ok, Err}
 use Rattle.std.specs.Prelude.{codes}
 use Rattle.std.specs.Str.{bytes_eq}
 use Rattle.std.specs.List.{list_all}
@@ -8,14 +8,12 @@ use Rattle.fdr.specs.declared.task.TaskLimit.TheVariants as limit
 use Rattle.fdr.specs.Tasks.{Operator, names_variable}
 use Rattle.sasfile.specs.declared.fault.SasFault.{SasFault}
 use Rattle.sasfile.specs.declared.fault.SasFault.TheVariants as fault
-use Rattle.sasfile.specs.declared.number.Number.{Number}
-use Rattle.sasfile.specs.declared.effects.Change.{Change}
 use Rattle.fdr.specs.Limits.{max_variables, max_values, max_operators}
 use Rattle.cost.specs.Limits.{max_cost}
 use Rattle.sasfile.specs.Lines.{words, is_text_byte}
-use Rattle.sasfile.specs.Reading.{◌>>=◌, Remaining, formed, ranged, line_at, keyword_at, text_at, alone, number_at, natural, count_at, repeated, is_natural, is_minus, version_at, flag, metric_at, layer_at, range_at, text_step, variable_at, variable_step, variables_at, pair, fact_of, fact_at, fact_step, facts_at, skip_step, group_step, groups_at, value_step, values_at, state_at, goal_at, Halves, is_conditional, quadruple, change_of, change_in, change_at, is_named, with_change, change_step, cost_at, halves_at, operator_at, operator_step, operators_at, axioms_at, empty_from, head_at, body_at, joined, task_at}
+use Rattle.sasfile.specs.Reading.{◌>>=◌, Remaining, formed, ranged, line_at, keyword_at, text_at, alone, number_at, natural, count_at, repeated, is_natural, is_minus, version_at, flag, metric_at, layer_at, range_at, text_step, variable_at, variable_step, variables_at, pair, fact_of, fact_at, fact_step, facts_at, skip_step, group_step, groups_at, value_step, values_at, state_at, goal_at, Halves, is_conditional, quadruple, change_of, change_in, change_at, is_named, with_change, change_step, cost_at, halves_at, operator_at, operator_step, operators_at, axioms_at, head_at}
 use Rattle.sasfile_laws.proofs.Frames.{Frame, Pairs, Rests, pure_pair, pure_rest, reads_then, then_pair, after_rest, repeated_reads, OnLine, on_then, IsOn, Single}
-use Rattle.sasfile_laws.proofs.Lines.{then_then, kept_if, refused_if, value_if, value_unless, on_formed, on_ranged, on_if, on_unless, single_line, single_tested, reads_single, reads_tested, given, refused_value}
+use Rattle.sasfile_laws.proofs.Lines.{then_then, kept_if, value_if, value_unless, on_formed, on_ranged, on_if, on_unless, single_line, single_tested, reads_single, reads_tested, given, refused_value}
 
 pub keyword : (F : Frame) (word : List ℕ) → Rests F (keyword_at word)
 unfolding keyword_at

@@ -1,8 +1,8 @@
 -- The reader of a whole text keeps every frame.
-use Rattle.std.proofs.Common.{◌⊎◌, inl, inr, ◌≡◌, ℕ, ◌+◌, List, [], ◌∷◌, length, map, refl, sym, ap, subst, ◌∙◌, Result, Ok, Err}
+use Rattle.std.proofs.Common.{◌⊎◌, inl, inr, ◌≡◌, ℕ, ◌+◌, List, [], ◌∷◌, length, map, refl, sym, ap, subst, ◌∙◌, Result, Ok}
 use Rattle.sasfile.specs.declared.fault.SasFault.{SasFault}
 use Rattle.sasfile.specs.declared.fault.SasFault.TheVariants as fault
-use Rattle.sasfile.specs.Reading.{◌>>=◌, Remaining, first_of, line_at, empty_from, Body, body_at, joined, task_at}
+use Rattle.sasfile.specs.Reading.{◌>>=◌, Remaining, line_at, empty_from, body_at, joined, task_at}
 use Rattle.sasfile.proofs.Endings.{ok_is, line_is}
 use Rattle.sasfile_laws.proofs.Frames.{Frame, Ends, Like, ends_like, Finishes, finishes_then, finishes_map}
 use Rattle.sasfile_laws.proofs.Readers.{groups, state, goal, operators, axioms, head}

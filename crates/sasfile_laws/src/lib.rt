@@ -5,6 +5,6 @@
 mod laws;
 
 pub use laws::{
-    fault_is_on_a_line, first_lines_spell_no_task, lines_before_have_no_fault, same_bytes_same_fault,
-    same_lines_same_fault, spelled_is_task, whole_lines_keep_their_fault,
+    fault_is_on_a_line, first_lines_spell_no_task, lines_before_have_no_fault,
+    same_bytes_same_fault, same_lines_same_fault, spelled_is_task, whole_lines_keep_their_fault,
 };
