@@ -1,12 +1,13 @@
 -- Two frames: what stands in the first n lines, and how many lines there are.
-use Rattle.std.proofs.Common.{◌⊎◌, inl, inr, ◌≡◌, ◌≢◌, ℕ, ◌+◌, ◌≤◌, ◌<◌, false, List, [], ◌∷◌, ◌++◌, length, refl, sym, ap, subst, ◌∙◌, arith, Some, Result, Ok, Err}
+use Rattle.std.proofs.Common.{◌⊎◌, inl, inr, ◌≡◌, ◌≢◌, ℕ, ◌+◌, ◌≤◌, ◌<◌, false, List, [], ◌∷◌, ◌++◌, length, refl, sym, ap, subst, ◌∙◌, arith, Some, Ok, Err}
 use Rattle.cert_text.specs.declared.fault.CertFault.{CertFault}
 use Rattle.cert_text.specs.declared.fault.CertFault.TheVariants as fault
 use Rattle.cert_text.specs.Reading.{Remaining, first_of, line_at, is_nothing, certificate_at}
 use Rattle.cert_text.proofs.Steps.{ok_is}
 use Rattle.cert_laws.specs.FaultLines.{line_count_of, line_of, IsWithin}
-use Rattle.cert_laws.proofs.Frames.{Frame, IsOn, Ends, Like}
-use Rattle.cert_laws.proofs.WholeTexts.{lines_from, certificate_ends, certificate_like}
+use Rattle.line_theory.proofs.Frames.{ends_fault, like_fault}
+use Rattle.cert_laws.proofs.Reading.{IsOn, end_is}
+use Rattle.cert_laws.proofs.WholeTexts.{lines_from, EndFrame, certificate_ends, certificate_like}
 
 -- ---- lines
 
@@ -82,20 +83,19 @@ shares_step n r q (l ∷ ls) h hs k ks number is other count =
       record { number = ap (λ m. m + 1) number; shared = ls; here = h; heres = hs; there = k; theres = ks; here_is = refl; there_is = refl; count = omega arith },
     )
 
-pub within_frame : ℕ → Frame
+pub within_frame : ℕ → EndFrame
 within_frame n = record {
-  Past = λ r. n < r.number;
-  Together = Shares n;
-  Late = λ e. IsWithin n e → ⊥;
-  past_next = λ r q l past is. let parts = parts_of r q l is in omega (arith, parts.number);
-  past_fault = λ r q l e past is on. beyond n r.number e past on;
-  past_end = λ h. h;
+  frame = record {
+    Past = λ r. n < r.number;
+    Together = Shares n;
+    Late = λ e. IsWithin n e → ⊥;
+    past_next = λ r q l past is. let parts = parts_of r q l is in omega (arith, parts.number);
+    past_fault = λ r q l e past is on. beyond n r.number e past on;
+    past_end = λ r e past is. subst (λ d. IsWithin n d → ⊥) (end_is r e is) (λ h. h);
+    step = λ r q h. shares_step n r q h.shared h.here h.heres h.there h.theres h.number h.here_is h.there_is h.count;
+  };
   past_bytes = λ r past some within. omega arith;
-  step = λ r q h. shares_step n r q h.shared h.here h.heres h.there h.theres h.number h.here_is h.there_is h.count;
 }
-
-like_fault : {A : Type 0} (F : Frame) (Q : A → Type 0) (R : A → A → Type 0) (p q : Result A CertFault) (e : CertFault) → Like F Q R p q → p ≡ Err e → F.Late e ⊎ (q ≡ Err e)
-like_fault F Q R p q e h is = subst (λ (z : Result _ CertFault). Like F Q R z q) is h
 
 not_late : {A C : Type 0} → (A → ⊥) → A ⊎ C → C
 not_late no_a (inl a) = absurd (no_a a)
@@ -107,7 +107,7 @@ pub within_kept : (n : ℕ) (e : CertFault) (ls : List (List ℕ)) (h : List ℕ
 unfolding within_frame
 within_kept n e ls h hs k ks count within is =
     let start : Shares n (lines_from 1 (ls ++ h ∷ hs)) (lines_from 1 (ls ++ k ∷ ks)) = record { number = refl; shared = ls; here = h; heres = hs; there = k; theres = ks; here_is = refl; there_is = refl; count = omega arith } in
-    not_late (λ late. late within) (like_fault (within_frame n) (λ c. Unit {0}) (λ c d. c ≡ d) (certificate_at (lines_from 1 (ls ++ h ∷ hs))) (certificate_at (lines_from 1 (ls ++ k ∷ ks))) e
+    not_late (λ late. late within) (like_fault (within_frame n).frame (λ c. Unit {0}) (λ c d. c ≡ d) (certificate_at (lines_from 1 (ls ++ h ∷ hs))) (certificate_at (lines_from 1 (ls ++ k ∷ ks))) e
     (certificate_like (within_frame n) (lines_from 1 (ls ++ h ∷ hs)) (lines_from 1 (ls ++ k ∷ ks)) refl start) is)
 
 -- ---- how many lines there are
@@ -171,27 +171,26 @@ counts_bytes c r h is =
     let one : 1 ≤ line_count_of r.lines = subst (λ (ls : List (List ℕ)). 1 ≤ line_count_of ls) (sym h.lines_are) (some_line h.first h.others (ap is_nothing (sym h.lines_are) ∙ is)) in
     record { some = h.some; most = omega arith }
 
-pub count_frame : ℕ → Frame
+pub count_frame : ℕ → EndFrame
 count_frame c = record {
-  Past = Counts c;
-  Together = λ r q. ⊥;
-  Late = Told c;
-  past_next = counts_next c;
-  past_fault = λ r q l e past is on. told_on c r.number e (counts_there c r q l past is) on;
-  past_end = tt;
+  frame = record {
+    Past = Counts c;
+    Together = λ r q. ⊥;
+    Late = Told c;
+    past_next = counts_next c;
+    past_fault = λ r q l e past is on. told_on c r.number e (counts_there c r q l past is) on;
+    past_end = λ r e past is. subst (Told c) (end_is r e is) tt;
+    step = λ r q h. absurd h;
+  };
   past_bytes = counts_bytes c;
-  step = λ r q h. absurd h;
 }
-
-ends_fault : {A : Type 0} (F : Frame) (Q : A → Type 0) (p : Result A CertFault) (e : CertFault) → Ends F Q p → p ≡ Err e → F.Late e
-ends_fault F Q p e h is = subst (λ (z : Result _ CertFault). Ends F Q z) is h
 
 -- what a fault tells of the lines
 pub told_there : (ls : List (List ℕ)) (l : List ℕ) (ks : List (List ℕ)) (e : CertFault) → ls ≡ l ∷ ks → certificate_at (lines_from 1 ls) ≡ Err e → Told (line_count_of ls) e
 unfolding count_frame
 told_there ls l ks e lines_are is =
     let start : Counts (line_count_of ls) (lines_from 1 ls) = record { some = omega arith; all = omega arith; first = l; others = ks; lines_are = lines_are } in
-    ends_fault (count_frame (line_count_of ls)) (λ c. Unit {0}) (certificate_at (lines_from 1 ls)) e (certificate_ends (count_frame (line_count_of ls)) (lines_from 1 ls) refl start) is
+    ends_fault (count_frame (line_count_of ls)).frame (λ c. Unit {0}) (certificate_at (lines_from 1 ls)) e (certificate_ends (count_frame (line_count_of ls)) (lines_from 1 ls) refl start) is
 
 there_by : (c k m : ℕ) → IsThere c k → Some k ≡ Some m → IsThere c m
 there_by c k m h is = let same : k ≡ m = cc in subst (IsThere c) same h

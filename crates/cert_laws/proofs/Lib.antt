@@ -1,5 +1,5 @@
-pub mod Frames
-pub mod Lines
+pub mod Reading
+pub mod Tests
 pub mod Readers
 pub mod WholeTexts
 pub mod Kept

@@ -1,11 +1,12 @@
 -- Three frames: what stands in the first n lines, what follows whole lines, and how many lines there are.
-use Rattle.std.proofs.Common.{◌⊎◌, inl, inr, ◌≡◌, ◌≢◌, ℕ, suc, ◌+◌, ◌≤◌, ◌<◌, List, [], ◌∷◌, ◌++◌, length, refl, sym, ap, subst, ◌∙◌, arith, Some, Result, Ok, Err}
+use Rattle.std.proofs.Common.{◌⊎◌, inl, inr, ◌≡◌, ◌≢◌, ℕ, suc, ◌+◌, ◌≤◌, ◌<◌, List, [], ◌∷◌, ◌++◌, length, refl, sym, ap, subst, ◌∙◌, arith, Some, Ok, Err}
 use Rattle.sasfile.specs.declared.fault.SasFault.{SasFault}
 use Rattle.sasfile.specs.declared.fault.SasFault.TheVariants as fault
 use Rattle.sasfile.specs.Reading.{Remaining, first_of, line_at, task_at}
 use Rattle.sasfile.proofs.Endings.{line_is}
 use Rattle.sasfile_laws.specs.FaultLines.{line_of, IsWithin}
-use Rattle.sasfile_laws.proofs.Frames.{Frame, IsOn, Ends, Like}
+use Rattle.line_theory.proofs.Frames.{Frame, ends_fault, like_fault}
+use Rattle.sasfile_laws.proofs.Reading.{IsOn, Sas, end_is}
 use Rattle.sasfile_laws.proofs.WholeTexts.{lines_from, task}
 
 -- a line is there
@@ -54,26 +55,22 @@ shares_step n r q (l ∷ ls) here there number is other count =
       record { number = ap (λ m. m + 1) number; shared = ls; here = here; there = there; here_is = refl; there_is = refl; count = omega arith },
     )
 
-pub within_frame : ℕ → Frame
+pub within_frame : ℕ → Frame Sas
 within_frame n = record {
   Past = λ r. n < r.number;
   Together = Shares n;
   Late = λ e. IsWithin n e → ⊥;
   past_next = λ r q l past is. let parts = line_is r l q is in omega arith;
   past_fault = λ r q l e past is on. beyond n r.number e past on;
-  past_end = λ h. h;
+  past_end = λ r e past is. subst (λ d. IsWithin n d → ⊥) (end_is r e is) (λ h. h);
   step = λ r q h. shares_step n r q h.shared h.here h.there h.number h.here_is h.there_is h.count;
 }
-
--- a fault of the first of two readings
-like_fault : {A : Type 0} (F : Frame) (Q : A → Type 0) (R : A → A → Type 0) (p q : Result A SasFault) (e : SasFault) → Like F Q R p q → p ≡ Err e → F.Late e ⊎ (q ≡ Err e)
-like_fault F Q R p q e h is = subst (λ (z : Result _ SasFault). Like F Q R z q) is h
 
 not_late : {A C : Type 0} → (A → ⊥) → A ⊎ C → C
 not_late no_a (inl a) = absurd (no_a a)
 not_late no_a (inr c) = c
 
-task_fault : (F : Frame) (r q : Remaining) (e : SasFault) → F.Together r q → task_at r ≡ Err e → F.Late e ⊎ (task_at q ≡ Err e)
+task_fault : (F : Frame Sas) (r q : Remaining) (e : SasFault) → F.Together r q → task_at r ≡ Err e → F.Late e ⊎ (task_at q ≡ Err e)
 task_fault F r q e h is = like_fault F (λ x. Unit {0}) (λ x y. x ≡ y) (task_at r) (task_at q) e ((task F).like r q h) is
 
 -- a fault on one of the first n lines is that of all texts with these lines
@@ -95,14 +92,14 @@ goes_on_step rest r q [] number is other = inl is
 goes_on_step rest r q (l ∷ ls) number is other =
     inr (l, lines_from (r.number + 1) ls, lines_from (q.number + 1) (ls ++ rest), number, line_of_more r l ls is, line_of_more q l (ls ++ rest) other, record { number = ap (λ m. m + 1) number; more = refl })
 
-pub whole_frame : List (List ℕ) → Frame
+pub whole_frame : List (List ℕ) → Frame Sas
 whole_frame rest = record {
   Past = λ r. r.lines ≡ [];
   Together = GoesOn rest;
   Late = λ e. e ≡ fault.Truncated;
   past_next = λ r q l past is. absurd (no_line r q l past is);
   past_fault = λ r q l e past is on. absurd (no_line r q l past is);
-  past_end = refl;
+  past_end = λ r e past is. sym (end_is r e is);
   step = λ r q h. goes_on_step rest r q r.lines h.number refl h.more;
 }
 
@@ -153,19 +150,16 @@ counts_there c r q l h is =
     let all = h.all in
     record { some = h.some; most = omega arith }
 
-pub count_frame : ℕ → Frame
+pub count_frame : ℕ → Frame Sas
 count_frame c = record {
   Past = Counts c;
   Together = λ r q. ⊥;
   Late = Names c;
   past_next = counts_next c;
   past_fault = λ r q l e past is on. names_on c r.number e (counts_there c r q l past is) on;
-  past_end = λ m is. absurd cc;
+  past_end = λ r e past is. subst (Names c) (end_is r e is) (λ m none. absurd cc);
   step = λ r q h. absurd h;
 }
-
-ends_fault : {A : Type 0} (F : Frame) (Q : A → Type 0) (p : Result A SasFault) (e : SasFault) → Ends F Q p → p ≡ Err e → F.Late e
-ends_fault F Q p e h is = subst (λ (z : Result _ SasFault). Ends F Q z) is h
 
 -- a line that a fault names is one of the lines
 pub named_there : (ls : List (List ℕ)) (e : SasFault) (m : ℕ) → task_at (lines_from 1 ls) ≡ Err e → line_of e ≡ Some m → IsThere (length ls) m
