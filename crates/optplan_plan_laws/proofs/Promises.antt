@@ -1,5 +1,5 @@
 -- What the laws promise.
-use Rattle.std.proofs.Common.{◌≡◌, ℕ, ◌<◌, ◌≤◌, ◌^◌, List, [], ◌∷◌, length, map, not, sym, subst}
+use Rattle.std.proofs.Common.{ℕ, ◌<◌, ◌≤◌, ◌^◌, true, List, [], ◌∷◌, length, map, not, sym, subst}
 use Rattle.std.specs.Prelude.{All}
 use Rattle.std.specs.List.{AllByRecursion}
 use Rattle.std.proofs.lemmas.List.{length-map}
@@ -57,7 +57,7 @@ module _ (domain problem : List ℕ) (task : PlanningTask) (spelled : SpellTask 
 pub task_plan_by : (domain problem : List ℕ) (task : PlanningTask) (actions : List Action) (cost : ℕ) → SpellTask domain problem task → All (IsActionOf task) actions → length actions ≤ max_steps → cost < 2 ^ 64
     → length (text_of_plan task actions cost) ≤ max_bytes → SpellsPlan (text_of_plan task actions cost) (map (step_of task.vocabulary) actions)
 task_plan_by domain problem task actions cost spelled h few room short =
-    task_plan_is domain problem task spelled actions cost h (subst (λ (n : ℕ). n ≤ max_steps) (sym (length-map (step_of task.vocabulary) actions)) few) room short
+    task_plan_is domain problem task spelled actions cost h (subst (λ (n : ℕ). n ≤ max_steps) (sym (length-map actions (step_of task.vocabulary))) few) room short
 
 -- the text of a valid plan spells a plan that is valid at that cost
 pub valid_plan_is : (domain problem : List ℕ) (task : PlanningTask) (actions : List Action) → SpellTask domain problem task → IsValidPlan task actions → length actions ≤ max_steps → total_cost actions < 2 ^ 64

@@ -1,12 +1,11 @@
 -- The last line of a plan's text is a comment.
-use Rattle.std.proofs.Common.{◌≡◌, ◌≢◌, ℕ, ◌+◌, ◌*◌, ◌-◌, ◌^◌, ◌<◌, Bool, true, false, inl, inr, List, [], ◌∷◌, ◌++◌, refl, sym, ap, subst, ◌∙◌, arith, rules}
+use Rattle.std.proofs.Common.{◌≡◌, ◌≢◌, ℕ, ◌+◌, ◌*◌, ◌-◌, ◌^◌, ◌<◌, Bool, true, false, inl, inr, List, [], ◌∷◌, ◌++◌, refl, arith, rules}
 use Rattle.std.specs.Prelude.{codes, decimal, nat_le, ◌&&◌, ◌==◌, not}
 use Rattle.std.specs.List.{list_all}
+use Rattle.std.proofs.lemmas.Bool.{and_parts}
 use Rattle.std.proofs.lemmas.Bool.Decides.{nat_tests}
-use Rattle.std.proofs.lemmas.List.{append_assoc}
 use Rattle.std.proofs.lemmas.Str.Parse.{IsNumeralModel, numerals_by_fold}
 use Rattle.std.proofs.lemmas.Fmt.{digits_decimal}
-use Rattle.sexp.specs.declared.byte_kind.ByteKind.TheVariants.{Blank, Semicolon}
 use Rattle.sexp.specs.Grammar.{IsGap, IsComment}
 use Rattle.validate.specs.Written.{cost_kind}
 
@@ -14,21 +13,13 @@ use Rattle.validate.specs.Written.{cost_kind}
 abbrev is_inline : ℕ → Bool
 is_inline b = not (b == 10)
 
-and_left : (a b : Bool) → (a && b) ≡ true → a ≡ true
-and_left true b e = refl
-and_left false b e = absurd cc
-
-and_right : (a b : Bool) → (a && b) ≡ true → b ≡ true
-and_right true b e = e
-and_right false b e = absurd cc
-
 other_by : (b : ℕ) → is_inline b ≡ true → b ≢ 10
 other_by b e is = grind (arith, nat_tests)
 
 -- a comment goes on over bytes that are no line feeds
 comment_over : (bs rest : List ℕ) → list_all is_inline bs ≡ true → IsComment true rest → IsComment true (bs ++ rest)
 comment_over [] rest e h = h
-comment_over (b ∷ bs) rest e h = inr (other_by b (and_left (is_inline b) (list_all is_inline bs) e), comment_over bs rest (and_right (is_inline b) (list_all is_inline bs) e) h)
+comment_over (b ∷ bs) rest e h = let parts = and_parts (is_inline b) (list_all is_inline bs) e in inr (other_by b parts.0, comment_over bs rest parts.1 h)
 
 -- ---- digits
 
@@ -52,7 +43,8 @@ both a b e f = rw (e, f) refl
 digits_inline : (ds : List ℕ) → all_digits ds ≡ true → list_all is_inline ds ≡ true
 digits_inline [] e = refl
 digits_inline (d ∷ ds) e =
-    both (is_inline d) (list_all is_inline ds) (digit_inline d (and_left (nat_le 48 d && nat_le d 57) (all_digits ds) e)) (digits_inline ds (and_right (nat_le 48 d && nat_le d 57) (all_digits ds) e))
+    let parts = and_parts (nat_le 48 d && nat_le d 57) (all_digits ds) e in
+    both (is_inline d) (list_all is_inline ds) (digit_inline d parts.0) (digits_inline ds parts.1)
 
 decimal_inline : (n : ℕ) → n < 2 ^ 64 → list_all is_inline (decimal n) ≡ true
 decimal_inline n room = digits_inline (decimal n) (digits_decimal own n room)

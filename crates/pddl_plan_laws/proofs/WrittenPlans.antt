@@ -1,9 +1,7 @@
 -- The text of a plan spells the plan.
-use Rattle.std.proofs.Common.{◌≡◌, ◌≢◌, ℕ, ◌+◌, ◌^◌, ◌<◌, ◌≤◌, Bool, true, false, inl, inr, List, [], ◌∷◌, ◌++◌, length, map, refl, sym, ap, subst, ◌∙◌, arith, append_assoc, Option, Some, None}
-use Rattle.std.specs.Prelude.{codes}
+use Rattle.std.proofs.Common.{◌≡◌, ℕ, ◌+◌, ◌^◌, ◌<◌, ◌≤◌, Bool, true, false, inl, List, [], ◌∷◌, ◌++◌, length, map, refl, sym, ap, ◌∙◌, arith, append_assoc}
 use Rattle.std.specs.List.{flat_map, AllByRecursion}
 use Rattle.std.specs.Char.{to_ascii_lowercase}
-use Rattle.std.proofs.lemmas.List.{length-append}
 use Rattle.sexp.specs.declared.byte_kind.ByteKind.TheVariants.{Letter}
 use Rattle.sexp.specs.Bytes.{kind}
 use Rattle.sexp.specs.Forms.{Forms, none, word, group}
@@ -11,7 +9,7 @@ use Rattle.sexp.specs.Grammar.{IsGap, IsApart, Spells}
 use Rattle.sexp.specs.Limits.{max_bytes}
 use Rattle.validate.specs.Steps.{Step}
 use Rattle.validate.specs.Written.{spaced, step_line, plan_text_of}
-use Rattle.validate.specs.PlanTexts.{words_of, step_of, steps_of, with_step, lists_in, list_faults, shape_faults, max_steps, SpellsPlan}
+use Rattle.validate.specs.PlanTexts.{words_of, steps_of, lists_in, shape_faults, max_steps, SpellsPlan}
 use Rattle.pddl_plan_laws.specs.PlanWords.{IsPlanByte, IsPlanWord, IsPlanStep}
 use Rattle.pddl_plan_laws.proofs.Comments.{cost_line, cost_gap}
 
@@ -37,19 +35,23 @@ apart (w ∷ ws) = λ e. absurd cc
 spells_words : (at : ℕ) (ws : List (List ℕ)) → AllByRecursion IsPlanWord ws → Spells false 1 at (spaced ws) (words_forms at ws)
 spells_words at [] h = tt
 spells_words at ([] ∷ ws) h = absurd (h.0.some refl)
-spells_words at ((b ∷ bs) ∷ ws) h =
-    (32 ∷ [], b, bs, spaced ws,
-    record {
-      parts = refl;
-      gap = inl (refl, tt);
-      first = h.0.bytes.0.0;
-      others = letters_are bs h.0.bytes.1;
-      longest = apart ws;
-      text_is = lower_is (b ∷ bs) h.0.bytes;
-      start_is = refl;
-      stop_is = refl;
-    },
-    spells_words (at + 1 + length (b ∷ bs)) ws h.1)
+spells_words at ((b ∷ bs) ∷ ws) h = (
+  32 ∷ [],
+  b,
+  bs,
+  spaced ws,
+  record {
+    parts = refl;
+    gap = inl (refl, tt);
+    first = h.0.bytes.0.0;
+    others = letters_are bs h.0.bytes.1;
+    longest = apart ws;
+    text_is = lower_is (b ∷ bs) h.0.bytes;
+    start_is = refl;
+    stop_is = refl;
+  },
+  spells_words (at + 1 + length (b ∷ bs)) ws h.1,
+)
 
 -- ---- steps
 
@@ -61,19 +63,23 @@ named_forms at name arguments = word at (at + length name) name (words_forms (at
 
 named_by : (at : ℕ) (name : List ℕ) (arguments : List (List ℕ)) → IsPlanWord name → AllByRecursion IsPlanWord arguments → Spells false 1 at (name ++ spaced arguments) (named_forms at name arguments)
 named_by at [] arguments h k = absurd (h.some refl)
-named_by at (b ∷ bs) arguments h k =
-    ([], b, bs, spaced arguments,
-    record {
-      parts = refl;
-      gap = tt;
-      first = h.bytes.0.0;
-      others = letters_are bs h.bytes.1;
-      longest = apart arguments;
-      text_is = lower_is (b ∷ bs) h.bytes;
-      start_is = omega arith;
-      stop_is = refl;
-    },
-    spells_words (at + length (b ∷ bs)) arguments k)
+named_by at (b ∷ bs) arguments h k = (
+  [],
+  b,
+  bs,
+  spaced arguments,
+  record {
+    parts = refl;
+    gap = tt;
+    first = h.bytes.0.0;
+    others = letters_are bs h.bytes.1;
+    longest = apart arguments;
+    text_is = lower_is (b ∷ bs) h.bytes;
+    start_is = omega arith;
+    stop_is = refl;
+  },
+  spells_words (at + length (b ∷ bs)) arguments k,
+)
 
 -- where the list of a step ends that begins at a place
 abbrev step_stop : ℕ → Step → ℕ
@@ -93,12 +99,15 @@ lines_are s steps tail = append_assoc (step_line s) (flat_map step_line steps) t
 spells_steps : (at : ℕ) (before : List ℕ) (steps : List Step) (tail : List ℕ) → IsGap false before → IsGap true (before ++ tail) → IsGap true (10 ∷ tail) → AllByRecursion IsPlanStep steps
     → Spells true 0 at (before ++ (flat_map step_line steps ++ tail)) (plan_forms at (length before) steps)
 spells_steps at before [] tail gap end later h = end
-spells_steps at before (s ∷ steps) tail gap end later h =
-    (before, step_words s, 10 ∷ (flat_map step_line steps ++ tail),
-    record { parts = ap (λ (bs : List ℕ). before ++ bs) (lines_are s steps tail); gap = gap; start_is = refl; stop_is = refl },
-    omega arith,
-    named_by (at + length before + 1) s.name s.arguments h.0.name h.0.arguments,
-    spells_steps (step_stop (at + length before) s) (10 ∷ []) steps tail (inl (refl, tt)) later later h.1)
+spells_steps at before (s ∷ steps) tail gap end later h = (
+  before,
+  step_words s,
+  10 ∷ (flat_map step_line steps ++ tail),
+  record { parts = ap (λ (bs : List ℕ). before ++ bs) (lines_are s steps tail); gap = gap; start_is = refl; stop_is = refl },
+  omega arith,
+  named_by (at + length before + 1) s.name s.arguments h.0.name h.0.arguments,
+  spells_steps (step_stop (at + length before) s) (10 ∷ []) steps tail (inl (refl, tt)) later later h.1,
+)
 
 -- ---- what these expressions are
 
