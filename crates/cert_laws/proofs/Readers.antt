@@ -1,0 +1,191 @@
+-- Each reader of a part of the text keeps every frame.
+use Rattle.std.proofs.Common.{◌≡◌, ℕ, ◌+◌, ◌^◌, Bool, true, false, cond, List, [], ◌∷◌, ◌++◌, length, map, Option, refl, sym, Result, Ok}
+use Rattle.std.specs.Prelude.{codes, ◌&&◌, ◌==◌, not}
+use Rattle.std.specs.Str.{bytes_eq}
+use Rattle.std.specs.List.{list_all}
+use Rattle.cost.specs.Distances.{Distance}
+use Rattle.cert_text.specs.declared.fault.CertFault.{CertFault}
+use Rattle.cert_value.specs.declared.table.Share.{Share}
+use Rattle.cert_value.specs.Certificates.{FiniteDomain, Planning, Table, Entry, width_of}
+use Rattle.cert_text.specs.Pieces.{pieces}
+use Rattle.cert_text.specs.Reading.{◌>>=◌, Remaining, line_at, repeated, number, number_in, numbers_in, distance_in, distances_in, shares_in, is_increasing, filled, formed, numbered, fixed_at, second_of, count_at, agrees, counted_of, headed_of, kind_at, bound_of, bound_at, is_atom_word, atom_of, atom_at, behind, atoms_at, variable_of, variable_at, variables_at, parts_at, pattern_of, shares_of, values_of, table_at, column_at, columns_at, has_width, entry_numbers, entry_of, entry_at, entry_step, closed_at}
+use Rattle.line_theory.proofs.Readings.{given, then_then}
+use Rattle.line_theory.proofs.Frames.{Frame, Pairs, Rests, pure_pair, pure_rest, then_pair, OnLine, on_then}
+use Rattle.line_theory.proofs.Lines.{Single, single_line, single_tested, reads_single, reads_tested}
+use Rattle.cert_laws.proofs.Reading.{Cert, repeated_reads}
+use Rattle.cert_laws.proofs.Tests.{formed_is, on_formed, on_numbered, on_ordered}
+
+-- ---- faults of one line
+
+on_second : (m : ℕ) (keyword : List ℕ) (ws : List (List ℕ)) → OnLine Cert m (second_of m keyword ws)
+on_second m keyword [] = refl
+on_second m keyword (k ∷ []) = refl
+on_second m keyword (k ∷ w ∷ []) = on_formed m (bytes_eq k keyword && not (bytes_eq w [])) w
+on_second m keyword (k ∷ w ∷ x ∷ ws) = refl
+
+on_counted : (m : ℕ) (pairs : Bool) (ws : List (List ℕ)) → OnLine Cert m (counted_of m pairs ws)
+on_counted m pairs [] = refl
+on_counted m pairs (k ∷ []) = refl
+on_counted m pairs (k ∷ c ∷ ws) = on_formed m (agrees pairs (filled (k ∷ c ∷ ws)) (number c)) (record { first = k; count = c; words = ws })
+
+on_headed : (m : ℕ) (keyword : List ℕ) (pairs : Bool) (ws : List (List ℕ)) → OnLine Cert m (headed_of m keyword pairs ws)
+unfolding headed_of
+on_headed m keyword pairs ws = on_then Cert m (counted_of m pairs ws) _ (on_counted m pairs ws) (λ form. on_formed m (bytes_eq form.first keyword) form)
+
+on_bound : (m : ℕ) (ws : List (List ℕ)) → OnLine Cert m (bound_of m ws)
+unfolding bound_of
+on_bound m ws = on_then Cert m (second_of m (codes "bound") ws) _ (on_second m (codes "bound") ws) (λ word. on_numbered m (distance_in (2 ^ 62 + 1) word))
+
+on_atom : (m : ℕ) (ws : List (List ℕ)) → OnLine Cert m (atom_of m ws)
+unfolding atom_of
+on_atom m ws = on_formed m (list_all is_atom_word ws) ws
+
+on_variable : (atoms m : ℕ) (ws : List (List ℕ)) → OnLine Cert m (variable_of atoms m ws)
+unfolding variable_of
+on_variable atoms m ws = on_then Cert m (counted_of m false ws) _ (on_counted m false ws) (λ form.
+    on_then Cert m (numbered m (number_in 0 2 form.first)) _ (on_numbered m (number_in 0 2 form.first)) (λ flag.
+    on_then Cert m (numbered m (number_in 1 (2 ^ 32) form.count)) _ (on_numbered m (number_in 1 (2 ^ 32) form.count)) (λ count.
+    on_then Cert m (numbered m (numbers_in atoms form.words)) _ (on_numbered m (numbers_in atoms form.words)) (λ numbers.
+    on_ordered m (is_increasing numbers) (record { has_none_value = flag == 1; atoms = numbers })))))
+
+on_pattern : (m : ℕ) (ws : List (List ℕ)) → OnLine Cert m (pattern_of m ws)
+unfolding pattern_of
+on_pattern m ws = on_then Cert m (headed_of m (codes "table") false ws) _ (on_headed m (codes "table") false ws) (λ form.
+    on_then Cert m (numbered m (number_in 1 (2 ^ 32) form.count)) _ (on_numbered m (number_in 1 (2 ^ 32) form.count)) (λ count.
+    on_then Cert m (numbered m (numbers_in (2 ^ 32) form.words)) _ (on_numbered m (numbers_in (2 ^ 32) form.words)) (λ pattern.
+    on_ordered m (is_increasing pattern) pattern)))
+
+on_shares : (m : ℕ) (ws : List (List ℕ)) → OnLine Cert m (shares_of m ws)
+unfolding shares_of
+on_shares m ws = on_then Cert m (headed_of m (codes "shares") true ws) _ (on_headed m (codes "shares") true ws) (λ form.
+    on_then Cert m (numbered m (number_in 0 (2 ^ 32) form.count)) _ (on_numbered m (number_in 0 (2 ^ 32) form.count)) (λ count.
+    on_then Cert m (numbered m (shares_in form.words)) _ (on_numbered m (shares_in form.words)) (λ shares.
+    on_ordered m (is_increasing (map (λ s. s.operator) shares)) shares)))
+
+on_values : (m : ℕ) (ws : List (List ℕ)) → OnLine Cert m (values_of m ws)
+unfolding values_of
+on_values m ws = on_then Cert m (headed_of m (codes "values") false ws) _ (on_headed m (codes "values") false ws) (λ form.
+    on_then Cert m (numbered m (number_in 0 (2 ^ 24 + 1) form.count)) _ (on_numbered m (number_in 0 (2 ^ 24 + 1) form.count)) (λ count.
+    on_numbered m (distances_in (2 ^ 55 + 1) form.words)))
+
+on_numbers : (m : ℕ) (ws : List (List ℕ)) → OnLine Cert m (entry_numbers m ws)
+on_numbers m [] = refl
+on_numbers m (g ∷ ws) = on_then Cert m (numbered m (number_in 0 (2 ^ 62 + 1) g)) _ (on_numbered m (number_in 0 (2 ^ 62 + 1) g)) (λ cost.
+    on_then Cert m (numbered m (numbers_in (2 ^ 32) ws)) _ (on_numbered m (numbers_in (2 ^ 32) ws)) (λ state. tt))
+
+on_entry : (width : Option ℕ) (m : ℕ) (ws : List (List ℕ)) → OnLine Cert m (entry_of width m ws)
+unfolding entry_of
+on_entry width m ws = on_then Cert m (formed m (has_width width (filled ws)) ws) _ (on_formed m (has_width width (filled ws)) ws) (λ form. on_numbers m form)
+
+-- ---- lines
+
+pub fixed : (F : Frame Cert) (word : List ℕ) → Rests F (fixed_at word)
+unfolding fixed_at
+fixed F word = reads_tested F (λ q. tt) (λ q. q) line_at (single_line Cert) (λ m a. formed m (bytes_eq a word) tt) (λ m a. on_formed m (bytes_eq a word) tt)
+    (λ m a q. formed m (bytes_eq a word) q) (λ v q. Ok q) (λ m a q. formed_is m (bytes_eq a word) q) (λ v. pure_rest F)
+
+-- a line, and what one function makes of its words
+of_words : {A : Type 0} (h : ℕ → List (List ℕ) → Result A CertFault) → ((m : ℕ) (ws : List (List ℕ)) → OnLine Cert m (h m ws)) → Single Cert (λ r. line_at r >>= λ l. h r.number (pieces 32 l.0) >>= λ x. given Cert x l.1)
+of_words h on = single_tested Cert line_at (single_line Cert) (λ m a. h m (pieces 32 a)) (λ m a. on m (pieces 32 a)) (λ m a q. h m (pieces 32 a) >>= λ x. given Cert x q) (λ m a q. refl)
+
+count_of : List ℕ → ℕ → ℕ → ℕ → List (List ℕ) → Result ℕ CertFault
+count_of keyword least end m ws = second_of m keyword ws >>= λ word. numbered m (number_in least end word)
+
+count_single : (keyword : List ℕ) (least end : ℕ) → Single Cert (count_at keyword least end)
+unfolding count_at count_of
+count_single keyword least end = single_tested Cert line_at (single_line Cert) (λ m a. count_of keyword least end m (pieces 32 a))
+    (λ m a. on_then Cert m (second_of m keyword (pieces 32 a)) _ (on_second m keyword (pieces 32 a)) (λ word. on_numbered m (number_in least end word)))
+    (λ m a q. second_of m keyword (pieces 32 a) >>= λ word. numbered m (number_in least end word) >>= λ count. given Cert count q)
+    (λ m a q. sym (then_then Cert (second_of m keyword (pieces 32 a)) (λ word. numbered m (number_in least end word)) (λ count. given Cert count q)))
+
+pub count : (F : Frame Cert) (keyword : List ℕ) (least end : ℕ) → Pairs F (count_at keyword least end)
+count F keyword least end = reads_single F (count_at keyword least end) (count_single keyword least end)
+
+-- so many items behind a line with their count
+counted : {S : Type 0} (F : Frame Cert) (keyword : List ℕ) (least end : ℕ) (step : S → Remaining → Result (S × Remaining) CertFault) (s : S) → ((t : S) → Pairs F (step t))
+    → Pairs F (λ r. count_at keyword least end r >>= λ n. repeated step n.0 s n.1)
+counted F keyword least end step s each = then_pair F (count F keyword least end) (λ n. repeated_reads F step each n s)
+
+one_more : {X : Type 0} (F : Frame Cert) (step : Remaining → Result (X × Remaining) CertFault) → Pairs F step → (xs : List X) → Pairs F (behind step xs)
+one_more F step each xs = then_pair F each (λ x. pure_pair F (xs ++ x ∷ []))
+
+-- ---- the parts
+
+kind_test : ℕ → List ℕ → Result Bool CertFault
+kind_test m a = cond (bytes_eq a (codes "pddl")) (Ok true) (formed m (bytes_eq a (codes "sas")) false)
+
+kind_is : (m : ℕ) (q : Remaining) (planning sas : Bool) → cond planning (given Cert true q) (formed m sas (false, q)) ≡ (cond planning (Ok true) (formed m sas false) >>= λ (v : Bool). given Cert v q)
+kind_is m q true sas = refl
+kind_is m q false true = refl
+kind_is m q false false = refl
+
+on_kind : (m : ℕ) (planning sas : Bool) → OnLine Cert m (cond planning (Ok true) (formed m sas false))
+on_kind m true sas = tt
+on_kind m false sas = on_formed m sas false
+
+pub kind : (F : Frame Cert) → Pairs F kind_at
+unfolding kind_at kind_test
+kind F = reads_single F kind_at (single_tested Cert line_at (single_line Cert) kind_test (λ m a. on_kind m (bytes_eq a (codes "pddl")) (bytes_eq a (codes "sas")))
+    (λ m a q. cond (bytes_eq a (codes "pddl")) (Ok (true, q)) (formed m (bytes_eq a (codes "sas")) (false, q))) (λ m a q. kind_is m q (bytes_eq a (codes "pddl")) (bytes_eq a (codes "sas"))))
+
+pub bound : (F : Frame Cert) → Pairs F bound_at
+unfolding bound_at
+bound F = reads_single F bound_at (of_words bound_of on_bound)
+
+atom : (F : Frame Cert) → Pairs F atom_at
+unfolding atom_at
+atom F = reads_single F atom_at (of_words atom_of on_atom)
+
+atoms : (F : Frame Cert) → Pairs F atoms_at
+unfolding atoms_at
+atoms F = counted F (codes "atoms") 0 (2 ^ 32) (behind atom_at) [] (one_more F atom_at (atom F))
+
+variable : (F : Frame Cert) (n : ℕ) → Pairs F (variable_at n)
+unfolding variable_at
+variable F n = reads_single F (variable_at n) (of_words (variable_of n) (on_variable n))
+
+variables : (F : Frame Cert) (n : ℕ) → Pairs F (variables_at n)
+unfolding variables_at
+variables F n = counted F (codes "vars") 0 (2 ^ 32) (behind (variable_at n)) [] (one_more F (variable_at n) (variable F n))
+
+pub parts : (F : Frame Cert) (planning : Bool) → Pairs F (parts_at planning)
+unfolding parts_at
+parts F false = pure_pair F FiniteDomain
+parts F true = then_pair F (atoms F) (λ xs. then_pair F (variables F (length xs)) (λ vs. pure_pair F (Planning xs vs)))
+
+table : (F : Frame Cert) → Pairs F table_at
+unfolding table_at
+table F =
+    reads_tested F (λ x. x.0) (λ x. x.1) line_at (single_line Cert) (λ m a. pattern_of m (pieces 32 a)) (λ m a. on_pattern m (pieces 32 a)) (λ m a q. pattern_of m (pieces 32 a) >>= λ pattern. shares_from pattern q) shares_from (λ m a q. refl) (λ pattern.
+    reads_tested F (λ x. x.0) (λ x. x.1) line_at (single_line Cert) (λ m a. shares_of m (pieces 32 a)) (λ m a. on_shares m (pieces 32 a)) (λ m a q. shares_of m (pieces 32 a) >>= λ shares. values_from pattern shares q) (values_from pattern) (λ m a q. refl) (λ shares.
+    reads_tested F (λ x. x.0) (λ x. x.1) line_at (single_line Cert) (λ m a. values_of m (pieces 32 a)) (λ m a. on_values m (pieces 32 a)) (λ m a q. values_of m (pieces 32 a) >>= λ values. made pattern shares values q) (made pattern shares) (λ m a q. refl) (λ values.
+    pure_pair F (record { pattern = pattern; shares = shares; values = values }))))
+  where
+    made : List ℕ → List Share → List Distance → Remaining → Result (Table × Remaining) CertFault
+    made pattern shares values q = Ok (record { pattern = pattern; shares = shares; values = values }, q)
+
+    values_from : List ℕ → List Share → Remaining → Result (Table × Remaining) CertFault
+    values_from pattern shares q = line_at q >>= λ third. values_of q.number (pieces 32 third.0) >>= λ values. made pattern shares values third.1
+
+    shares_from : List ℕ → Remaining → Result (Table × Remaining) CertFault
+    shares_from pattern q = line_at q >>= λ second. shares_of q.number (pieces 32 second.0) >>= λ shares. values_from pattern shares second.1
+
+column : (F : Frame Cert) → Pairs F column_at
+unfolding column_at
+column F = counted F (codes "column") 1 65 (behind table_at) [] (one_more F table_at (table F))
+
+pub columns : (F : Frame Cert) → Pairs F columns_at
+unfolding columns_at
+columns F = counted F (codes "columns") 0 65 (behind column_at) [] (one_more F column_at (column F))
+
+entry : (F : Frame Cert) (width : Option ℕ) → Pairs F (entry_at width)
+unfolding entry_at
+entry F width = reads_single F (entry_at width) (of_words (entry_of width) (on_entry width))
+
+one_entry : (F : Frame Cert) (entries : List Entry) → Pairs F (entry_step entries)
+unfolding entry_step
+one_entry F entries = then_pair F (entry F (width_of entries)) (λ e. pure_pair F (entries ++ e ∷ []))
+
+pub closed : (F : Frame Cert) → Pairs F closed_at
+unfolding closed_at
+closed F = counted F (codes "closed") 0 (2 ^ 32) entry_step [] (one_entry F)

@@ -1,0 +1,5 @@
+use Rattle.pddl_plan_laws.proofs.WrittenPlans.{written_is}
+use Rattle.pddl_plan_laws.proofs.laws.written_plan_is_read.Goals as goal
+
+pub returns : goal.returns
+returns c = written_is
