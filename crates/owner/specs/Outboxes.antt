@@ -1,7 +1,8 @@
 -- Outboxes as they are stored.
-use Rattle.std.specs.Prelude.{ℕ, ◌+◌, List, [], ◌∷◌, length, map, not, count_by}
+use Rattle.std.specs.Prelude.{ℕ, ◌+◌, ◌-◌, List, [], ◌∷◌, length, map, take, not, count_by, slice_set}
 use Rattle.std.specs.declared.collections.VecDeque.{VecDeque}
 use Rattle.owner_theory.specs.Owners as machine
+use Rattle.owner_theory.specs.Owners.{list_at}
 use Rattle.owner_theory.specs.Worlds.{is_empty}
 use Rattle.closed.specs.declared.message.Message.{Message}
 use Rattle.closed.specs.Tables.{message_of}
@@ -22,3 +23,13 @@ count_in_use boxes = count_by (λ b. not (is_empty b)) boxes
 abbrev pub message_count : {X : Type 0} → List (List X) → ℕ
 message_count [] = 0
 message_count (b ∷ bs) = length b + message_count bs
+
+-- ---- messages are withdrawn
+
+abbrev pub without_last : {X : Type 0} → List X → List X
+without_last xs = take (length xs - 1) xs
+
+-- the outboxes without the newest message of each of these receivers' outboxes; that of the last receiver is removed first
+abbrev pub withdrawn : {X : Type 0} → List ℕ → List (List X) → List (List X)
+withdrawn [] boxes = boxes
+withdrawn (v ∷ vs) boxes = slice_set (withdrawn vs boxes) v (without_last (list_at (withdrawn vs boxes) v))
