@@ -1,6 +1,6 @@
 -- The successors of a node that is to be expanded, before the node is marked: the owner's own are kept in a batch, and the
 -- others are in the outboxes of their owners, from which they can be withdrawn.
-use Rattle.std.specs.Prelude.{◌≡◌, ℕ, ◌+◌, ◌<◌, List, length, map, fold, All}
+use Rattle.std.specs.Prelude.{◌≡◌, ℕ, ◌+◌, ◌<◌, ◌≤◌, ◌^◌, List, length, map, fold, All}
 use Rattle.cost.specs.Distances.{Distance, Finite, ◌+ᵈ◌}
 use Rattle.fdr.specs.Tasks.{ranges}
 use Rattle.owner_theory.specs.Owners.{Node, Owner, improve}
@@ -27,6 +27,7 @@ pub record IsBatch {S F : Type 0} (IsForm : List ℕ → F → Type 0) (values :
   pub messages : All (λ m. IsMessageTo (space_of owner o) o.worker (message_of (values (ranges o.space.task)) m)) batch.own.items
   pub forms : All (λ m. IsForm (ranges o.space.task) m.state) batch.own.items
   pub fs : map (λ m. Finite m.rank.cost +ᵈ h_of o.space (values (ranges o.space.task) m.state)) batch.own.items ≡ map Finite batch.fs.items
+  pub bounded : All (λ f. f ≤ 2 ^ 63) batch.fs.items
 
 -- messages were put into outboxes, those of the receivers that were added, and nothing else changed
 pub record ArePosted {S : Type 0} (old new : OwnerOf S) (receivers receivers' : List ℕ) : Type 0 where
