@@ -1,7 +1,6 @@
 -- Messages that are withdrawn from outboxes.
-use Rattle.std.proofs.Common.{◌≡◌, ℕ, zero, suc, ◌+◌, ◌-◌, ◌<◌, List, [], ◌∷◌, ◌++◌, map, length, take, length-append, length-set, get_or, deque_len, All, Option, Some, None, true, false, refl, sym, ap, ◌∙◌, subst, arith}
+use Rattle.std.proofs.Common.{◌≡◌, ℕ, zero, suc, ◌+◌, ◌-◌, ◌<◌, List, [], ◌∷◌, ◌++◌, map, length, take, length-append, length-set, get_or, deque_len, All, true, false, refl, sym, ap, ◌∙◌, subst, arith}
 use Rattle.std.specs.Prelude.{slice_set}
-use Rattle.std.specs.Option.{option_to_list}
 use Rattle.std.specs.Global.{Global}
 use Rattle.std.specs.declared.collections.VecDeque.{VecDeque}
 use Rattle.std.proofs.lemmas.List.{append-nil, map-set, take-map, length-map}
@@ -52,7 +51,7 @@ module _ {X : Type 0} (bs bs' : List (List X)) (v : ℕ) (lt : v < length bs) (i
   rest : bs' ≡ slice_set bs v (list_at bs' v)
   rest = is ∙ ap (slice_set bs v) (sym here)
 
-  pub removed_none : list_at bs v ≡ list_at bs' v ++ option_to_list {A = X} None → (count_in_use bs ≡ count_in_use bs') × (message_count bs ≡ message_count bs')
+  pub removed_none : list_at bs v ≡ list_at bs' v ++ [] → (count_in_use bs ≡ count_in_use bs') × (message_count bs ≡ message_count bs')
   removed_none was =
       let same : list_at bs v ≡ list_at bs' v = was ∙ append-nil (list_at bs' v) in
       let change = in_use_changed bs bs' v lt rest in
