@@ -1,10 +1,10 @@
 -- The successors of a node before it is marked, and what is put into outboxes meanwhile.
-use Rattle.std.proofs.Common.{◌≡◌, ℕ, zero, suc, ◌+◌, ◌<◌, ◌≤◌, ◌^◌, Bool, true, false, ◌==◌, List, [], ◌∷◌, ◌++◌, map, length, length-append, length-set, get_or, drop, All, Option, Some, None, refl, sym, ap, ◌∙◌, subst, arith, cond}
-use Rattle.std.specs.Prelude.{slice_set, fold, filter_map, is_some}
+use Rattle.std.proofs.Common.{◌≡◌, ℕ, zero, suc, ◌+◌, ◌<◌, ◌≤◌, ◌^◌, Bool, true, false, ◌==◌, List, [], ◌∷◌, ◌++◌, map, length, length-append, length-set, get_or, drop, All, Option, Some, None, refl, sym, ap, ◌∙◌, subst, arith, cond, true≢false}
+use Rattle.std.specs.Prelude.{slice_set, fold, IsSome}
 use Rattle.std.proofs.lemmas.List.{map_push}
 use Rattle.std.proofs.lemmas.List.Elements.{All-nil, All-cons, All-append}
 use Rattle.std.proofs.lemmas.List.Sums.{fold-append}
-use Rattle.cost.specs.Distances.{Distance, Finite, is_at_most, lesser, ◌+ᵈ◌}
+use Rattle.cost.specs.Distances.{Distance, Finite, Infinite, is_at_most, lesser, distance_of, ◌+ᵈ◌}
 use Rattle.fdr.specs.Tasks.{ranges, is_goal_state}
 use Rattle.owner_theory.specs.Owners as machine
 use Rattle.owner_theory.specs.Owners.{At, Node, Owner, SearchSpace, list_at, same_state, rank_less, f_value, improve, marked, mark_node, took, posted, treat, treat_all}
@@ -85,6 +85,18 @@ module _ {S : Type 0} where
 
   pub posted_space : (owner : S → List ℕ → ℕ → ℕ) (a b : OwnerOf S) (us vs : List ℕ) → ArePosted a b us vs → space_of owner b ≡ space_of owner a
   posted_space owner a b us vs p = same_space owner b a (ap (λ (o : OwnerOf S). o.space) p.others) p.owners
+
+-- ---- f-values
+
+-- a successor whose f-value reaches the bound is dropped
+pub dropped_treats : (space : SearchSpace) (me : ℕ) (o : Owner) (m : machine.Message) → is_at_most o.bound (f_value space m.state m.cost) ≡ true
+    → o ≡ treat space me o m
+dropped_treats space me o m e = sym (λ j. cond (e j) o (cond (space.owner_of m.state == me) (took space o m) (posted space o m)))
+
+pub below_some : (bound : Distance) (r : Option ℕ) → is_at_most bound (distance_of r) ≡ false → IsSome r
+below_some (Finite b) None h = absurd (true≢false h)
+below_some Infinite None h = absurd (true≢false h)
+below_some bound (Some f) h = refl
 
 -- ---- the batch
 
@@ -183,7 +195,7 @@ module _ {S F : Type 0} (IsForm : List ℕ → F → Type 0) (values : List ℕ 
 
 -- ---- the node is marked, and the batch is taken
 
-module _ {S F : Type 0} (values : List ℕ → F → List ℕ) (o mid new : OwnerOf S) (b0 b : Batch F) (us vs : List ℕ) (p : ArePosted o mid us vs) where
+module _ {S F : Type 0} (values : List ℕ → F → List ℕ) (o mid new : OwnerOf S) (b : Batch F) (us vs : List ℕ) (p : ArePosted o mid us vs) where
   pub taken_pending : (bound : Distance) (i : ℕ) (n : Node) (expansions : ℕ)
       → new ≡ record mid { nodes = fold improve (slice_set mid.nodes i (marked n)) (map (message_of (values (ranges mid.space.task))) b.own.items); best = b.best; expansions = expansions }
       → under new bound ≡ pending values bound (slice_set o.nodes i (marked n)) mid b

@@ -9,8 +9,8 @@ use Rattle.owner.proofs.Results.{pushed_room}
 use Rattle.outboxes.proofs.Showing.{shown_posted}
 use Rattle.owner.proofs.holdings.Holdings.post.Goals as goal
 
-pub invariant_of-self-3 : goal.invariant_of-self-3
-invariant_of-self-3 g c =
+pub invariant_of-self-2 : goal.invariant_of-self-2
+invariant_of-self-2 g c =
     let values = g.F.StateForm.values (ranges c.self.inside.reached.space.task) in
     posted_kept g.S.Spread.owner _ (boxes_in g.F.StateForm.values c.post.new.self c.self.inside.reached.space) c.args.to
     (message_of values c.args.message) c.self.invariant
