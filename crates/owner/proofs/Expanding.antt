@@ -1,6 +1,6 @@
 -- What the expansion of the next node comes to.
 use Rattle.std.proofs.Common.{◌≡◌, ◌⊎◌, ℕ, zero, suc, ◌+◌, ◌<◌, ◌≤◌, ◌^◌, Bool, true, false, ◌||◌, List, [], ◌∷◌, length, Some, None, All, refl, sym, ap, ◌∙◌, subst, inl, inr, ⊎_elim, arith, true≢false, cond, add-one}
-use Rattle.std.specs.Prelude.{filter, filter_map, nat_lt, is_some}
+use Rattle.std.specs.Prelude.{filter, filter_map, nat_lt, is_some, Result, Ok, Err, IfErr, IsErrAnd}
 use Rattle.std.specs.List.{list_any, range_with_len}
 use Rattle.std.proofs.lemmas.Bool.{or_parts, or_cases}
 use Rattle.std.proofs.lemmas.Bool.Decides.{nat_tests}
@@ -16,7 +16,9 @@ use Rattle.owner_theory.proofs.Successors.{successors_by_applicable}
 use Rattle.openlist.specs.declared.entry.Rank.{Rank}
 use Rattle.openlist.specs.declared.entry.OpenEntry.{OpenEntry}
 use Rattle.closed.specs.Tables.{fresh}
-use Rattle.owner.specs.Owned.{OwnerOf, space_of, under, max_total, HasSmallSuccessors, HasLargeSuccessor, Expands}
+use Rattle.owner.specs.declared.fault.OwnerFault.{OwnerFault}
+use Rattle.owner.specs.declared.fault.OwnerFault.TheVariants.{OutOfMemory}
+use Rattle.owner.specs.Owned.{OwnerOf, space_of, under, max_total, HasSmallSuccessors, HasLargeSuccessor, Expands, IsRefusal}
 use Rattle.owner.specs.Queues.{IsLeast, h_of}
 use Rattle.owner.specs.Held.{IsOwner, IsSmallStep}
 use Rattle.owner.proofs.Outcomes.{at_below}
@@ -165,3 +167,9 @@ module _ {S : Type 0} (owner : S → List ℕ → ℕ → ℕ) (o : OwnerOf S) (
     worker = worker;
     counted = count;
   }
+
+-- a call that is refused since memory is missing
+pub refused_memory : {S T : Type 0} (owner : S → List ℕ → ℕ → ℕ) (bound : Distance) (old new : OwnerOf S) (r : Result T OwnerFault)
+    → IsErrAnd r (λ e. e ≡ OutOfMemory) → IsRefusal owner bound old new OutOfMemory → IfErr r (IsRefusal owner bound old new)
+refused_memory owner bound old new (Ok v) h k = absurd h
+refused_memory owner bound old new (Err e) h k = subst (IsRefusal owner bound old new) (sym h) k

@@ -75,7 +75,8 @@ pub returns-clause-put_out : goal.returns-clause-put_out
 returns-clause-put_out g c =
     let same = ap (λ (o : OwnerOf g.row.S.Denot). waiting o.outboxes) (is g c) in
     let none = ap length c.clear.ensures.receivers in
-    let kept = λ j. length ((c.in_ok-expand_next.ensures.receivers j).items) in
+    let kept : length c.expand_next.new.batch.receivers.items ≡ length c.place_unknown.new.batch.receivers.items =
+    λ j. length ((c.in_ok-expand_next.ensures.receivers j).items) in
     same ∙ (omega (arith, c.place_unknown.ensures.posted.put_out, none) ∙ ap (λ k. waiting c.args.holdings.now.outboxes + k) (sym kept))
 
 pub returns-clause-treated : goal.returns-clause-treated

@@ -48,7 +48,7 @@ invariant_of-self g c =
     }))
     (sym c.in_err-expand_least.ensures.unchanged) c.self.invariant
 
-pub invariant_of-self-then-is_some : goal.invariant_of-self-2
+pub invariant_of-self-then-is_some : goal.invariant_of-self-then-is_some
 invariant_of-self-then-is_some g c =
     let o : OwnerOf g.row.S.Denot = record {
       space = c.self.inside.reached.space;

@@ -3,14 +3,14 @@ use Rattle.std.specs.List.{list_any}
 use Rattle.fdr.specs.Tasks.{FiniteDomainTask, ranges, IsState, applies_at}
 use Rattle.fdr_successors.specs.Applicable.{applicable_operators}
 use Rattle.owner_theory.specs.Worlds.{no_open}
-use Rattle.owner.specs.declared.fault.OwnerFault.TheVariants.{TotalTooLarge}
+use Rattle.owner.specs.declared.fault.OwnerFault.TheVariants.{OutOfMemory, TotalTooLarge}
 use Rattle.owner_space.specs.Spaces.{SpaceOf}
 use Rattle.owner.specs.Owned.{OwnerOf, space_of, under, IsRefusal, Expands}
 use Rattle.scp.specs.Places.{PlacesOf}
 use Rattle.owner.specs.Held.{IsSmallStep, places_in}
 use Rattle.owner.proofs.Choosing.{is_next, no_open_some}
 use Rattle.owner.proofs.Outcomes.{get_at}
-use Rattle.owner.proofs.Expanding.{is_large, least_index, least_cost, least_steps, least_state, all_apply, all_small, large_successor, expands}
+use Rattle.owner.proofs.Expanding.{is_large, least_index, least_cost, least_steps, least_state, all_apply, all_small, large_successor, expands, refused_memory}
 use Rattle.owner.proofs.owner.Owner.expand.Goals as goal
 
 pub returns-in_default-clause-expanded : goal.returns-in_default-clause-expanded
@@ -124,3 +124,24 @@ returns-clause-expanded g c =
     c.expand_node.new.holdings c.in-Some.ensures.some.1 (λ p. true≢false (sym (c.if-is_at_limit.ensures.1 p))) s found none
     (c.in_ok-posted.ensures.treated l.node l.there) c.in_ok-posted.ensures.posted
     c.expand_node.ensures.space c.expand_node.ensures.worker c.in_ok-posted.ensures.counted)
+
+pub returns-in_err-applicable-clause-refused : goal.returns-in_err-applicable-clause-refused
+returns-in_err-applicable-clause-refused g c =
+    let h = c.self.inside.holdings in
+    refused_memory g.S.Spread.owner c.args.bound c.args.self.now h c.from_residual.result c.from_residual.ensures.1
+    (subst (λ (x : OwnerOf g.row.S.Denot). IsRefusal g.S.Spread.owner c.args.bound x h OutOfMemory) c.self.view_is (
+      no_open_some (space_of g.S.Spread.owner h) (under h c.args.bound) c.in-Some.next c.in-Some.ensures.some.0 c.in-Some.ensures.some.1,
+      (λ p. true≢false (sym (c.if-is_at_limit.ensures.1 p))),
+      refl,
+    ))
+
+pub returns-in_err-posted-clause-refused : goal.returns-in_err-posted-clause-refused
+returns-in_err-posted-clause-refused g c =
+    let h = c.self.inside.holdings in
+    refused_memory g.S.Spread.owner c.args.bound c.args.self.now c.expand_node.new.holdings c.from_residual-in_err-posted.result
+    c.from_residual-in_err-posted.ensures.1
+    (subst (λ (x : OwnerOf g.row.S.Denot). IsRefusal g.S.Spread.owner c.args.bound x c.expand_node.new.holdings OutOfMemory) c.self.view_is (
+      no_open_some (space_of g.S.Spread.owner h) (under h c.args.bound) c.in-Some.next c.in-Some.ensures.some.0 c.in-Some.ensures.some.1,
+      (λ p. true≢false (sym (c.if-is_at_limit.ensures.1 p))),
+      c.in_err-posted.ensures.unchanged,
+    ))
