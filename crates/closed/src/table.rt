@@ -1,6 +1,6 @@
 //! The table of reached states.
 
-ghost use Rattle.std.specs.Prelude.{◌≡◌, ℕ, ◌<◌, ◌≤◌, ◌==◌, ◌⊎◌, List, [], take, length, map, fold, Option, slice_get, slice_set, Some, IfOk, IfSome, IfNone, OnOk, OnErr, All};
+ghost use Rattle.std.specs.Prelude.{◌≡◌, ℕ, ◌<◌, ◌≤◌, ◌==◌, ◌⊎◌, false, List, [], take, length, map, fold, Option, slice_get, slice_set, Some, IfOk, IfSome, IfNone, OnOk, OnErr, All};
 ghost use Rattle.fdr.specs.Tasks as tasks;
 ghost use Rattle.fdr.specs.Tasks.{IsState};
 ghost use Rattle.owner_theory.specs.Owners.{Node, marked};
@@ -323,12 +323,7 @@ impl<F: StateForm + Drop> ClosedTable<F> {
     {
         let outcome = self.look_form(&message.state, message.rank);
         self.note(outcome, replaced)?;
-        self.reach_form(
-            &message.state,
-            message.rank,
-            Some(message.parent),
-            outcome,
-        )?;
+        self.reach_form(&message.state, message.rank, Some(message.parent), outcome)?;
         Ok(outcome)
     }
 
