@@ -47,7 +47,7 @@ impl<'a, S: Spread + Drop, F: StateForm + Drop> Model for Reached<'a, S, F> {
 /// Makes room for an entry of this f-value, if it is finite. Fails only if allocation fails.
 fn make_room<L: OpenList>(list: &mut L, f: Option<u64>) -> Result<(), AllocError>
     ensures entries { IsPermutation (L.entries list.old) (L.entries list.new) }
-    ensures room { OnOk result (IfSome f (λ f. L.HasRoom list.new (f ∷ []))) }
+    ensures room { OnOk result (IfSome f (λ f. (fs : List ℕ) × L.HasRoom list.new (f ∷ fs))) }
 {
     match f {
         Some(f) => list.reserve(&[f]),
@@ -57,9 +57,10 @@ fn make_room<L: OpenList>(list: &mut L, f: Option<u64>) -> Result<(), AllocError
 
 /// Adds the entry of a state that was reached, turned over, if it is new or was improved, and its f-value is finite.
 fn put_in<L: OpenList>(list: &mut L, ties: Ties, f: Option<u64>, rank: Rank, outcome: Outcome)
-    requires { IfSome f (λ f. L.HasRoom list.old (f ∷ [])) }
+    requires { IfSome f (λ f. (fs : List ℕ) × L.HasRoom list.old (f ∷ fs)) }
     ensures entries { IsPermutation (map (turned ties) (added f rank outcome) ++ L.entries list.old) (L.entries list.new) }
     ensures words { All HasWords (added f rank outcome) }
+    ensures room { IfSome f (λ f. (fs : List ℕ) → L.HasRoom list.old (f ∷ fs) → L.HasRoom list.new fs) }
 {
     if let (Some(f), Outcome::New(index) | Outcome::Better(index)) = (f, outcome) {
         let pushed = list.push(ties.turned(OpenEntry { f, rank, index }));
@@ -85,8 +86,8 @@ fn put_all_in<L: OpenList, F: StateForm + Drop>(
         AreQueued h nodes (map (turned ties) (L.entries list.old)) →
         AreQueued h (fold reached nodes (map (arrival values) messages.now)) (map (turned ties) (L.entries list.new)) }
 {
-    for (i, message) in messages.iter().enumerate() {
-        put_in(list, ties, Some(fs[i]), message.rank, outcomes[i]);
+    for (place, message) in messages.iter().enumerate() {
+        put_in(list, ties, Some(fs[place]), message.rank, outcomes[place]);
     }
 }
 
