@@ -1,5 +1,5 @@
 -- The entries of messages that are reached one after the other go into the open list.
-use Rattle.std.proofs.Common.{◌≡◌, ℕ, ◌+◌, ◌<◌, ◌≤◌, ◌^◌, List, [], ◌∷◌, ◌++◌, length, map, drop, fold, get_or, Some, All, refl, sym, ap, ◌∙◌, subst}
+use Rattle.std.proofs.Common.{◌≡◌, ℕ, suc, ◌+◌, ◌<◌, ◌≤◌, ◌^◌, List, [], ◌∷◌, ◌++◌, length, map, drop, fold, get_or, Some, All, refl, sym, ap, ◌∙◌, subst}
 use Rattle.std.specs.List.Sorted.{IsPermutation}
 use Rattle.std.proofs.lemmas.List.{drop_more, length-map}
 use Rattle.std.proofs.lemmas.List.Elements.{All-head, All-tail}
@@ -16,7 +16,7 @@ use Rattle.owner.proofs.Queues.{reached_queued}
 
 pub length-outcomes_of : (nodes ms : List Node) → length (outcomes_of nodes ms) ≡ length ms
 length-outcomes_of nodes [] = refl
-length-outcomes_of nodes (m ∷ ms) = ap (λ k. 1 + k) (length-outcomes_of (reached nodes m) ms)
+length-outcomes_of nodes (m ∷ ms) = ap suc (length-outcomes_of (reached nodes m) ms)
 
 heads : {X : Type 0} (x y : X) (xs ys : List X) → x ∷ xs ≡ y ∷ ys → x ≡ y
 heads x y xs ys e = cc
@@ -25,7 +25,7 @@ tails : {X : Type 0} (x y : X) (xs ys : List X) → x ∷ xs ≡ y ∷ ys → xs
 tails x y xs ys e = cc
 
 -- what lies at the place, and what is behind
-at_front_of : {X : Type 0} (xs : List X) (i : ℕ) (x : X) → i < length xs → x ≡ get_or xs i x → drop i xs ≡ x ∷ drop (i + 1) xs
+pub at_front_of : {X : Type 0} (xs : List X) (i : ℕ) (x : X) → i < length xs → x ≡ get_or xs i x → drop i xs ≡ x ∷ drop (i + 1) xs
 at_front_of xs i x lt is = drop_more xs i x lt ∙ ap (λ y. y ∷ drop (i + 1) xs) (sym is)
 
 -- messages that are still to be added, with their f-values and outcomes: the list is that of the nodes before them, and
@@ -40,7 +40,7 @@ pub record AreAdding {F : Type 0} (values : F → List ℕ) (h : List ℕ → Di
   pub queued : AreQueued h nodes entries
 
 module _ {F : Type 0} (values : F → List ℕ) (h : List ℕ → Distance) (after : List Node) (ties : Ties) where
-  f_value : Message F → Distance
+  abbrev f_value : Message F → Distance
   f_value m = Finite m.rank.cost +ᵈ h (values m.state)
 
   one_added : (m : Message F) (ms : List (Message F)) (f : ℕ) (fs : List ℕ) (o : Outcome) (os : List Outcome) (es es' : List OpenEntry)

@@ -82,7 +82,7 @@ fn put_all_in<L: OpenList, F: StateForm + Drop>(
     ensures words { All HasWords (L.entries list.old) → All HasWords (L.entries list.new) }
     ensures queued { (values : F → List ℕ) (h : List ℕ → Distance) (nodes : List Node) →
         map (λ m. Finite m.rank.cost +ᵈ h (values m.state)) messages.now ≡ map Finite fs.now → All (λ f. f ≤ 2 ^ 63) fs.now →
-        outcomes.now ≡ outcomes_of nodes (map (arrival values) messages.now) → All HasWords (L.entries list.old) →
+        outcomes.now ≡ outcomes_of nodes (map (arrival values) messages.now) →
         AreQueued h nodes (map (turned ties) (L.entries list.old)) →
         AreQueued h (fold reached nodes (map (arrival values) messages.now)) (map (turned ties) (L.entries list.new)) }
 {
