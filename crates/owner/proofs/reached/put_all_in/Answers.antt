@@ -1,10 +1,9 @@
-use Rattle.std.proofs.Common.{◌+◌, ◌<◌, ◌≤◌, List, length, map, drop, Some, refl, sym, ◌∙◌, subst, arith}
+use Rattle.std.proofs.Common.{◌+◌, ◌<◌, ◌≤◌, List, length, map, drop, refl, subst, arith}
 use Rattle.std.proofs.lemmas.List.{drop_more, drop_all}
 use Rattle.closed.specs.declared.message.Message.{Message}
 use Rattle.closed.specs.Tables.{reached, arrival}
 use Rattle.std.specs.Prelude.{ℕ, fold}
 use Rattle.owner_space.specs.Turned.{turned}
-use Rattle.owner.specs.Queues.{added}
 use Rattle.owner.proofs.Queues.{added_words}
 use Rattle.owner.proofs.Adding.{AreAdding, at_front_of, next_added, all_added}
 use Rattle.owner.proofs.reached.put_all_in.Goals as goal

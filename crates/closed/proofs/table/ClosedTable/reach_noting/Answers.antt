@@ -1,6 +1,6 @@
-use Rattle.std.proofs.Common.{◌≡◌, ◌≤◌, Some, List, length, take, sym, ap, ◌∙◌, subst}
+use Rattle.std.proofs.Common.{◌≤◌, Some, List, length, take, sym, ap, ◌∙◌, subst}
 use Rattle.owner_theory.specs.Owners.{Node}
-use Rattle.closed.specs.Tables.{Table, reached, arrival, outcome_of}
+use Rattle.closed.specs.Tables.{Table, arrival}
 use Rattle.closed.specs.Entries.{taken_back}
 use Rattle.closed.proofs.Reached.{length-reached}
 use Rattle.closed.proofs.Entries.{Better-within}
