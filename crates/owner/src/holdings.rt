@@ -180,7 +180,7 @@ impl<'a, S: Spread + Drop, F: StateForm + Drop> Holdings<'a, S, F> {
         ensures unchanged { OnErr result (self.new ≡ self.old) }
     {
         self.reached
-            .reach_at(state, rank, Some(parent), outcome, f)?;
+            .reach_form_at(form, rank, Some(parent), outcome, f)?;
         self.best = best_with(self.reached.space().task(), self.best, state, rank.cost);
         Ok(())
     }
@@ -303,6 +303,7 @@ impl<'a, S: Spread + Drop, F: StateForm + Drop> Holdings<'a, S, F> {
         ensures worker { self.new.worker ≡ self.old.worker }
         ensures owners { self.new.outboxes ≡ self.old.outboxes }
     {
+        self.reached.expand_least();
         if self.reached.space().limit().is_some() {
             self.expansions += 1;
         }
