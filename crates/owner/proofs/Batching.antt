@@ -1,26 +1,22 @@
 -- The successors of a node before it is marked, and what is put into outboxes meanwhile.
-use Rattle.std.proofs.Common.{◌≡◌, ℕ, zero, suc, ◌+◌, ◌<◌, ◌≤◌, ◌^◌, Bool, true, false, ◌==◌, List, [], ◌∷◌, ◌++◌, map, length, length-append, length-set, get_or, drop, All, Option, Some, None, refl, sym, ap, ◌∙◌, subst, arith, cond, true≢false}
-use Rattle.std.specs.Prelude.{slice_set, fold, IsSome}
-use Rattle.std.proofs.lemmas.List.{map_push}
+use Rattle.std.proofs.Common.{◌≡◌, ℕ, zero, suc, ◌+◌, ◌<◌, ◌≤◌, ◌^◌, Bool, List, [], ◌∷◌, ◌++◌, map, length, length-append, length-set, All, refl, sym, ap, ◌∙◌, subst, arith, cond}
+use Rattle.std.specs.Prelude.{slice_set, fold}
 use Rattle.std.proofs.lemmas.List.Elements.{All-nil, All-cons, All-append}
-use Rattle.std.proofs.lemmas.List.Sums.{fold-append}
-use Rattle.cost.specs.Distances.{Distance, Finite, Infinite, is_at_most, lesser, distance_of, ◌+ᵈ◌}
-use Rattle.fdr.specs.Tasks.{ranges, is_goal_state}
+use Rattle.cost.specs.Distances.{Distance, Finite, ◌+ᵈ◌}
+use Rattle.fdr.specs.Tasks.{ranges}
 use Rattle.owner_theory.specs.Owners as machine
 use Rattle.owner_theory.specs.Owners.{At, Node, Owner, SearchSpace, list_at, same_state, rank_less, f_value, improve, marked, mark_node, took, posted, treat, treat_all}
 use Rattle.owner_theory.specs.Worlds.{waiting}
 use Rattle.closed.specs.declared.message.Message.{Message}
 use Rattle.closed.specs.declared.table.Outcome.{Outcome}
 use Rattle.closed.specs.declared.table.Outcome.TheVariants.{Better, Kept}
-use Rattle.closed.specs.Tables.{message_of, outcome_from, outcome_of}
-use Rattle.owner_space.specs.Spaces.{SpaceOf, searched}
+use Rattle.closed.specs.Tables.{message_of, outcome_from}
+use Rattle.owner_space.specs.Spaces.{searched}
 use Rattle.owner.specs.declared.batch.Batch.{Batch}
 use Rattle.owner.specs.Owned.{OwnerOf, space_of, under, IsMessageTo}
 use Rattle.owner.specs.Queues.{h_of}
-use Rattle.owner.specs.Outboxes.{withdrawn}
 use Rattle.owner.specs.Successors.{AreKnown}
 use Rattle.owner.specs.Batches.{pending, IsBatch, ArePosted}
-use Rattle.owner.proofs.Owning.{took_treats, posted_treats}
 use Rattle.outboxes.proofs.Withdrawing.{withdrawn_posted}
 use Rattle.owner.proofs.Stepping.{same_space}
 
@@ -50,9 +46,6 @@ waiting_set (b ∷ bs) zero m lt = omega (arith, length-append b (m ∷ []))
 waiting_set (b ∷ bs) (suc v) m lt = omega (arith, waiting_set bs v m (omega arith))
 
 module _ {S : Type 0} where
-  pub posted_none : (o : OwnerOf S) (vs : List ℕ) → ArePosted o o vs vs
-  posted_none o vs = record { others = refl; withdraws = refl; put_out = refl; owners = refl; there = λ h. h }
-
   pub posted_then : (a b c : OwnerOf S) (us vs ws : List ℕ) → ArePosted a b us vs → ArePosted b c vs ws → ArePosted a c us ws
   posted_then a b c us vs ws p q = record {
     others = q.others ∙ ap (λ (o : OwnerOf S). record o { outboxes = c.outboxes }) p.others;
@@ -75,45 +68,16 @@ module _ {S : Type 0} where
             (All-cons (λ t. t < length o.outboxes) to [] lt (All-nil (λ t. t < length o.outboxes)));
       }))
 
-  -- what was put into outboxes is withdrawn
-  pub undone : (o mid new : OwnerOf S) (vs : List ℕ) → ArePosted o mid [] vs → new ≡ record mid { outboxes = withdrawn vs mid.outboxes } → new ≡ o
-  undone o mid new vs p is =
-      is ∙ (λ j. record (p.others j) { outboxes = p.withdraws j })
-
-  pub there_all : (o mid : OwnerOf S) (vs : List ℕ) → ArePosted o mid [] vs → All (λ to. to < length mid.outboxes) vs
-  there_all o mid vs p = subst (λ n. All (λ to. to < n) vs) (sym p.owners) (p.there (All-nil (λ to. to < length o.outboxes)))
-
   pub posted_space : (owner : S → List ℕ → ℕ → ℕ) (a b : OwnerOf S) (us vs : List ℕ) → ArePosted a b us vs → space_of owner b ≡ space_of owner a
   posted_space owner a b us vs p = same_space owner b a (ap (λ (o : OwnerOf S). o.space) p.others) p.owners
 
 -- ---- f-values
 
--- a successor whose f-value reaches the bound is dropped
-pub dropped_treats : (space : SearchSpace) (me : ℕ) (o : Owner) (m : machine.Message) → is_at_most o.bound (f_value space m.state m.cost) ≡ true
-    → o ≡ treat space me o m
-dropped_treats space me o m e = sym (λ j. cond (e j) o (cond (space.owner_of m.state == me) (took space o m) (posted space o m)))
-
-pub below_some : (bound : Distance) (r : Option ℕ) → is_at_most bound (distance_of r) ≡ false → IsSome r
-below_some (Finite b) None h = absurd (true≢false h)
-below_some Infinite None h = absurd (true≢false h)
-below_some bound (Some f) h = refl
-
 -- ---- the batch
-
-fold_pushed : {A B : Type 0} (f : B → A → B) (a : B) (xs : List A) (x : A) → fold f a (xs ++ x ∷ []) ≡ f (fold f a xs) x
-fold_pushed f a xs x = fold-append f a xs (x ∷ [])
 
 module _ {S F : Type 0} (IsForm : List ℕ → F → Type 0) (values : List ℕ → F → List ℕ) (owner : S → List ℕ → ℕ → ℕ) (o : OwnerOf S) where
   abbrev of_form : Message F → machine.Message
   of_form = message_of (values (ranges o.space.task))
-
-  pub empty_batch : (b : Batch F) → b.own.items ≡ [] → b.fs.items ≡ [] → IsBatch IsForm values owner o b
-  empty_batch b own fs = record {
-    messages = subst (λ (l : List (Message F)). All (λ m. IsMessageTo (space_of owner o) o.worker (of_form m)) l) (sym own) (All-nil (λ m. IsMessageTo (space_of owner o) o.worker (of_form m)));
-    forms = subst (λ (l : List (Message F)). All (λ m. IsForm (ranges o.space.task) m.state) l) (sym own) (All-nil (λ m. IsForm (ranges o.space.task) m.state));
-    fs = ap (λ (l : List (Message F)). map (λ m. Finite m.rank.cost +ᵈ h_of o.space (values (ranges o.space.task) m.state)) l) own ∙ ap (map Finite) (sym fs);
-    bounded = subst (λ (l : List ℕ). All (λ f. f ≤ 2 ^ 63) l) (sym fs) (All-nil (λ f. f ≤ 2 ^ 63));
-  }
 
   pub moved_batch : (new : OwnerOf S) (us vs : List ℕ) (b b' : Batch F) → ArePosted o new us vs → b'.own ≡ b.own → b'.fs ≡ b.fs
       → IsBatch IsForm values owner o b → IsBatch IsForm values owner new b'
@@ -132,66 +96,6 @@ module _ {S F : Type 0} (IsForm : List ℕ → F → Type 0) (values : List ℕ 
 
       values_same : b'.fs.items ≡ b.fs.items
       values_same = λ j. (fs j).items
-
-  pub grown_batch : (b b' : Batch F) (m : Message F) (f : ℕ) → b'.own.items ≡ b.own.items ++ m ∷ [] → b'.fs.items ≡ b.fs.items ++ f ∷ []
-      → IsMessageTo (space_of owner o) o.worker (of_form m) → IsForm (ranges o.space.task) m.state
-      → Finite m.rank.cost +ᵈ h_of o.space (values (ranges o.space.task) m.state) ≡ Finite f → f ≤ 2 ^ 63
-      → IsBatch IsForm values owner o b → IsBatch IsForm values owner o b'
-  grown_batch b b' m f own fs fits form value few h = record {
-    messages = subst (λ (l : List (Message F)). All P l) (sym own) (All-append P b.own.items (m ∷ []) h.messages (All-cons P m [] fits (All-nil P)));
-    forms = subst (λ (l : List (Message F)). All Q l) (sym own) (All-append Q b.own.items (m ∷ []) h.forms (All-cons Q m [] form (All-nil Q)));
-    fs = ap (map g) own ∙ (map_push g b.own.items m ∙ ((λ j. h.fs j ++ value j ∷ []) ∙ (sym (map_push Finite b.fs.items f) ∙ ap (map Finite) (sym fs))));
-    bounded = subst (λ (l : List ℕ). All R l) (sym fs) (All-append R b.fs.items (f ∷ []) h.bounded (All-cons R f [] few (All-nil R)));
-  }
-    where
-      P : Message F → Type 0
-      P x = IsMessageTo (space_of owner o) o.worker (of_form x)
-
-      Q : Message F → Type 0
-      Q x = IsForm (ranges o.space.task) x.state
-
-      R : ℕ → Type 0
-      R x = x ≤ 2 ^ 63
-
-      g : Message F → Distance
-      g x = Finite x.rank.cost +ᵈ h_of o.space (values (ranges o.space.task) x.state)
-
-  -- a message of its own is added
-  pub kept_pending : (b b' : Batch F) (m : Message F) (bound : Distance) (nodes : List Node) (f : ℕ) (goal : Bool)
-      → b'.own.items ≡ b.own.items ++ m ∷ [] → b'.best ≡ cond goal (lesser b.best (Finite m.rank.cost)) b.best
-      → goal ≡ is_goal_state o.space.task (values (ranges o.space.task) m.state)
-      → Finite m.rank.cost +ᵈ h_of o.space (values (ranges o.space.task) m.state) ≡ Finite f
-      → (space_of owner o).owner_of (of_form m).state ≡ o.worker → is_at_most bound (Finite f) ≡ false
-      → pending values bound nodes o b' ≡ treat (space_of owner o) o.worker (pending values bound nodes o b) (of_form m)
-  kept_pending b b' m bound nodes f goal own best is value mine below =
-      (λ j. record {
-        nodes = more j;
-        outboxes = o.outboxes;
-        bound = bound;
-        best = (best ∙ ap (λ t. cond t (lesser b.best (Finite m.rank.cost)) b.best) is) j;
-      })
-      ∙ took_treats (space_of owner o) o.worker (pending values bound nodes o b) (of_form m) (ap (is_at_most bound) value ∙ below) mine
-    where
-      more : fold improve nodes (map of_form b'.own.items) ≡ improve (fold improve nodes (map of_form b.own.items)) (of_form m)
-      more = ap (λ (l : List (Message F)). fold improve nodes (map of_form l)) own
-          ∙ (ap (fold improve nodes) (map_push of_form b.own.items m) ∙ fold_pushed improve nodes (map of_form b.own.items) (of_form m))
-
-  -- a message is put into an outbox
-  pub posted_pending : (new : OwnerOf S) (b b' : Batch F) (to : ℕ) (m : Message F) (bound : Distance) (nodes : List Node) (f : ℕ)
-      → new ≡ record o { outboxes = slice_set o.outboxes to (list_at o.outboxes to ++ of_form m ∷ []) }
-      → b'.own ≡ b.own → b'.best ≡ b.best
-      → Finite m.rank.cost +ᵈ h_of o.space (values (ranges o.space.task) m.state) ≡ Finite f
-      → (space_of owner o).owner_of (of_form m).state ≡ to → (to == o.worker) ≡ false → is_at_most bound (Finite f) ≡ false
-      → pending values bound nodes new b' ≡ treat (space_of owner o) o.worker (pending values bound nodes o b) (of_form m)
-  posted_pending new b b' to m bound nodes f is own best value mine other below =
-      (λ j. record {
-        nodes = fold improve nodes (map (message_of (values (ranges (is j).space.task))) (own j).items);
-        outboxes = (is j).outboxes;
-        bound = bound;
-        best = best j;
-      })
-      ∙ posted_treats (space_of owner o) o.worker to (pending values bound nodes o b)
-      (slice_set o.outboxes to (list_at o.outboxes to ++ of_form m ∷ [])) (of_form m) (ap (is_at_most bound) value ∙ below) mine other refl
 
 -- ---- the node is marked, and the batch is taken
 

@@ -1,5 +1,5 @@
 -- What every owner keeps stays where it takes a state, or an outbox changes.
-use Rattle.std.proofs.Common.{◌≡◌, ℕ, zero, suc, ◌+◌, ◌<◌, ◌≤◌, ◌^◌, Bool, true, false, ◌==◌, List, [], ◌∷◌, ◌++◌, ◌&&◌, map, length, Option, Some, None, All, refl, sym, ap, ◌∙◌, subst, ⊎_elim, arith, true≢false, cond, length-set}
+use Rattle.std.proofs.Common.{◌≡◌, ℕ, zero, suc, ◌+◌, ◌<◌, ◌≤◌, Bool, true, false, ◌==◌, List, [], ◌∷◌, ◌++◌, ◌&&◌, map, length, Option, Some, None, All, refl, sym, ap, ◌∙◌, subst, ⊎_elim, arith, true≢false, cond, length-set}
 use Rattle.std.specs.Prelude.{slice_set, replicate, fold, IfSome, is_some}
 use Rattle.std.proofs.lemmas.List.{length-replicate}
 use Rattle.std.specs.List.{list_all}
@@ -188,14 +188,6 @@ posted_treats space me to o boxes m below mine other is =
   where
     theirs : (space.owner_of m.state == me) ≡ false
     theirs = ap (λ v. v == me) mine ∙ other
-
--- the message of a state that was packed
-pub packed_fits : {S : Type 0} (owner : S → List ℕ → ℕ → ℕ) (o : OwnerOf S) (to : ℕ) (state state' : List ℕ) (rank : Rank) (parent : Parent)
-    → state' ≡ state → IsState (ranges o.space.task) state → owner o.space.spread state (length o.outboxes) ≡ to → rank.cost ≤ 2 ^ 62
-    → rank.steps ≤ 2 ^ 62 → IsMessageTo (space_of owner o) to (message_at state' rank parent)
-packed_fits owner o to state state' rank parent same ok mine cost steps =
-    subst (λ s. IsMessageTo (space_of owner o) to (message_at s rank parent)) (sym same)
-    (record { state = ok; owner = mine; cost = cost; steps = steps })
 
 -- ---- the next node is expanded
 

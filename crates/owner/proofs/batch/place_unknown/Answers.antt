@@ -1,12 +1,11 @@
-use Rattle.std.proofs.Common.{◌≡◌, ◌+◌, ◌<◌, ℕ, List, true, length, map, get_or, Some, None, sym, ap, ◌∙◌, subst, arith, refl}
+use Rattle.std.proofs.Common.{◌≡◌, ◌<◌, ℕ, List, true, length, map, get_or, Some, None, sym, ap, ◌∙◌, subst, arith, refl}
 use Rattle.std.specs.Option.{option_map}
 use Rattle.std.proofs.lemmas.List.{length-map}
 use Rattle.fdr.specs.Tasks.{ranges, IsState, applies_at, step}
-use Rattle.owner_theory.specs.Owners.{Node, treat, message_to, successor_by}
+use Rattle.owner_theory.specs.Owners.{treat, message_to, successor_by}
 use Rattle.closed.specs.Tables.{fresh}
 use Rattle.scp.specs.Places.{PlacesOf}
 use Rattle.owner.specs.declared.successors.Successor.{Successor}
-use Rattle.owner_space.specs.Spaces.{SpaceOf}
 use Rattle.owner.specs.Owned.{OwnerOf, space_of}
 use Rattle.owner.specs.Held.{IsSmallStep, places_in}
 use Rattle.owner.specs.Successors.{IsSuccessor}

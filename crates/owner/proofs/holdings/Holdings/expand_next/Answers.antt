@@ -64,7 +64,7 @@ invariant_of-self-then-is_some g c =
     let boxes = boxes_in g.F.StateForm.values c.self.inside.outboxes c.expand_least.new.self.space in
     let boxes_same = ap (boxes_in g.F.StateForm.values c.self.inside.outboxes) c.expand_least.ensures.space in
     let nodes : (e : OpenEntry) (n : Node) → IsLeast o.space.ties (h_of o.space) o.nodes e → At o.nodes e.index n
-        → c.expand_least.new.self.nodes ≡ fold improve (slice_set o.nodes e.index (marked n)) (map (message_of values) ms) =
+    → c.expand_least.new.self.nodes ≡ fold improve (slice_set o.nodes e.index (marked n)) (map (message_of values) ms) =
     λ e n least at. c.in_ok-expand_least.ensures.nodes e n least at
     ∙ (ap (λ (l : List (Message g.row.F.Denot)). fold reached (slice_set o.nodes e.index (marked n)) (map (arrival values) l)) c.deref.ensures.value
     ∙ all_reached values (slice_set o.nodes e.index (marked n)) ms) in
@@ -91,7 +91,7 @@ invariant_of-self-else-is_some g c =
     let boxes = boxes_in g.F.StateForm.values c.self.inside.outboxes c.expand_least.new.self.space in
     let boxes_same = ap (boxes_in g.F.StateForm.values c.self.inside.outboxes) c.expand_least.ensures.space in
     let nodes : (e : OpenEntry) (n : Node) → IsLeast o.space.ties (h_of o.space) o.nodes e → At o.nodes e.index n
-        → c.expand_least.new.self.nodes ≡ fold improve (slice_set o.nodes e.index (marked n)) (map (message_of values) ms) =
+    → c.expand_least.new.self.nodes ≡ fold improve (slice_set o.nodes e.index (marked n)) (map (message_of values) ms) =
     λ e n least at. c.in_ok-expand_least.ensures.nodes e n least at
     ∙ (ap (λ (l : List (Message g.row.F.Denot)). fold reached (slice_set o.nodes e.index (marked n)) (map (arrival values) l)) c.deref.ensures.value
     ∙ all_reached values (slice_set o.nodes e.index (marked n)) ms) in
@@ -116,7 +116,7 @@ returns-then-is_some-clause-expanded g c =
     let boxes = boxes_in g.F.StateForm.values c.self.inside.outboxes c.expand_least.new.self.space in
     let boxes_same = ap (boxes_in g.F.StateForm.values c.self.inside.outboxes) c.expand_least.ensures.space in
     let nodes : (e : OpenEntry) (n : Node) → IsLeast o.space.ties (h_of o.space) o.nodes e → At o.nodes e.index n
-        → c.expand_least.new.self.nodes ≡ fold improve (slice_set o.nodes e.index (marked n)) (map (message_of values) ms) =
+    → c.expand_least.new.self.nodes ≡ fold improve (slice_set o.nodes e.index (marked n)) (map (message_of values) ms) =
     λ e n least at. c.in_ok-expand_least.ensures.nodes e n least at
     ∙ (ap (λ (l : List (Message g.row.F.Denot)). fold reached (slice_set o.nodes e.index (marked n)) (map (arrival values) l)) c.deref.ensures.value
     ∙ all_reached values (slice_set o.nodes e.index (marked n)) ms) in
@@ -143,7 +143,7 @@ returns-else-is_some-clause-expanded g c =
     let boxes = boxes_in g.F.StateForm.values c.self.inside.outboxes c.expand_least.new.self.space in
     let boxes_same = ap (boxes_in g.F.StateForm.values c.self.inside.outboxes) c.expand_least.ensures.space in
     let nodes : (e : OpenEntry) (n : Node) → IsLeast o.space.ties (h_of o.space) o.nodes e → At o.nodes e.index n
-        → c.expand_least.new.self.nodes ≡ fold improve (slice_set o.nodes e.index (marked n)) (map (message_of values) ms) =
+    → c.expand_least.new.self.nodes ≡ fold improve (slice_set o.nodes e.index (marked n)) (map (message_of values) ms) =
     λ e n least at. c.in_ok-expand_least.ensures.nodes e n least at
     ∙ (ap (λ (l : List (Message g.row.F.Denot)). fold reached (slice_set o.nodes e.index (marked n)) (map (arrival values) l)) c.deref.ensures.value
     ∙ all_reached values (slice_set o.nodes e.index (marked n)) ms) in

@@ -7,7 +7,7 @@ use Rattle.owner.specs.declared.fault.OwnerFault.TheVariants.{OutOfMemory, Total
 use Rattle.owner_space.specs.Spaces.{SpaceOf}
 use Rattle.owner.specs.Owned.{OwnerOf, space_of, under, IsRefusal, Expands}
 use Rattle.scp.specs.Places.{PlacesOf}
-use Rattle.owner.specs.Held.{IsSmallStep, places_in}
+use Rattle.owner.specs.Held.{places_in}
 use Rattle.owner.proofs.Choosing.{is_next, no_open_some}
 use Rattle.owner.proofs.Outcomes.{get_at}
 use Rattle.owner.proofs.Expanding.{is_large, least_index, least_cost, least_steps, least_state, all_apply, all_small, large_successor, expands, refused_memory}
