@@ -1,4 +1,4 @@
-use Rattle.std.proofs.Common.{◌≡◌, ◌<◌, sym, subst, length, ◌∙◌, arith}
+use Rattle.std.proofs.Common.{◌<◌, sym, subst, length, ◌∙◌, arith}
 use Rattle.outboxes.specs.Outboxes.{boxes_of}
 use Rattle.outboxes.proofs.Boxing.{boxes_length, emptied}
 use Rattle.outboxes.proofs.Withdrawing.{removed_none, removed_count, removed_last, removed_more}
