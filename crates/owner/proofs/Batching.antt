@@ -17,7 +17,7 @@ use Rattle.owner.specs.Owned.{OwnerOf, space_of, under, IsMessageTo}
 use Rattle.owner.specs.Queues.{h_of}
 use Rattle.owner.specs.Successors.{AreKnown}
 use Rattle.owner.specs.Batches.{pending, IsBatch, ArePosted}
-use Rattle.outboxes.proofs.Withdrawing.{withdrawn_posted}
+use Rattle.owner_outboxes.proofs.Withdrawing.{withdrawn_posted}
 use Rattle.owner.proofs.Stepping.{same_space}
 
 -- ---- marking a node changes no outcome

@@ -26,7 +26,7 @@ use Rattle.owner.specs.Queues.{ReachedOf, message_at, h_of, IsLeast}
 use Rattle.owner.specs.Held.{IsOwner}
 use Rattle.owner.specs.Outboxes.{shown, withdrawn}
 use Rattle.owner.proofs.Outcomes.{reached_improves, kept_same}
-use Rattle.outboxes.proofs.Withdrawing.{withdrawn_length, withdrawn_all}
+use Rattle.owner_outboxes.proofs.Withdrawing.{withdrawn_length, withdrawn_all}
 use Rattle.owner.proofs.Choosing.{no_open_some, both_false}
 
 -- ---- outboxes are shown by the task of their owner's space

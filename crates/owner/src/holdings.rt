@@ -21,7 +21,7 @@ use crate::reached::Reached;
 use closed::{Entry, Message, Outcome, Parent};
 use cost::Dist;
 use openlist::{OpenEntry, Rank};
-use outboxes::Outboxes;
+use owner_outboxes::Outboxes;
 use owner_space::Space;
 use packed::StateForm;
 use packed_spread::Spread;

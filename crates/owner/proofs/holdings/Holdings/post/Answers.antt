@@ -6,7 +6,7 @@ use Rattle.closed.specs.Tables.{message_of}
 use Rattle.owner.specs.Owned.{OwnerOf, space_of, IsMessageTo}
 use Rattle.owner.proofs.Owning.{boxes_in, posted_kept}
 use Rattle.owner.proofs.Results.{pushed_room}
-use Rattle.outboxes.proofs.Showing.{shown_posted}
+use Rattle.owner_outboxes.proofs.Showing.{shown_posted}
 use Rattle.owner.proofs.holdings.Holdings.post.Goals as goal
 
 pub invariant_of-self-2 : goal.invariant_of-self-2

@@ -3,8 +3,8 @@ use Rattle.fdr.specs.Tasks.{ranges}
 use Rattle.owner.specs.Owned.{OwnerOf}
 use Rattle.owner.specs.Outboxes.{shown, withdrawn}
 use Rattle.owner.proofs.Owning.{boxes_in, withdrawn_kept}
-use Rattle.outboxes.proofs.Showing.{shown_length}
-use Rattle.outboxes.proofs.Withdrawing.{shown_withdrawn}
+use Rattle.owner_outboxes.proofs.Showing.{shown_length}
+use Rattle.owner_outboxes.proofs.Withdrawing.{shown_withdrawn}
 use Rattle.owner.proofs.holdings.Holdings.withdraw.Goals as goal
 
 pub withdraw-requires : goal.withdraw-requires
