@@ -18,6 +18,10 @@ use Rattle.netcore.proofs.Queues.{sent_here, sent_there}
 use Rattle.netcore.proofs.Shown.{shown, nothing_done, kept, run_after}
 use Rattle.netcore.proofs.Expanding.{at_owner_here, at_owner_past, owner_space, here_one, there_one, one_owner, refused_whole}
 
+pub no_message : (q : List Message) → length q ≡ 0 → q ≡ []
+no_message [] e = refl
+no_message (x ∷ q) e = absurd (omega arith)
+
 module _ {S : Type 0} (owner : S → List ℕ → ℕ → ℕ) where
   -- ---- nothing to send
   unsent : (old : WorldOf S) (v to : ℕ) (world : World) → Shows owner old world → list_at (world.logs v).owner.outboxes to ≡ []
