@@ -206,9 +206,13 @@ module _ {S : Type 0} (owner : S → List ℕ → ℕ → ℕ) where
   refusal_at old v o p b TotalTooLarge new is at seen (i, n, next, allowed, large, same) unchanged =
       (v, o, b, refl, at, seen, (i, n, next, allowed, large, refl), unchanged)
 
-  pub expand_refused_same : (old : WorldOf S) (v : ℕ) (o p : OwnerOf S) (b : Distance) (e : OwnerFault) → At old.owners v o
+  expand_refused_same : (old : WorldOf S) (v : ℕ) (o p : OwnerOf S) (b : Distance) (e : OwnerFault) → At old.owners v o
       → IsRefusal owner b o p e → with_owner old v p ≡ old
   expand_refused_same old v o p b e at refusal = as_it_was old v o p at (refused_same b o p e refusal)
+
+  pub expand_refused_kept : (old : WorldOf S) (v : ℕ) (o p : OwnerOf S) (b : Distance) (e : OwnerFault) → IsWorld owner old → At old.owners v o
+      → IsRefusal owner b o p e → IsWorld owner (with_owner old v p)
+  expand_refused_kept old v o p b e is at refusal = subst (IsWorld owner) (sym (expand_refused_same old v o p b e at refusal)) is
 
   pub expand_refused : (old : WorldOf S) (v : ℕ) (o p : OwnerOf S) (b : Distance) (e : OwnerFault) → IsWorld owner old → At old.owners v o
       → At old.seen v b → IsRefusal owner b o p e → IsStepRefused owner old (with_owner old v p) (Expand v) e

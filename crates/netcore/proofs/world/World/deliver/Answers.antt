@@ -126,8 +126,8 @@ returns-in-Ok g c =
     rw (← c.self.view_is, fewer)
     (deliver_done g.S.Spread.owner _ c.args.worker c.args.number o c.take.new.self b (packets_in values q) x c.self.invariant taking)
 
-pub invariant_of-self-in-Ok-insert : goal.invariant_of-self-in-Ok-insert
-invariant_of-self-in-Ok-insert g c =
+pub invariant_of-self-in-Err : goal.invariant_of-self-in-Err
+invariant_of-self-in-Err g c =
     let values = (g.F.StateForm.values (ranges c.self.inside.space.now.task)) in
     let lt : c.args.worker < length c.self.inside.owners.items = omega (arith, c.len.ensures, c.if-worker-len.false) in
     let q = c.index_mut.result.now in

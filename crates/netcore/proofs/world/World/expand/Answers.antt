@@ -1,6 +1,6 @@
 use Rattle.std.proofs.Common.{◌<◌, length, arith}
 use Rattle.netcore.proofs.Places.{at_here}
-use Rattle.netcore.proofs.Expanding.{expand_past, expand_done, expand_kept, expand_refused, expand_refused_same}
+use Rattle.netcore.proofs.Expanding.{expand_past, expand_done, expand_kept, expand_refused, expand_refused_kept}
 use Rattle.netcore.proofs.world.World.expand.Goals as goal
 use Rattle.netcore.proofs.world.World.expand.Goals.{in-Ok, in-Err}
 
@@ -17,8 +17,8 @@ invariant_of-self g c =
           expand_kept g.S.Spread.owner _ c.args.worker c.index_mut.result.now c.expand.new.self c.index.result.now w.in-Ok.posted c.self.invariant at seen
           w.in-Ok.ensures.expanded c.expand.ensures.space c.expand.ensures.worker c.expand.ensures.owners
       | in-Err w ↦
-          rw (expand_refused_same g.S.Spread.owner _ c.args.worker c.index_mut.result.now c.expand.new.self c.index.result.now w.in-Err.fault at w.in-Err.ensures.refused)
-          c.self.invariant
+          expand_refused_kept g.S.Spread.owner _ c.args.worker c.index_mut.result.now c.expand.new.self c.index.result.now w.in-Err.fault c.self.invariant at
+          w.in-Err.ensures.refused
     ]
 
 pub returns : goal.returns

@@ -45,8 +45,8 @@ returns-then-outbox_len-eq0 g c =
     (send_none g.S.Spread.owner _ c.args.worker c.args.to o b at seen
     (no_message (list_at o.outboxes c.args.to) (sym c.outbox_len.ensures ∙ c.if-outbox_len-eq0.true)))
 
-pub invariant_of-self-in_err-reserve : goal.invariant_of-self-in_err-reserve
-invariant_of-self-in_err-reserve g c =
+pub invariant_of-self : goal.invariant_of-self
+invariant_of-self g c =
     let values = (g.F.StateForm.values (ranges c.self.inside.space.now.task)) in
     let room : c.args.to < length c.self.inside.underway.items =
     omega (arith, length-map c.self.inside.underway.items (packets_in values), c.self.invariant.queues, c.len-2.ensures, c.if-to-len.false) in
@@ -83,8 +83,8 @@ unreachable-requires g c =
     c.if-outbox_len-eq0.false (c.outbox_len.ensures
     ∙ (ap (λ (z : OwnerOf g.row.S.Denot). length (list_at z.outboxes c.args.to)) same ∙ ap length c.in_default.ensures.none))
 
-pub invariant_of-self : goal.invariant_of-self
-invariant_of-self g c =
+pub invariant_of-self-2 : goal.invariant_of-self-2
+invariant_of-self-2 g c =
     let values = (g.F.StateForm.values (ranges c.self.inside.space.now.task)) in
     let lt : c.args.worker < length c.self.inside.owners.items = omega (arith, c.len.ensures, c.if-worker-len.false) in
     let o = c.index_mut-2.result.now in
