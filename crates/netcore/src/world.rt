@@ -1,6 +1,6 @@
 //! The world of owners.
 
-ghost use Rattle.std.specs.Prelude.{◌≡◌, ◌≢◌, ℕ, ◌<◌, ◌+◌, ◌-◌, ◌^◌, min, not, sum_by, count_by, List, [], Option, map, length, slice_get, replicate, IfOk, IfErr, MatchResult};
+ghost use Rattle.std.specs.Prelude.{◌≡◌, ◌≢◌, ℕ, ◌<◌, ◌+◌, ◌-◌, ◌^◌, min, not, sum_by, count_by, List, [], Option, false, map, length, slice_get, replicate, IfOk, IfErr, MatchResult};
 ghost use Rattle.fdr.specs.Tasks.{ranges, IsState};
 ghost use Rattle.owner_theory.specs.Worlds as machine;
 ghost use Rattle.cost.specs.Distances.{Distance};

@@ -63,8 +63,11 @@ returns-in_err-reserve g c =
     let at = at_here c.self.inside.owners.items c.args.worker o lt c.index.ensures in
     let (b, seen) = at_some c.self.inside.seen.items c.args.worker (omega (arith, lt, c.self.invariant.bounds)) in
     let refused = err_from_is_err_and c.from_residual.result c.from_residual.ensures.1 in
-    rw (refused.1, ← c.self.view_is,
-    queues_same values c.self.inside.underway.items c.args.to c.index_mut.result.now room c.index_mut.ensures.value c.reserve.new.self c.reserve.ensures.items)
+    rw (
+      refused.1,
+      ← c.self.view_is,
+      queues_same values c.self.inside.underway.items c.args.to c.index_mut.result.now room c.index_mut.ensures.value c.reserve.new.self c.reserve.ensures.items,
+    )
     (send_refused g.S.Spread.owner _ c.args.worker c.args.to o b at seen (λ e. c.if-outbox_len-eq0.false (c.outbox_len.ensures ∙ e)))
 
 pub next_out-requires : goal.next_out-requires
