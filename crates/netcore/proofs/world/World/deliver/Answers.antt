@@ -139,8 +139,7 @@ invariant_of-self-in-Err g c =
     let at = at_here c.self.inside.owners.items c.args.worker o lt c.index_mut-2.ensures.value in
     let y : Packet g.row.F.Denot = record { sender = c.in-Some.packet.sender; message = c.in-Err.message } in
     let same_message : message_of values c.in-Err.message ≡ message_of values c.in-Some.packet.message =
-    subst (λ (s : SpaceOf g.row.S.Denot). message_of (g.F.StateForm.values (ranges s.task)) c.in-Err.message
-    ≡ message_of (g.F.StateForm.values (ranges s.task)) c.in-Some.packet.message) (c.self.invariant.spaces c.args.worker o at) c.in-Err.ensures.refused.0 in
+    ap (message_of values) c.in-Err.ensures.refused.0 in
     let same_packet : packet_of values y ≡ packet_of values c.in-Some.packet =
     ap (λ (m : Message). let p : machine.Packet = record { sender = c.in-Some.packet.sender; message = m } in p) same_message in
     let without = changed_here c.self.inside.underway.items c.args.worker c.remove.new.self c.index_mut-in-Err.result.now room c.index_mut-in-Err.ensures.value in
@@ -165,8 +164,7 @@ returns-in-Ok-insert g c =
     let at = at_here c.self.inside.owners.items c.args.worker o lt c.index_mut-2.ensures.value in
     let y : Packet g.row.F.Denot = record { sender = c.in-Some.packet.sender; message = c.in-Err.message } in
     let same_message : message_of values c.in-Err.message ≡ message_of values c.in-Some.packet.message =
-    subst (λ (s : SpaceOf g.row.S.Denot). message_of (g.F.StateForm.values (ranges s.task)) c.in-Err.message
-    ≡ message_of (g.F.StateForm.values (ranges s.task)) c.in-Some.packet.message) (c.self.invariant.spaces c.args.worker o at) c.in-Err.ensures.refused.0 in
+    ap (message_of values) c.in-Err.ensures.refused.0 in
     let same_packet : packet_of values y ≡ packet_of values c.in-Some.packet =
     ap (λ (m : Message). let p : machine.Packet = record { sender = c.in-Some.packet.sender; message = m } in p) same_message in
     let without = changed_here c.self.inside.underway.items c.args.worker c.remove.new.self c.index_mut-in-Err.result.now room c.index_mut-in-Err.ensures.value in
