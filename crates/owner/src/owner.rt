@@ -125,7 +125,7 @@ impl<'a, S: Spread + Drop, F: StateForm + Drop> Owner<'a, S, F> {
         ensures space { self.new.space ≡ self.old.space }
         ensures worker { self.new.worker ≡ self.old.worker }
         ensures expansions { self.new.expansions ≡ self.old.expansions }
-        ensures refused { IfErr result (λ e. (message_of (F.values (ranges self.old.space.task)) e.0 ≡ message_of (F.values (ranges self.old.space.task)) message) × (self.new ≡ self.old)) }
+        ensures refused { IfErr result (λ e. (e.0 ≡ message) × (self.new ≡ self.old)) }
     {
         self.holdings.recall(); // states of the task have the form
         unpack(&message, self.holdings.space().layout(), &mut self.state);
