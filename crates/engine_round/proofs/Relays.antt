@@ -1,5 +1,5 @@
 -- What sending and receiving between turns keep.
-use Rattle.std.proofs.Common.{◌≡◌, ℕ, zero, suc, ⊎_elim, true, List, [], Some, None, length, refl, sym, ap, ◌∙◌}
+use Rattle.std.proofs.Common.{◌≡◌, ℕ, zero, suc, ⊎_elim, List, [], Some, None, length, refl, sym, ap, ◌∙◌}
 use Rattle.cost.specs.Distances.{Infinite}
 use Rattle.cost.proofs.DistanceLaws.{lesser_left, at_most_infinite}
 use Rattle.board.specs.declared.views.View.{View}
@@ -9,7 +9,7 @@ use Rattle.owner.specs.declared.fault.OwnerFault.TheVariants.{OutOfMemory}
 use Rattle.worker.specs.declared.outcome.Received.{Received}
 use Rattle.worker.specs.declared.outcome.Received.TheVariants.{Taken, Nothing, SetAside}
 use Rattle.worker.specs.Workers.{WorkerOf}
-use Rattle.worker.specs.Turns.{chained, ReceivesFrom, SendsTo, HasSent, HasNotSent, HasCounted, HasStopped}
+use Rattle.worker.specs.Turns.{chained, ReceivesFrom, SendsTo, HasSent, HasNotSent, HasCounted}
 use Rattle.worker.proofs.Chains.{sends_keep, receives_keep, stopped_uncounted}
 use Rattle.engine_round.specs.declared.fault.TurnFault.TheVariants.{Owner}
 use Rattle.engine_round.specs.Turns.{MayStop, IsSeated, IsAtWork, HasReceivedAll, HasRelayedAside, HasWorked}

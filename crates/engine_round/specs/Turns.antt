@@ -92,8 +92,8 @@ pub record HasKept {S F : Type 0} (old new : WorkerOf S F) (before after : View)
   pub told : new.misfits ≡ [] → new.bound ≤ᵈ before.seen
   pub uncounted : new.uncounted ≡ 0
 
--- why a turn was not taken to its end: the owner refused to expand the next node, and the worker is as such a turn leaves it; or the gate
--- may end the search before that turn of this worker, which has read the bound and done no more
+-- why a turn was not taken to its end: the owner refused to expand the next node, or had no memory for a message, and the worker is as such
+-- a turn leaves it; or the gate may end the search before that turn of this worker, which has read the bound and done no more
 abbrev pub IsTurnFault : {S F : Type 0} → (S → List ℕ → ℕ → ℕ) → (List ℕ → F → List ℕ) → MayStop → WorkerOf S F → WorkerOf S F → View → View → TurnFault → Type 0
 IsTurnFault owner values may_stop old new before after (Owner fault) = IsTurnRefusal owner values old new before after fault
 IsTurnFault owner values may_stop old new before after (Gate turn stop) = may_stop old.owner.worker turn stop × HasLooked old new before after
