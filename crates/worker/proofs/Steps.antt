@@ -16,6 +16,12 @@ use Rattle.worker.specs.Workers.{WorkerOf, values_in, sent_to, received_from, kn
 use Rattle.worker.specs.Turns.{HasLooked, HasOffered, HasExpanded, IsExpandRefusal, posted_by, HasSent, HasNotSent, HasTaken, HasNothingTaken, HasSetAside, HasHeld, wakes, comes_to_rest}
 use Rattle.worker.proofs.Rows.{outs_through, ins_through, put_again}
 
+-- a fault leaves the owner as it was
+pub refused_same : {S : Type 0} (owner : S → List ℕ → ℕ → ℕ) (bound : Distance) (o p : OwnerOf S) (fault : OwnerFault) → IsRefusal owner bound o p fault → p ≡ o
+refused_same owner bound o p OutOfMemory refusal = refusal.2
+refused_same owner bound o p LimitReached refusal = refusal.2
+refused_same owner bound o p TotalTooLarge refusal = refusal.5
+
 module _ {S F : Type 0} where
   -- ---- looking and offering
   pub looks : (w : WorkerOf S F) (b s : Distance) (u v : View) → s ≡ lesser w.seen b → v ≡ with_seen u b
@@ -45,12 +51,6 @@ module _ {S F : Type 0} where
       uncounted = (count ∙ (sym (zero-add (posted_by posted)) ∙ ap (λ x. x + posted_by posted) (sym none))) j;
     };
   }
-
-  -- a fault leaves the owner as it was
-  pub refused_same : (owner : S → List ℕ → ℕ → ℕ) (bound : Distance) (o p : OwnerOf S) (fault : OwnerFault) → IsRefusal owner bound o p fault → p ≡ o
-  refused_same owner bound o p OutOfMemory refusal = refusal.2
-  refused_same owner bound o p LimitReached refusal = refusal.2
-  refused_same owner bound o p TotalTooLarge refusal = refusal.5
 
   pub refuses : (owner : S → List ℕ → ℕ → ℕ) (w : WorkerOf S F) (p : OwnerOf S) (misfits : List Packet) (fault : OwnerFault) → misfits ≡ w.misfits
       → IsRefusal owner w.bound w.owner p fault → IsExpandRefusal owner w (record w { owner = p; misfits = misfits }) fault

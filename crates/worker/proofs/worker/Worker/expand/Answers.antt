@@ -7,8 +7,8 @@ use Rattle.worker.proofs.Steps.{expands, refuses, refused_same}
 use Rattle.worker.proofs.Working.{counted, expanded_kept, with_owner}
 use Rattle.worker.proofs.worker.Worker.expand.Goals as goal
 
-pub invariant_of-self : goal.invariant_of-self
-invariant_of-self g c = (
+pub invariant_of-self-2 : goal.invariant_of-self-2
+invariant_of-self-2 g c = (
   c.self.invariant.0 ∙ sym c.in_ok-posted.ensures.worker,
   c.self.invariant.1 ∙ sym (ap (λ (s : SpaceOf g.row.S.Denot). length s.task.value_names) c.in_ok-posted.ensures.space),
   counted g.S.Spread.owner g.F.StateForm.values _ _ _ _
@@ -22,8 +22,8 @@ returns-clause-expanded g c =
     (ap (λ (s : SpaceOf g.row.S.Denot). misfits_of (g.F.StateForm.values (ranges s.task)) c.self.inside.misfit) c.in_ok-posted.ensures.space)
     (ap (λ w. w.uncounted) c.self.view_is ∙ c.requires) c.posted_by-self-inside.ensures c.in_ok-posted.ensures.expanded)
 
-pub invariant_of-self-in_err-posted : goal.invariant_of-self-in_err-posted
-invariant_of-self-in_err-posted g c = (
+pub invariant_of-self : goal.invariant_of-self
+invariant_of-self g c = (
   c.self.invariant.0 ∙ sym c.in_err-posted.ensures.worker,
   c.self.invariant.1 ∙ sym (ap (λ (s : SpaceOf g.row.S.Denot). length s.task.value_names) c.in_err-posted.ensures.space),
   with_owner g.S.Spread.owner g.F.StateForm.values _ c.expand.new.self _
