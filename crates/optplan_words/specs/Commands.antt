@@ -58,11 +58,13 @@ check_sas = command (codes "check-sas") (operand (codes "SAS") ∷ operand (code
 abbrev pub translate : Shape
 translate = command (codes "translate") (operand (codes "DOMAIN") ∷ operand (codes "PROBLEM") ∷ [])
 
-abbrev pub solve : Shape
-solve = command (codes "solve") (operand (codes "DOMAIN") ∷ operand (codes "PROBLEM") ∷ options)
+-- the command that solves a planning task, by this name
+abbrev pub solve : Text → Shape
+solve name = command name (operand (codes "DOMAIN") ∷ operand (codes "PROBLEM") ∷ options)
 
-abbrev pub solve_sas : Shape
-solve_sas = command (codes "solve-sas") (operand (codes "SAS") ∷ options)
+-- the command that solves a finite-domain task, by this name
+abbrev pub solve_sas : Text → Shape
+solve_sas name = command name (operand (codes "SAS") ∷ options)
 
 -- one of the program's commands must be named, and without words it prints its help
 abbrev pub bare_program : Shape
@@ -76,7 +78,7 @@ bare_program = record (new_shape (codes "optplan")) {
 abbrev pub program : App
 program = record {
   top = record bare_program { is_leaf = false };
-  subs = validate ∷ check_sas ∷ check ∷ translate ∷ solve ∷ solve_sas ∷ [];
+  subs = validate ∷ check_sas ∷ check ∷ translate ∷ solve (codes "solve") ∷ solve_sas (codes "solve-sas") ∷ [];
 }
 
 -- ---- what is made of them

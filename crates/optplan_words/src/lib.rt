@@ -7,3 +7,4 @@ mod program;
 mod solving;
 
 pub use program::requested;
+pub use solving::{solve_command, solve_sas_command};

@@ -38,8 +38,8 @@ fn program_command<'a>(alloc: Global) -> Result<Command<'a>, AllocError>
     let program = program.subcommand(check_sas_command(alloc)?)?;
     let program = program.subcommand(check_command(alloc)?)?;
     let program = program.subcommand(translate_command(alloc)?)?;
-    let program = program.subcommand(solve_command(alloc)?)?;
-    program.subcommand(solve_sas_command(alloc)?)
+    let program = program.subcommand(solve_command(alloc, "solve")?)?;
+    program.subcommand(solve_sas_command(alloc, "solve-sas")?)
 }
 
 /// What these words request, the first of which is the program's name: a command with the values of its operands and options. Fails

@@ -178,11 +178,11 @@ fn with_options<'a>(alloc: Global, command: Command<'a>) -> Result<Command<'a>, 
     with_output_options(alloc, command)
 }
 
-/// The command `solve`. Fails only if allocation fails.
-pub(crate) fn solve_command<'a>(alloc: Global) -> Result<Command<'a>, AllocError>
-    ensures { IfOk result (IsCommand spec.solve) }
+/// The command that solves a planning task, by this name. Fails only if allocation fails.
+pub fn solve_command<'a>(alloc: Global, name: &'a str) -> Result<Command<'a>, AllocError>
+    ensures { IfOk result (IsCommand (spec.solve name.entry.now)) }
 {
-    let command = Command::new(alloc, "solve")
+    let command = Command::new(alloc, name)
         .about(SOLVE_ABOUT)
         .long_about(SOLVE_LONG);
     let command = with_arg(command, file(alloc, "DOMAIN", "The domain's file"))?;
@@ -190,11 +190,11 @@ pub(crate) fn solve_command<'a>(alloc: Global) -> Result<Command<'a>, AllocError
     with_options(alloc, command)
 }
 
-/// The command `solve-sas`. Fails only if allocation fails.
-pub(crate) fn solve_sas_command<'a>(alloc: Global) -> Result<Command<'a>, AllocError>
-    ensures { IfOk result (IsCommand spec.solve_sas) }
+/// The command that solves a finite-domain task, by this name. Fails only if allocation fails.
+pub fn solve_sas_command<'a>(alloc: Global, name: &'a str) -> Result<Command<'a>, AllocError>
+    ensures { IfOk result (IsCommand (spec.solve_sas name.entry.now)) }
 {
-    let command = Command::new(alloc, "solve-sas")
+    let command = Command::new(alloc, name)
         .about(SOLVE_SAS_ABOUT)
         .long_about(SOLVE_SAS_LONG);
     let command = with_arg(command, file(alloc, "SAS", "The task's file"))?;

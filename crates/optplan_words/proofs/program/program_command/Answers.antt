@@ -1,4 +1,4 @@
-use Rattle.std.proofs.Common.{◌≡◌, IfOk, ◌∷◌, []}
+use Rattle.std.proofs.Common.{◌≡◌, IfOk, ◌∷◌, [], codes}
 use Rattle.std.proofs.lemmas.Result.{IfOk-weaker}
 use Rattle.clap.specs.Words.{App, AddsSubcommand, app_of, with_subcommand}
 use Rattle.clap.specs.declared.builder.command.Command.{Command}
@@ -19,7 +19,7 @@ returns c =
     let s3 = adds_command c.in_ok-program-2.program c.in_ok-program-3.program c.in_ok-check_command.field-0 a2 spec.check s2 c.in_ok-check_command.ensures c.in_ok-program-3.ensures in
     let a4 = with_subcommand a3 spec.translate in
     let s4 = adds_command c.in_ok-program-3.program c.in_ok-program-4.program c.in_ok-translate_command.field-0 a3 spec.translate s3 c.in_ok-translate_command.ensures c.in_ok-program-4.ensures in
-    let a5 = with_subcommand a4 spec.solve in
-    let s5 = adds_command c.in_ok-program-4.program c.in_ok-program-5.program c.in_ok-solve_command.field-0 a4 spec.solve s4 c.in_ok-solve_command.ensures c.in_ok-program-5.ensures in
+    let a5 = with_subcommand a4 (spec.solve (codes "solve")) in
+    let s5 = adds_command c.in_ok-program-4.program c.in_ok-program-5.program c.in_ok-solve_command.field-0 a4 (spec.solve (codes "solve")) s4 c.in_ok-solve_command.ensures c.in_ok-program-5.ensures in
     IfOk-weaker c.subcommand-6.result (AddsSubcommand c.in_ok-program-5.program c.in_ok-solve_sas_command.field-0) (λ d. app_of d ≡ program)
-        (λ d h. (adds_command c.in_ok-program-5.program d c.in_ok-solve_sas_command.field-0 a5 spec.solve_sas s5 c.in_ok-solve_sas_command.ensures h).is) c.subcommand-6.ensures
+        (λ d h. (adds_command c.in_ok-program-5.program d c.in_ok-solve_sas_command.field-0 a5 (spec.solve_sas (codes "solve-sas")) s5 c.in_ok-solve_sas_command.ensures h).is) c.subcommand-6.ensures
