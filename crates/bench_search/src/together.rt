@@ -1,6 +1,6 @@
 //! A search by several owners in one thread.
 
-ghost use Rattle.std.specs.Prelude.{◌≡◌, ◌<◌, ◌≤◌, IfOk};
+ghost use Rattle.std.specs.Prelude.{◌<◌, ◌≤◌, IfOk};
 ghost use Rattle.fdr.specs.Tasks.{ranges};
 
 use netcore::{World, WorldStep};
@@ -32,8 +32,7 @@ fn step_times<S: Spread + Drop, F: StateForm + Drop>(
     world: &mut World<'_, S, F>,
     times: u64,
 ) -> Result<u64, OwnerFault>
-    ensures count { IfOk result (λ count. count ≤ times) }
-    ensures whole { IfOk result (λ _. world.new.spent ≡ world.old.spent) }
+    ensures { IfOk result (λ count. count ≤ times) }
 {
     let mut generator = Xoshiro256PlusPlus::seed_from_u64(SEED);
     for done in 0..times {

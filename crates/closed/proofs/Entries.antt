@@ -6,6 +6,7 @@ use Rattle.std.specs.Map.{keys_of, values_of}
 use Rattle.std.specs.Ordering.{nat_cmp, partial_ordering_then, is_some_and, is_lt}
 use Rattle.std.proofs.lemmas.Bool.{cond_both}
 use Rattle.std.proofs.lemmas.Bool.Decides.{nat_tests}
+use Rattle.std.proofs.lemmas.List.{length-map}
 use Rattle.std.proofs.lemmas.List.Elements.{All-nil, All-cons, All-head, All-tail}
 use Rattle.std.proofs.lemmas.Iterator.Adapters.{position_from-zero}
 use Rattle.owner_theory.specs.Owners.{Node, same_state, rank_less}
@@ -285,3 +286,11 @@ with_entry-reached nodes state e i h =
 
 pub Better-within : (nodes : List Node) (m : Node) (i : ℕ) → outcome_of nodes m ≡ Better i → i < length nodes
 Better-within nodes m i h = let told = outcome_of-Better nodes m i h in get_below nodes i told.node told.there
+
+-- an entry is at the place
+pub Better-entry : {F : Type 0} (values : F → List ℕ) (entries : List (F × SmallEntry)) (m : Node) (i : ℕ) →
+    outcome_of (nodes_of values entries) m ≡ Better i → i < length entries
+Better-entry values entries m i h =
+    let within = Better-within (nodes_of values entries) m i h in
+    let long = length-map entries (λ p. node_with (values p.0) (entry_in p.1)) in
+    omega arith

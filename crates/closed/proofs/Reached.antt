@@ -1,5 +1,5 @@
 -- What reaching states does to the nodes. An upper crate cites these.
-use Rattle.std.proofs.Common.{◌≡◌, ℕ, zero, suc, ◌+◌, ◌≤◌, Bool, true, false, List, [], ◌∷◌, ◌++◌, length, map, fold, Some, refl, sym, ap, ◌∙◌, subst, arith, true≢false, if◌then◌else◌}
+use Rattle.std.proofs.Common.{◌≡◌, ◌⊎◌, inl, Result, Ok, Err, OnErr, ℕ, zero, suc, ◌+◌, ◌≤◌, Bool, true, false, List, [], ◌∷◌, ◌++◌, length, map, fold, Some, refl, sym, ap, ◌∙◌, subst, arith, true≢false, if◌then◌else◌}
 use Rattle.std.specs.Prelude.{slice_get, slice_set, All}
 use Rattle.std.proofs.lemmas.Bool.{cond_both}
 use Rattle.std.proofs.lemmas.List.Elements.{All-cons, All-head, All-tail}
@@ -173,6 +173,12 @@ pub outcome_of-New : (nodes : List Node) (m : Node) (i : ℕ) → outcome_of nod
 outcome_of-New nodes m i h =
     let told = new_from m nodes 0 i h in
     record { place = let p = told.place in omega arith; absent = told.absent; appended = told.appended }
+
+-- what was refused is new, at the number of nodes
+pub refused_new : {T E : Type 0} (P : Type 0) (nodes : List Node) (m : Node) (outcome : Outcome) (r : Result T E) →
+    outcome ≡ outcome_of nodes m → OnErr r ((i : ℕ) × (outcome ≡ New i)) → OnErr r ((outcome ≡ New (length nodes)) ⊎ P)
+refused_new P nodes m outcome (Ok x) told h = tt
+refused_new P nodes m outcome (Err e) told h = inl (h.1 ∙ ap New (outcome_of-New nodes m h.0 (sym told ∙ h.1)).place)
 
 -- better: the node at the place has the state and a greater rank, and is replaced
 pub outcome_of-Better : (nodes : List Node) (m : Node) (i : ℕ) → outcome_of nodes m ≡ Better i → GivesWay nodes m i

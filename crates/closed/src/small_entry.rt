@@ -97,4 +97,11 @@ impl SmallEntry {
     {
         self.expanded = true;
     }
+
+    /// Marks the state as not expanded.
+    pub(crate) fn reopen(&mut self)
+        ensures { entry_in self.new ≡ record (entry_in self.old) { expanded = false } }
+    {
+        self.expanded = false;
+    }
 }

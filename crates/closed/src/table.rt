@@ -1,6 +1,6 @@
 //! The table of reached states.
 
-ghost use Rattle.std.specs.Prelude.{◌≡◌, ℕ, ◌<◌, ◌≤◌, ◌==◌, ◌⊎◌, List, [], take, length, map, fold, Option, slice_get, slice_set, Some, IfOk, IfSome, IfNone, OnOk, OnErr, All};
+ghost use Rattle.std.specs.Prelude.{◌≡◌, ℕ, ◌<◌, ◌≤◌, ◌==◌, ◌⊎◌, false, List, [], take, length, map, fold, Option, slice_get, slice_set, Some, IfOk, IfSome, IfNone, OnOk, OnErr, All};
 ghost use Rattle.fdr.specs.Tasks as tasks;
 ghost use Rattle.fdr.specs.Tasks.{IsState};
 ghost use Rattle.owner_theory.specs.Owners.{Node, marked};
@@ -78,6 +78,35 @@ fn outcome_among<F: StateForm + Drop>(
         Some(index) if rank < entries[index].rank() => Outcome::Better(index),
         Some(_) => Outcome::Kept,
     }
+}
+
+/// Writes the outcome of reaching the state of a form. A new state is stored as a copy of the form. Fails only if allocation
+/// fails, which can happen only for a new state, and then leaves the entries as they were.
+fn write<F: StateForm + Drop>(
+    entries: &mut IndexMap<F, SmallEntry>,
+    form: &F,
+    entry: SmallEntry,
+    outcome: Outcome,
+) -> Result<(), AllocError>
+    requires { (i : ℕ) → outcome ≡ Better i → i < length entries.old.entries }
+    ensures keys { (ranges : List ℕ) → F.IsForm ranges form.now → All (λ p. F.IsForm ranges p.0) entries.old.entries →
+        All (λ p. F.IsForm ranges p.0) entries.new.entries }
+    ensures nodes { OnOk result ((ranges : List ℕ) → F.IsForm ranges form.now → All (λ p. F.IsForm ranges p.0) entries.old.entries →
+        outcome ≡ outcome_of (nodes_of (F.values ranges) entries.old.entries) (node_with (F.values ranges form.now) (entry_in entry)) →
+        nodes_of (F.values ranges) entries.new.entries ≡
+        reached (nodes_of (F.values ranges) entries.old.entries) (node_with (F.values ranges form.now) (entry_in entry))) }
+    ensures unchanged { OnErr result (entries.new.entries ≡ entries.old.entries) }
+    ensures refused { OnErr result ((i : ℕ) × (outcome ≡ New i)) }
+{
+    match outcome {
+        Outcome::New(_) => {
+            let key = form.copy(*entries.allocator())?;
+            entries.insert(key, entry)?;
+        }
+        Outcome::Better(index) => entries[index] = entry,
+        Outcome::Kept => {}
+    }
+    Ok(())
 }
 
 impl<F: StateForm + Drop> ClosedTable<F> {
@@ -164,6 +193,16 @@ impl<F: StateForm + Drop> ClosedTable<F> {
         self.entries[index].expand();
     }
 
+    /// Marks the state at that place as not expanded.
+    pub fn mark_open(&mut self, index: usize)
+        requires { index < length self.old.nodes }
+        ensures nodes { (n : Node) → slice_get self.old.nodes index ≡ Some n →
+            self.new.nodes ≡ slice_set self.old.nodes index (record n { expanded = false }) }
+        ensures ranges { self.new.ranges ≡ self.old.ranges }
+    {
+        self.entries[index].reopen();
+    }
+
     /// The outcome that reaching a state at a rank would have. Nothing changes but the buffer of the form that is sought.
     pub fn look(&mut self, state: &[u32], rank: Rank) -> Outcome
         requires { IsState self.old.ranges state.now }
@@ -172,33 +211,6 @@ impl<F: StateForm + Drop> ClosedTable<F> {
     {
         self.sought.repack(&self.layout, state);
         outcome_among(&self.entries, &self.sought, rank)
-    }
-
-    /// Writes the outcome of reaching a state. Fails only if allocation fails, which can happen only for a new state, and
-    /// then leaves the states as they were.
-    fn write(
-        &mut self,
-        state: &[u32],
-        entry: SmallEntry,
-        outcome: Outcome,
-    ) -> Result<(), AllocError>
-        requires state { IsState self.old.ranges state.now }
-        requires outcome { outcome ≡ outcome_of self.old.nodes (node_with state.now (entry_in entry)) }
-        ensures nodes { OnOk result (self.new.nodes ≡ reached self.old.nodes (node_with state.now (entry_in entry))) }
-        ensures ranges { self.new.ranges ≡ self.old.ranges }
-        ensures unchanged { OnErr result (self.new.nodes ≡ self.old.nodes) }
-        ensures refused { OnErr result (outcome ≡ New (length self.old.nodes)) }
-    {
-        match outcome {
-            Outcome::New(_) => {
-                let alloc = *self.entries.allocator();
-                let form = F::pack(alloc, &self.layout, state)?;
-                self.entries.insert(form, entry)?;
-            }
-            Outcome::Better(index) => self.entries[index] = entry,
-            Outcome::Kept => {}
-        }
-        Ok(())
     }
 
     /// Records that a state was reached, where `look` told the outcome. Fails only if allocation fails, which can happen
@@ -221,7 +233,8 @@ impl<F: StateForm + Drop> ClosedTable<F> {
         let Some(entry) = SmallEntry::of(rank, parent) else {
             return Err(AllocError);
         };
-        self.write(state, entry, outcome)
+        self.sought.repack(&self.layout, state);
+        write(&mut self.entries, &self.sought, entry, outcome)
     }
 
     /// The outcome that reaching the state of a form at a rank would have, as `look` gives it.
@@ -231,32 +244,6 @@ impl<F: StateForm + Drop> ClosedTable<F> {
             result ≡ outcome_of self.now.nodes (fresh (F.values self.now.ranges form.now) rank parent) }
     {
         outcome_among(&self.entries, form, rank)
-    }
-
-    /// Writes the outcome of reaching the state of a form, as `write` does. A new state is stored as a copy of the form.
-    fn write_form(
-        &mut self,
-        form: &F,
-        entry: SmallEntry,
-        outcome: Outcome,
-    ) -> Result<(), AllocError>
-        requires form { F.IsForm self.old.ranges form.now }
-        requires outcome { outcome ≡ outcome_of self.old.nodes (node_with (F.values self.old.ranges form.now) (entry_in entry)) }
-        ensures nodes { OnOk result (self.new.nodes ≡ reached self.old.nodes (node_with (F.values self.old.ranges form.now) (entry_in entry))) }
-        ensures ranges { self.new.ranges ≡ self.old.ranges }
-        ensures unchanged { OnErr result (self.new.nodes ≡ self.old.nodes) }
-        ensures refused { OnErr result (outcome ≡ New (length self.old.nodes)) }
-    {
-        match outcome {
-            Outcome::New(_) => {
-                let alloc = *self.entries.allocator();
-                let key = form.copy(alloc)?;
-                self.entries.insert(key, entry)?;
-            }
-            Outcome::Better(place) => self.entries[place] = entry,
-            Outcome::Kept => {}
-        }
-        Ok(())
     }
 
     /// Records that the state of a form was reached, where `look_form` told the outcome. Fails as `reach` does, and then
@@ -278,7 +265,7 @@ impl<F: StateForm + Drop> ClosedTable<F> {
         let Some(entry) = SmallEntry::of(rank, parent) else {
             return Err(AllocError);
         };
-        self.write_form(form, entry, outcome)
+        write(&mut self.entries, form, entry, outcome)
     }
 
     /// Records that a state was reached, and returns the outcome. Fails as `reach` does, and then leaves the table as it
@@ -320,16 +307,13 @@ impl<F: StateForm + Drop> ClosedTable<F> {
     }
 
     /// Records that the state of a message was reached, and appends the entry that this replaces, if there is one, to
-    /// `replaced`. The values of the state are written into a buffer. Fails as `reach` does. In either case `take_back`
-    /// with `replaced` undoes what was written.
+    /// `replaced`. Fails as `reach` does. In either case `take_back` with `replaced` undoes what was written.
     fn reach_noting(
         &mut self,
         message: &Message<F>,
-        values: &mut [u32],
         replaced: &mut Vec<(usize, SmallEntry)>,
     ) -> Result<Outcome, AllocError>
-        requires state { IsState self.old.ranges (arrival (F.values self.old.ranges) message.now).state }
-        requires len { length values.old ≡ length self.old.ranges }
+        requires { F.IsForm self.old.ranges message.now.state }
         ensures nodes { OnOk result (self.new.nodes ≡ reached self.old.nodes (arrival (F.values self.old.ranges) message.now)) }
         ensures outcome { IfOk result (λ o. o ≡ outcome_of self.old.nodes (arrival (F.values self.old.ranges) message.now)) }
         ensures ranges { self.new.ranges ≡ self.old.ranges }
@@ -337,25 +321,21 @@ impl<F: StateForm + Drop> ClosedTable<F> {
         ensures taken_back { (len : ℕ) → len ≤ length self.old.nodes →
             taken_back replaced.new.items (take len self.new.nodes) ≡ taken_back replaced.old.items (take len self.old.nodes) }
     {
-        message.state.unpack(&self.layout, values);
-        let outcome = self.look(values, message.rank);
+        let outcome = self.look_form(&message.state, message.rank);
         self.note(outcome, replaced)?;
-        self.reach(values, message.rank, Some(message.parent), outcome)?;
+        self.reach_form(&message.state, message.rank, Some(message.parent), outcome)?;
         Ok(outcome)
     }
 
     /// Records that the states of messages were reached, one after the other, with the outcome of each and the entries
-    /// that were replaced. The values of each state are written into a buffer. Fails as `reach` does, and then `take_back`
-    /// with `replaced` undoes what was written.
+    /// that were replaced. Fails as `reach` does, and then `take_back` with `replaced` undoes what was written.
     fn reach_all(
         &mut self,
         messages: &[Message<F>],
-        values: &mut [u32],
         outcomes: &mut Vec<Outcome>,
         replaced: &mut Vec<(usize, SmallEntry)>,
     ) -> Result<(), AllocError>
-        requires states { All (λ m. IsState self.old.ranges (arrival (F.values self.old.ranges) m).state) messages.now }
-        requires len { length values.old ≡ length self.old.ranges }
+        requires forms { All (λ m. F.IsForm self.old.ranges m.state) messages.now }
         requires outcomes { outcomes.old.items ≡ [] }
         requires replaced { replaced.old.items ≡ [] }
         ensures nodes { OnOk result (self.new.nodes ≡ fold reached self.old.nodes (map (arrival (F.values self.old.ranges)) messages.now)) }
@@ -364,7 +344,7 @@ impl<F: StateForm + Drop> ClosedTable<F> {
         ensures taken_back { taken_back replaced.new.items (take (length self.old.nodes) self.new.nodes) ≡ self.old.nodes }
     {
         for message in messages {
-            let outcome = self.reach_noting(message, values, replaced)?;
+            let outcome = self.reach_noting(message, replaced)?;
             outcomes.push(outcome)?;
         }
         Ok(())
@@ -399,34 +379,24 @@ impl<F: StateForm + Drop> ClosedTable<F> {
         }
     }
 
-    /// A buffer for the values of a state. Fails only if allocation fails.
-    fn buffer(&self, alloc: Global) -> Result<Vec<u32>, AllocError>
-        ensures { IfOk result (λ b. length b.items ≡ length self.now.ranges) }
-    {
-        let buffer = vec![in alloc; 0; self.layout.variable_count()]?;
-        Ok(buffer)
-    }
-
-    /// Records that the states of messages were reached, one after the other, and returns the outcome of each. Fails as
-    /// `reach` does, and then leaves the table as it was.
+    /// Records that the states of messages were reached, one after the other, and replaces the content of `outcomes` by the
+    /// outcome of each. Fails as `reach` does, and then leaves the table as it was.
     pub fn improve_all(
         &mut self,
-        alloc: Global,
         messages: &[Message<F>],
-    ) -> Result<Vec<Outcome>, AllocError>
-        requires { All (λ m. IsState self.old.ranges (arrival (F.values self.old.ranges) m).state) messages.now }
+        outcomes: &mut Vec<Outcome>,
+    ) -> Result<(), AllocError>
+        requires { All (λ m. F.IsForm self.old.ranges m.state) messages.now }
         ensures nodes { OnOk result (self.new.nodes ≡ fold reached self.old.nodes (map (arrival (F.values self.old.ranges)) messages.now)) }
-        ensures outcomes { IfOk result (λ os. os.items ≡ outcomes_of self.old.nodes (map (arrival (F.values self.old.ranges)) messages.now)) }
+        ensures outcomes { OnOk result (outcomes.new.items ≡ outcomes_of self.old.nodes (map (arrival (F.values self.old.ranges)) messages.now)) }
         ensures ranges { self.new.ranges ≡ self.old.ranges }
         ensures unchanged { OnErr result (self.new ≡ self.old) }
     {
-        // Room for all three is made before anything is written.
-        let mut outcomes = Vec::with_capacity(alloc, messages.len())?;
-        let mut replaced = Vec::with_capacity(alloc, messages.len())?;
-        let mut values = self.buffer(alloc)?;
+        outcomes.clear();
+        let mut replaced = Vec::new(*self.entries.allocator()); // takes memory only where a state is improved
         let len = self.len();
-        match self.reach_all(messages, &mut values, &mut outcomes, &mut replaced) {
-            Ok(()) => Ok(outcomes),
+        match self.reach_all(messages, outcomes, &mut replaced) {
+            Ok(()) => Ok(()),
             Err(error) => {
                 self.take_back(len, replaced);
                 Err(error)

@@ -97,7 +97,6 @@ module _ {S F : Type 0} (t : TeamOf S F) (team : IsTeam t) (ws : List (WorkerOf 
           number = played.same.number ∙ is.number;
           outs = played.same.outs.len ∙ (is.outs ∙ sym round_count);
           ins = played.same.ins.len ∙ (is.ins ∙ sym round_count);
-          whole = played.same.spent ∙ is.whole;
           counted = played.uncounted;
         }
 

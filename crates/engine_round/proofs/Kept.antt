@@ -25,23 +25,21 @@ module _ {S F : Type 0} where
     number = bc.number ∙ ab.number;
     outs = outs_through a.outs b.outs c.outs ab.outs bc.outs;
     ins = ins_through a.ins b.ins c.ins ab.ins bc.ins;
-    spent = bc.spent ∙ ab.spent;
   }
 
   -- a step that leaves all of this as it is
   pub still : (a b : WorkerOf S F) → b.owner.space ≡ a.owner.space → b.owner.worker ≡ a.owner.worker → b.outs ≡ a.outs → b.ins ≡ a.ins
-      → b.spent ≡ a.spent → IsSameWorker a b
-  still a b space number outs ins spent = record {
+      → IsSameWorker a b
+  still a b space number outs ins = record {
     space = space;
     number = number;
     outs = subst (AreSameOuts a.outs) (sym outs) (outs_same a.outs);
     ins = subst (AreSameIns a.ins) (sym ins) (ins_same a.ins);
-    spent = spent;
   }
 
   pub same_worker : (a b : WorkerOf S F) → b ≡ a → IsSameWorker a b
   same_worker a b e = still a b (ap (λ (w : WorkerOf S F). w.owner.space) e) (ap (λ (w : WorkerOf S F). w.owner.worker) e)
-      (ap (λ (w : WorkerOf S F). w.outs) e) (ap (λ (w : WorkerOf S F). w.ins) e) (ap (λ (w : WorkerOf S F). w.spent) e)
+      (ap (λ (w : WorkerOf S F). w.outs) e) (ap (λ (w : WorkerOf S F). w.ins) e)
 
   module _ (owner : S → List ℕ → ℕ → ℕ) (values : List ℕ → F → List ℕ) where
     receive_same : (from : ℕ) (a b : WorkerOf S F) → ReceivesFrom owner values from a b → IsSameWorker a b
@@ -51,14 +49,12 @@ module _ {S F : Type 0} where
           number = ap (λ (o : OwnerOf S). o.worker) t.others;
           outs = subst (AreSameOuts a.outs) (sym (ap (λ (w : WorkerOf S F). w.outs) t.worker)) (outs_same a.outs);
           ins = t.popped.ends;
-          spent = ap (λ (w : WorkerOf S F). w.spent) t.worker;
         })
         (λ (t : HasNothingTaken values from a b). record {
           space = ap (λ (w : WorkerOf S F). w.owner.space) t.worker;
           number = ap (λ (w : WorkerOf S F). w.owner.worker) t.worker;
           outs = subst (AreSameOuts a.outs) (sym (ap (λ (w : WorkerOf S F). w.outs) t.worker)) (outs_same a.outs);
           ins = t.ends;
-          spent = ap (λ (w : WorkerOf S F). w.spent) t.worker;
         })
         has
 
@@ -78,14 +74,12 @@ module _ {S F : Type 0} where
         number = ap (λ (w : WorkerOf S F). w.owner.worker) t.worker;
         outs = t.ends;
         ins = subst (AreSameIns a.ins) (sym (ap (λ (w : WorkerOf S F). w.ins) t.worker)) (ins_same a.ins);
-        spent = ap (λ (w : WorkerOf S F). w.spent) t.worker;
       })
       (λ (t : HasNotSent values to a b). record {
         space = ap (λ (w : WorkerOf S F). w.owner.space) t.worker;
         number = ap (λ (w : WorkerOf S F). w.owner.worker) t.worker;
         outs = t.ends;
         ins = subst (AreSameIns a.ins) (sym (ap (λ (w : WorkerOf S F). w.ins) t.worker)) (ins_same a.ins);
-        spent = ap (λ (w : WorkerOf S F). w.spent) t.worker;
       })
       has
 
@@ -101,13 +95,13 @@ module _ {S F : Type 0} where
   turned_same owner values old new u v t =
       let kept = expansion_keeps owner values t.looked.bound t.looked.owner t.expanded.owner t.posted t.expands.expansion in
       same_through old t.received new (receives_same owner values (length old.ins) old t.received t.receives)
-      (same_through t.received t.looked new (changed _ _ _ t.looks.worker (still _ _ refl refl refl refl refl))
+      (same_through t.received t.looked new (changed _ _ _ t.looks.worker (still _ _ refl refl refl refl))
       (same_through t.looked t.expanded new
-      (changed _ _ _ t.expands.worker (still _ _ kept.0 kept.1 refl refl refl))
-      (same_through t.expanded t.added new (changed _ _ _ t.adds.worker (still _ _ refl refl refl refl refl))
-      (same_through t.added t.offered new (changed _ _ _ t.offers.worker (still _ _ refl refl refl refl refl))
+      (changed _ _ _ t.expands.worker (still _ _ kept.0 kept.1 refl refl))
+      (same_through t.expanded t.added new (changed _ _ _ t.adds.worker (still _ _ refl refl refl refl))
+      (same_through t.added t.offered new (changed _ _ _ t.offers.worker (still _ _ refl refl refl refl))
       (same_through t.offered t.sent new (sends_same values (length t.offered.outs) t.offered t.sent t.sends)
-      (changed _ _ _ t.counts.worker (still _ _ refl refl refl refl refl)))))))
+      (changed _ _ _ t.counts.worker (still _ _ refl refl refl refl)))))))
 
   -- ---- what was read and offered, and what stands aside
   pub record KeepsBounds (a b : WorkerOf S F) : Type 0 where
@@ -179,7 +173,6 @@ module _ {S F : Type 0} where
         number = ap (λ (w : WorkerOf S F). w.owner.worker) t.aside.worker;
         outs = subst (AreSameOuts t.received.outs) (sym (ap (λ (w : WorkerOf S F). w.outs) t.aside.worker)) (outs_same t.received.outs);
         ins = t.aside.popped.ends;
-        spent = ap (λ (w : WorkerOf S F). w.spent) t.aside.worker;
       })
 
   -- nothing was read or offered
@@ -203,7 +196,7 @@ module _ {S F : Type 0} where
   pub refused_same : (owner : S → List ℕ → ℕ → ℕ) (values : List ℕ → F → List ℕ) (fault : OwnerFault) (old new : WorkerOf S F) (u v : View)
       → HasRefused owner values fault old new u v → IsSameWorker old new
   refused_same owner values fault old new u v t = same_through old t.received new (receives_same owner values (length old.ins) old t.received t.receives)
-      (changed _ _ _ t.looks.worker (still _ _ refl refl refl refl refl))
+      (changed _ _ _ t.looks.worker (still _ _ refl refl refl refl))
 
   pub refused_seated : (owner : S → List ℕ → ℕ → ℕ) (values : List ℕ → F → List ℕ) (fault : OwnerFault) (old new : WorkerOf S F) (u v : View)
       → HasRefused owner values fault old new u v → IsSeated old new u v
@@ -221,7 +214,7 @@ module _ {S F : Type 0} where
 
   -- the bound is read, and nothing else is done
   looked_same : (old new : WorkerOf S F) (u v : View) → HasLooked old new u v → IsSameWorker old new
-  looked_same old new u v looks = changed _ _ _ looks.worker (still _ _ refl refl refl refl refl)
+  looked_same old new u v looks = changed _ _ _ looks.worker (still _ _ refl refl refl refl)
 
   looked_seated : (old new : WorkerOf S F) (u v : View) → HasLooked old new u v → IsSeated old new u v
   looked_seated old new u v looks = record {
@@ -251,7 +244,7 @@ module _ {S F : Type 0} where
       → w ≡ record old { resting = false; uncounted = 0; taken = 0 } → IsAtWork b s old s w
   at_start b s old w seat none e = record {
     seat = seat;
-    same = changed old w _ e (still _ _ refl refl refl refl refl);
+    same = changed old w _ e (still _ _ refl refl refl refl);
     seated = seated_by old w (view s) (view s) (ap (λ (x : WorkerOf S F). x.seen) e) (ap (λ (x : WorkerOf S F). x.offered) e) refl;
     uncounted = ap (λ (x : WorkerOf S F). x.uncounted) e;
     taken = ap (λ (x : WorkerOf S F). x.taken) e;
@@ -347,7 +340,7 @@ module _ {S F : Type 0} where
         → x.uncounted ≡ 0 → view t ≡ v → IsTurnFault owner values may_stop w x (view seat) v fault
         → HasWorked owner values may_stop b s old (record { worker = x; seat = t; fault = Some fault })
     refused_turn (Owner OutOfMemory) seat t v w x is there uncounted view_is refusal =
-        record { seat = there; kept = λ other. absurd (other refl); ended = refusal }
+        record { seat = there; kept = λ other. absurd (other refl); ended = tt }
     refused_turn (Owner LimitReached) seat t v w x is there uncounted view_is refusal = record {
       seat = there;
       kept = λ _. refused_keeps LimitReached seat t w x is uncounted (subst (HasRefused owner values LimitReached w x (view seat)) (sym view_is) refusal);

@@ -1,5 +1,5 @@
 -- What sending and receiving between turns keep.
-use Rattle.std.proofs.Common.{◌≡◌, ℕ, zero, suc, ⊎_elim, true, List, [], Some, None, length, refl, sym, ap, ◌∙◌}
+use Rattle.std.proofs.Common.{◌≡◌, ℕ, zero, suc, ⊎_elim, List, [], Some, None, length, refl, sym, ap, ◌∙◌}
 use Rattle.cost.specs.Distances.{Infinite}
 use Rattle.cost.proofs.DistanceLaws.{lesser_left, at_most_infinite}
 use Rattle.board.specs.declared.views.View.{View}
@@ -9,7 +9,7 @@ use Rattle.owner.specs.declared.fault.OwnerFault.TheVariants.{OutOfMemory}
 use Rattle.worker.specs.declared.outcome.Received.{Received}
 use Rattle.worker.specs.declared.outcome.Received.TheVariants.{Taken, Nothing, SetAside}
 use Rattle.worker.specs.Workers.{WorkerOf}
-use Rattle.worker.specs.Turns.{chained, ReceivesFrom, SendsTo, HasSent, HasNotSent, HasCounted, HasStopped}
+use Rattle.worker.specs.Turns.{chained, ReceivesFrom, SendsTo, HasSent, HasNotSent, HasCounted}
 use Rattle.worker.proofs.Chains.{sends_keep, receives_keep, stopped_uncounted}
 use Rattle.engine_round.specs.declared.fault.TurnFault.TheVariants.{Owner}
 use Rattle.engine_round.specs.Turns.{MayStop, IsSeated, IsAtWork, HasReceivedAll, HasRelayedAside, HasWorked}
@@ -83,7 +83,7 @@ module _ {S F : Type 0} where
         let kept : KeepsBounds w x = receives_bounds owner values (length w.ins) w x receives in
         still_at_work b s old t w u y is (record {
           seat = there;
-          same = same_through w x y (receives_same owner values (length w.ins) w x receives) (changed _ _ _ counts.worker (still _ _ refl refl refl refl refl));
+          same = same_through w x y (receives_same owner values (length w.ins) w x receives) (changed _ _ _ counts.worker (still _ _ refl refl refl refl));
           seated = unread w y (view t) (view u) (ap (λ (v : WorkerOf S F). v.seen) counts.worker ∙ kept.seen)
               (ap (λ (v : WorkerOf S F). v.offered) counts.worker ∙ kept.offered) (ap (λ (v : View). v.seen) counts.view)
               (ap (λ (v : View). v.offered) counts.view) (ap (λ (v : View). v.parts) counts.view);
@@ -103,9 +103,9 @@ module _ {S F : Type 0} where
         (stopped_uncounted owner values aside.worker x aside.stopped ∙ aside.before.uncounted) (unseen ∙ aside.unseen) aside.stopped
 
     -- memory ran out
-    pub spent_turn : (may_stop : MayStop) (b : Board) (s v : BoardSeat) (old x : WorkerOf S F) → IsSeatOf b v → x.spent ≡ true
+    pub memory_turn : (may_stop : MayStop) (b : Board) (s v : BoardSeat) (old x : WorkerOf S F) → IsSeatOf b v
         → HasWorked owner values may_stop b s old (record { worker = x; seat = v; fault = Some (Owner OutOfMemory) })
-    spent_turn may_stop b s v old x there spent = record { seat = there; kept = λ other. absurd (other refl); ended = spent }
+    memory_turn may_stop b s v old x there = record { seat = there; kept = λ other. absurd (other refl); ended = tt }
 
     -- no message was set aside
     pub all_received : (a b : WorkerOf S F) (r : Received) → (r ≡ SetAside → ⊥) → HasReceivedAll owner values a b r

@@ -9,7 +9,7 @@ use Rattle.owner.specs.Owned.{IsRefusal}
 use Rattle.worker.specs.Workers.{WorkerOf, AreSameOuts, AreSameIns}
 use Rattle.worker.specs.declared.outcome.Received.{Received}
 use Rattle.worker.specs.declared.outcome.Received.TheVariants.{Taken, Nothing, SetAside}
-use Rattle.worker.specs.Turns.{HasReceivedEach, HasLooked, HasTurned, HasStopped, IsTurnRefusal}
+use Rattle.worker.specs.Turns.{HasReceivedEach, HasLooked, HasTurned, HasStopped, HasHeldBack, IsTurnRefusal}
 use Rattle.engine_round.specs.declared.gate.Stop.{Stop}
 use Rattle.engine_round.specs.declared.fault.TurnFault.{TurnFault}
 use Rattle.engine_round.specs.declared.fault.TurnFault.TheVariants.{Owner, Gate}
@@ -24,7 +24,6 @@ pub record IsSameWorker {S F : Type 0} (old new : WorkerOf S F) : Type 0 where
   pub number : new.owner.worker ≡ old.owner.worker
   pub outs : AreSameOuts old.outs new.outs
   pub ins : AreSameIns old.ins new.ins
-  pub spent : new.spent ≡ old.spent
 
 -- what the worker has read and offered since then, its seat has
 pub record IsSeated {S F : Type 0} (old new : WorkerOf S F) (before after : View) : Type 0 where
@@ -63,6 +62,15 @@ pub record HasRelayedAside {S F : Type 0} (owner : S → List ℕ → ℕ → �
   pub stopped : HasStopped owner values worker w
   pub unseen : view t ≡ view seat
 
+-- the owner could not take a message while the worker was at work, and nothing was done after that: the worker holds the message
+pub record HasRelayedBack {S F : Type 0} (owner : S → List ℕ → ℕ → ℕ) (values : List ℕ → F → List ℕ) (b : Board) (s : BoardSeat) (old : WorkerOf S F) (t : BoardSeat) (w : WorkerOf S F)
+    : Type 0 where
+  pub seat : BoardSeat
+  pub worker : WorkerOf S F
+  pub before : IsAtWork b s old seat worker
+  pub held : HasHeldBack owner values worker w
+  pub unseen : view t ≡ view seat
+
 -- messages were sent and received between two turns: the worker is at work, or a message was set aside
 abbrev pub HasRelayed : {S F : Type 0} → (S → List ℕ → ℕ → ℕ) → (List ℕ → F → List ℕ) → Board → BoardSeat → WorkerOf S F → BoardSeat → WorkerOf S F → Bool → Type 0
 HasRelayed owner values b s old t w true = IsAtWork b s old t w
@@ -84,8 +92,8 @@ pub record HasKept {S F : Type 0} (old new : WorkerOf S F) (before after : View)
   pub told : new.misfits ≡ [] → new.bound ≤ᵈ before.seen
   pub uncounted : new.uncounted ≡ 0
 
--- why a turn was not taken to its end: the owner refused to expand the next node, and the worker is as such a turn leaves it; or the gate
--- may end the search before that turn of this worker, which has read the bound and done no more
+-- why a turn was not taken to its end: the owner refused to expand the next node, or had no memory for a message, and the worker is as such
+-- a turn leaves it; or the gate may end the search before that turn of this worker, which has read the bound and done no more
 abbrev pub IsTurnFault : {S F : Type 0} → (S → List ℕ → ℕ → ℕ) → (List ℕ → F → List ℕ) → MayStop → WorkerOf S F → WorkerOf S F → View → View → TurnFault → Type 0
 IsTurnFault owner values may_stop old new before after (Owner fault) = IsTurnRefusal owner values old new before after fault
 IsTurnFault owner values may_stop old new before after (Gate turn stop) = may_stop old.owner.worker turn stop × HasLooked old new before after
@@ -93,7 +101,7 @@ IsTurnFault owner values may_stop old new before after (Gate turn stop) = may_st
 -- this fault is the worker's: its owner refuses to expand the next node as it stands, or memory ran out; or the gate may end the search
 -- before that turn of this worker
 abbrev pub IsFaultOf : {S F : Type 0} → (S → List ℕ → ℕ → ℕ) → MayStop → WorkerOf S F → TurnFault → Type 0
-IsFaultOf owner may_stop w (Owner OutOfMemory) = w.spent ≡ true
+IsFaultOf owner may_stop w (Owner OutOfMemory) = Unit {0}
 IsFaultOf owner may_stop w (Owner LimitReached) = IsRefusal owner w.bound w.owner w.owner LimitReached
 IsFaultOf owner may_stop w (Owner TotalTooLarge) = IsRefusal owner w.bound w.owner w.owner TotalTooLarge
 IsFaultOf owner may_stop w (Gate turn stop) = may_stop w.owner.worker turn stop

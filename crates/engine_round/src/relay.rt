@@ -1,9 +1,9 @@
 //! What a worker does between turns: it sends and receives, and expands nothing.
 
-ghost use Rattle.std.specs.Prelude.{◌≡◌, [], true, length, IfOk, IfErr};
+ghost use Rattle.std.specs.Prelude.{◌≡◌, [], length, IfOk, IfErr};
 ghost use Rattle.board.specs.Seats.{IsSeatOf};
-ghost use Rattle.worker.specs.Turns.{chained, SendsTo};
-ghost use Rattle.engine_round.specs.Turns.{HasReceivedAll, HasRelayed};
+ghost use Rattle.worker.specs.Turns.{chained, SendsTo, HasHeldBack};
+ghost use Rattle.engine_round.specs.Turns.{HasReceivedAll, HasRelayed, HasRelayedBack};
 
 use board::{Board, Seat};
 use packed::StateForm;
@@ -29,14 +29,14 @@ fn send_each<'a, S: Spread + Drop, F: StateForm + Drop>(worker: &mut Worker<'a, 
 }
 
 /// Takes at most one message from each link, until one is set aside. Returns whether one was taken, or set aside. Fails only if
-/// allocation fails, after which the worker must not be used again.
+/// allocation fails, and then the worker holds the message that could not be taken, and has taken none after it.
 fn receive_each<'a, S: Spread + Drop, F: StateForm + Drop>(
     worker: &mut Worker<'a, S, F>,
 ) -> Result<Received, AllocError>
     requires none_aside { worker.old.misfits ≡ [] }
     requires none_taken { worker.old.taken ≡ 0 }
     ensures received { IfOk result (HasReceivedAll S.owner F.values worker.old worker.new) }
-    ensures spent { IfErr result (λ _. (worker.new.spent ≡ true) × (worker.new.uncounted ≡ worker.old.uncounted)) }
+    ensures held { IfErr result (λ _. HasHeldBack S.owner F.values worker.old worker.new) }
 {
     let mut any = false;
     for from in 0..worker.workers() {
@@ -56,7 +56,7 @@ fn receive_each<'a, S: Spread + Drop, F: StateForm + Drop>(
 /// Sends the messages that stand in outboxes and takes those that are in the rings, until there are none, and counts what was taken.
 /// Where a ring is full it lets other threads run, so that the receiver takes the messages before more nodes are expanded; but it
 /// goes on after so many passes over the links. Returns false if a message was set aside, after which nothing more is done.
-/// Fails only if allocation fails, after which the worker must not be used again.
+/// Fails only if allocation fails, and then the worker holds the message that could not be taken, and nothing more is done.
 pub(crate) fn relay<'a, S: Spread + Drop, F: StateForm + Drop>(
     board: &Board,
     seat: &mut Seat,
@@ -68,7 +68,7 @@ pub(crate) fn relay<'a, S: Spread + Drop, F: StateForm + Drop>(
     requires none_taken { worker.old.taken ≡ 0 }
     ensures seat { IsSeatOf board.now seat.new }
     ensures relayed { IfOk result (HasRelayed S.owner F.values board.now seat.old worker.old seat.new worker.new) }
-    ensures spent { IfErr result (λ _. worker.new.spent ≡ true) }
+    ensures held { IfErr result (λ _. HasRelayedBack S.owner F.values board.now seat.old worker.old seat.new worker.new) }
     ensures none_uncounted { worker.new.uncounted ≡ 0 }
 {
     for _ in 0..PASSES {

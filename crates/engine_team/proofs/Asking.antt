@@ -52,13 +52,6 @@ module _ {S : Type 0} (owner : S → List ℕ → ℕ → ℕ) where
   expansion_keeps bound o p (Some n) e = (e.space, e.worker)
 
 module _ {S F : Type 0} (owner : S → List ℕ → ℕ → ℕ) where
-  -- where memory did not run out, the worker is as it was
-  not_memory : (fault : OwnerFault) → fault ≢ OutOfMemory → (a m : WorkerOf S F) → IsExpandRefusal owner a m fault
-      → IsRefusal owner a.bound a.owner m.owner fault × (m ≡ a)
-  not_memory OutOfMemory memory a m h = absurd (memory refl)
-  not_memory LimitReached memory a m h = h
-  not_memory TotalTooLarge memory a m h = h
-
   answer_keeps : (bound : Distance) (a b : WorkerOf S F) (refused : Option OwnerFault) → HasAnswered owner bound a b refused
       → (b.owner.space ≡ a.owner.space) × (b.owner.worker ≡ a.owner.worker)
   answer_keeps bound a b None h = expansion_keeps owner bound a.owner b.owner h.0 h.1
@@ -90,20 +83,19 @@ module _ {S F : Type 0} (owner : S → List ℕ → ℕ → ℕ) where
       refused_asked fault memory has =
           let before : WorkerOf S F = record a { bound = bound; seen = lesser a.seen bound } in
           let h : IsExpandRefusal owner before m fault = subst (λ (x : WorkerOf S F). IsExpandRefusal owner x m fault) told has in
-          let both : IsRefusal owner bound a.owner m.owner fault × (m ≡ before) = not_memory fault memory before m h in
           record {
             before = a;
             after = b;
             there = at_read ws number a lt is;
             put = refl;
             answered = (
-              subst (λ (o : OwnerOf S). IsRefusal owner bound a.owner o fault) (sym owner_is) both.0,
+              subst (λ (o : OwnerOf S). IsRefusal owner bound a.owner o fault) (sym owner_is) h.0,
               memory,
-              owner_is ∙ ap (λ (w : WorkerOf S F). w.owner) both.1,
+              owner_is ∙ ap (λ (w : WorkerOf S F). w.owner) h.1,
             );
             worker = subst (λ (x : WorkerOf S F). WasAsked bound a x) (sym begun)
                 (ap (λ (x : WorkerOf S F). record x { resting = false; uncounted = 0; taken = 0 })
-                (subst (λ (x : WorkerOf S F). x ≡ record before { owner = x.owner }) (sym both.1) refl));
+                (subst (λ (x : WorkerOf S F). x ≡ record before { owner = x.owner }) (sym h.1) refl));
           }
 
   module _ (number : ℕ) (old : TeamOf S F) (new : List (WorkerOf S F)) (refused : Option OwnerFault)
@@ -118,7 +110,6 @@ module _ {S F : Type 0} (owner : S → List ℕ → ℕ → ℕ) where
               number = kept.1 ∙ is.number;
               outs = ap (λ (w : WorkerOf S F). length w.outs) asked.worker ∙ is.outs;
               ins = ap (λ (w : WorkerOf S F). length w.ins) asked.worker ∙ is.ins;
-              whole = ap (λ (w : WorkerOf S F). w.spent) asked.worker ∙ is.whole;
               counted = ap (λ (w : WorkerOf S F). w.uncounted) asked.worker;
             };
             sent = λ values to. ap (λ (w : WorkerOf S F). sent_to values w.outs to) asked.worker;

@@ -186,7 +186,6 @@ module _ {S F : Type 0} (owner : S → List ℕ → ℕ → ℕ) where
           number = ap (λ (w : WorkerOf S F). w.owner.worker) e ∙ is.number;
           outs = ap (λ (w : WorkerOf S F). length w.outs) e ∙ is.outs;
           ins = len ∙ is.ins;
-          whole = ap (λ (w : WorkerOf S F). w.spent) e ∙ is.whole;
           counted = ap (λ (w : WorkerOf S F). w.uncounted) e ∙ is.counted;
         };
         sent = λ read to. ap (λ (w : WorkerOf S F). sent_to read w.outs to) e;
@@ -198,7 +197,6 @@ module _ {S F : Type 0} (owner : S → List ℕ → ℕ → ℕ) where
         number = ap (λ (w : WorkerOf S F). w.owner.worker) t.worker ∙ is.number;
         outs = ap (λ (w : WorkerOf S F). length w.outs) t.worker ∙ is.outs;
         ins = t.popped.ends.len ∙ is.ins;
-        whole = ap (λ (w : WorkerOf S F). w.spent) t.worker ∙ is.whole;
         counted = ap (λ (w : WorkerOf S F). w.uncounted) t.worker ∙ is.counted;
       };
       sent = λ read to. ap (λ (w : WorkerOf S F). sent_to read w.outs to) t.worker;

@@ -107,8 +107,8 @@ module _ {S F : Type 0} (owner : S → List ℕ → ℕ → ℕ) (values : List 
           → IsKept owner values b → (rest : List Message) → received_from read b.ins u ++ rest ≡ sent_to read a.outs v → (i : ℕ) (p : Packet)
           → At b.misfits i p → p.sender ≡ u → ⊥
       none_aside_from u v a b is_a is_b kept_a kept_b rest link i p at from =
-          not_there (kept_a.working is_a.whole) (λ (x : (log : Log) × IsWorking owner values a log).
-          not_there (kept_b.working is_b.whole) (λ (y : (log : Log) × IsWorking owner values b log).
+          not_there kept_a.working (λ (x : (log : Log) × IsWorking owner values a log).
+          not_there kept_b.working (λ (y : (log : Log) × IsWorking owner values b log).
           none_from (searched owner space n) u v y.0 (sent_to read b.outs) (received_from read b.ins) [] b.misfits
           (works_as v b is_b kept_b y.0 y.1)
           (λ m there. sent_fits (searched owner space n) ok u v x.0 (sent_to read a.outs) (received_from read a.ins) [] a.misfits
@@ -119,7 +119,7 @@ module _ {S F : Type 0} (owner : S → List ℕ → ℕ → ℕ) (values : List 
       none_aside_past : (u v : ℕ) (b : WorkerOf S F) → IsMember space n v b → IsKept owner values b → n ≤ u → (i : ℕ) (p : Packet)
           → At b.misfits i p → p.sender ≡ u → ⊥
       none_aside_past u v b is_b kept_b past i p at from =
-          not_there (kept_b.working is_b.whole) (λ (y : (log : Log) × IsWorking owner values b log).
+          not_there kept_b.working (λ (y : (log : Log) × IsWorking owner values b log).
           none_from (searched owner space n) u v y.0 (sent_to read b.outs) (received_from read b.ins) [] b.misfits
           (works_as v b is_b kept_b y.0 y.1)
           (λ m there. absurd (subst (λ ms. In m ms) (received_past read b.ins u (let long = is_b.ins in omega (arith, long))) there).1)

@@ -174,7 +174,7 @@ module _ {S F : Type 0} (owner : S → List ℕ → ℕ → ℕ) (values : List 
   -- ---- what the end of a search needs
   pub some_family : ∥ ((family : Family) × IsEndOf owner (end_of t) family) ∥₁
   some_family = ∥∥₁_elim
-      (choice (IsWorking owner values) t.workers (start space) (λ v w at. (kept v w at).working (team.members.each v w at).whole))
+      (choice (IsWorking owner values) t.workers (start space) (λ v w at. (kept v w at).working))
       squash₁ (λ (c : (logs : ℕ → Log) × IsChoice (IsWorking owner values) t.workers (start space) logs). ∣ (record { logs = c.0; left = [] }, end_is c.0 c.1) ∣₁)
 
   -- the same, as the code puts it together

@@ -43,7 +43,6 @@ module _ {S F : Type 0} where
       number = ap (λ (o : OwnerOf S). o.worker) t.others ∙ is.number;
       outs = t.outs ∙ is.outs;
       ins = t.ins ∙ is.ins;
-      whole = ap (λ (w : WorkerOf S F). w.spent) t.worker ∙ is.whole;
       counted = ap (λ (w : WorkerOf S F). w.uncounted) t.worker ∙ is.counted;
     };
     sent = t.sent;

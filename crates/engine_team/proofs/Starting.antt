@@ -103,7 +103,6 @@ module _ {F : Type 0} (capacity n : ℕ) (outs : List (List (Out F))) (ins : Lis
           number = one.is.number;
           outs = row_out v w.outs one.sends ∙ sym first.len;
           ins = row_in v w.ins one.receives ∙ sym first.len;
-          whole = one.is.spent;
           counted = one.is.uncounted;
         };
         links = λ u v a b at_a at_b o i at_o at_i.

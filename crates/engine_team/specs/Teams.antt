@@ -1,5 +1,5 @@
 -- A team: the workers of a search as one value, between the rounds in which they take turns.
-use Rattle.std.specs.Prelude.{◌≡◌, ℕ, zero, suc, ◌<◌, false, List, [], ◌∷◌, map, length, slice_get, Some}
+use Rattle.std.specs.Prelude.{◌≡◌, ℕ, zero, suc, ◌<◌, List, [], ◌∷◌, map, length, slice_get, Some}
 use Rattle.cost.specs.Distances.{Distance, Infinite, ◌≤ᵈ◌, least}
 use Rattle.fdr.specs.Tasks.{ranges}
 use Rattle.owner_theory.specs.Owners.{At, Message}
@@ -17,14 +17,12 @@ pub record TeamOf (S F : Type 0) : Type 0 where
   pub workers : List (WorkerOf S F)
   pub best : Distance
 
--- the worker of that number of so many in a space, with a link to each and from each; memory did not run out in it, and no message in
--- its outboxes is uncounted
+-- the worker of that number of so many in a space, with a link to each and from each; no message in its outboxes is uncounted
 pub record IsMember {S F : Type 0} (searched_space : SpaceOf S) (workers v : ℕ) (w : WorkerOf S F) : Type 0 where
   pub space : w.owner.space ≡ searched_space
   pub number : w.owner.worker ≡ v
   pub outs : length w.outs ≡ workers
   pub ins : length w.ins ≡ workers
-  pub whole : w.spent ≡ false
   pub counted : w.uncounted ≡ 0
 
 -- their ends are those of a link from each of them to each

@@ -28,6 +28,14 @@ module _ {A : Type 0} where
   length-grown (c ∷ cs) [] e = absurd (omega arith)
   length-grown (c ∷ cs) (x ∷ xs) e = let r = length-grown cs xs (omega arith) in omega arith
 
+  pub grown_none : (cs : List (List A)) (xs : List A) → length cs ≡ 0 → grown cs xs ≡ []
+  grown_none [] xs e = refl
+  grown_none (c ∷ cs) xs e = absurd (omega arith)
+
+  pub length-rows : {G : Type 0} (vs : List (Vec A G)) → length (rows vs) ≡ length vs
+  length-rows [] = refl
+  length-rows (v ∷ vs) = ap suc (length-rows vs)
+
   pub grown_at : (cs : List (List A)) (xs : List A) (k : ℕ) (d : List A) → slice_get (grown cs xs) k ≡ Some d
       → (c : List A) × (x : A) × (slice_get cs k ≡ Some c) × (slice_get xs k ≡ Some x) × (d ≡ c ++ x ∷ [])
   grown_at [] xs k d e = absurd (cc)

@@ -1,6 +1,8 @@
--- What was sent over a link, what was taken from it, and what is known to be in its ring.
-use Rattle.std.specs.Prelude.{◌≡◌, ℕ, List, []}
+-- What was sent over a link, what was taken from it, and what is known to be left to take.
+use Rattle.std.specs.Prelude.{◌≡◌, ℕ, List, [], ◌∷◌, ◌++◌, None}
+use Rattle.std.specs.Option.{option_to_list}
 use Rattle.rtrb.specs.Ring
+use Rattle.links.specs.Returned.{but_returned}
 use Rattle.closed.specs.declared.message.Message.{Message}
 use Rattle.links.specs.declared.ends.Out.{Out}
 use Rattle.links.specs.declared.ends.In.{In}
@@ -13,13 +15,20 @@ sent o = Ring.sent o.producer
 abbrev pub room : {F : Type 0} → Out F → ℕ
 room o = Ring.known_free o.producer
 
--- every message taken so far, the oldest first
+-- every message taken so far and not given back, the oldest first
 abbrev pub received : {F : Type 0} → In F → List (Message F)
-received i = Ring.received i.consumer
+received i = but_returned (Ring.received i.consumer) i.returned
 
--- the messages that the receiver knows to be in the ring, which the next calls of `pop` return
+-- the messages that the receiver knows to be left to take, which the next calls of `pop` return: one that was given back, and those that it knows
+-- to be in the ring
 abbrev pub known : {F : Type 0} → In F → List (Message F)
-known i = Ring.known_items i.consumer
+known i = option_to_list i.returned ++ Ring.known_items i.consumer
+
+-- the message was taken last, and none is given back
+pub record WasTakenLast {F : Type 0} (i : In F) (message : Message F) : Type 0 where
+  pub before : List (Message F)
+  pub received_is : received i ≡ before ++ message ∷ []
+  pub none_back : i.returned ≡ None
 
 -- the two ends of one link
 abbrev pub AreEnds : {F : Type 0} → Out F → In F → Type 0

@@ -1,3 +1,4 @@
 pub mod Ranks
+pub mod Returned
 pub mod Ends
 pub mod Tables

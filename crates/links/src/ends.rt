@@ -1,14 +1,15 @@
 //! The two ends of a link.
 
-ghost use Rattle.std.specs.Prelude.{◌≡◌, ◌+◌, ◌<◌, ◌≤◌, [], ◌∷◌, ◌++◌, length, IfOk, IfErr, OnOk, IsOk, IfSome, IfNone, IsSome, IsTrue};
-ghost use mathlib.Core.List.{IsPrefix};
+ghost use Rattle.std.specs.Prelude.{◌≡◌, ◌++◌, All};
+ghost use Rattle.std.specs.Option.{option_to_list};
+ghost use Rattle.rtrb.specs.Ring as ring;
 ghost use Rattle.links.specs.Ranks.{HasSmallRank};
-ghost use Rattle.links.specs.Ends.{sent, room, received, known, AreEnds, SameOut, SameIn, IsFresh};
+ghost use Rattle.links.specs.Returned.{but_returned};
 
 use closed::Message;
 use packed::StateForm;
-use rtrb::{Consumer, Producer, Protocol, PushError, RingBuffer};
-use std::alloc::{AllocError, Global};
+use rtrb::{Consumer, Producer, Protocol, PushError};
+use std::alloc::Global;
 
 /// The protocol of a ring: messages at a cost of at most 2^62 and over at most 2^62 operators.
 pub struct SmallRanks;
@@ -22,28 +23,25 @@ impl<F: StateForm + Drop> Protocol<Message<F>> for SmallRanks {
 /// The sending end of a link. A contract sees the messages sent so far.
 #[derive(Drop)]
 pub struct Out<F: StateForm + Drop> {
-    producer: Producer<Message<F>, Global, SmallRanks>,
+    pub(crate) producer: Producer<Message<F>, Global, SmallRanks>,
 }
 
-/// The receiving end of a link. A contract sees the messages taken so far, and the messages that are known to be in the
-/// ring.
+/// The receiving end of a link, with a place for one message that was given back. A contract sees the messages that were taken so
+/// far and not given back, and those that are known to be left to take.
 #[derive(Drop)]
 pub struct In<F: StateForm + Drop> {
-    consumer: Consumer<Message<F>, Global, SmallRanks>,
-}
-
-/// Both ends of a new link, which has room for `capacity` messages. Fails only if allocation fails.
-pub fn link<F: StateForm + Drop>(
-    alloc: Global,
-    capacity: usize,
-) -> Result<(Out<F>, In<F>), AllocError>
-    ensures { IfOk result (λ r. IsFresh capacity r.0 r.1) }
-{
-    let (producer, consumer) = RingBuffer::with_protocol::<Global, SmallRanks>(alloc, capacity)?;
-    Ok((Out { producer }, In { consumer }))
+    pub(crate) consumer: Consumer<Message<F>, Global, SmallRanks>,
+    /// A message that was taken and given back, which is the next to be taken.
+    pub(crate) returned: Option<Message<F>>,
+    ghost returned_last: { ring.received consumer ≡ but_returned (ring.received consumer) returned ++ option_to_list returned },
+    ghost returned_small: { All HasSmallRank (option_to_list returned) },
 }
 
 impl<F: StateForm + Drop> Out<F> {
+    ghost use Rattle.std.specs.Prelude.{◌≡◌, ◌<◌, ◌++◌, ◌∷◌, [], IfErr, OnOk, IsOk, IsTrue};
+    ghost use Rattle.links.specs.Ranks.{HasSmallRank};
+    ghost use Rattle.links.specs.Ends.{sent, room, SameOut};
+
     /// Whether there is certainly room for a message. Allocates nothing.
     pub fn has_room(&mut self) -> bool
         ensures ring { SameOut self.old self.new }
@@ -70,32 +68,40 @@ impl<F: StateForm + Drop> Out<F> {
 }
 
 impl<F: StateForm + Drop> In<F> {
-    /// Takes the oldest message, or returns `None` if it finds the ring empty, which cannot happen while a message is
-    /// known to be in it. Allocates nothing.
+    ghost use Rattle.std.specs.Prelude.{◌≡◌, ◌+◌, ◌<◌, ◌≤◌, ◌++◌, ◌∷◌, [], length, IfSome, IfNone, IsSome};
+    ghost use mathlib.Core.List.{IsPrefix};
+    ghost use Rattle.links.specs.Ranks.{HasSmallRank};
+    ghost use Rattle.links.specs.Ends.{received, known, SameIn, WasTakenLast};
+
+    /// Takes the message that was given back, or else the oldest one of the ring, or returns `None` if it finds the ring empty, which
+    /// cannot happen while a message is known to be left. Allocates nothing.
     pub fn pop(&mut self) -> Option<Message<F>>
         ensures ring { SameIn self.old self.new }
         ensures some { IfSome result (λ m. received self.new ≡ received self.old ++ m ∷ []) }
+        ensures last { IfSome result (WasTakenLast self.new) }
         ensures small { IfSome result HasSmallRank }
         ensures none { IfNone result (received self.new ≡ received self.old) }
         ensures known { 0 < length (known self.old) → IsSome result }
         ensures next { IfSome result (λ m. IsPrefix (known self.old) (m ∷ known self.new)) }
         ensures fewer { length (known self.old) ≤ length (known self.new) + 1 }
     {
+        if let Some(message) = self.returned.take() {
+            return Some(message);
+        }
         match self.consumer.pop() {
             Ok(message) => Some(message),
             Err(_) => None,
         }
     }
-}
 
-/// The number of messages in the ring of a link, from both of its ends: the messages taken, followed by these, are the
-/// messages sent. That number of calls of `pop` then return a message each.
-pub fn match_up<F: StateForm + Drop>(sender: &mut Out<F>, receiver: &mut In<F>) -> usize
-    requires { AreEnds sender.old receiver.old }
-    ensures ends { AreEnds sender.new receiver.new }
-    ensures same { (sent sender.new ≡ sent sender.old) × (received receiver.new ≡ received receiver.old) }
-    ensures left { received receiver.new ++ known receiver.new ≡ sent sender.new }
-    ensures count { result ≡ length (known receiver.new) }
-{
-    receiver.consumer.slots_beside(&mut sender.producer)
+    /// Gives back the message that was taken last; it is the next that `pop` returns. Allocates nothing.
+    pub fn give_back(&mut self, message: Message<F>)
+        requires last { WasTakenLast self.old message }
+        requires small { HasSmallRank message }
+        ensures ring { SameIn self.old self.new }
+        ensures taken { received self.old ≡ received self.new ++ message ∷ [] }
+        ensures known { known self.new ≡ message ∷ known self.old }
+    {
+        self.returned = Some(message);
+    }
 }

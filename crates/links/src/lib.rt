@@ -3,8 +3,10 @@
 #![tactic(auto)]
 
 mod ends;
+mod pair;
 mod table;
 
 pub use closed::{Message, Parent};
-pub use ends::{In, Out, SmallRanks, link, match_up};
+pub use ends::{In, Out, SmallRanks};
+pub use pair::{link, match_up};
 pub use table::LinkTable;

@@ -3,7 +3,8 @@
 ghost use Rattle.std.specs.Prelude.{◌≡◌, length, IfOk, vec_len};
 ghost use Rattle.links.specs.Tables.{rows, AreFresh, grown, AreMatched, HasSize};
 
-use crate::ends::{In, Out, link};
+use crate::ends::{In, Out};
+use crate::pair::link;
 use packed::StateForm;
 use std::alloc::{AllocError, Global};
 

@@ -13,8 +13,7 @@ use Rattle.owner_theory.specs.Worlds.{World, Offers, Looks, Rests, idle}
 use Rattle.owner_theory.proofs.Lists.{put_cases, at_once}
 use Rattle.owner.specs.Owned.{OwnerOf, under}
 use Rattle.netcore.specs.declared.step.WorldStep.TheVariants.{Offer, Look, Rest}
-use Rattle.netcore.specs.Worlds.{WorldOf, space_in, Shows, Steps}
-use Rattle.netcore.specs.Possible.{differ}
+use Rattle.netcore.specs.Worlds.{WorldOf, space_in, Shows, Steps, differ}
 use Rattle.netcore.specs.Kept.{IsStepDone, IsWorld}
 use Rattle.netcore.proofs.Places.{at_below, at_read, at_set, set_there, set_elsewhere}
 use Rattle.netcore.proofs.Shown.{shown, nothing_done, kept, run_after, same_owners}
@@ -60,7 +59,6 @@ module _ {S : Type 0} (owner : S → List ℕ → ℕ → ℕ) where
     unchanged = λ e. absurd (true≢false e);
     space = refl;
     owners = refl;
-    spent = refl;
   }
 
   pub offer_kept : (old : WorldOf S) (v : ℕ) (o : OwnerOf S) (b : Distance) → IsWorld owner old → At old.owners v o → At old.seen v b
@@ -111,7 +109,6 @@ module _ {S : Type 0} (owner : S → List ℕ → ℕ → ℕ) where
     unchanged = λ e. absurd (true≢false e);
     space = refl;
     owners = refl;
-    spent = refl;
   }
 
   pub look_kept : (old : WorldOf S) (v : ℕ) (o : OwnerOf S) (b : Distance) → IsWorld owner old → At old.owners v o → At old.seen v b
@@ -186,7 +183,6 @@ module _ {S : Type 0} (owner : S → List ℕ → ℕ → ℕ) where
     unchanged = λ e. absurd (true≢false e);
     space = refl;
     owners = refl;
-    spent = refl;
   }
 
   pub rest_kept : (old : WorldOf S) (v : ℕ) (o : OwnerOf S) (b : Distance) → IsWorld owner old → At old.owners v o → At old.seen v b

@@ -14,8 +14,8 @@ use Rattle.owner_theory.specs.Worlds.{no_open, idle, is_empty}
 use Rattle.owner.specs.Outboxes.{count_in_use}
 use Rattle.owner.specs.Owned.{OwnerOf, under, space_of, least_open}
 use Rattle.netcore.specs.declared.step.WorldStep.TheVariants.{Expand, Send, Offer, Rest}
-use Rattle.netcore.specs.Worlds.{WorldOf, space_in}
-use Rattle.netcore.specs.Possible.{would_change, sends_of, below}
+use Rattle.netcore.specs.Worlds.{WorldOf, space_in, would_change}
+use Rattle.netcore.specs.Possible.{sends_of, below}
 use Rattle.netcore.specs.Kept.{IsWorld}
 use Rattle.netcore.proofs.Places.{at_read, list_past}
 use Rattle.netcore.proofs.Expanding.{at_owner_here, owner_space}

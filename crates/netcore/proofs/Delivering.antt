@@ -14,13 +14,14 @@ use Rattle.owner_theory.specs.Worlds.{World, Delivers, nth_to, without_nth_to, d
 use Rattle.owner_theory.proofs.Lists.{put_cases, get_below}
 use Rattle.owner_theory.proofs.States.{is_state-from}
 use Rattle.owner.specs.Owned.{OwnerOf, under, space_of, IsMessageTo}
+use Rattle.owner.specs.declared.fault.OwnerFault.TheVariants.{OutOfMemory}
 use Rattle.netcore.specs.declared.step.WorldStep.TheVariants.{Deliver}
 use Rattle.netcore.specs.Worlds.{WorldOf, space_in, packets_to, Shows, Steps}
-use Rattle.netcore.specs.Kept.{IsStepDone, IsWorld}
-use Rattle.netcore.proofs.Places.{at_below, at_set, at_list, list_past, set_same}
+use Rattle.netcore.specs.Kept.{IsStepDone, IsStepRefused, IsWorld}
+use Rattle.netcore.proofs.Places.{at_below, at_set, at_list, list_past}
 use Rattle.netcore.proofs.Queues.{nth_is_there, without_here, without_there, none_to}
 use Rattle.netcore.proofs.Shown.{shown, nothing_done, kept, run_after}
-use Rattle.netcore.proofs.Expanding.{owner_space, here_one, there_one, one_owner}
+use Rattle.netcore.proofs.Expanding.{owner_space, here_one, there_one, one_owner, refused_whole}
 
 all_get : {X : Type 0} (P : X → Type 0) (xs : List X) (k : ℕ) (x : X) → slice_get xs k ≡ Some x → All P xs → P x
 all_get P [] k x is all = absurd (cc)
@@ -138,7 +139,6 @@ module _ {S : Type 0} (owner : S → List ℕ → ℕ → ℕ) where
         unchanged = λ e. absurd (true≢false e);
         space = refl;
         owners = length-set old.owners v p;
-        spent = refl;
       }
 
   taken_outboxes : (old : WorldOf S) (v k : ℕ) (o p : OwnerOf S) (b : Distance) (q : List Packet) (x : Packet) → IsTaking old v k o p b q x
@@ -165,17 +165,8 @@ module _ {S : Type 0} (owner : S → List ℕ → ℕ → ℕ) where
       (kept_queues old v k q is taking.queue)
       (run_after owner old new (Deliver v k) true (deliver_done old v k o p b q x is taking) is)
 
-  -- ---- it is lost
-  abbrev pub with_lost : WorldOf S → ℕ → OwnerOf S → List Packet → WorldOf S
-  with_lost w v p q = record w { owners = slice_set w.owners v p; underway = slice_set w.underway v q; spent = true }
-
-  pub deliver_lost_kept : (old : WorldOf S) (v k : ℕ) (o p : OwnerOf S) (q : List Packet) → IsWorld owner old → At old.owners v o
-      → At old.underway v q → p ≡ o → IsWorld owner (with_lost old v p (remove q k))
-  deliver_lost_kept old v k o p q is at queue same =
-      kept owner old (with_lost old v p (remove q k)) is refl (length-set old.owners v p) (length-set old.underway v (remove q k)) refl refl
-      (one_owner owner old v o p at (ap (λ (z : OwnerOf S). z.space) same) (ap (λ (z : OwnerOf S). z.worker) same) (ap (λ (z : OwnerOf S). length z.outboxes) same))
-      (kept_queues old v k q is queue) (λ h. absurd (true≢false h))
-
-  -- ---- the queue of an owner is as it was
-  pub queue_same : (old : WorldOf S) (v : ℕ) (q : List Packet) → At old.underway v q → slice_set old.underway v q ≡ old.underway
-  queue_same old v q at = set_same old.underway v q at
+  -- ---- there is no memory to take it
+  pub deliver_refused : (old : WorldOf S) (v k : ℕ) (q : List Packet) → At old.underway v q → k < length q
+      → IsStepRefused owner old old (Deliver v k) OutOfMemory
+  deliver_refused old v k q queue short = refused_whole owner old (Deliver v k)
+      (ap (λ (z : List Packet). nat_lt k (length z)) (at_list old.underway v q queue) ∙ lt-ltb k (length q) short)

@@ -134,6 +134,6 @@ module _ {S : Type 0} (owner : S → List ℕ → ℕ → ℕ) where
         left = left_of w world is sp.owner after.shown;
       }
 
-  pub lawful_end : (w : WorldOf S) → IsWorld owner w → IsSearchSpace (space_in owner w) → w.spent ≡ false → ∥ ((family : Family) × IsEndOf owner (end_of w) family) ∥₁
-  lawful_end w is sp whole = ∥∥₁_elim (is.run whole) squash₁
+  pub lawful_end : (w : WorldOf S) → IsWorld owner w → IsSearchSpace (space_in owner w) → ∥ ((family : Family) × IsEndOf owner (end_of w) family) ∥₁
+  lawful_end w is sp = ∥∥₁_elim is.run squash₁
       (λ some. let (asked, after) = some in ∣ (family_of (world_after_run (space_in owner w) after.steps), end_from w asked after is sp) ∣₁)

@@ -19,11 +19,10 @@ use Rattle.owner.specs.declared.fault.OwnerFault.{OwnerFault}
 use Rattle.owner.specs.declared.fault.OwnerFault.TheVariants.{OutOfMemory, TotalTooLarge, LimitReached}
 use Rattle.netcore.specs.declared.step.WorldStep.{WorldStep}
 use Rattle.netcore.specs.declared.step.WorldStep.TheVariants.{Expand}
-use Rattle.netcore.specs.Worlds.{WorldOf, space_in, Shows, Steps, IsStepRefusal}
-use Rattle.netcore.specs.Possible.{at_owner}
+use Rattle.netcore.specs.Worlds.{WorldOf, space_in, Shows, Steps, IsStepRefusal, at_owner, would_change}
 use Rattle.netcore.specs.Kept.{IsStepDone, IsStepRefused, IsWorld}
 use Rattle.netcore.proofs.Places.{at_below, at_read, at_set, set_same, set_there, set_elsewhere}
-use Rattle.netcore.proofs.Shown.{shown, shown_same, nothing_done, kept, run_after, HasRun}
+use Rattle.netcore.proofs.Shown.{shown, shown_same, nothing_done, kept, run_after}
 
 -- ---- nodes
 all_from : (test : Node → Bool) (ns : List Node) → ((i : ℕ) (x : Node) → At ns i x → test x ≡ true) → list_all test ns ≡ true
@@ -113,14 +112,12 @@ module _ {S : Type 0} (owner : S → List ℕ → ℕ → ℕ) where
       (λ (h : (u ≢ v) × At old.owners u q). (q, h.1, refl, refl, refl))
       (at_set old.owners v p u q there)
 
-  abbrev pub with_owner : WorldOf S → ℕ → OwnerOf S → Bool → WorldOf S
-  with_owner w v p spent = record w { owners = slice_set w.owners v p; spent = spent }
+  abbrev pub with_owner : WorldOf S → ℕ → OwnerOf S → WorldOf S
+  with_owner w v p = record w { owners = slice_set w.owners v p }
 
-  pub kept_with_owner : (old : WorldOf S) (v : ℕ) (o p : OwnerOf S) (spent : Bool) → IsWorld owner old → At old.owners v o → p.space ≡ o.space
-      → p.worker ≡ o.worker → length p.outboxes ≡ length o.outboxes → (spent ≡ false → HasRun owner (with_owner old v p spent))
-      → IsWorld owner (with_owner old v p spent)
-  kept_with_owner old v o p spent is at a b c run =
-      kept owner old (with_owner old v p spent) is refl (length-set old.owners v p) refl refl refl (one_owner old v o p at a b c) is.messages run
+  pub as_it_was : (old : WorldOf S) (v : ℕ) (o p : OwnerOf S) → At old.owners v o → p ≡ o → with_owner old v p ≡ old
+  as_it_was old v o p at same =
+      ap (λ (os : List (OwnerOf S)). record old { owners = os }) (ap (λ z. slice_set old.owners v z) same ∙ set_same old.owners v o at)
 
   -- ---- nothing to expand
   pub stays : (old : WorldOf S) (v : ℕ) (world : World) → Shows owner old world → no_open (space_in owner old) (world.logs v).owner ≡ true
@@ -142,7 +139,7 @@ module _ {S : Type 0} (owner : S → List ℕ → ℕ → ℕ) where
 
   -- ---- a node is expanded
   pub expand_one : (old : WorldOf S) (v : ℕ) (o p : OwnerOf S) (b : Distance) (posted : ℕ) → IsWorld owner old → At old.owners v o → At old.seen v b
-      → owned.Expands owner b o posted p → IsStepDone owner old (with_owner old v p old.spent) (Expand v) true
+      → owned.Expands owner b o posted p → IsStepDone owner old (with_owner old v p) (Expand v) true
   expand_one old v o p b posted is at seen done =
       let space = space_in owner old in
       let same = owner_space old v o is at in
@@ -161,7 +158,7 @@ module _ {S : Type 0} (owner : S → List ℕ → ℕ → ℕ) where
                 inl (subst (λ w. MayExpandAt space w done.index) (sym x)
                     (done.node, next.there, next_may space (under o b) done.index done.node next)),
               );
-              shown = shown owner old (with_owner old v p old.spent) world v (happens space v (world.logs v) (Expanding done.index))
+              shown = shown owner old (with_owner old v p) world v (happens space v (world.logs v) (Expanding done.index))
                   world.underway world.bound world.resting shows refl (length-set old.owners v p)
                   (here_one old v p b (happens space v (world.logs v) (Expanding done.index)) seen
                   (ap (λ w. expanded_at space v w done.index (slice_get w.nodes done.index)) x
@@ -174,61 +171,57 @@ module _ {S : Type 0} (owner : S → List ℕ → ℕ → ℕ) where
         unchanged = λ e. absurd (true≢false e);
         space = refl;
         owners = length-set old.owners v p;
-        spent = refl;
       }
 
   pub expand_done : (old : WorldOf S) (v : ℕ) (o p : OwnerOf S) (b : Distance) (posted : Option ℕ) → IsWorld owner old → At old.owners v o
-      → At old.seen v b → IsExpansion owner b o p posted → IsStepDone owner old (with_owner old v p old.spent) (Expand v) (is_some posted)
+      → At old.seen v b → IsExpansion owner b o p posted → IsStepDone owner old (with_owner old v p) (Expand v) (is_some posted)
   expand_done old v o p b (Some posted) is at seen done = expand_one old v o p b posted is at seen done
   expand_done old v o p b None is at seen (none, unchanged) =
       let same = owner_space old v o is at in
       let none_in : no_open (space_in owner old) (under o b) ≡ true = subst (λ s. no_open s (under o b) ≡ true) same none in
-      let as_it_was : with_owner old v p old.spent ≡ old =
-      ap (λ (os : List (OwnerOf S)). record old { owners = os }) (ap (λ z. slice_set old.owners v z) unchanged ∙ set_same old.owners v o at) in
-      subst (λ w. IsStepDone owner old w (Expand v) false) (sym as_it_was)
+      subst (λ w. IsStepDone owner old w (Expand v) false) (sym (as_it_was old v o p at unchanged))
       (nothing_done owner old (Expand v) false refl (at_owner_here old v o b _ at seen ∙ ap not none_in)
       (λ world shows. stays old v world shows (subst (λ w. no_open (space_in owner old) w ≡ true) (sym (shows.owners v o b at seen)) none_in)))
 
   pub expand_kept : (old : WorldOf S) (v : ℕ) (o p : OwnerOf S) (b : Distance) (posted : Option ℕ) → IsWorld owner old → At old.owners v o
       → At old.seen v b → IsExpansion owner b o p posted → p.space ≡ o.space → p.worker ≡ o.worker → length p.outboxes ≡ length o.outboxes
-      → IsWorld owner (with_owner old v p old.spent)
-  expand_kept old v o p b posted is at seen done e f n = kept_with_owner old v o p old.spent is at e f n
-      (run_after owner old (with_owner old v p old.spent) (Expand v) (is_some posted) (expand_done old v o p b posted is at seen done) is)
+      → IsWorld owner (with_owner old v p)
+  expand_kept old v o p b posted is at seen done e f n =
+      kept owner old (with_owner old v p) is refl (length-set old.owners v p) refl refl refl (one_owner old v o p at e f n) is.messages
+      (run_after owner old (with_owner old v p) (Expand v) (is_some posted) (expand_done old v o p b posted is at seen done) is)
 
   -- ---- refused
-  pub lost_kept : (old : WorldOf S) (v : ℕ) (o p : OwnerOf S) → IsWorld owner old → At old.owners v o
-      → p.space ≡ o.space → p.worker ≡ o.worker → length p.outboxes ≡ length o.outboxes → IsWorld owner (with_owner old v p true)
-  lost_kept old v o p is at e f n = kept_with_owner old v o p true is at e f n (λ h. absurd (true≢false h))
+  refused_same : (b : Distance) (o p : OwnerOf S) (e : OwnerFault) → IsRefusal owner b o p e → p ≡ o
+  refused_same b o p OutOfMemory (some, limit, same) = same
+  refused_same b o p LimitReached (some, limit, same) = same
+  refused_same b o p TotalTooLarge (i, n, next, allowed, large, same) = same
 
-  pub lost : (old : WorldOf S) (v : ℕ) (p : OwnerOf S) (asked : WorldStep) → IsStepRefused owner old (with_owner old v p true) asked OutOfMemory
-  lost old v p asked = record { refused = tt; space = refl; owners = length-set old.owners v p }
+  refusal_at : (old : WorldOf S) (v : ℕ) (o p : OwnerOf S) (b : Distance) (e : OwnerFault) (new : WorldOf S) → IsWorld owner old
+      → At old.owners v o → At old.seen v b → IsRefusal owner b o p e → new ≡ old → IsStepRefusal owner old new (Expand v) e
+  refusal_at old v o p b OutOfMemory new is at seen (some, limit, same) unchanged = (
+    at_owner_here old v o b _ at seen ∙ ap not (subst (λ s. no_open s (under o b) ≡ false) (owner_space old v o is at) some),
+    unchanged,
+  )
+  refusal_at old v o p b LimitReached new is at seen (some, limit, same) unchanged = (v, o, b, refl, at, seen, (some, limit, refl), unchanged)
+  refusal_at old v o p b TotalTooLarge new is at seen (i, n, next, allowed, large, same) unchanged =
+      (v, o, b, refl, at, seen, (i, n, next, allowed, large, refl), unchanged)
 
-  refused_same : (b : Distance) (o p : OwnerOf S) (e : OwnerFault) → IsRefusal owner b o p e → (e ≡ OutOfMemory → ⊥) → p ≡ o
-  refused_same b o p OutOfMemory h ne = absurd (ne refl)
-  refused_same b o p LimitReached (some, limit, same) ne = same
-  refused_same b o p TotalTooLarge (i, n, next, allowed, large, same) ne = same
+  expand_refused_same : (old : WorldOf S) (v : ℕ) (o p : OwnerOf S) (b : Distance) (e : OwnerFault) → At old.owners v o
+      → IsRefusal owner b o p e → with_owner old v p ≡ old
+  expand_refused_same old v o p b e at refusal = as_it_was old v o p at (refused_same b o p e refusal)
 
-  refused_again : (b : Distance) (o p : OwnerOf S) (e : OwnerFault) → IsRefusal owner b o p e → IsRefusal owner b o o e
-  refused_again b o p OutOfMemory h = tt
-  refused_again b o p LimitReached (some, limit, same) = (some, limit, refl)
-  refused_again b o p TotalTooLarge (i, n, next, allowed, large, same) = (i, n, next, allowed, large, refl)
+  pub expand_refused_kept : (old : WorldOf S) (v : ℕ) (o p : OwnerOf S) (b : Distance) (e : OwnerFault) → IsWorld owner old → At old.owners v o
+      → IsRefusal owner b o p e → IsWorld owner (with_owner old v p)
+  expand_refused_kept old v o p b e is at refusal = subst (IsWorld owner) (sym (expand_refused_same old v o p b e at refusal)) is
 
-  pub refused_as_it_was : (old : WorldOf S) (v : ℕ) (o p : OwnerOf S) (b : Distance) (e : OwnerFault) → At old.owners v o
-      → IsRefusal owner b o p e → (e ≡ OutOfMemory → ⊥) → with_owner old v p old.spent ≡ old
-  refused_as_it_was old v o p b e at refusal ne =
-      ap (λ (os : List (OwnerOf S)). record old { owners = os })
-      (ap (λ z. slice_set old.owners v z) (refused_same b o p e refusal ne) ∙ set_same old.owners v o at)
-
-  refusal_at : (old : WorldOf S) (v : ℕ) (o : OwnerOf S) (b : Distance) (e : OwnerFault) (new : WorldOf S) → At old.owners v o → At old.seen v b
-      → IsRefusal owner b o o e → new ≡ old → IsStepRefusal owner old new (Expand v) e
-  refusal_at old v o b OutOfMemory new at seen refusal same = tt
-  refusal_at old v o b LimitReached new at seen refusal same = (v, o, b, refl, at, seen, refusal, same)
-  refusal_at old v o b TotalTooLarge new at seen refusal same = (v, o, b, refl, at, seen, refusal, same)
-
-  pub expand_refused : (old : WorldOf S) (v : ℕ) (o p : OwnerOf S) (b : Distance) (e : OwnerFault) → At old.owners v o → At old.seen v b
-      → IsRefusal owner b o p e → (e ≡ OutOfMemory → ⊥) → IsStepRefused owner old (with_owner old v p old.spent) (Expand v) e
-  expand_refused old v o p b e at seen refusal ne = record {
-    refused = refusal_at old v o b e (with_owner old v p old.spent) at seen (refused_again b o p e refusal) (refused_as_it_was old v o p b e at refusal ne);
+  pub expand_refused : (old : WorldOf S) (v : ℕ) (o p : OwnerOf S) (b : Distance) (e : OwnerFault) → IsWorld owner old → At old.owners v o
+      → At old.seen v b → IsRefusal owner b o p e → IsStepRefused owner old (with_owner old v p) (Expand v) e
+  expand_refused old v o p b e is at seen refusal = record {
+    refused = refusal_at old v o p b e (with_owner old v p) is at seen refusal (expand_refused_same old v o p b e at refusal);
     space = refl;
     owners = length-set old.owners v p;
   }
+
+  -- there is no memory for a step that would change something
+  pub refused_whole : (old : WorldOf S) (asked : WorldStep) → would_change owner old asked ≡ true → IsStepRefused owner old old asked OutOfMemory
+  refused_whole old asked test = record { refused = (test, refl); space = refl; owners = refl }

@@ -2,6 +2,7 @@ pub mod Places
 pub mod Queues
 pub mod Shown
 pub mod Expanding
+pub mod Underway
 pub mod Sending
 pub mod Delivering
 pub mod Bounding

@@ -1,7 +1,7 @@
 -- Elements by their places, in lists of which one element is changed.
-use Rattle.std.proofs.Common.{◌≡◌, ◌≢◌, ◌⊎◌, ℕ, zero, suc, ◌<◌, ◌≤◌, List, [], ◌∷◌, length, map, get_or, Some, refl, sym, ap, inl, inr, ⊎_elim, arith}
+use Rattle.std.proofs.Common.{◌≡◌, ◌≢◌, ◌⊎◌, ℕ, zero, suc, ◌<◌, ◌≤◌, List, [], ◌∷◌, length, map, get_or, Some, refl, sym, ap, ◌∙◌, inl, inr, ⊎_elim, arith}
 use Rattle.std.specs.Prelude.{slice_get, slice_set}
-use Rattle.std.specs.List.{remove}
+use Rattle.std.specs.List.{insert, remove}
 use Rattle.owner_theory.specs.Owners.{At, list_at}
 
 pub at_here : {X : Type 0} (xs : List X) (i : ℕ) (x : X) → i < length xs → x ≡ get_or xs i x → At xs i x
@@ -78,3 +78,10 @@ map_remove f [] zero = refl
 map_remove f [] (suc i) = refl
 map_remove f (x ∷ xs) zero = refl
 map_remove f (x ∷ xs) (suc i) = ap (λ ys. f x ∷ ys) (map_remove f xs i)
+
+-- an element that was taken out, and in whose place another one is put of which the same is seen
+pub map_put_back : {X Y : Type 0} (f : X → Y) (xs : List X) (i : ℕ) (x y : X) → slice_get xs i ≡ Some x → f y ≡ f x
+    → map f (insert (remove xs i) i y) ≡ map f xs
+map_put_back f [] i x y is same = absurd (cc)
+map_put_back f (z ∷ xs) zero x y is same = let there : x ≡ z = cc in ap (λ w. w ∷ map f xs) (same ∙ ap f there)
+map_put_back f (z ∷ xs) (suc i) x y is same = ap (λ ys. f z ∷ ys) (map_put_back f xs i x y is same)

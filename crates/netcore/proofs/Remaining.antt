@@ -10,8 +10,8 @@ use Rattle.owner_theory.specs.Owners.{At, list_at, Message}
 use Rattle.owner_theory.specs.Worlds.{waiting, no_open, idle, is_empty}
 use Rattle.owner.specs.Owned.{OwnerOf, under}
 use Rattle.netcore.specs.declared.step.WorldStep.TheVariants.{Expand, Send, Offer, Look, Rest}
-use Rattle.netcore.specs.Worlds.{WorldOf, space_in, left_in}
-use Rattle.netcore.specs.Possible.{would_change, by_owner, sends_of, deliveries, possible_steps, below}
+use Rattle.netcore.specs.Worlds.{WorldOf, space_in, left_in, would_change}
+use Rattle.netcore.specs.Possible.{by_owner, sends_of, deliveries, possible_steps, below}
 use Rattle.netcore.specs.Kept.{IsWorld}
 use Rattle.netcore.proofs.Places.{at_some, at_below, at_read}
 use Rattle.netcore.proofs.Expanding.{at_owner_here}

@@ -9,13 +9,18 @@ use Rattle.owner_theory.specs.Owners as machine
 use Rattle.owner_theory.specs.Owners.{At, SearchSpace, Message, Packet, Log, HandOut, list_at, handed_out, happens, put}
 use Rattle.owner_theory.specs.Worlds.{World, Sends, is_empty, sent}
 use Rattle.owner.specs.Owned.{OwnerOf, under, space_of, IsMessageTo}
+use Rattle.owner.specs.declared.fault.OwnerFault.TheVariants.{OutOfMemory}
 use Rattle.netcore.specs.declared.step.WorldStep.TheVariants.{Send}
 use Rattle.netcore.specs.Worlds.{WorldOf, space_in, packets_to, Shows, Steps}
-use Rattle.netcore.specs.Kept.{IsStepDone, IsWorld}
-use Rattle.netcore.proofs.Places.{at_below, at_set, at_own, list_past, set_same}
+use Rattle.netcore.specs.Kept.{IsStepDone, IsStepRefused, IsWorld}
+use Rattle.netcore.proofs.Places.{at_below, at_set, list_past}
 use Rattle.netcore.proofs.Queues.{sent_here, sent_there}
 use Rattle.netcore.proofs.Shown.{shown, nothing_done, kept, run_after}
-use Rattle.netcore.proofs.Expanding.{at_owner_here, at_owner_past, owner_space, here_one, there_one, one_owner, with_owner, kept_with_owner}
+use Rattle.netcore.proofs.Expanding.{at_owner_here, at_owner_past, owner_space, here_one, there_one, one_owner, refused_whole}
+
+pub no_message : (q : List Message) → length q ≡ 0 → q ≡ []
+no_message [] e = refl
+no_message (x ∷ q) e = absurd (omega arith)
 
 module _ {S : Type 0} (owner : S → List ℕ → ℕ → ℕ) where
   -- ---- nothing to send
@@ -113,7 +118,6 @@ module _ {S : Type 0} (owner : S → List ℕ → ℕ → ℕ) where
         unchanged = λ e. absurd (true≢false e);
         space = refl;
         owners = length-set old.owners v p;
-        spent = refl;
       }
 
   handed_same : (v to : ℕ) (o p : OwnerOf S) → p ≡ record o { outboxes = slice_set o.outboxes to (list_at p.outboxes to) }
@@ -142,35 +146,12 @@ module _ {S : Type 0} (owner : S → List ℕ → ℕ → ℕ) where
       (at_set old.underway to (q ++ packet_from v m ∷ []) u ps there))
       (run_after owner old new (Send v to) true (send_done old v to o p b q m is out) is)
 
-  -- ---- it is lost
-  pub send_lost_kept : (old : WorldOf S) (v to : ℕ) (o p : OwnerOf S) (b : Distance) (q : List Packet) (m : Message) → IsWorld owner old
-      → IsHandOut old v to o p b q m → IsWorld owner (with_owner owner old v p true)
-  send_lost_kept old v to o p b q m is out =
-      let (e, f, n) = handed_same v to o p out.others in
-      kept_with_owner owner old v o p true is out.at e f n (λ h. absurd (true≢false h))
-
-  -- nothing was taken out
-  pub record IsEmptyHandOut (old : WorldOf S) (v to : ℕ) (o p : OwnerOf S) (b : Distance) : Type 0 where
-    pub at : At old.owners v o
-    pub seen : At old.seen v b
-    pub within : to < length o.outboxes
-    pub none : list_at o.outboxes to ≡ []
-    pub first : list_at o.outboxes to ≡ list_at p.outboxes to
-    pub others : p ≡ record o { outboxes = slice_set o.outboxes to (list_at p.outboxes to) }
-
-  pub send_nothing : (old : WorldOf S) (v to : ℕ) (o p : OwnerOf S) (b : Distance) → IsEmptyHandOut old v to o p b
-      → with_owner owner old v p old.spent ≡ old
-  send_nothing old v to o p b out =
-      let as_it_was : p ≡ o = out.others ∙ (ap (λ (q : List Message). record o { outboxes = slice_set o.outboxes to q }) (sym out.first)
-      ∙ ap (λ (qs : List (List Message)). record o { outboxes = qs })
-      (set_same o.outboxes to (list_at o.outboxes to) (at_own o.outboxes to out.within))) in
-      ap (λ (os : List (OwnerOf S)). record old { owners = os }) (ap (λ z. slice_set old.owners v z) as_it_was ∙ set_same old.owners v o out.at)
-
-  pub send_nothing_done : (old : WorldOf S) (v to : ℕ) (o p : OwnerOf S) (b : Distance) → IsEmptyHandOut old v to o p b
-      → IsStepDone owner old (with_owner owner old v p old.spent) (Send v to) false
-  send_nothing_done old v to o p b out = subst (λ w. IsStepDone owner old w (Send v to) false) (sym (send_nothing old v to o p b out))
-      (send_none old v to o b out.at out.seen out.none)
-
-  pub send_nothing_kept : (old : WorldOf S) (v to : ℕ) (o p : OwnerOf S) (b : Distance) → IsWorld owner old → IsEmptyHandOut old v to o p b
-      → IsWorld owner (with_owner owner old v p old.spent)
-  send_nothing_kept old v to o p b is out = subst (IsWorld owner) (sym (send_nothing old v to o p b out)) is
+  -- ---- there is no room for it
+  pub send_refused : (old : WorldOf S) (v to : ℕ) (o : OwnerOf S) (b : Distance) → At old.owners v o → At old.seen v b
+      → length (list_at o.outboxes to) ≢ 0 → IsStepRefused owner old old (Send v to) OutOfMemory
+  send_refused old v to o b at seen some =
+      refused_whole owner old (Send v to) (at_owner_here owner old v o b _ at seen ∙ not_empty (list_at o.outboxes to) some)
+    where
+      not_empty : (q : List Message) → length q ≢ 0 → not (is_empty q) ≡ true
+      not_empty [] some = absurd (some refl)
+      not_empty (x ∷ q) some = refl

@@ -10,8 +10,7 @@ use Rattle.owner_theory.proofs.Lists.{put_cases}
 use Rattle.owner.specs.Spaces.{searched}
 use Rattle.owner.specs.Owned.{OwnerOf, under, IsMessageTo}
 use Rattle.netcore.specs.declared.step.WorldStep.{WorldStep}
-use Rattle.netcore.specs.Worlds.{WorldOf, space_in, packets_to, IsVoid, Shows, Steps, IsAfter, request_of, world_after_run}
-use Rattle.netcore.specs.Possible.{would_change}
+use Rattle.netcore.specs.Worlds.{WorldOf, space_in, packets_to, IsVoid, Shows, Steps, IsAfter, request_of, world_after_run, would_change}
 use Rattle.netcore.specs.Kept.{IsStepDone, IsWorld}
 
 -- ---- runs
@@ -71,7 +70,6 @@ module _ {S : Type 0} (owner : S → List ℕ → ℕ → ℕ) where
     unchanged = λ _. refl;
     space = refl;
     owners = refl;
-    spent = refl;
   }
 
   pub after_step : (old new : WorldOf S) (asked : List WorldStep) (step : WorldStep)
@@ -91,9 +89,9 @@ module _ {S : Type 0} (owner : S → List ℕ → ℕ → ℕ) where
   HasRun w = ∥ ((asked : List WorldStep) × IsAfter owner (space_in owner w) asked w) ∥₁
 
   pub run_after : (old new : WorldOf S) (step : WorldStep) (changed : Bool) → IsStepDone owner old new step changed → IsWorld owner old
-      → new.spent ≡ false → HasRun new
-  run_after old new step changed done kept whole =
-      ∥∥₁_elim (kept.run (sym done.spent ∙ whole)) squash₁
+      → HasRun new
+  run_after old new step changed done kept =
+      ∥∥₁_elim kept.run squash₁
       (λ some. let (asked, after) = some in ∣ (
         asked ++ step ∷ [],
         subst (λ s. IsAfter owner s (asked ++ step ∷ []) new) (sym (same_in old new done.space done.owners)) (after_step old new asked step done.stepped after),
@@ -104,7 +102,7 @@ module _ {S : Type 0} (owner : S → List ℕ → ℕ → ℕ) where
       → length new.underway ≡ length old.underway → length new.seen ≡ length old.seen → length new.resting ≡ length old.resting
       → ((u : ℕ) (o : OwnerOf S) → At new.owners u o → (p : OwnerOf S) × At old.owners u p × (o.space ≡ p.space) × (o.worker ≡ p.worker) × (length o.outboxes ≡ length p.outboxes))
       → ((u : ℕ) (ps : List Packet) → At new.underway u ps → All (λ p. IsMessageTo (space_in owner old) u p.message) ps)
-      → (new.spent ≡ false → HasRun new)
+      → HasRun new
       → IsWorld owner new
   kept old new is e n queues bounds flags owners messages run = record {
     some = omega (arith, is.some);

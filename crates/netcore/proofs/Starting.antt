@@ -42,7 +42,6 @@ module _ {S : Type 0} (owner : S → List ℕ → ℕ → ℕ) where
     seen = replicate n Infinite;
     bound = Infinite;
     resting = replicate n false;
-    spent = false;
   }
 
   -- an owner more
@@ -79,7 +78,7 @@ module _ {S : Type 0} (owner : S → List ℕ → ℕ → ℕ) where
           ∙ (outboxes_of (searched owner space n) (owner space.spread space.task.initial n == v) ∙ sym count);
       messages = λ v ps at. subst (λ qs. All (λ p. IsMessageTo (space_in owner (first_world space os n)) v p.message) qs) (at_copies n [] v ps at)
           (All-nil (λ (p : Packet). IsMessageTo (space_in owner (first_world space os n)) v p.message));
-      run = λ _. ∣ (
+      run = ∣ (
         [],
         subst (λ k. IsAfter owner (searched owner space k) [] (first_world space os n)) (sym count)
             (record { steps = []; run = tt; shown = start_shown }),

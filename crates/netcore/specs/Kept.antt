@@ -5,8 +5,7 @@ use Rattle.owner_theory.specs.Worlds as machine
 use Rattle.owner.specs.Owned.{OwnerOf, IsMessageTo}
 use Rattle.owner.specs.declared.fault.OwnerFault.{OwnerFault}
 use Rattle.netcore.specs.declared.step.WorldStep.{WorldStep}
-use Rattle.netcore.specs.Worlds.{WorldOf, space_in, Shows, Steps, IsAfter, IsStepRefusal}
-use Rattle.netcore.specs.Possible.{would_change}
+use Rattle.netcore.specs.Worlds.{WorldOf, space_in, Shows, Steps, IsAfter, IsStepRefusal, would_change}
 
 -- the result of a step that is done, and whether it changed something
 pub record IsStepDone {S : Type 0} (owner : S → List ℕ → ℕ → ℕ) (old new : WorldOf S) (asked : WorldStep) (changed : Bool) : Type 0 where
@@ -15,7 +14,6 @@ pub record IsStepDone {S : Type 0} (owner : S → List ℕ → ℕ → ℕ) (old
   pub unchanged : changed ≡ false → new ≡ old
   pub space : new.space ≡ old.space
   pub owners : length new.owners ≡ length old.owners
-  pub spent : new.spent ≡ old.spent
 
 -- the result of a step that is refused
 pub record IsStepRefused {S : Type 0} (owner : S → List ℕ → ℕ → ℕ) (old new : WorldOf S) (asked : WorldStep) (fault : OwnerFault) : Type 0 where
@@ -24,8 +22,8 @@ pub record IsStepRefused {S : Type 0} (owner : S → List ℕ → ℕ → ℕ) (
   pub owners : length new.owners ≡ length old.owners
 
 -- the world has owners, and as many queues, bounds and flags; each owner has the world's space, its own number and an
--- outbox for each owner; each message underway may be handed to the owner to which it is underway; and unless memory ran
--- out in a step, the world is the one after some run
+-- outbox for each owner; each message underway may be handed to the owner to which it is underway; and the world is the one
+-- after some run
 pub record IsWorld {S : Type 0} (owner : S → List ℕ → ℕ → ℕ) (w : WorldOf S) : Type 0 where
   pub some : 0 < length w.owners
   pub queues : length w.underway ≡ length w.owners
@@ -35,4 +33,4 @@ pub record IsWorld {S : Type 0} (owner : S → List ℕ → ℕ → ℕ) (w : Wo
   pub workers : (v : ℕ) (o : OwnerOf S) → At w.owners v o → o.worker ≡ v
   pub outboxes : (v : ℕ) (o : OwnerOf S) → At w.owners v o → length o.outboxes ≡ length w.owners
   pub messages : (v : ℕ) (ps : List Packet) → At w.underway v ps → All (λ p. IsMessageTo (space_in owner w) v p.message) ps
-  pub run : w.spent ≡ false → ∥ ((asked : List WorldStep) × IsAfter owner (space_in owner w) asked w) ∥₁
+  pub run : ∥ ((asked : List WorldStep) × IsAfter owner (space_in owner w) asked w) ∥₁

@@ -1,11 +1,12 @@
 -- Owners of states in one thread as they are stored, with the messages underway delivered in any order (hash distributed
 -- A*: Kishimoto, Fukunaga and Botea 2013).
-use Rattle.std.specs.Prelude.{◌≡◌, ℕ, ◌≤◌, ◌⊎◌, ◌==◌, Bool, List, [], length, map, filter, flat_map, ◌∷◌, ◌++◌}
-use Rattle.cost.specs.Distances.{Distance, Infinite}
+use Rattle.std.specs.Prelude.{◌≡◌, ℕ, ◌≤◌, ◌⊎◌, ◌==◌, Bool, true, false, not, ◌&&◌, nat_lt, List, [], length, map, filter, flat_map, ◌∷◌, ◌++◌, slice_get}
+use Rattle.std.specs.Option.{option_map_or}
+use Rattle.cost.specs.Distances.{Distance, Infinite, is_at_most, is_below}
 use Rattle.owner_theory.specs.Owners as owners
 use Rattle.owner_theory.specs.Owners.{At, list_at, SearchSpace, Packet}
 use Rattle.owner_theory.specs.Worlds as machine
-use Rattle.owner_theory.specs.Worlds.{Request, ToExpand, ToSend, ToDeliver, ToOffer, ToLook, ToRest, Step, Does, IsRunOf, world_start, world_run, world_after}
+use Rattle.owner_theory.specs.Worlds.{no_open, idle, is_empty, Request, ToExpand, ToSend, ToDeliver, ToOffer, ToLook, ToRest, Step, Does, IsRunOf, world_start, world_run, world_after}
 use Rattle.owner.specs.Spaces.{SpaceOf, searched}
 use Rattle.owner.specs.Owned.{OwnerOf, under, IsRefusal}
 use Rattle.owner.specs.declared.fault.OwnerFault.{OwnerFault}
@@ -14,7 +15,7 @@ use Rattle.netcore.specs.declared.step.WorldStep.{WorldStep}
 use Rattle.netcore.specs.declared.step.WorldStep.TheVariants.{Expand, Send, Deliver, Offer, Look, Rest}
 
 -- the space, the owners, the messages underway to each of them (the oldest first), the bound that each has seen last, the
--- least cost that was offered, which owners are at rest, and whether a step ran out of memory halfway
+-- least cost that was offered, and which owners are at rest
 pub record WorldOf (S : Type 0) : Type 0 where
   pub space : SpaceOf S
   pub owners : List (OwnerOf S)
@@ -22,7 +23,6 @@ pub record WorldOf (S : Type 0) : Type 0 where
   pub seen : List Distance
   pub bound : Distance
   pub resting : List Bool
-  pub spent : Bool
 
 -- the search space of the world's owners
 abbrev pub space_in : {S : Type 0} → (S → List ℕ → ℕ → ℕ) → WorldOf S → SearchSpace
@@ -77,10 +77,29 @@ pub record IsAfter {S : Type 0} (owner : S → List ℕ → ℕ → ℕ) (space 
   pub run : IsRunOf space (world_start space) (map request_of asked) steps
   pub shown : Shows owner w (world_after_run space steps)
 
--- a step is refused as the owner refuses it that is to expand its next node; the world is as it was, unless memory ran
--- out
+-- whether this holds of the owner of a number and the bound that it has seen last; false if there is no such owner
+abbrev pub at_owner : {S : Type 0} → WorldOf S → ℕ → (OwnerOf S → Distance → Bool) → Bool
+at_owner w v holds = option_map_or (λ o. option_map_or (holds o) (slice_get w.seen v) false) (slice_get w.owners v) false
+
+-- two distances differ
+abbrev pub differ : Distance → Distance → Bool
+differ x y = not (is_at_most x y && is_at_most y x)
+
+-- whether the step would change something: there is a node to expand below the bound seen last, whatever the limit; a
+-- message to send; a message of that number underway; a cost below the least offered; a bound not yet seen; or an idle
+-- owner not at rest
+abbrev pub would_change : {S : Type 0} → (S → List ℕ → ℕ → ℕ) → WorldOf S → WorldStep → Bool
+would_change owner w (Expand v) = at_owner w v (λ o b. not (no_open (space_in owner w) (under o b)))
+would_change owner w (Send v to) = at_owner w v (λ o b. not (is_empty (list_at o.outboxes to)))
+would_change owner w (Deliver v k) = nat_lt k (length (list_at w.underway v))
+would_change owner w (Offer v) = at_owner w v (λ o b. is_below o.best w.bound)
+would_change owner w (Look v) = at_owner w v (λ o b. differ b w.bound)
+would_change owner w (Rest v) =
+    at_owner w v (λ o b. option_map_or not (slice_get w.resting v) false && idle (space_in owner w) (under o b))
+
+-- a step is refused as the owner refuses it that is to expand its next node, or because there is no memory for it; the world is as it was
 abbrev pub IsStepRefusal : {S : Type 0} → (S → List ℕ → ℕ → ℕ) → WorldOf S → WorldOf S → WorldStep → OwnerFault → Type 0
-IsStepRefusal {S = S} owner old new asked OutOfMemory = Unit {0}
+IsStepRefusal {S = S} owner old new asked OutOfMemory = (would_change owner old asked ≡ true) × (new ≡ old)
 IsStepRefusal {S = S} owner old new asked e =
     (v : ℕ) × (o : OwnerOf S) × (b : Distance) × (asked ≡ Expand v) × At old.owners v o × At old.seen v b
     × IsRefusal owner b o o e × (new ≡ old)

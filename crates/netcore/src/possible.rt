@@ -2,7 +2,8 @@
 
 ghost use Rattle.std.specs.Prelude.{◌≡◌, ℕ, List, ◌<◌, ◌-◌, ◌^◌, ◌++◌, min, length, map, slice_get, flat_map};
 ghost use Rattle.extract.specs.Views.{packets_in};
-ghost use Rattle.netcore.specs.Possible.{would_change, own_step, by_owner, sends_of, deliveries, possible_steps, below};
+ghost use Rattle.netcore.specs.Worlds.{would_change};
+ghost use Rattle.netcore.specs.Possible.{own_step, by_owner, sends_of, deliveries, possible_steps, below};
 ghost use Rattle.netcore.specs.declared.step.WorldStep.TheVariants.{Expand, Send, Deliver, Offer, Look, Rest};
 
 use crate::counts::underway_count;

@@ -7,8 +7,8 @@ ghost use Rattle.cost.specs.Distances.{Distance};
 ghost use Rattle.owner_theory.specs.Worlds.{world_start, family_of, waiting, IsQuiet};
 ghost use Rattle.owner.specs.Spaces.{searched};
 ghost use Rattle.netcore.specs.declared.step.WorldStep.{WorldStep};
-ghost use Rattle.netcore.specs.Worlds.{space_in, left_in, world_after_run, Shows, Steps, IsAfter, IsStepRefusal, IsRun, IsRunRefusal};
-ghost use Rattle.netcore.specs.Possible.{would_change, possible_steps};
+ghost use Rattle.netcore.specs.Worlds.{space_in, left_in, world_after_run, Shows, Steps, IsAfter, IsStepRefusal, IsRun, IsRunRefusal, would_change};
+ghost use Rattle.netcore.specs.Possible.{possible_steps};
 ghost use Rattle.netcore.specs.Kept.{IsStepDone, IsStepRefused};
 ghost use Rattle.netcore.specs.Starts.{IsFirstOwner};
 ghost use Rattle.netcore.specs.declared.step.WorldStep.TheVariants.{Expand, Send, Deliver, Offer, Look, Rest};
@@ -39,8 +39,6 @@ pub struct World<'a, S: Spread + Drop, F: StateForm + Drop> {
     pub(crate) seen: Vec<Dist>,
     pub(crate) bound: Dist,
     pub(crate) resting: Vec<bool>,
-    /// Whether a step ran out of memory halfway, after which the owners are at the end of no run.
-    spent: bool,
 }
 
 impl<'a, S: Spread + Drop, F: StateForm + Drop> Model for World<'a, S, F> {
@@ -58,7 +56,6 @@ impl<'a, S: Spread + Drop, F: StateForm + Drop> Model for World<'a, S, F> {
       seen = w.seen.items;
       bound = w.bound;
       resting = w.resting.items;
-      spent = w.spent;
     } };
 
     ghost use Rattle.netcore.specs.Kept.{IsWorld};
@@ -70,7 +67,6 @@ impl<'a, S: Spread + Drop, F: StateForm + Drop> Model for World<'a, S, F> {
       seen = w.seen.items;
       bound = w.bound;
       resting = w.resting.items;
-      spent = w.spent;
     }) };
 }
 
@@ -118,7 +114,6 @@ impl<'a, S: Spread + Drop, F: StateForm + Drop> World<'a, S, F> {
         ensures started { IfOk result (λ w. Shows S.owner w (world_start (searched S.owner space.now owners))) }
         ensures space { IfOk result (λ w. w.space ≡ space.now) }
         ensures owners { IfOk result (λ w. length w.owners ≡ owners) }
-        ensures whole { IfOk result (λ w. w.spent ≡ false) }
     {
         Ok(World {
             space,
@@ -127,12 +122,11 @@ impl<'a, S: Spread + Drop, F: StateForm + Drop> World<'a, S, F> {
             seen: vec![in alloc; Dist::inf(); owners]?,
             bound: Dist::inf(),
             resting: vec![in alloc; false; owners]?,
-            spent: false,
         })
     }
 
     /// The worker expands its next node below the bound that it has seen last. Returns whether there was one. A fault is
-    /// that of the owner.
+    /// that of the owner, and leaves the world as it was.
     fn expand(&mut self, worker: usize) -> Result<bool, OwnerFault>
         ensures { MatchResult result (IsStepDone S.owner self.old self.new (Expand worker)) (IsStepRefused S.owner self.old self.new (Expand worker)) }
     {
@@ -141,17 +135,12 @@ impl<'a, S: Spread + Drop, F: StateForm + Drop> World<'a, S, F> {
         }
         match self.owners[worker].expand(self.seen[worker]) {
             Ok(posted) => Ok(posted.is_some()),
-            Err(OwnerFault::OutOfMemory) => {
-                self.spent = true;
-                Err(OwnerFault::OutOfMemory)
-            }
-            Err(OwnerFault::TotalTooLarge) => Err(OwnerFault::TotalTooLarge),
-            Err(OwnerFault::LimitReached) => Err(OwnerFault::LimitReached),
+            Err(fault) => Err(fault),
         }
     }
 
     /// The first worker's oldest message for the second goes underway. Returns whether there was one. Fails only if
-    /// allocation fails, and then the world is spent.
+    /// allocation fails, and then leaves the world as it was.
     fn send(&mut self, worker: usize, to: usize) -> Result<bool, AllocError>
         ensures { MatchResult result (IsStepDone S.owner self.old self.new (Send worker to)) (λ _. IsStepRefused S.owner self.old self.new (Send worker to) OutOfMemory) }
     {
@@ -161,24 +150,22 @@ impl<'a, S: Spread + Drop, F: StateForm + Drop> World<'a, S, F> {
         if to >= self.owners.len() {
             return Ok(false);
         }
-        let Some(message) = self.owners[worker].next_out(to) else {
+        if self.owners[worker].outbox_len(to) == 0 {
             return Ok(false);
+        }
+        self.underway[to].reserve(1)?; // the message stays in its outbox until there is room for it
+        let Some(message) = self.owners[worker].next_out(to) else {
+            unreachable!() // there is a message
         };
-        let packet = Packet {
+        self.underway[to].push_back_reserved(Packet {
             sender: worker,
             message,
-        };
-        match self.underway[to].push_back(packet) {
-            Ok(()) => Ok(true),
-            Err(_) => {
-                self.spent = true;
-                Err(AllocError)
-            }
-        }
+        });
+        Ok(true)
     }
 
     /// The worker takes the message of that number, counted from 0, of those underway to it, and is then not at rest.
-    /// Returns whether there was one. Fails only if allocation fails, and then the world is spent.
+    /// Returns whether there was one. Fails only if allocation fails, and then leaves the world as it was.
     fn deliver(&mut self, worker: usize, number: usize) -> Result<bool, AllocError>
         ensures { MatchResult result (IsStepDone S.owner self.old self.new (Deliver worker number)) (λ _. IsStepRefused S.owner self.old self.new (Deliver worker number) OutOfMemory) }
     {
@@ -188,14 +175,18 @@ impl<'a, S: Spread + Drop, F: StateForm + Drop> World<'a, S, F> {
         let Some(packet) = self.underway[worker].remove(number) else {
             return Ok(false);
         };
+        let sender = packet.sender;
         match self.owners[worker].take(packet.message) {
             Ok(()) => {
                 self.resting[worker] = false;
                 Ok(true)
             }
-            Err(_) => {
-                self.spent = true;
-                Err(AllocError)
+            Err((message, error)) => {
+                let packet = Packet { sender, message };
+                let Ok(()) = self.underway[worker].insert(number, packet) else {
+                    unreachable!() // there is the room that it left
+                };
+                Err(error)
             }
         }
     }
@@ -248,8 +239,8 @@ impl<'a, S: Spread + Drop, F: StateForm + Drop> World<'a, S, F> {
         true
     }
 
-    /// Does a step, and returns whether something changed. A fault other than `OutOfMemory` is that of the owner that is
-    /// to expand a node, and leaves the world as it was; after `OutOfMemory` the world must not be used again.
+    /// Does a step, and returns whether something changed. A fault leaves the world as it was: it is that of the owner that
+    /// is to expand a node, or there is no memory for a step that would change something.
     pub fn step(&mut self, step: WorldStep) -> Result<bool, OwnerFault>
         ensures stepped { (world : machine.World) → Shows S.owner self.old world → IfOk result (λ _. Steps S.owner self.old world step self.new) }
         ensures changed { IfOk result (λ changed. changed ≡ would_change S.owner self.old step) }
@@ -257,7 +248,6 @@ impl<'a, S: Spread + Drop, F: StateForm + Drop> World<'a, S, F> {
         ensures refused { IfErr result (IsStepRefusal S.owner self.old self.new step) }
         ensures space { self.new.space ≡ self.old.space }
         ensures owners { length self.new.owners ≡ length self.old.owners }
-        ensures whole { IfOk result (λ _. self.new.spent ≡ self.old.spent) }
     {
         match step {
             WorldStep::Expand(worker) => self.expand(worker),
@@ -284,7 +274,6 @@ impl<'a, S: Spread + Drop, F: StateForm + Drop> World<'a, S, F> {
         ensures refused { IfErr result (IsRunRefusal S.owner space.now owners steps.now) }
         ensures space { IfOk result (λ w. w.space ≡ space.now) }
         ensures owners { IfOk result (λ w. length w.owners ≡ owners) }
-        ensures whole { IfOk result (λ w. w.spent ≡ false) }
     {
         let mut world = World::start(alloc, space, owners)?;
         for step in steps {
@@ -308,8 +297,7 @@ impl<'a, S: Spread + Drop, F: StateForm + Drop> World<'a, S, F> {
     }
 
     /// The number of messages underway or in outboxes plus the number of owners not at rest, or 2^128 - 1 if it is
-    /// greater. If it is 0 in a world that is not spent, the owners are settled; if it is not 0, some step would change
-    /// something.
+    /// greater. If it is 0, the owners are settled; if it is not 0, some step would change something.
     pub fn count(&self) -> u128
         ensures count { (world : machine.World) → Shows S.owner self.now world → result ≡ min (machine.count (space_in S.owner self.now) world) (2 ^ 128 - 1) }
         ensures quiet { result ≡ 0 → (asked : List WorldStep) (after : IsAfter S.owner (space_in S.owner self.now) asked self.now) →
@@ -343,9 +331,8 @@ impl<'a, S: Spread + Drop, F: StateForm + Drop> World<'a, S, F> {
         }
     }
 
-    /// The end of the search, as the end of a lawful family. The world must not be spent.
+    /// The end of the search, as the end of a lawful family.
     pub fn joined(self) -> Joined<'a, S, F>
-        requires { self.spent ≡ false }
         ensures shown { (asked : List WorldStep) (after : IsAfter S.owner (space_in S.owner self.entry) asked self.entry) →
             IsEndOf S.owner result (family_of (world_after_run (space_in S.owner self.entry) after.steps)) }
         ensures space { result.space ≡ self.entry.space }
@@ -364,19 +351,11 @@ impl<'a, S: Spread + Drop, F: StateForm + Drop> World<'a, S, F> {
         &self.owners
     }
 
-    /// Whether a step ran out of memory halfway. Such a world must not be used again.
-    pub fn is_spent(&self) -> bool
-        ensures { result ≡ self.now.spent }
-    {
-        self.spent
-    }
-
-    /// The type's invariant, stated as a contract: every world that is not spent is the world after some run, and it has
-    /// owners.
+    /// The type's invariant, stated as a contract: every world is the world after some run, and it has owners.
     pub fn recall(&self)
-        ensures run { self.now.spent ≡ false → ∥ ((asked : List WorldStep) × IsAfter S.owner (space_in S.owner self.now) asked self.now) ∥₁ }
+        ensures run { ∥ ((asked : List WorldStep) × IsAfter S.owner (space_in S.owner self.now) asked self.now) ∥₁ }
         ensures some { 0 < length self.now.owners }
     {
-        let _ = &self.spent;
+        let _ = self.owners.len();
     }
 }

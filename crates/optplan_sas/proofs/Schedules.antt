@@ -1,5 +1,5 @@
 -- Steps that are drawn one after another.
-use Rattle.std.proofs.Common.{◌≡◌, ◌≢◌, ℕ, zero, suc, ◌+◌, ◌<◌, ◌≤◌, ◌%◌, ⊎_elim, inl, inr, min, Some, List, [], ◌∷◌, ◌++◌, length, take, length-append, false, refl, sym, ap, subst, ◌∙◌, arith, add-one}
+use Rattle.std.proofs.Common.{◌≡◌, ◌≢◌, ℕ, zero, suc, ◌+◌, ◌<◌, ◌≤◌, ◌%◌, ⊎_elim, inl, inr, min, Some, List, [], ◌∷◌, ◌++◌, length, take, length-append, refl, sym, ap, subst, ◌∙◌, arith, add-one}
 use Rattle.std.proofs.Math.Nat.{mod-eq_of_lt}
 use Rattle.std.proofs.Math.Seq.{take-append_seam}
 use Rattle.std.proofs.lemmas.List.{take-append-le}
@@ -83,7 +83,6 @@ module _ {S : Type 0} (owner : S → List ℕ → ℕ → ℕ) (over : SpaceOf S
     pub drawn : AreDrawn owner over n seed asked
     pub world : IsWorldAfter owner over n asked w
     pub long : length asked ≡ taken
-    pub whole : w.spent ≡ false
 
   -- a step that is drawn in a world in which something is left to do
   pub record IsTurn (taken : ℕ) (old : WorldOf S) (step : WorldStep) : Type 0 where
@@ -94,14 +93,12 @@ module _ {S : Type 0} (owner : S → List ℕ → ℕ → ℕ) (over : SpaceOf S
   same_space w space owners = ap (λ (s : SpaceOf S). searched owner s (length w.owners)) space ∙ ap (searched owner over) owners
 
   -- no step yet
-  pub begun : (w : WorldOf S) → Shows owner w (world_start (searched owner over n)) → w.space ≡ over → length w.owners ≡ n → w.spent ≡ false
-      → IsUnderWay 0 w
-  begun w shows space owners whole = record {
+  pub begun : (w : WorldOf S) → Shows owner w (world_start (searched owner over n)) → w.space ≡ over → length w.owners ≡ n → IsUnderWay 0 w
+  begun w shows space owners = record {
     asked = [];
     drawn = none_drawn;
     world = record { after = record { steps = []; run = tt; shown = shows }; space = space; owners = owners };
     long = refl;
-    whole = whole;
   }
 
   -- memory ran out
@@ -125,8 +122,8 @@ module _ {S : Type 0} (owner : S → List ℕ → ℕ → ℕ) (over : SpaceOf S
   -- a step more
   pub one_more : (taken : ℕ) (step : WorldStep) (old new : WorldOf S) → IsUnderWay taken old → IsTurn taken old step
       → ((world : machine.World) → Shows owner old world → Steps owner old world step new) → new.space ≡ old.space
-      → length new.owners ≡ length old.owners → new.spent ≡ old.spent → IsUnderWay (taken + 1) new
-  one_more taken step old new so_far turn stepped spaces owners_are spents =
+      → length new.owners ≡ length old.owners → IsUnderWay (taken + 1) new
+  one_more taken step old new so_far turn stepped spaces owners_are =
       let same = same_space old so_far.world.space so_far.world.owners in
       record {
         asked = so_far.asked ++ step ∷ [];
@@ -141,24 +138,21 @@ module _ {S : Type 0} (owner : S → List ℕ → ℕ → ℕ) (over : SpaceOf S
               owners = owners_are ∙ so_far.world.owners;
             };
         long = let more = length-append so_far.asked (step ∷ []) in let long = so_far.long in omega (arith, more, long);
-        whole = spents ∙ so_far.whole;
       }
 
   -- the next step is past an owner's limit
   pub limited : (taken most : ℕ) (step : WorldStep) (old new : WorldOf S) → IsUnderWay taken old → taken ≤ most → IsTurn taken old step
-      → IsStepRefusal owner old new step LimitReached → IsSimulated owner over n seed most new × (new.spent ≡ false)
+      → IsStepRefusal owner old new step LimitReached → IsSimulated owner over n seed most new
   limited taken most step old new so_far le turn (v, o, b, is, at, seen, why, same) =
       let long = so_far.long in
-      subst (λ (w : WorldOf S). IsSimulated owner over n seed most w × (w.spent ≡ false)) (sym same) (
-        record {
-          asked = so_far.asked;
-          drawn = so_far.drawn;
-          few = omega (arith, long, le);
-          world = so_far.world;
-          ends = inr (inl (step, is_next taken step old so_far turn, (v, o, b, is, at, seen, why, refl)));
-        },
-        so_far.whole,
-      )
+      subst (λ (w : WorldOf S). IsSimulated owner over n seed most w) (sym same)
+      (record {
+        asked = so_far.asked;
+        drawn = so_far.drawn;
+        few = omega (arith, long, le);
+        world = so_far.world;
+        ends = inr (inl (step, is_next taken step old so_far turn, (v, o, b, is, at, seen, why, refl)));
+      })
 
   -- a step leads past the greatest total
   pub too_large : (taken : ℕ) (step : WorldStep) (old new : WorldOf S) → IsUnderWay taken old → IsTurn taken old step

@@ -1,6 +1,6 @@
 //! Schedules that are drawn from a seed.
 
-ghost use Rattle.std.specs.Prelude.{◌≡◌, ℕ, ◌<◌, ◌+◌, false, length, IfOk, IfErr};
+ghost use Rattle.std.specs.Prelude.{◌≡◌, ℕ, ◌<◌, ◌+◌, length, IfOk, IfErr};
 ghost use Rattle.fdr.specs.Tasks.{ranges};
 ghost use Rattle.netcore.specs.Possible.{possible_steps};
 ghost use Rattle.optplan_sas.specs.Schedules.{word_of, IsAfterWords, Draws, IsSimulated, IsSimulationRefusal};
@@ -43,7 +43,6 @@ pub fn simulated<'a, S: Spread + Drop, O: Observer, F: StateForm + Drop>(
     requires owners { 0 < owners }
     requires fits { F.Fits (ranges space.now.task) }
     ensures run { IfOk result (IsSimulated S.owner space.now owners seed steps) }
-    ensures whole { IfOk result (λ w. w.spent ≡ false) }
     ensures refused { IfErr result (IsSimulationRefusal S.owner space.now owners seed) }
 {
     let mut world = World::start(alloc, space, owners)?;

@@ -1,6 +1,6 @@
 -- What the expansion of the next node comes to.
 use Rattle.std.proofs.Common.{◌≡◌, ◌⊎◌, ℕ, zero, suc, ◌+◌, ◌<◌, ◌≤◌, ◌^◌, Bool, true, false, ◌||◌, List, [], ◌∷◌, length, Some, None, All, refl, sym, ap, ◌∙◌, subst, inl, inr, ⊎_elim, arith, true≢false, cond, add-one}
-use Rattle.std.specs.Prelude.{slice_set, filter, filter_map, nat_lt, is_some}
+use Rattle.std.specs.Prelude.{filter, filter_map, nat_lt, is_some, Result, Ok, Err, IfErr, IsErrAnd}
 use Rattle.std.specs.List.{list_any, range_with_len}
 use Rattle.std.proofs.lemmas.Bool.{or_parts, or_cases}
 use Rattle.std.proofs.lemmas.Bool.Decides.{nat_tests}
@@ -8,7 +8,7 @@ use Rattle.std.proofs.lemmas.List.Elements.{All-nil, All-cons}
 use Rattle.cost.specs.Distances.{Distance, Finite, is_at_most}
 use Rattle.fdr.specs.Tasks.{FiniteDomainTask, ranges, IsState, applies_at, cost_of}
 use Rattle.fdr_successors.specs.Applicable.{applicable_operators}
-use Rattle.owner_theory.specs.Owners.{At, Node, marked, treat_all, successor_by, successors}
+use Rattle.owner_theory.specs.Owners.{At, Node, mark_node, treat_all, successor_by, successors}
 use Rattle.owner_theory.specs.Worlds.{waiting}
 use Rattle.owner_theory.proofs.Lists.{in_range}
 use Rattle.owner_theory.proofs.States.{step_there}
@@ -16,7 +16,9 @@ use Rattle.owner_theory.proofs.Successors.{successors_by_applicable}
 use Rattle.openlist.specs.declared.entry.Rank.{Rank}
 use Rattle.openlist.specs.declared.entry.OpenEntry.{OpenEntry}
 use Rattle.closed.specs.Tables.{fresh}
-use Rattle.owner.specs.Owned.{OwnerOf, space_of, under, max_total, HasSmallSuccessors, HasLargeSuccessor, Expands}
+use Rattle.owner.specs.declared.fault.OwnerFault.{OwnerFault}
+use Rattle.owner.specs.declared.fault.OwnerFault.TheVariants.{OutOfMemory}
+use Rattle.owner.specs.Owned.{OwnerOf, space_of, under, max_total, HasSmallSuccessors, HasLargeSuccessor, Expands, IsRefusal}
 use Rattle.owner.specs.Queues.{IsLeast, h_of}
 use Rattle.owner.specs.Held.{IsOwner, IsSmallStep}
 use Rattle.owner.proofs.Outcomes.{at_below}
@@ -141,40 +143,33 @@ module _ {S : Type 0} (owner : S → List ℕ → ℕ → ℕ) (o : OwnerOf S) (
   pub least_state : (s : List ℕ) → IsOwner owner o → s ≡ l.node.state → IsState (ranges o.space.task) s
   least_state s h same = subst (IsState (ranges o.space.task)) (sym same) ((h.nodes e.index l.node l.there).state)
 
-  -- the owner after its next node is marked
-  abbrev pub with_next_marked : OwnerOf S
-  with_next_marked = record {
-    space = o.space;
-    worker = o.worker;
-    nodes = slice_set o.nodes e.index (marked l.node);
-    outboxes = o.outboxes;
-    best = o.best;
-    expansions = cond (is_some o.space.limit) (suc o.expansions) o.expansions;
-  }
-
-  pub expands : (bound : Distance) (s : List ℕ) (os : List ℕ) (posted : ℕ) (between new : OwnerOf S)
+  pub expands : (bound : Distance) (s : List ℕ) (os : List ℕ) (posted : ℕ) (new : OwnerOf S)
       → is_at_most bound (Finite e.f) ≡ false → (o.space.limit ≡ Some o.expansions → ⊥) → s ≡ l.node.state
-      → os ≡ applicable_operators o.space.task s → list_any (is_large o.space.task e.rank) os ≡ false → between ≡ with_next_marked
-      → under new bound ≡ treat_all (space_of owner between) between.worker (under between bound)
-      (filter_map (successor_by between.space.task between.worker e.index (fresh s e.rank None)) os)
-      → waiting new.outboxes ≡ waiting between.outboxes + posted → new.space ≡ between.space → new.worker ≡ between.worker
-      → new.expansions ≡ between.expansions → Expands owner bound o posted new
-  expands bound s os posted between new below allowed same is none was after put space worker count = record {
+      → os ≡ applicable_operators o.space.task s → list_any (is_large o.space.task e.rank) os ≡ false
+      → under new bound ≡ treat_all (space_of owner o) o.worker (mark_node (under o bound) e.index l.node)
+      (filter_map (successor_by o.space.task o.worker e.index (fresh s e.rank None)) os)
+      → waiting new.outboxes ≡ waiting o.outboxes + posted → new.space ≡ o.space → new.worker ≡ o.worker
+      → new.expansions ≡ cond (is_some o.space.limit) (suc o.expansions) o.expansions → Expands owner bound o posted new
+  expands bound s os posted new below allowed same is none after put space worker count = record {
     index = e.index;
     node = l.node;
     next = is_next (space_of owner o) o.nodes bound e l below;
     allowed = allowed;
     small = small_successors o.space.task s os e.rank l.node is same l.cost l.steps none;
     after = after
-        ∙ (ap (λ (x : OwnerOf S). treat_all (space_of owner x) x.worker (under x bound)
-        (filter_map (successor_by x.space.task x.worker e.index (fresh s e.rank None)) os)) was
-        ∙ (ap (treat_all (space_of owner o) o.worker (under with_next_marked bound))
+        ∙ (ap (treat_all (space_of owner o) o.worker (mark_node (under o bound) e.index l.node))
         (successors_are o.space.task o.worker e.index s os e.rank l.node is same l.cost l.steps)
-        ∙ sym (ap (λ b. cond b (treat_all (space_of owner o) o.worker (under with_next_marked bound)
+        ∙ sym (ap (λ b. cond b (treat_all (space_of owner o) o.worker (mark_node (under o bound) e.index l.node)
         (successors o.space.task o.worker e.index l.node)) (under o bound))
-        (may_be_expanded (space_of owner o) (under o bound) e l below))));
-    put_out = put ∙ ap (λ (x : OwnerOf S). waiting x.outboxes + posted) was;
-    space = space ∙ ap (λ (x : OwnerOf S). x.space) was;
-    worker = worker ∙ ap (λ (x : OwnerOf S). x.worker) was;
-    counted = count ∙ ap (λ (x : OwnerOf S). x.expansions) was;
+        (may_be_expanded (space_of owner o) (under o bound) e l below)));
+    put_out = put;
+    space = space;
+    worker = worker;
+    counted = count;
   }
+
+-- a call that is refused since memory is missing
+pub refused_memory : {S T : Type 0} (owner : S → List ℕ → ℕ → ℕ) (bound : Distance) (old new : OwnerOf S) (r : Result T OwnerFault)
+    → IsErrAnd r (λ e. e ≡ OutOfMemory) → IsRefusal owner bound old new OutOfMemory → IfErr r (IsRefusal owner bound old new)
+refused_memory owner bound old new (Ok v) h k = absurd h
+refused_memory owner bound old new (Err e) h k = subst (IsRefusal owner bound old new) (sym h) k

@@ -3,12 +3,11 @@ pub mod Entries
 pub mod TieLaws
 pub mod Outcomes
 pub mod Queues
+pub mod Adding
 pub mod Currents
-pub mod Boxing
-pub mod Using
-pub mod Showing
 pub mod Results
 pub mod Choosing
 pub mod Owning
 pub mod Stepping
+pub mod Batching
 pub mod Expanding

@@ -1,6 +1,6 @@
 -- What every owner keeps stays where it takes a state, or an outbox changes.
-use Rattle.std.proofs.Common.{◌≡◌, ℕ, zero, suc, ◌+◌, ◌<◌, ◌≤◌, ◌^◌, Bool, true, false, ◌==◌, List, [], ◌∷◌, ◌++◌, ◌&&◌, map, length, Option, Some, None, All, refl, sym, ap, ◌∙◌, subst, ⊎_elim, arith, true≢false, cond, length-set}
-use Rattle.std.specs.Prelude.{slice_set, replicate, IfSome, is_some}
+use Rattle.std.proofs.Common.{◌≡◌, ℕ, zero, suc, ◌+◌, ◌<◌, ◌≤◌, Bool, true, false, ◌==◌, List, [], ◌∷◌, ◌++◌, ◌&&◌, map, length, Option, Some, None, All, refl, sym, ap, ◌∙◌, subst, ⊎_elim, arith, true≢false, cond, length-set}
+use Rattle.std.specs.Prelude.{slice_set, replicate, fold, IfSome, is_some}
 use Rattle.std.proofs.lemmas.List.{length-replicate}
 use Rattle.std.specs.List.{list_all}
 use Rattle.std.specs.Option.{option_to_list}
@@ -18,14 +18,15 @@ use Rattle.openlist.specs.declared.entry.OpenEntry.{OpenEntry}
 use Rattle.closed.specs.declared.message.Parent.{Parent}
 use Rattle.closed.specs.declared.message.Message.{Message}
 use Rattle.closed.specs.declared.table.Outcome.TheVariants.{Kept}
-use Rattle.closed.specs.Tables.{reached, outcome_of, fresh}
+use Rattle.closed.specs.Tables.{reached, outcome_of, fresh, message_of, arrival}
 use Rattle.owner_space.specs.declared.ties.Ties.{Ties}
 use Rattle.owner_space.specs.Spaces.{SpaceOf, searched}
 use Rattle.owner.specs.Owned.{OwnerOf, space_of, under, IsMessageTo, IsKept}
 use Rattle.owner.specs.Queues.{ReachedOf, message_at, h_of, IsLeast}
 use Rattle.owner.specs.Held.{IsOwner}
-use Rattle.owner.specs.Outboxes.{shown}
+use Rattle.owner.specs.Outboxes.{shown, withdrawn}
 use Rattle.owner.proofs.Outcomes.{reached_improves, kept_same}
+use Rattle.owner_outboxes.proofs.Withdrawing.{withdrawn_length, withdrawn_all}
 use Rattle.owner.proofs.Choosing.{no_open_some, both_false}
 
 -- ---- outboxes are shown by the task of their owner's space
@@ -89,7 +90,7 @@ module _ {S : Type 0} (owner : S → List ℕ → ℕ → ℕ) (o : OwnerOf S) w
     expansions = o.expansions;
   }
 
-  boxes_kept : (boxes : List (List machine.Message)) → length boxes ≡ length o.outboxes → IsOwner owner o
+  pub boxes_kept : (boxes : List (List machine.Message)) → length boxes ≡ length o.outboxes → IsOwner owner o
       → ((to : ℕ) → to < length o.outboxes → All (IsMessageTo (space_of owner o) to) (list_at boxes to)) → IsOwner owner (with_boxes boxes)
   boxes_kept boxes e h each = record {
     owners = subst (λ n. o.worker < n) (sym e) h.owners;
@@ -188,65 +189,97 @@ posted_treats space me to o boxes m below mine other is =
     theirs : (space.owner_of m.state == me) ≡ false
     theirs = ap (λ v. v == me) mine ∙ other
 
--- the message of a state that was packed
-pub packed_fits : {S : Type 0} (owner : S → List ℕ → ℕ → ℕ) (o : OwnerOf S) (to : ℕ) (state state' : List ℕ) (rank : Rank) (parent : Parent)
-    → state' ≡ state → IsState (ranges o.space.task) state → owner o.space.spread state (length o.outboxes) ≡ to → rank.cost ≤ 2 ^ 62
-    → rank.steps ≤ 2 ^ 62 → IsMessageTo (space_of owner o) to (message_at state' rank parent)
-packed_fits owner o to state state' rank parent same ok mine cost steps =
-    subst (λ s. IsMessageTo (space_of owner o) to (message_at s rank parent)) (sym same)
-    (record { state = ok; owner = mine; cost = cost; steps = steps })
+-- ---- the next node is expanded
 
--- ---- the next node is marked
-
--- the owner after its next node is marked
-abbrev pub IsMarkedAs : {S : Type 0} → OwnerOf S → OwnerOf S → Type 0
-IsMarkedAs old new = (e : OpenEntry) (n : Node) → IsLeast old.space.ties (h_of old.space) old.nodes e → At old.nodes e.index n
+-- the owner after its next node is marked and these messages are taken
+abbrev pub IsExpandedAs : {S : Type 0} → OwnerOf S → List machine.Message → Distance → OwnerOf S → Type 0
+IsExpandedAs old own best new = (e : OpenEntry) (n : Node) → IsLeast old.space.ties (h_of old.space) old.nodes e → At old.nodes e.index n
     → new ≡ record old {
-      nodes = slice_set old.nodes e.index (marked n);
+      nodes = fold improve (slice_set old.nodes e.index (marked n)) own;
+      best = best;
       expansions = cond (is_some old.space.limit) (suc old.expansions) old.expansions;
     }
 
+-- taking messages of one's own keeps all nodes one's own
+all_kept : (space : SearchSpace) (me : ℕ) (ns : List Node) (ms : List machine.Message) → ((i : ℕ) (n : Node) → At ns i n → IsKept space me n)
+    → All (IsMessageTo space me) ms → (i : ℕ) (n : Node) → At (fold improve ns ms) i n → IsKept space me n
+all_kept space me ns [] h fits = h
+all_kept space me ns (m ∷ ms) h fits =
+    let f = All-head (IsMessageTo space me) m ms fits in
+    all_kept space me (improve ns m) ms
+    (λ i n at. ⊎_elim (λ (p : At ns i n). h i n p)
+    (λ (p : node_of m ≡ n). subst (λ (x : Node). IsKept space me x) p (record { state = f.state; owner = f.owner; cost = f.cost; steps = f.steps }))
+    (improve_at ns m i n at))
+    (All-tail (IsMessageTo space me) m ms fits)
+
+-- the table's word and the family's are one, for several messages
+pub all_reached : {F : Type 0} (values : F → List ℕ) (ns : List Node) (ms : List (Message F))
+    → fold reached ns (map (arrival values) ms) ≡ fold improve ns (map (message_of values) ms)
+all_reached values ns [] = refl
+all_reached values ns (m ∷ ms) =
+    ap (λ (l : List Node). fold reached l (map (arrival values) ms)) (reached_improves ns (message_of values m))
+    ∙ all_reached values (improve ns (message_of values m)) ms
+
+pub all_mapped : {X Y : Type 0} (f : X → Y) (P : Y → Type 0) (xs : List X) → All (λ x. P (f x)) xs → All P (map f xs)
+all_mapped f P [] h = All-nil P
+all_mapped f P (x ∷ xs) h =
+    All-cons P (f x) (map f xs) (All-head (λ y. P (f y)) x xs h) (all_mapped f P xs (All-tail (λ y. P (f y)) x xs h))
+
 module _ {S : Type 0} (owner : S → List ℕ → ℕ → ℕ) (o : OwnerOf S) where
-  abbrev pub with_marked : SpaceOf S → List Node → List (List machine.Message) → ℕ → OwnerOf S
-  with_marked space nodes boxes expansions = record {
+  abbrev pub with_expanded : SpaceOf S → List Node → List (List machine.Message) → Distance → ℕ → OwnerOf S
+  with_expanded space nodes boxes best expansions = record {
     space = space;
     worker = o.worker;
     nodes = nodes;
     outboxes = boxes;
-    best = o.best;
+    best = best;
     expansions = expansions;
   }
 
-  pub marked_kept : (space : SpaceOf S) (nodes : List Node) (boxes : List (List machine.Message)) (expansions : ℕ) (i : ℕ) (n : Node)
-      → IsOwner owner o → space ≡ o.space → boxes ≡ o.outboxes → At o.nodes i n → nodes ≡ slice_set o.nodes i (marked n)
-      → IfSome o.space.limit (λ limit. expansions ≤ limit) → IsOwner owner (with_marked space nodes boxes expansions)
-  marked_kept space nodes boxes expansions i n h same boxes_same there is few =
-      subst (λ (s : SpaceOf S). IsOwner owner (with_marked s nodes boxes expansions)) (sym same)
-      (subst (λ (bs : List (List machine.Message)). IsOwner owner (with_marked o.space nodes bs expansions)) (sym boxes_same)
-      (subst (λ (ns : List Node). IsOwner owner (with_marked o.space ns o.outboxes expansions)) (sym is)
+  pub expanded_kept : (space : SpaceOf S) (nodes : List Node) (boxes : List (List machine.Message)) (best : Distance) (expansions : ℕ) (i : ℕ) (n : Node)
+      (own : List machine.Message) → IsOwner owner o → space ≡ o.space → boxes ≡ o.outboxes → At o.nodes i n
+      → nodes ≡ fold improve (slice_set o.nodes i (marked n)) own → All (IsMessageTo (space_of owner o) o.worker) own
+      → IfSome o.space.limit (λ limit. expansions ≤ limit) → IsOwner owner (with_expanded space nodes boxes best expansions)
+  expanded_kept space nodes boxes best expansions i n own h same boxes_same there is fits few =
+      subst (λ (s : SpaceOf S). IsOwner owner (with_expanded s nodes boxes best expansions)) (sym same)
+      (subst (λ (bs : List (List machine.Message)). IsOwner owner (with_expanded o.space nodes bs best expansions)) (sym boxes_same)
+      (subst (λ (ns : List Node). IsOwner owner (with_expanded o.space ns o.outboxes best expansions)) (sym is)
       (record {
         owners = h.owners;
-        nodes = λ j x at. ⊎_elim
-            (λ (p : (j ≡ i) × (marked n ≡ x)). let k = h.nodes i n there in
-            subst (λ (y : Node). IsKept (space_of owner o) o.worker y) p.1 (record {
-              state = k.state;
-              owner = k.owner;
-              cost = k.cost;
-              steps = k.steps;
-            }))
-            (λ (p : At o.nodes j x). h.nodes j x p)
-            (mark_at o.nodes i (marked n) j x at);
+        nodes = all_kept (space_of owner o) o.worker (slice_set o.nodes i (marked n)) own marked_kept fits;
         messages = h.messages;
         counted = few;
       })))
+    where
+      marked_kept : (j : ℕ) (x : Node) → At (slice_set o.nodes i (marked n)) j x → IsKept (space_of owner o) o.worker x
+      marked_kept j x at = ⊎_elim
+          (λ (p : (j ≡ i) × (marked n ≡ x)). let k = h.nodes i n there in
+          subst (λ (y : Node). IsKept (space_of owner o) o.worker y) p.1 (record {
+            state = k.state;
+            owner = k.owner;
+            cost = k.cost;
+            steps = k.steps;
+          }))
+          (λ (p : At o.nodes j x). h.nodes j x p)
+          (mark_at o.nodes i (marked n) j x at)
 
-  pub marked_as : (space : SpaceOf S) (nodes : List Node) (boxes : List (List machine.Message)) (expansions : ℕ) → space ≡ o.space → boxes ≡ o.outboxes
-      → ((e : OpenEntry) (n : Node) → IsLeast o.space.ties (h_of o.space) o.nodes e → At o.nodes e.index n → nodes ≡ slice_set o.nodes e.index (marked n))
+  pub expanded_as : (space : SpaceOf S) (nodes : List Node) (boxes : List (List machine.Message)) (best : Distance) (expansions : ℕ) (own : List machine.Message)
+      → space ≡ o.space → boxes ≡ o.outboxes
+      → ((e : OpenEntry) (n : Node) → IsLeast o.space.ties (h_of o.space) o.nodes e → At o.nodes e.index n
+      → nodes ≡ fold improve (slice_set o.nodes e.index (marked n)) own)
       → expansions ≡ cond (is_some o.space.limit) (suc o.expansions) o.expansions
-      → IsMarkedAs o (with_marked space nodes boxes expansions)
-  marked_as space nodes boxes expansions same boxes_same is count e n least at =
+      → IsExpandedAs o own best (with_expanded space nodes boxes best expansions)
+  expanded_as space nodes boxes best expansions own same boxes_same is count e n least at =
       let ns = is e n least at in
-      λ j. record { space = same j; worker = o.worker; nodes = ns j; outboxes = boxes_same j; best = o.best; expansions = count j }
+      λ j. record { space = same j; worker = o.worker; nodes = ns j; outboxes = boxes_same j; best = best; expansions = count j }
+
+  -- messages are withdrawn
+  pub withdrawn_kept : (vs : List ℕ) (boxes : List (List machine.Message)) → IsOwner owner o → boxes ≡ withdrawn vs o.outboxes
+      → IsOwner owner (with_boxes owner o boxes)
+  withdrawn_kept vs boxes h is =
+      boxes_kept owner o boxes (ap length is ∙ withdrawn_length vs o.outboxes) h
+      (λ to lt. subst (λ (bs : List (List machine.Message)). All (IsMessageTo (space_of owner o) to) (list_at bs to)) (sym is)
+      (withdrawn_all (λ t. IsMessageTo (space_of owner o) t) vs o.outboxes to (h.messages to lt)))
 
 pub counted_more : (limit : Option ℕ) (k : ℕ) → (limit ≡ Some k → ⊥) → IfSome limit (λ l. k ≤ l) → IfSome limit (λ l. k + 1 ≤ l)
 counted_more None k other h = tt

@@ -1,5 +1,5 @@
 -- The open list follows the nodes.
-use Rattle.std.proofs.Common.{◌≡◌, ◌⊎◌, ℕ, ◌+◌, ◌<◌, ◌≤◌, ◌^◌, true, false, ◌&&◌, ◌||◌, ◌==◌, List, [], ◌∷◌, ◌++◌, length, Option, Some, None, All, refl, sym, ap, ◌∙◌, subst, inl, inr, ⊎_elim, arith, true≢false}
+use Rattle.std.proofs.Common.{◌≡◌, ◌⊎◌, ℕ, zero, suc, Bool, ◌+◌, ◌<◌, ◌≤◌, ◌^◌, true, false, ◌&&◌, ◌||◌, ◌==◌, List, [], ◌∷◌, ◌++◌, length, Option, Some, None, All, refl, sym, ap, ◌∙◌, subst, inl, inr, ⊎_elim, arith, true≢false}
 use Rattle.std.specs.Prelude.{Contains, map, nat_lt, slice_get, slice_set, IfSome, IfNone}
 use Rattle.std.specs.List.Sorted.{IsPermutation}
 use Rattle.std.proofs.lemmas.Bool.{cases_lt}
@@ -238,7 +238,7 @@ better_open h ns es i x m f q at same less is within = record {
     x0 = entry_of f m.cost m.steps i
 
 -- the entry that goes into the list, turned over, and those that were there
-added_words : (ties : Ties) (added es1 es2 : List OpenEntry) → IsPermutation (map (turned ties) added ++ es1) es2 → All HasWords added → All HasWords es1
+pub added_words : (ties : Ties) (added es1 es2 : List OpenEntry) → IsPermutation (map (turned ties) added ++ es1) es2 → All HasWords added → All HasWords es1
     → All HasWords es2
 added_words ties added es1 es2 p words q =
     All-permutation HasWords (map (turned ties) added ++ es1) es2 p
@@ -261,42 +261,65 @@ added_back ties added es1 es2 p words =
     twice (x ∷ xs) all = λ k. turned_twice ties x (All-contains HasWords (x ∷ xs) x all (in_front_of x xs)) k
         ∷ twice xs (All-tail HasWords x xs all) k
 
--- the state is improved, and its entry put in where there is one; its old entry may be first
-pub improve_queued : (ties : Ties) (h : List ℕ → Distance) (ns : List Node) (es0 es1 es2 : List OpenEntry) (state : List ℕ) (rank : Rank)
-    (parent : Option Parent) (f : Option ℕ) (o : Outcome) (i : ℕ) → o ≡ Better i → IsQueue ties h ns es0 → IsPermutation es0 es1
+-- the state is reached, and its entry put in where there is one
+pub reached_queued : (ties : Ties) (h : List ℕ → Distance) (ns : List Node) (es1 es2 : List OpenEntry) (state : List ℕ) (rank : Rank)
+    (parent : Option Parent) (f : Option ℕ) (o : Outcome) → AreQueued h ns (map (turned ties) es1)
     → distance_of f ≡ Finite rank.cost +ᵈ h state → IfSome f (λ f. f ≤ 2 ^ 63) → o ≡ outcome_of ns (fresh state rank parent)
     → IsPermutation (map (turned ties) (added f rank o) ++ es1) es2 → All HasWords (added f rank o)
-    → All HasWords es2 × AreQueued h (reached ns (fresh state rank parent)) (map (turned ties) es2)
-improve_queued ties h ns es0 es1 es2 state rank parent f o i better q p0 is within came p1 words = (
-  added_words ties (added f rank o) es1 es2 p1 words q1.words,
-  ⊎_elim
-      (λ (c : IsNew 0 ns m (outcome_of ns m) (reached ns m)).
-      let e : Better i ≡ New (0 + length ns) = sym better ∙ (came ∙ c.0) in absurd (cc))
-      (λ (rest : IsBetter 0 ns m (outcome_of ns m) (reached ns m) ⊎ IsKeptAs ns (outcome_of ns m) (reached ns m)). ⊎_elim
-      (λ (b : IsBetter 0 ns m (outcome_of ns m) (reached ns m)).
-      subst (λ (l : List Node). AreQueued h l (map (turned ties) es2)) (sym b.nodes)
-      (queued_permuted h (slice_set ns b.place m) _ (map (turned ties) es2) (added_back ties (added f rank o) es1 es2 p1 words)
-      (subst (λ (k : Outcome). AreQueued h (slice_set ns b.place m) (added f rank k ++ map (turned ties) es1)) (sym (came ∙ b.outcome))
-      (at_better f is within q1.queued b))))
-      (λ (k : IsKeptAs ns (outcome_of ns m) (reached ns m)).
-      let e : Better i ≡ Kept = sym better ∙ (came ∙ k.0) in absurd (cc))
-      rest)
-      (comes ns m),
-)
+    → AreQueued h (reached ns (fresh state rank parent)) (map (turned ties) es2)
+reached_queued ties h ns es1 es2 state rank parent f o q is within came p words =
+    ⊎_elim
+    (λ (c : IsNew 0 ns m (outcome_of ns m) (reached ns m)).
+    put (ns ++ m ∷ []) (New (0 + length ns)) c.1 c.0 (at_new f is within))
+    (λ (rest : IsBetter 0 ns m (outcome_of ns m) (reached ns m) ⊎ IsKeptAs ns (outcome_of ns m) (reached ns m)). ⊎_elim
+    (λ (b : IsBetter 0 ns m (outcome_of ns m) (reached ns m)).
+    put (slice_set ns b.place m) (Better (0 + b.place)) b.nodes b.outcome (at_better f is within b))
+    (λ (k : IsKeptAs ns (outcome_of ns m) (reached ns m)). put ns Kept k.1 k.0 (at_kept f))
+    rest)
+    (comes ns m)
   where
     m : Node
     m = fresh state rank parent
 
-    q1 : IsQueue ties h ns es1
-    q1 = queue_permuted ties h ns es0 es1 p0 q
+    es : List OpenEntry
+    es = map (turned ties) es1
 
-    at_better : (f : Option ℕ) → distance_of f ≡ Finite rank.cost +ᵈ h state → IfSome f (λ f. f ≤ 2 ^ 63) → AreQueued h ns (map (turned ties) es1)
+    put : (ns' : List Node) (o' : Outcome) → reached ns m ≡ ns' → outcome_of ns m ≡ o' → AreQueued h ns' (added f rank o' ++ es)
+        → AreQueued h (reached ns m) (map (turned ties) es2)
+    put ns' o' nodes outcome queued =
+        subst (λ (l : List Node). AreQueued h l (map (turned ties) es2)) (sym nodes)
+        (queued_permuted h ns' _ (map (turned ties) es2) (added_back ties (added f rank o) es1 es2 p words)
+        (subst (λ (k : Outcome). AreQueued h ns' (added f rank k ++ es)) (sym (came ∙ outcome)) queued))
+
+    at_new : (f : Option ℕ) → distance_of f ≡ Finite rank.cost +ᵈ h state → IfSome f (λ f. f ≤ 2 ^ 63)
+        → AreQueued h (ns ++ m ∷ []) (added f rank (New (0 + length ns)) ++ es)
+    at_new None is within = closed_queued h ns es m q is
+    at_new (Some f) is within = let e : length ns ≡ 0 + length ns = omega arith in
+        subst (λ k. AreQueued h (ns ++ m ∷ []) (entry_of f rank.cost rank.steps k ∷ es)) e (open_queued h ns es m f q is within)
+
+    at_better : (f : Option ℕ) → distance_of f ≡ Finite rank.cost +ᵈ h state → IfSome f (λ f. f ≤ 2 ^ 63)
         → (b : IsBetter 0 ns m (outcome_of ns m) (reached ns m))
-        → AreQueued h (slice_set ns b.place m) (added f rank (Better (0 + b.place)) ++ map (turned ties) es1)
-    at_better None is within q1 b = better_closed h ns (map (turned ties) es1) b.place b.node m q1 b.there b.state b.less is
-    at_better (Some f) is within q1 b = let e : b.place ≡ 0 + b.place = omega arith in
-        subst (λ k. AreQueued h (slice_set ns b.place m) (entry_of f rank.cost rank.steps k ∷ map (turned ties) es1)) e
-        (better_open h ns (map (turned ties) es1) b.place b.node m f q1 b.there b.state b.less is within)
+        → AreQueued h (slice_set ns b.place m) (added f rank (Better (0 + b.place)) ++ es)
+    at_better None is within b = better_closed h ns es b.place b.node m q b.there b.state b.less is
+    at_better (Some f) is within b = let e : b.place ≡ 0 + b.place = omega arith in
+        subst (λ k. AreQueued h (slice_set ns b.place m) (entry_of f rank.cost rank.steps k ∷ es)) e
+        (better_open h ns es b.place b.node m f q b.there b.state b.less is within)
+
+    at_kept : (f : Option ℕ) → AreQueued h ns (added f rank Kept ++ es)
+    at_kept None = q
+    at_kept (Some f) = q
+
+-- so it is where the list was in another order before; the state's old entry may be first
+pub improve_queued : (ties : Ties) (h : List ℕ → Distance) (ns : List Node) (es0 es1 es2 : List OpenEntry) (state : List ℕ) (rank : Rank)
+    (parent : Option Parent) (f : Option ℕ) (o : Outcome) → IsQueue ties h ns es0 → IsPermutation es0 es1
+    → distance_of f ≡ Finite rank.cost +ᵈ h state → IfSome f (λ f. f ≤ 2 ^ 63) → o ≡ outcome_of ns (fresh state rank parent)
+    → IsPermutation (map (turned ties) (added f rank o) ++ es1) es2 → All HasWords (added f rank o)
+    → All HasWords es2 × AreQueued h (reached ns (fresh state rank parent)) (map (turned ties) es2)
+improve_queued ties h ns es0 es1 es2 state rank parent f o q p0 is within came p1 words =
+    let q1 = queue_permuted ties h ns es0 es1 p0 q in (
+      added_words ties (added f rank o) es1 es2 p1 words q1.words,
+      reached_queued ties h ns es1 es2 state rank parent f o q1.queued is within came p1 words,
+    )
 
 -- the state is new or as it was, and its entry put in where there is one
 pub reach_queue : (ties : Ties) (h : List ℕ → Distance) (ns : List Node) (es0 es1 es2 : List OpenEntry) (state : List ℕ) (rank : Rank)
@@ -503,36 +526,62 @@ rest_words es es' x p h = All-tail HasWords x es' (All-permutation HasWords es (
 
 -- ---- the next node is marked
 
--- the entry that is popped is of a node
-popped_of : (ties : Ties) (h : List ℕ → Distance) (ns : List Node) (es es' : List OpenEntry) (x : OpenEntry) → IsQueue ties h ns es
-    → IsPermutation es (x ∷ es') → IsOf h ns (turned ties x)
-popped_of ties h ns es es' x q p = q.queued.sound (turned ties x)
-    (contains_map (turned ties) es x (Contains-permutation (x ∷ es') es x (IsPermutation-sym es (x ∷ es') p) (in_front_of x es')))
-
-pub after_marking : (ties : Ties) (h : List ℕ → Distance) (ns ns' : List Node) (es es' : List OpenEntry) (x : OpenEntry) → IsQueue ties h ns es
-    → IsPermutation es (x ∷ es')
-    → ((n : Node) → slice_get ns (turned ties x).index ≡ Some n → ns' ≡ slice_set ns (turned ties x).index (marked n))
-    → AreQueued h ns' (map (turned ties) es')
-after_marking ties h ns ns' es es' x q p is =
-    let o = popped_of ties h ns es es' x q p in
-    subst (λ (l : List Node). AreQueued h l (map (turned ties) es')) (sym (is o.node (get_at ns (turned ties x).index o.node o.there)))
-    (marked_queued h ns (map (turned ties) es) (map (turned ties) es') (turned ties x) o.node q.queued
-    (IsPermutation-map (turned ties) es (x ∷ es') p) o.there)
-
-pub marks_least : (ties : Ties) (h : List ℕ → Distance) (ns ns' : List Node) (es es' : List OpenEntry) (x : OpenEntry) → IsQueue ties h ns es
-    → IsPermutation es (x ∷ es') → IsFirst x es
-    → ((n : Node) → slice_get ns (turned ties x).index ≡ Some n → ns' ≡ slice_set ns (turned ties x).index (marked n))
-    → (e : OpenEntry) (n : Node) → IsLeast ties h ns e → At ns e.index n → ns' ≡ slice_set ns e.index (marked n)
-marks_least ties h ns ns' es es' x q p first is e n least at =
-    let in_es = Contains-permutation (x ∷ es') es x (IsPermutation-sym es (x ∷ es') p) (in_front_of x es') in
-    let i : (turned ties x).index ≡ e.index = ap (λ (y : OpenEntry). y.index) (one_least ties h ns es x e q in_es first least) in
-    subst (λ k. ns' ≡ slice_set ns k (marked n)) i (is n (get_at ns (turned ties x).index n (subst (λ k. At ns k n) (sym i) at)))
-
-pub popped_below : (ties : Ties) (h : List ℕ → Distance) (ns : List Node) (es es' : List OpenEntry) (x : OpenEntry) → IsQueue ties h ns es
-    → IsPermutation es (x ∷ es') → (turned ties x).index < length ns
-popped_below ties h ns es es' x q p =
-    let o = popped_of ties h ns es es' x q p in at_below ns (turned ties x).index o.node o.there
-
-pub no_least : (ties : Ties) (h : List ℕ → Distance) (ns : List Node) (es : List OpenEntry) (e : OpenEntry) → IsQueue ties h ns es → es ≡ []
+no_least : (ties : Ties) (h : List ℕ → Distance) (ns : List Node) (es : List OpenEntry) (e : OpenEntry) → IsQueue ties h ns es → es ≡ []
     → IsLeast ties h ns e → ⊥
 no_least ties h ns es e q none l = none_open ties h ns es q none e.index l.node e.f l.there l.waits l.f
+
+-- where an entry is of the node that is expanded next, what is popped, turned back, is this entry
+module _ (ties : Ties) (h : List ℕ → Distance) (ns ns' : List Node) (es es' : List OpenEntry) (e : OpenEntry) (q : IsQueue ties h ns es)
+    (least : IsLeast ties h ns e) (is : (n : Node) → slice_get ns e.index ≡ Some n → ns' ≡ slice_set ns e.index (marked n)) where
+  popped_least : (x : OpenEntry) → IsFirst x es → IsPermutation es (x ∷ es') → (e' : OpenEntry) → IsLeast ties h ns e' → turned ties x ≡ e'
+  popped_least x first p e' least' =
+      one_least ties h ns es x e' q (Contains-permutation (x ∷ es') es x (IsPermutation-sym es (x ∷ es') p) (in_front_of x es')) first least'
+
+  -- the node is marked, and the other entries are queued then
+  pub rest_queued : (r : Option OpenEntry) → IfSome r (λ x. IsFirst x es) → IfSome r (λ x. IsPermutation es (x ∷ es')) → IfNone r (es ≡ [])
+      → All HasWords es' × AreQueued h ns' (map (turned ties) es')
+  rest_queued None first p none = absurd (no_least ties h ns es e q none least)
+  rest_queued (Some x) first p none =
+      let same = popped_least x first p e least in
+      let there = subst (λ (y : OpenEntry). At ns y.index least.node) (sym same) least.there in (
+        rest_words es es' x p q.words,
+        subst (λ (l : List Node). AreQueued h l (map (turned ties) es')) (sym (is least.node (get_at ns e.index least.node least.there)))
+            (subst (λ (y : OpenEntry). AreQueued h (slice_set ns y.index (marked least.node)) (map (turned ties) es')) same
+            (marked_queued h ns (map (turned ties) es) (map (turned ties) es') (turned ties x) least.node q.queued
+            (IsPermutation-map (turned ties) es (x ∷ es') p) there)),
+      )
+
+  -- it is the only one that comes first
+  pub marks_least : (r : Option OpenEntry) → IfSome r (λ x. IsFirst x es) → IfSome r (λ x. IsPermutation es (x ∷ es')) → IfNone r (es ≡ [])
+      → (e' : OpenEntry) (n : Node) → IsLeast ties h ns e' → At ns e'.index n → ns' ≡ slice_set ns e'.index (marked n)
+  marks_least None first p none e' n least' at = absurd (no_least ties h ns es e q none least)
+  marks_least (Some x) first p none e' n least' at =
+      let i : e.index ≡ e'.index = ap (λ (y : OpenEntry). y.index) (sym (popped_least x first p e least) ∙ popped_least x first p e' least') in
+      subst (λ k. ns' ≡ slice_set ns k (marked n)) i (is n (get_at ns e.index n (subst (λ k. At ns k n) (sym i) at)))
+
+-- a node that was marked and is marked as not expanded again is as it was
+set_back : (ns : List Node) (i : ℕ) (n : Node) → At ns i n → n.expanded ≡ false
+    → slice_set (slice_set ns i (marked n)) i (record (marked n) { expanded = false }) ≡ ns
+set_back [] i n at waits = absurd at
+set_back (x ∷ ns) zero n at waits =
+    ap (λ (y : Node). y ∷ ns) (ap (λ (b : Bool). record n { expanded = b }) (sym waits) ∙ sym at)
+set_back (x ∷ ns) (suc i) n at waits = ap (λ (l : List Node). x ∷ l) (set_back ns i n at waits)
+
+module _ (ties : Ties) (h : List ℕ → Distance) (ns ns' : List Node) (e : OpenEntry)
+    (least : IsLeast ties h ns e) (is : (n : Node) → slice_get ns e.index ≡ Some n → ns' ≡ slice_set ns e.index (marked n)) where
+  first : ns' ≡ slice_set ns e.index (marked least.node)
+  first = is least.node (get_at ns e.index least.node least.there)
+
+  there : At ns' e.index (marked least.node)
+  there = subst (λ (l : List Node). At l e.index (marked least.node)) (sym first)
+      (mark_there ns e.index (marked least.node) least.node least.there)
+
+  pub marked_below : e.index < length ns'
+  marked_below = at_below ns' e.index (marked least.node) there
+
+  pub reopened : (back : List Node) → ((n : Node) → slice_get ns' e.index ≡ Some n → back ≡ slice_set ns' e.index (record n { expanded = false }))
+      → back ≡ ns
+  reopened back told =
+      told (marked least.node) (get_at ns' e.index (marked least.node) there)
+      ∙ ap (λ (l : List Node). slice_set l e.index (record (marked least.node) { expanded = false })) first
+      ∙ set_back ns e.index least.node least.there least.waits

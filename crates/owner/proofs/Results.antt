@@ -1,11 +1,7 @@
--- What holds where a call succeeds, and where it fails.
-use Rattle.std.proofs.Common.{OnOk, OnErr}
-use Rattle.std.specs.Prelude.{Result, Ok, Err}
+-- What is pushed where there is room is there.
+use Rattle.std.proofs.Common.{◌≡◌, List, cond, sym, true≢false}
+use Rattle.std.specs.Prelude.{Result, Ok, Err, IsOk, is_ok}
 
-pub on_ok : {V E : Type 0} (r : Result V E) (P Q : Type 0) → (P → Q) → OnOk r P → OnOk r Q
-on_ok (Ok v) P Q f h = f h
-on_ok (Err e) P Q f h = h
-
-pub on_err : {V E : Type 0} (r : Result V E) (P : Type 0) → P → OnErr r P
-on_err (Ok v) P h = tt
-on_err (Err e) P h = h
+pub pushed_room : {V E X : Type 0} (r : Result V E) (xs ys zs : List X) → IsOk r → zs ≡ cond (is_ok r) xs ys → zs ≡ xs
+pushed_room (Ok v) xs ys zs ok is = is
+pushed_room (Err e) xs ys zs ok is = absurd (true≢false (sym ok))

@@ -4,3 +4,4 @@ pub mod Queues
 pub mod Held
 pub mod Successors
 pub mod Outboxes
+pub mod Batches

@@ -101,9 +101,10 @@ abbrev pub IsExpansion : {S : Type 0} → (S → List ℕ → ℕ → ℕ) → D
 IsExpansion owner bound old new None = (no_open (space_of owner old) (under old bound) ≡ true) × (new ≡ old)
 IsExpansion owner bound old new (Some posted) = Expands owner bound old posted new
 
--- why a call to expand is refused; the owner is as it was, unless memory ran out
+-- why a call to expand is refused; the owner is as it was. Memory is asked for only where a node is to be expanded
 abbrev pub IsRefusal : {S : Type 0} → (S → List ℕ → ℕ → ℕ) → Distance → OwnerOf S → OwnerOf S → OwnerFault → Type 0
-IsRefusal owner bound old new OutOfMemory = Unit {0}
+IsRefusal owner bound old new OutOfMemory =
+    (no_open (space_of owner old) (under old bound) ≡ false) × (old.space.limit ≢ Some old.expansions) × (new ≡ old)
 IsRefusal owner bound old new LimitReached =
     (no_open (space_of owner old) (under old bound) ≡ false) × (old.space.limit ≡ Some old.expansions) × (new ≡ old)
 IsRefusal owner bound old new TotalTooLarge =

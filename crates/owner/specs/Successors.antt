@@ -1,5 +1,5 @@
 -- The successors of a node, and those of which it is known that nothing changes when they are treated.
-use Rattle.std.specs.Prelude.{◌≡◌, ℕ, true, false, List, Some, slice_index, slice_index_or, Bool}
+use Rattle.std.specs.Prelude.{◌≡◌, ℕ, ◌<◌, true, false, List, Some, slice_index, slice_index_or, Bool}
 use Rattle.fdr.specs.Tasks.{ranges, step, is_goal_state}
 use Rattle.owner_theory.specs.Owners.{SearchSpace, Message, Node, node_of, message_to}
 use Rattle.closed.specs.declared.table.Outcome.TheVariants.{Kept}
@@ -7,12 +7,13 @@ use Rattle.closed.specs.Tables.{outcome_of}
 use Rattle.owner.specs.declared.successors.Successor.{Successor}
 
 -- the successor of the state by its operator, where forms have these values, with what is said about it
-pub record IsSuccessor {F : Type 0} (IsForm : List ℕ → F → Type 0) (values : List ℕ → F → List ℕ) (space : SearchSpace) (me : ℕ)
+pub record IsSuccessor {F : Type 0} (IsForm : List ℕ → F → Type 0) (values : List ℕ → F → List ℕ) (space : SearchSpace)
     (state : List ℕ) (s : Successor F) : Type 0 where
   pub form : IsForm (ranges space.task) s.state
   pub leads : step space.task state s.operator ≡ Some (values (ranges space.task) s.state)
-  pub own : s.is_own ≡ true → space.owner_of (values (ranges space.task) s.state) ≡ me
-  pub no_goal : s.is_goal ≡ false → is_goal_state space.task (values (ranges space.task) s.state) ≡ false
+  pub owner : s.owner ≡ space.owner_of (values (ranges space.task) s.state)
+  pub there : s.owner < space.owners
+  pub goal : s.is_goal ≡ is_goal_state space.task (values (ranges space.task) s.state)
 
 -- the message's state is this owner's and no goal state, and is known at the message's rank or a lesser one, so that
 -- nothing changes when it is treated

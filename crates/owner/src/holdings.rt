@@ -1,30 +1,30 @@
 //! What an owner has, without its buffers.
 
-ghost use Rattle.std.specs.Prelude.{◌≡◌, ◌≢◌, ℕ, suc, ◌+◌, ◌<◌, ◌≤◌, ◌^◌, ◌++◌, ◌∷◌, [], ◌==◌, length, map, slice_get, slice_set, replicate, Option, Some, None, true, false, is_some, if◌then◌else◌, IsTrue, ◌↔◌, IfOk, IfSome, IfNone, OnOk, OnErr};
+ghost use Rattle.std.specs.Prelude.{◌≡◌, ◌≢◌, ℕ, suc, ◌+◌, ◌<◌, ◌≤◌, ◌^◌, ◌++◌, ◌∷◌, [], ◌==◌, length, map, fold, All, slice_get, slice_set, replicate, Option, Some, None, true, false, is_some, if◌then◌else◌, IsTrue, ◌↔◌, IfOk, IfSome, IfNone, OnOk, OnErr};
 ghost use Rattle.std.specs.Option.{option_to_list};
-ghost use Rattle.cost.specs.Distances.{Distance, Infinite, is_at_most, lesser, Finite, ◌+ᵈ◌};
-ghost use Rattle.fdr.specs.Tasks.{ranges, step, IsState, is_goal_state};
-ghost use Rattle.owner_theory.specs.Owners.{At, Node, list_at, marked, took, treat, start_owner};
+ghost use Rattle.cost.specs.Distances.{Distance, Infinite, is_at_most, lesser, Finite};
+ghost use Rattle.fdr.specs.Tasks.{ranges};
+ghost use Rattle.owner_theory.specs.Owners.{At, Node, list_at, marked, improve, took, start_owner};
 ghost use Rattle.owner_theory.specs.Worlds.{idle, no_open, waiting};
 ghost use Rattle.openlist.specs.declared.entry.OpenEntry.{OpenEntry as EntryOf};
 ghost use Rattle.closed.specs.declared.message.Parent.{Parent};
 ghost use Rattle.closed.specs.Tables.{message_of, node_with, outcome_of, fresh};
 ghost use Rattle.owner_space.specs.Spaces.{searched};
-ghost use Rattle.owner.specs.Owned.{space_of, under, max_total, IsMessageTo, IsNext, least_open};
+ghost use Rattle.owner.specs.Owned.{space_of, under, IsMessageTo, least_open};
 ghost use Rattle.owner.specs.Queues.{h_of, message_at, IsLeast};
-ghost use Rattle.owner.specs.Outboxes.{count_in_use};
-ghost use Rattle.owner.specs.Held.{IsOwner, places_in};
+ghost use Rattle.owner.specs.Outboxes.{count_in_use, withdrawn};
+ghost use Rattle.owner.specs.Held.{IsOwner};
+ghost use Rattle.owner.specs.Batches.{IsBatch};
 
-use crate::outboxes::Outboxes;
+use crate::batch::Batch;
 use crate::reached::Reached;
 use closed::{Entry, Message, Outcome, Parent};
 use cost::Dist;
-use fdr::FdrTask;
 use openlist::{OpenEntry, Rank};
-use owner_space::{Space, f_after};
+use owner_outboxes::Outboxes;
+use owner_space::Space;
 use packed::StateForm;
 use packed_spread::Spread;
-use scp::Places;
 use std::alloc::{AllocError, Global};
 use std::collections::VecDeque;
 use std::marker::Model;
@@ -68,7 +68,7 @@ impl<'a, S: Spread + Drop, F: StateForm + Drop> Model for Holdings<'a, S, F> {
 }
 
 /// Whether the first distance is at most the second.
-fn is_within(distance: Dist, other: Dist) -> bool
+pub(crate) fn is_within(distance: Dist, other: Dist) -> bool
     ensures { result ≡ is_at_most distance other }
 {
     distance <= other
@@ -82,13 +82,13 @@ fn finite(value: u64) -> Dist
     Dist::fin(value).unwrap()
 }
 
-/// The least cost at which a goal state was taken, where that was `best` before this state was taken at this cost.
-fn best_with(task: &FdrTask, best: Dist, state: &[u32], cost: u64) -> Dist
-    requires len { length state.now ≡ length task.now.value_names }
-    requires cost { cost ≤ 2 ^ 63 }
-    ensures { result ≡ (if is_goal_state task.now state.now then lesser best (Finite cost) else best) }
+/// The least cost at which a goal state was taken, where that was `best` before a state was taken at this cost, which is a
+/// goal state or not.
+pub(crate) fn best_with(best: Dist, is_goal: bool, cost: u64) -> Dist
+    requires { cost ≤ 2 ^ 63 }
+    ensures { result ≡ (if is_goal then lesser best (Finite cost) else best) }
 {
-    if task.is_goal(state) {
+    if is_goal {
         best.min(finite(cost))
     } else {
         best
@@ -144,7 +144,8 @@ impl<'a, S: Spread + Drop, F: StateForm + Drop> Holdings<'a, S, F> {
         ensures unchanged { OnErr result (self.new ≡ self.old) }
     {
         self.reached.reach(state, rank, Some(parent))?;
-        self.best = best_with(self.reached.space().task(), self.best, state, rank.cost);
+        let is_goal = self.reached.space().task().is_goal(state);
+        self.best = best_with(self.best, is_goal, rank.cost);
         Ok(())
     }
 
@@ -157,118 +158,34 @@ impl<'a, S: Spread + Drop, F: StateForm + Drop> Holdings<'a, S, F> {
         self.reached.look_form(form, rank)
     }
 
-    /// Takes a state of its own of this form and this f-value, where `look_form` told the outcome. Fails only if allocation
-    /// fails, and then changes nothing.
-    fn take_at(
+    /// Puts a message into the outbox for its state's owner, which is then the last of the receivers. Fails only if
+    /// allocation fails, and then changes nothing.
+    pub(crate) fn post(
         &mut self,
-        form: &F,
-        state: &[u32],
-        rank: Rank,
-        parent: Parent,
-        outcome: Outcome,
-        f: Dist,
+        to: usize,
+        message: Message<F>,
+        receivers: &mut Vec<usize>,
     ) -> Result<(), AllocError>
-        requires form { F.IsForm (ranges self.old.space.task) form.now }
-        requires values { F.values (ranges self.old.space.task) form.now ≡ state.now }
-        requires message { IsMessageTo (space_of S.owner self.old) self.old.worker (message_at state.now rank parent) }
-        requires outcome { outcome ≡ outcome_of self.old.nodes (fresh state.now rank (Some parent)) }
-        requires f { f ≡ Finite rank.cost +ᵈ h_of self.old.space state.now }
-        ensures taken { OnOk result ((bound : Distance) → under self.new bound ≡ took (space_of S.owner self.old) (under self.old bound) (message_at state.now rank parent)) }
-        ensures space { self.new.space ≡ self.old.space }
-        ensures worker { self.new.worker ≡ self.old.worker }
-        ensures expansions { self.new.expansions ≡ self.old.expansions }
+        requires to { to < length self.old.outboxes }
+        requires fits { IsMessageTo (space_of S.owner self.old) to (message_of (F.values (ranges self.old.space.task)) message) }
+        ensures posted { OnOk result (self.new ≡ record self.old { outboxes = slice_set self.old.outboxes to (list_at self.old.outboxes to ++ message_of (F.values (ranges self.old.space.task)) message ∷ []) }) }
+        ensures receivers { OnOk result (receivers.new.items ≡ receivers.old.items ++ to ∷ []) }
         ensures unchanged { OnErr result (self.new ≡ self.old) }
+        ensures same { OnErr result (receivers.new.items ≡ receivers.old.items) }
     {
-        self.reached
-            .reach_form_at(form, rank, Some(parent), outcome, f)?;
-        self.best = best_with(self.reached.space().task(), self.best, state, rank.cost);
-        Ok(())
-    }
-
-    /// Treats a successor, of the state whose places these are, that is its own: takes it unless its f-value reaches the bound. A state that is known at this rank
-    /// or a lesser one, and is no goal state, changes nothing in either case, so that its f-value is not computed. Fails
-    /// only if allocation fails, and then changes nothing.
-    fn treat_own(
-        &mut self,
-        bound: Dist,
-        places: &mut Places<'_>,
-        form: &F,
-        state: &[u32],
-        rank: Rank,
-        parent: Parent,
-    ) -> Result<(), AllocError>
-        requires form { F.IsForm (ranges self.old.space.task) form.now }
-        requires values { F.values (ranges self.old.space.task) form.now ≡ state.now }
-        requires message { IsMessageTo (space_of S.owner self.old) self.old.worker (message_at state.now rank parent) }
-        requires places { places.old ≡ places_in self.old.space places.old.state }
-        requires step { step self.old.space.task places.old.state parent.operator ≡ Some state.now }
-        ensures treated { OnOk result (under self.new bound ≡ treat (space_of S.owner self.old) self.old.worker (under self.old bound) (message_at state.now rank parent)) }
-        ensures outboxes { self.new.outboxes ≡ self.old.outboxes }
-        ensures space { self.new.space ≡ self.old.space }
-        ensures worker { self.new.worker ≡ self.old.worker }
-        ensures expansions { self.new.expansions ≡ self.old.expansions }
-        ensures unchanged { OnErr result (self.new ≡ self.old) }
-        ensures places { places.new ≡ places.old }
-    {
-        let outcome = self.look_form(form, rank);
-        let space = self.space();
-        if let Outcome::Kept = outcome {
-            if !space.task().is_goal(state) {
-                return Ok(());
-            }
-        }
-        let f = f_after(places, parent.operator, state, rank.cost);
-        if is_within(bound, f) {
-            return Ok(());
-        }
-        self.take_at(form, state, rank, parent, outcome, f)?;
-        Ok(())
-    }
-
-    /// Treats a successor of the state whose places these are: drops it if its f-value reaches the bound, takes it if it is this owner's, and else puts it
-    /// into the outbox for its owner. The state is given with its form. Returns whether it was put into an outbox. Fails only if allocation fails.
-    pub(crate) fn treat(
-        &mut self,
-        alloc: Global,
-        bound: Dist,
-        places: &mut Places<'_>,
-        form: &F,
-        state: &[u32],
-        rank: Rank,
-        parent: Parent,
-    ) -> Result<bool, AllocError>
-        requires form { F.IsForm (ranges self.old.space.task) form.now }
-        requires values { F.values (ranges self.old.space.task) form.now ≡ state.now }
-        requires state { IsState (ranges self.old.space.task) state.now }
-        requires places { places.old ≡ places_in self.old.space places.old.state }
-        requires step { step self.old.space.task places.old.state parent.operator ≡ Some state.now }
-        requires cost { rank.cost ≤ max_total }
-        requires steps { rank.steps ≤ max_total }
-        ensures treated { OnOk result (under self.new bound ≡ treat (space_of S.owner self.old) self.old.worker (under self.old bound) (message_at state.now rank parent)) }
-        ensures posted { IfOk result (λ posted. waiting self.new.outboxes ≡ waiting self.old.outboxes + (if posted then 1 else 0)) }
-        ensures owners { length self.new.outboxes ≡ length self.old.outboxes }
-        ensures space { self.new.space ≡ self.old.space }
-        ensures worker { self.new.worker ≡ self.old.worker }
-        ensures expansions { self.new.expansions ≡ self.old.expansions }
-        ensures places { places.new ≡ places.old }
-    {
-        let space = self.reached.space();
-        let to = space.owner_of(state, self.outboxes.len());
-        if to == self.worker {
-            self.treat_own(bound, places, form, state, rank, parent)?;
-            return Ok(false);
-        }
-        if is_within(bound, f_after(places, parent.operator, state, rank.cost)) {
-            return Ok(false); // no memory is taken for it
-        }
-        let state = form.copy(alloc)?;
-        let message = Message {
-            state,
-            rank,
-            parent,
-        };
+        receivers.reserve(1)?;
         self.outboxes.post(to, message)?;
-        Ok(true)
+        let noted = receivers.push(to);
+        let _ = noted; // there is room
+        Ok(())
+    }
+
+    /// Removes the newest message of the outbox for each of these receivers, that for the last one first.
+    pub(crate) fn withdraw(&mut self, receivers: &mut Vec<usize>)
+        requires { All (λ to. to < length self.old.outboxes) receivers.old.items }
+        ensures { self.new ≡ record self.old { outboxes = withdrawn receivers.old.items self.old.outboxes } }
+    {
+        self.outboxes.withdraw(receivers);
     }
 
     /// The entry of the open node that is to be expanded next, if its f-value is below the bound.
@@ -290,23 +207,28 @@ impl<'a, S: Spread + Drop, F: StateForm + Drop> Holdings<'a, S, F> {
         self.reached.space().limit() == Some(self.expansions)
     }
 
-    /// Marks the node that is to be expanded next as expanded.
-    pub(crate) fn expand_next(&mut self)
+    /// Marks the node that is to be expanded next as expanded, and takes the batch's messages. Fails only if allocation
+    /// fails, and then changes nothing.
+    pub(crate) fn expand_next(&mut self, batch: &mut Batch<F>) -> Result<(), AllocError>
         requires allowed { self.old.space.limit ≢ Some self.old.expansions }
         requires some { (e : EntryOf) × IsLeast self.old.space.ties (h_of self.old.space) self.old.nodes e }
-        ensures nodes { (e : EntryOf) (n : Node) → IsLeast self.old.space.ties (h_of self.old.space) self.old.nodes e → At self.old.nodes e.index n →
+        requires batch { IsBatch F.IsForm F.values S.owner self.old batch.old }
+        ensures expanded { OnOk result ((e : EntryOf) (n : Node) → IsLeast self.old.space.ties (h_of self.old.space) self.old.nodes e → At self.old.nodes e.index n →
             self.new ≡ record self.old {
-              nodes = slice_set self.old.nodes e.index (marked n);
+              nodes = fold improve (slice_set self.old.nodes e.index (marked n)) (map (message_of (F.values (ranges self.old.space.task))) batch.old.own.items);
+              best = batch.old.best;
               expansions = if is_some self.old.space.limit then suc self.old.expansions else self.old.expansions;
-            } }
-        ensures space { self.new.space ≡ self.old.space }
-        ensures worker { self.new.worker ≡ self.old.worker }
-        ensures owners { self.new.outboxes ≡ self.old.outboxes }
+            }) }
+        ensures unchanged { OnErr result (self.new ≡ self.old) }
+        ensures receivers { batch.new.receivers ≡ batch.old.receivers }
     {
-        self.reached.expand_least();
+        self.reached
+            .expand_least(&batch.own, &batch.fs, &mut batch.outcomes)?;
+        self.best = batch.best;
         if self.reached.space().limit().is_some() {
             self.expansions += 1;
         }
+        Ok(())
     }
 
     /// Removes and returns the oldest message for that owner, or returns `None` if there is none.

@@ -1,9 +1,10 @@
 //! One owner of states of a search that is divided among several (hash distributed A*: Kishimoto, Fukunaga and Botea 2013).
 #![tactic(auto)]
 
+mod batch;
+mod expansion;
 mod fault;
 mod holdings;
-mod outboxes;
 mod owner;
 mod reached;
 mod successors;

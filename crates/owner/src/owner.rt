@@ -12,9 +12,10 @@ ghost use Rattle.owner_space.specs.Spaces.{searched};
 ghost use Rattle.owner.specs.Outboxes.{count_in_use};
 ghost use Rattle.owner.specs.Owned.{space_of, under, IsMessageTo, IsExpansion, IsRefusal, IsKept, least_open};
 
+use crate::expansion::{Buffers, expand_node};
 use crate::fault::OwnerFault;
 use crate::holdings::Holdings;
-use crate::successors::{Successor, has_large_successor, treat_successors};
+use crate::successors::has_large_successor;
 use closed::{Entry, Message};
 use cost::Dist;
 use owner_space::Space;
@@ -34,14 +35,10 @@ pub struct Owner<'a, S: Spread + Drop, F: StateForm + Drop> {
     holdings: Holdings<'a, S, F>,
     /// A buffer for the values of a state.
     state: Vec<u32>,
-    /// A buffer for the values of a successor of that state.
-    successor: Vec<u32>,
     /// A buffer for the operators that apply in that state.
     applicable: Vec<usize>,
-    /// A buffer for the successors of that state.
-    successors: Vec<Successor<F>>,
-    /// A buffer: for each successor whether it is known that nothing changes when it is treated.
-    known: Vec<bool>,
+    /// Buffers for the successors of that state.
+    buffers: Buffers<F>,
     /// The places of that state in the columns, while its successors are treated.
     places: Places<'a>,
 }
@@ -57,7 +54,7 @@ impl<'a, S: Spread + Drop, F: StateForm + Drop> Model for Owner<'a, S, F> {
 
     ghost invariant = { λ o.
         (length o.state.items ≡ length o.holdings.space.task.value_names)
-        × (length o.successor.items ≡ length o.holdings.space.task.value_names)
+        × (length o.buffers.values.items ≡ length o.holdings.space.task.value_names)
         × (o.places ≡ places_in o.holdings.space o.places.state) };
 }
 
@@ -104,16 +101,14 @@ impl<'a, S: Spread + Drop, F: StateForm + Drop> Owner<'a, S, F> {
     {
         let width = space.task().variable_count();
         let state = vec![in alloc; 0; width]?;
-        let successor = vec![in alloc; 0; width]?;
+        let buffers = Buffers::new(alloc, width)?;
         let places = space.columns().places(alloc)?;
         Ok(Owner {
             alloc,
             holdings: Holdings::start(alloc, space, worker, owners)?,
             state,
-            successor,
             applicable: Vec::new(alloc),
-            successors: Vec::new(alloc),
-            known: Vec::new(alloc),
+            buffers,
             places,
         })
     }
@@ -125,7 +120,7 @@ impl<'a, S: Spread + Drop, F: StateForm + Drop> Owner<'a, S, F> {
         ensures space { self.new.space ≡ self.old.space }
         ensures worker { self.new.worker ≡ self.old.worker }
         ensures expansions { self.new.expansions ≡ self.old.expansions }
-        ensures refused { IfErr result (λ e. (message_of (F.values (ranges self.old.space.task)) e.0 ≡ message_of (F.values (ranges self.old.space.task)) message) × (self.new ≡ self.old)) }
+        ensures refused { IfErr result (λ e. (e.0 ≡ message) × (self.new ≡ self.old)) }
     {
         self.holdings.recall(); // states of the task have the form
         unpack(&message, self.holdings.space().layout(), &mut self.state);
@@ -143,7 +138,7 @@ impl<'a, S: Spread + Drop, F: StateForm + Drop> Owner<'a, S, F> {
     /// dropped, those that are this owner's are taken, and the others are put into outboxes.
     ///
     /// Returns the number of messages that were put into outboxes, or `None` if there is no such node, which changes
-    /// nothing. A fault leaves the owner as it was, except `OutOfMemory`, after which the owner must not be used again.
+    /// nothing. A fault leaves the owner as it was.
     pub fn expand(&mut self, bound: Dist) -> Result<Option<usize>, OwnerFault>
         ensures expanded { IfOk result (IsExpansion S.owner bound self.old self.new) }
         ensures refused { IfErr result (IsRefusal S.owner bound self.old self.new) }
@@ -164,18 +159,15 @@ impl<'a, S: Spread + Drop, F: StateForm + Drop> Owner<'a, S, F> {
         if has_large_successor(space.task(), &self.applicable, next.rank) {
             return Err(OwnerFault::TotalTooLarge);
         }
-        self.holdings.expand_next();
         self.places.enter(&self.state);
-        let posted = treat_successors(
+        let posted = expand_node(
             self.alloc,
             &mut self.holdings,
             bound,
             next,
             &mut self.places,
             &self.applicable,
-            &mut self.successor,
-            &mut self.successors,
-            &mut self.known,
+            &mut self.buffers,
         )?;
         Ok(Some(posted))
     }

@@ -1,17 +1,17 @@
 //! The states that an owner has reached, and which of them it expands next.
 
-ghost use Rattle.std.specs.Prelude.{◌≡◌, ℕ, ◌<◌, ◌≤◌, ◌^◌, ◌++◌, ◌∷◌, [], length, map, slice_get, slice_set, Some, List, All, Option, IfOk, OnOk, OnErr, IfSome, IfNone, IsTrue};
+ghost use Rattle.std.specs.Prelude.{◌≡◌, ℕ, ◌<◌, ◌≤◌, ◌^◌, ◌++◌, ◌∷◌, [], length, map, fold, slice_get, slice_set, Some, List, All, Option, IfOk, OnOk, OnErr, IfSome, IfNone, IsTrue};
 ghost use Rattle.std.specs.List.Sorted.{IsPermutation};
 ghost use Rattle.cost.specs.Distances.{Distance, Finite, ◌+ᵈ◌, distance_of};
 ghost use Rattle.fdr.specs.Tasks.{ranges, IsState};
 ghost use Rattle.owner_theory.specs.Owners.{At, Node, marked};
 ghost use Rattle.openlist.specs.declared.entry.OpenEntry.{OpenEntry as EntryOf};
 ghost use Rattle.closed.specs.declared.message.Parent.{Parent};
-ghost use Rattle.closed.specs.Tables.{reached, outcome_of, fresh, node_with};
+ghost use Rattle.closed.specs.Tables.{reached, outcome_of, outcomes_of, fresh, node_with, arrival};
 ghost use Rattle.owner_space.specs.Turned.{turned};
 ghost use Rattle.owner.specs.Queues.{added, HasWords, h_of, IsCurrent, AreQueued, IsQueue, IsLeast, HasNoneOpen};
 
-use closed::{ClosedTable, Entry, Outcome, Parent};
+use closed::{ClosedTable, Entry, Message, Outcome, Parent};
 use cost::Dist;
 use openlist::{Buckets, OpenEntry, OpenList, Rank};
 use owner_space::{Space, Ties};
@@ -47,7 +47,7 @@ impl<'a, S: Spread + Drop, F: StateForm + Drop> Model for Reached<'a, S, F> {
 /// Makes room for an entry of this f-value, if it is finite. Fails only if allocation fails.
 fn make_room<L: OpenList>(list: &mut L, f: Option<u64>) -> Result<(), AllocError>
     ensures entries { IsPermutation (L.entries list.old) (L.entries list.new) }
-    ensures room { OnOk result (IfSome f (λ f. L.HasRoom list.new (f ∷ []))) }
+    ensures room { OnOk result (IfSome f (λ f. (fs : List ℕ) × L.HasRoom list.new (f ∷ fs))) }
 {
     match f {
         Some(f) => list.reserve(&[f]),
@@ -57,13 +57,37 @@ fn make_room<L: OpenList>(list: &mut L, f: Option<u64>) -> Result<(), AllocError
 
 /// Adds the entry of a state that was reached, turned over, if it is new or was improved, and its f-value is finite.
 fn put_in<L: OpenList>(list: &mut L, ties: Ties, f: Option<u64>, rank: Rank, outcome: Outcome)
-    requires { IfSome f (λ f. L.HasRoom list.old (f ∷ [])) }
+    requires { IfSome f (λ f. (fs : List ℕ) × L.HasRoom list.old (f ∷ fs)) }
     ensures entries { IsPermutation (map (turned ties) (added f rank outcome) ++ L.entries list.old) (L.entries list.new) }
     ensures words { All HasWords (added f rank outcome) }
+    ensures room { IfSome f (λ f. (fs : List ℕ) → L.HasRoom list.old (f ∷ fs) → L.HasRoom list.new fs) }
 {
     if let (Some(f), Outcome::New(index) | Outcome::Better(index)) = (f, outcome) {
         let pushed = list.push(ties.turned(OpenEntry { f, rank, index }));
         let _ = pushed; // there is room
+    }
+}
+
+/// Adds the entries of the states of messages that were reached, turned over, each with its f-value and its outcome.
+fn put_all_in<L: OpenList, F: StateForm + Drop>(
+    list: &mut L,
+    ties: Ties,
+    messages: &[Message<F>],
+    fs: &[u64],
+    outcomes: &[Outcome],
+)
+    requires fs { length fs.now ≡ length messages.now }
+    requires outcomes { length outcomes.now ≡ length messages.now }
+    requires room { L.HasRoom list.old fs.now }
+    ensures words { All HasWords (L.entries list.old) → All HasWords (L.entries list.new) }
+    ensures queued { (values : F → List ℕ) (h : List ℕ → Distance) (nodes : List Node) →
+        map (λ m. Finite m.rank.cost +ᵈ h (values m.state)) messages.now ≡ map Finite fs.now → All (λ f. f ≤ 2 ^ 63) fs.now →
+        outcomes.now ≡ outcomes_of nodes (map (arrival values) messages.now) →
+        AreQueued h nodes (map (turned ties) (L.entries list.old)) →
+        AreQueued h (fold reached nodes (map (arrival values) messages.now)) (map (turned ties) (L.entries list.new)) }
+{
+    for (place, message) in messages.iter().enumerate() {
+        put_in(list, ties, Some(fs[place]), message.rank, outcomes[place]);
     }
 }
 
@@ -191,17 +215,38 @@ impl<'a, S: Spread + Drop, F: StateForm + Drop> Reached<'a, S, F> {
         Some(self.space.ties().turned(entry))
     }
 
-    /// Marks the node that is to be expanded next as expanded.
-    pub(crate) fn expand_least(&mut self)
-        ensures nodes { (e : EntryOf) (n : Node) → IsLeast self.old.space.ties (h_of self.old.space) self.old.nodes e → At self.old.nodes e.index n →
-            self.new.nodes ≡ slice_set self.old.nodes e.index (marked n) }
+    /// Expands the node that is to be expanded next: marks it, and records that the states of these messages, whose f-values
+    /// are these, were reached, one after the other. `outcomes` is a buffer. Fails only if allocation fails, and then
+    /// changes nothing.
+    pub(crate) fn expand_least(
+        &mut self,
+        messages: &[Message<F>],
+        fs: &[u64],
+        outcomes: &mut Vec<Outcome>,
+    ) -> Result<(), AllocError>
+        requires some { (e : EntryOf) × IsLeast self.old.space.ties (h_of self.old.space) self.old.nodes e }
+        requires forms { All (λ m. F.IsForm (ranges self.old.space.task) m.state) messages.now }
+        requires fs { map (λ m. Finite m.rank.cost +ᵈ h_of self.old.space (F.values (ranges self.old.space.task) m.state)) messages.now ≡ map Finite fs.now }
+        requires bound { All (λ f. f ≤ 2 ^ 63) fs.now }
+        ensures nodes { OnOk result ((e : EntryOf) (n : Node) → IsLeast self.old.space.ties (h_of self.old.space) self.old.nodes e → At self.old.nodes e.index n →
+            self.new.nodes ≡ fold reached (slice_set self.old.nodes e.index (marked n)) (map (arrival (F.values (ranges self.old.space.task))) messages.now)) }
         ensures space { self.new.space ≡ self.old.space }
+        ensures unchanged { OnErr result (self.new ≡ self.old) }
     {
-        if let Some(entry) = self.queue.pop() {
-            let ties = self.space.ties();
-            self.table.mark_expanded(ties.turned(entry).index);
-            drop_stale(&self.table, ties, &mut self.queue);
+        let Some(next) = self.least() else {
+            return Ok(()); // there is one
+        };
+        self.queue.reserve(fs)?;
+        self.table.mark_expanded(next.index);
+        if let Err(error) = self.table.improve_all(messages, outcomes) {
+            self.table.mark_open(next.index);
+            return Err(error);
         }
+        let _ = self.queue.pop();
+        let ties = self.space.ties();
+        put_all_in(&mut self.queue, ties, messages, fs, outcomes);
+        drop_stale(&self.table, ties, &mut self.queue);
+        Ok(())
     }
 
     /// The number of states.
@@ -235,33 +280,5 @@ impl<'a, S: Spread + Drop, F: StateForm + Drop> Reached<'a, S, F> {
             result ≡ outcome_of self.now.nodes (fresh (F.values (ranges self.now.space.task) form.now) rank parent) }
     {
         self.table.look_form(form, rank)
-    }
-
-    /// Records that a state of this form and f-value was reached, where `look_form` told the outcome. Fails only if
-    /// allocation fails, and then changes nothing.
-    pub(crate) fn reach_form_at(
-        &mut self,
-        form: &F,
-        rank: Rank,
-        parent: Option<Parent>,
-        outcome: Outcome,
-        f: Dist,
-    ) -> Result<(), AllocError>
-        requires form { F.IsForm (ranges self.old.space.task) form.now }
-        requires outcome { outcome ≡ outcome_of self.old.nodes (fresh (F.values (ranges self.old.space.task) form.now) rank parent) }
-        requires f { f ≡ Finite rank.cost +ᵈ h_of self.old.space (F.values (ranges self.old.space.task) form.now) }
-        ensures nodes { OnOk result (self.new.nodes ≡ reached self.old.nodes (fresh (F.values (ranges self.old.space.task) form.now) rank parent)) }
-        ensures space { self.new.space ≡ self.old.space }
-        ensures unchanged { OnErr result (self.new ≡ self.old) }
-    {
-        let f = f.get();
-        make_room(&mut self.queue, f)?;
-        self.table.reach_form(form, rank, parent, outcome)?;
-        let ties = self.space.ties();
-        put_in(&mut self.queue, ties, f, rank, outcome);
-        if let Outcome::Better(_) = outcome {
-            drop_stale(&self.table, ties, &mut self.queue); // the old entry of the state may be on top
-        }
-        Ok(())
     }
 }

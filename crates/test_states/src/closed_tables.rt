@@ -1,8 +1,7 @@
 //! Tables of states of two variables, with 2 and 3 values.
 
 ghost use Rattle.std.specs.Prelude.{◌≡◌, All, IsTrue};
-ghost use Rattle.fdr.specs.Tasks.{ranges, IsState};
-ghost use Rattle.closed.specs.Tables.{arrival};
+ghost use Rattle.fdr.specs.Tasks.{ranges};
 
 use closed::{ClosedTable, Entry, Message, Outcome, Parent};
 use fdr::FdrTask;
@@ -71,6 +70,14 @@ fn expands<F: StateForm + Drop>(rt: &impl Abort, table: &mut ClosedTable<F>, ind
     table.mark_expanded(index);
 }
 
+/// Marks the state at a place as not expanded.
+fn reopens<F: StateForm + Drop>(rt: &impl Abort, table: &mut ClosedTable<F>, index: usize)
+    ensures { table.new.ranges ≡ table.old.ranges }
+{
+    assert!(rt; index < table.len(), "a place");
+    table.mark_open(index);
+}
+
 /// A state that is reached several times keeps the least rank.
 fn keeps_the_least_rank_in<F: StateForm + Drop, R: Abort>(
     rt: &R,
@@ -107,6 +114,9 @@ fn keeps_the_least_rank_in<F: StateForm + Drop, R: Abort>(
     keeps(rt, &table, 0, rank(5, 3), 0, false);
     expands(rt, &mut table, 0);
     keeps(rt, &table, 0, rank(5, 3), 0, true);
+    reopens(rt, &mut table, 0);
+    keeps(rt, &table, 0, rank(5, 3), 0, false);
+    expands(rt, &mut table, 0);
     // fewer steps
     reaches(
         rt,
@@ -209,15 +219,13 @@ fn messages<F: StateForm + Drop, R: Abort>(
 
 /// Whether the messages are of states of the layout.
 fn are_of<F: StateForm + Drop>(layout: &Layout, messages: &[Message<F>]) -> bool
-    requires { F.Fits layout.now }
-    ensures { IsTrue result → All (λ m. IsState layout.now (arrival (F.values layout.now) m).state) messages.now }
+    ensures { IsTrue result → All (λ m. F.IsForm layout.now m.state) messages.now }
 {
-    messages
-        .iter()
-        .all(|message| message.state.holds_state(layout))
+    messages.iter().all(|message| message.state.is_form(layout))
 }
 
-/// Whether the messages were taken. Checks their outcomes, and that a failure leaves the table as it was.
+/// Whether the messages were taken. Checks their outcomes, which replace others, and that a failure leaves the table as it
+/// was.
 fn takes<F: StateForm + Drop>(
     rt: &impl Abort,
     alloc: Global,
@@ -225,11 +233,12 @@ fn takes<F: StateForm + Drop>(
     messages: &[Message<F>],
     expected: &[Outcome],
 ) -> bool
-    requires { All (λ m. IsState table.old.ranges (arrival (F.values table.old.ranges) m).state) messages.now }
+    requires { All (λ m. F.IsForm table.old.ranges m.state) messages.now }
 {
     let len = table.len();
-    match table.improve_all(alloc, messages) {
-        Ok(outcomes) => {
+    let mut outcomes = vec![in alloc; Outcome::Kept; 2].expect(rt, "memory");
+    match table.improve_all(messages, &mut outcomes) {
+        Ok(()) => {
             assert_eq!(rt; outcomes.as_slice(), expected);
             true
         }

@@ -84,6 +84,22 @@ fn a_ring_of_one(rt: HostRuntime) -> Result<(), Fail> {
     Ok(())
 }
 
+#[test]
+fn a_message_given_back_is_taken_first(rt: HostRuntime) -> Result<(), Fail> {
+    let (mut sender, mut receiver) = link(rt.alloc(), 2)?;
+    assert!(rt; is_sent(&mut sender, message(&rt, rt.alloc(), 1)?));
+    assert!(rt; is_sent(&mut sender, message(&rt, rt.alloc(), 2)?));
+    let Some(first) = receiver.pop() else {
+        panic!(rt; "a message was sent")
+    };
+    receiver.give_back(first);
+    assert_eq!(rt; match_up(&mut sender, &mut receiver), 2);
+    assert_eq!(rt; taken(&mut receiver), Some(1));
+    assert_eq!(rt; taken(&mut receiver), Some(2));
+    assert_eq!(rt; taken(&mut receiver), None);
+    Ok(())
+}
+
 /// Sends a message of this cost to the last of the workers.
 fn send_last(rt: &impl Abort, alloc: Global, outs: &mut Vec<Out<Plain>>, cost: u64)
     requires { cost ≤ 2 ^ 62 }

@@ -9,7 +9,7 @@ use Rattle.worker.specs.declared.outcome.Received.TheVariants.{Taken, Nothing, S
 use Rattle.worker.specs.declared.outcome.Turn.{Turn}
 use Rattle.worker.specs.declared.outcome.Turn.TheVariants.{Next, Last, Misfit}
 use Rattle.worker.specs.Workers.{WorkerOf}
-use Rattle.worker.specs.Turns.{chained, HasReceived, ReceivesFrom, SendsOrNot, SendsTo, HasTaken, HasNothingTaken, HasSent, HasNotSent, HasLooked, IsExpandRefusal, HasAdded, HasOffered, HasCounted, HasTurned, HasStopped, HasRefused, IsTurn, IsTurnRefusal}
+use Rattle.worker.specs.Turns.{chained, HasReceived, ReceivesFrom, SendsOrNot, SendsTo, HasTaken, HasNothingTaken, HasSent, HasNotSent, HasLooked, IsExpandRefusal, HasAdded, HasOffered, HasCounted, HasTurned, HasStopped, HasHeldBack, HasRefused, IsTurn, IsTurnRefusal}
 
 pub one_more : {W : Type 0} (R : ℕ → W → W → Type 0) (k : ℕ) (a b c : W) → chained R k a b → R k b c → chained R (k + 1) a c
 one_more R k a b c before step = subst (λ n. chained R n a c) (sym (add-one k)) (b, before, step)
@@ -65,15 +65,12 @@ module _ {S F : Type 0} (owner : S → List ℕ → ℕ → ℕ) (values : List 
         taken = omega (arith, p.taken, q.taken);
       }
 
-  -- memory ran out after messages were taken
-  pub ran_out_uncounted : (k : ℕ) (a b c : WorkerOf S F) → chained (ReceivesFrom owner values) k a b → c ≡ record b { ins = c.ins; spent = true }
-      → (c.spent ≡ true) × (c.uncounted ≡ a.uncounted)
-  ran_out_uncounted k a b c before out =
-      (ap (λ (w : WorkerOf S F). w.spent) out, ap (λ (w : WorkerOf S F). w.uncounted) out ∙ (receives_keep k a b before).uncounted)
-
   pub stopped_uncounted : (a b : WorkerOf S F) → HasStopped owner values a b → b.uncounted ≡ a.uncounted
   stopped_uncounted a b s =
       ap (λ (w : WorkerOf S F). w.uncounted) s.aside.worker ∙ (receives_keep s.from a s.received s.receives).uncounted
+
+  pub held_uncounted : (a b : WorkerOf S F) → HasHeldBack owner values a b → b.uncounted ≡ a.uncounted
+  held_uncounted a b h = ap (λ (w : WorkerOf S F). w.uncounted) h.held.worker ∙ (receives_keep h.from a h.received h.receives).uncounted
 
 module _ {S F : Type 0} (values : List ℕ → F → List ℕ) where
   pub was_sent : (to : ℕ) (a b : WorkerOf S F) (r : Bool) → SendsOrNot values to a b r → SendsTo values to a b
@@ -113,9 +110,7 @@ module _ {S F : Type 0} (owner : S → List ℕ → ℕ → ℕ) (values : List 
 
   -- the owner refused to expand
   pub refused_uncounted : (old new : WorkerOf S F) (fault : OwnerFault) → IsExpandRefusal owner old new fault → new.uncounted ≡ old.uncounted
-  refused_uncounted old new OutOfMemory e = ap (λ (w : WorkerOf S F). w.uncounted) e
-  refused_uncounted old new LimitReached e = ap (λ (w : WorkerOf S F). w.uncounted) e.1
-  refused_uncounted old new TotalTooLarge e = ap (λ (w : WorkerOf S F). w.uncounted) e.1
+  refused_uncounted old new fault e = ap (λ (w : WorkerOf S F). w.uncounted) e.1
 
   -- nothing was done after the bound was read
   refused_after : (old received looked new : WorkerOf S F) (u v : View) (fault : OwnerFault)
@@ -131,8 +126,14 @@ module _ {S F : Type 0} (owner : S → List ℕ → ℕ → ℕ) (values : List 
   pub refused_turn : (old received looked new : WorkerOf S F) (u v : View) (fault : OwnerFault)
       → chained (ReceivesFrom owner values) (length old.ins) old received → HasLooked received looked u v
       → IsExpandRefusal owner looked new fault → IsTurnRefusal owner values old new u v fault
-  refused_turn old received looked new u v OutOfMemory receives looks e = ap (λ (w : WorkerOf S F). w.spent) e
+  refused_turn old received looked new u v OutOfMemory receives looks e =
+      inr (refused_after old received looked new u v OutOfMemory receives looks e.0 e.1)
   refused_turn old received looked new u v LimitReached receives looks e =
       refused_after old received looked new u v LimitReached receives looks e.0 e.1
   refused_turn old received looked new u v TotalTooLarge receives looks e =
       refused_after old received looked new u v TotalTooLarge receives looks e.0 e.1
+
+  -- the owner could not take a message
+  pub held_turn : (old new : WorkerOf S F) (u : View) (fault : OwnerFault) → fault ≡ OutOfMemory → HasHeldBack owner values old new
+      → IsTurnRefusal owner values old new u u fault
+  held_turn old new u fault is held = subst (IsTurnRefusal owner values old new u u) (sym is) (inl (held, refl))

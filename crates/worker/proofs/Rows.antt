@@ -1,15 +1,15 @@
 -- A row of ends, one of which does something.
 use Rattle.std.proofs.Common.{◌≡◌, ℕ, zero, suc, ◌+◌, ◌<◌, ◌≤◌, List, [], ◌∷◌, ◌++◌, map, length, get_or, Option, Some, None, refl, sym, ap, ◌∙◌, subst, arith, cond, ◌⊎◌, inl, inr, ⊎_elim, true≢false}
-use Rattle.std.specs.Prelude.{slice_get, slice_set, IsSome, IfSome, IfNone, Result, Ok, Err, IsOk, OnOk}
+use Rattle.std.specs.Prelude.{◌≢◌, slice_get, slice_set, IsSome, IfSome, IfNone, Result, Ok, Err, IsOk, OnOk}
 use Rattle.std.proofs.lemmas.Bool.{eq-eqb, ne_eqb, cases_lt}
 use Rattle.std.proofs.lemmas.Option.{slice_get_within, slice_get-get_or}
-use Rattle.std.proofs.lemmas.List.{map-append, map-set, length-map, length-set}
+use Rattle.std.proofs.lemmas.List.{map-append, map-set, length-map, length-set, set-set, set-get_or, append_cancel_right}
 use Rattle.owner_theory.specs.Owners.{Message, list_at, put}
 use Rattle.closed.specs.Tables.{message_of}
 use Rattle.closed.specs.declared.message.Message.{Message as MessageOf}
 use Rattle.links.specs.declared.ends.Out.{Out}
 use Rattle.links.specs.declared.ends.In.{In}
-use Rattle.links.specs.Ends.{sent, received, known, AreEnds, SameOut, SameIn}
+use Rattle.links.specs.Ends.{sent, received, known, AreEnds, SameOut, SameIn, WasTakenLast}
 use Rattle.worker.specs.Matching.{IsMatchedUp}
 use Rattle.worker.specs.Workers.{sent_to, received_from, known_from, AreSameOuts, AreSameIns}
 
@@ -165,6 +165,45 @@ pub set_there : {X : Type 0} (xs : List X) (k : ℕ) (y x : X) → k < length xs
 set_there [] k y x lt e = absurd (omega arith)
 set_there (z ∷ xs) zero y x lt e = cc
 set_there (z ∷ xs) (suc k) y x lt e = set_there xs k y x (omega arith) e
+
+-- ---- a message that is given back
+-- the end that took a message knows it
+pub last_there : {F : Type 0} (r : Option (MessageOf F)) (is : List (In F)) (k : ℕ) (j : In F) → k < length is → IfSome r (WasTakenLast j)
+    → IfSome r (λ m. (i : In F) → slice_get (slice_set is k j) k ≡ Some i → WasTakenLast i m)
+last_there None is k j lt last = tt
+last_there (Some m) is k j lt last = λ i there. subst (λ (x : In _). WasTakenLast x m) (set_there is k j i lt there) last
+
+-- it was received before, and is not any more
+pub received_returned : {F : Type 0} (values : F → List ℕ) (is : List (In F)) (k : ℕ) (i j : In F) (m : MessageOf F) (v : ℕ) → k < length is → i ≡ get_or is k i
+    → received i ≡ received j ++ m ∷ []
+    → received_from values is v
+    ≡ put (received_from values (slice_set is k j)) k (received_from values (slice_set is k j) k ++ message_of values m ∷ []) v
+received_returned values is k i j m v lt at e =
+    let back : slice_set (slice_set is k j) k i ≡ is = set-set is k j i ∙ (ap (slice_set is k) at ∙ set-get_or is k i) in
+    ap (λ (js : List (In _)). received_from values js v) (sym back)
+    ∙ received_changed values (slice_set is k j) k j i (m ∷ []) v (subst (λ n. k < n) (sym (length-set is k j)) lt) (sym (set_at is k j j lt)) e
+
+pub known_returned : {F : Type 0} (values : F → List ℕ) (is : List (In F)) (k : ℕ) (i j : In F) (m : MessageOf F) → k < length is → known j ≡ m ∷ known i
+    → known_from values (slice_set is k j) k ≢ []
+known_returned values is k i j m lt e none =
+    let here : known_from values (slice_set is k j) k ≡ map (message_of values) (known j) =
+    known_at values (slice_set is k j) k j (subst (λ n. k < n) (sym (length-set is k j)) lt)
+    ∙ ap (λ (x : In _). map (message_of values) (known x)) (set_at is k j j lt) in
+    some_there (sym none ∙ (here ∙ ap (map (message_of values)) e))
+  where
+    some_there : {X : Type 0} {y : X} {ys : List X} → [] ≡ y ∷ ys → ⊥
+    some_there e = cc
+
+-- a message was taken and the same was given back: what was received is as before
+pub put_again : (f g h : ℕ → List Message) (k : ℕ) (m n : Message) → n ≡ m → ((v : ℕ) → h v ≡ put f k (f k ++ m ∷ []) v)
+    → ((v : ℕ) → h v ≡ put g k (g k ++ n ∷ []) v) → (v : ℕ) → g v ≡ f v
+put_again f g h k m n is taken back v = ⊎_elim
+    (λ (e : v ≡ k).
+    let same : g k ++ m ∷ [] ≡ f k ++ m ∷ [] =
+    ap (λ x. g k ++ x ∷ []) (sym is) ∙ (sym (back v ∙ put_here g k (g k ++ n ∷ []) v e) ∙ (taken v ∙ put_here f k (f k ++ m ∷ []) v e)) in
+    ap g e ∙ (append_cancel_right (g k) (f k) (m ∷ []) same ∙ ap f (sym e)))
+    (λ (ne : v ≡ k → ⊥). sym (back v ∙ put_there g k (g k ++ n ∷ []) v ne) ∙ (taken v ∙ put_there f k (f k ++ m ∷ []) v ne))
+    (same_or_not v k)
 
 -- both ends of a link are looked at
 pub matched_up : {F : Type 0} (os : List (Out F)) (to : ℕ) (o p : Out F) (is : List (In F)) (from : ℕ) (i j : In F) (n : ℕ) → to < length os → from < length is

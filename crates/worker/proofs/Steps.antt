@@ -1,6 +1,6 @@
 -- What a worker does in one step, from what the calls in it do.
 use Rattle.std.proofs.Common.{◌≡◌, ℕ, suc, ◌+◌, ◌<◌, ◌≤◌, Bool, true, false, ◌&&◌, ◌||◌, not, List, [], ◌∷◌, ◌++◌, length, Option, Some, refl, sym, ap, ◌∙◌, zero-add}
-use Rattle.std.specs.Prelude.{slice_get, slice_set}
+use Rattle.std.specs.Prelude.{◌≢◌, slice_get, slice_set}
 use Rattle.cost.specs.Distances.{Distance, Infinite, ◌≤ᵈ◌, lesser}
 use Rattle.owner_theory.specs.Owners.{Message, Packet, list_at, put, took, fits}
 use Rattle.owner_theory.specs.Worlds.{idle}
@@ -9,11 +9,12 @@ use Rattle.board.specs.Rule.{with_seen, with_offered}
 use Rattle.links.specs.declared.ends.Out.{Out}
 use Rattle.links.specs.declared.ends.In.{In}
 use Rattle.links.specs.Ends.{room, known}
-use Rattle.owner.specs.declared.fault.OwnerFault.TheVariants.{TotalTooLarge, LimitReached}
+use Rattle.owner.specs.declared.fault.OwnerFault.{OwnerFault}
+use Rattle.owner.specs.declared.fault.OwnerFault.TheVariants.{OutOfMemory, TotalTooLarge, LimitReached}
 use Rattle.owner.specs.Owned.{OwnerOf, space_of, under, IsExpansion, IsRefusal}
 use Rattle.worker.specs.Workers.{WorkerOf, values_in, sent_to, received_from, known_from, AreSameOuts, AreSameIns}
-use Rattle.worker.specs.Turns.{HasLooked, HasOffered, HasExpanded, IsExpandRefusal, posted_by, HasSent, HasNotSent, HasTaken, HasNothingTaken, HasSetAside, wakes, comes_to_rest}
-use Rattle.worker.proofs.Rows.{outs_through}
+use Rattle.worker.specs.Turns.{HasLooked, HasOffered, HasExpanded, IsExpandRefusal, posted_by, HasSent, HasNotSent, HasTaken, HasNothingTaken, HasSetAside, HasHeld, wakes, comes_to_rest}
+use Rattle.worker.proofs.Rows.{outs_through, ins_through, put_again}
 
 module _ {S F : Type 0} where
   -- ---- looking and offering
@@ -45,13 +46,16 @@ module _ {S F : Type 0} where
     };
   }
 
-  pub refused_at_limit : (owner : S → List ℕ → ℕ → ℕ) (w : WorkerOf S F) (p : OwnerOf S) (misfits : List Packet) → misfits ≡ w.misfits
-      → IsRefusal owner w.bound w.owner p LimitReached → IsExpandRefusal owner w (record w { owner = p; misfits = misfits }) LimitReached
-  refused_at_limit owner w p misfits same refusal = (refusal, λ j. record w { owner = refusal.2 j; misfits = same j })
+  -- a fault leaves the owner as it was
+  pub refused_same : (owner : S → List ℕ → ℕ → ℕ) (bound : Distance) (o p : OwnerOf S) (fault : OwnerFault) → IsRefusal owner bound o p fault → p ≡ o
+  refused_same owner bound o p OutOfMemory refusal = refusal.2
+  refused_same owner bound o p LimitReached refusal = refusal.2
+  refused_same owner bound o p TotalTooLarge refusal = refusal.5
 
-  pub refused_total : (owner : S → List ℕ → ℕ → ℕ) (w : WorkerOf S F) (p : OwnerOf S) (misfits : List Packet) → misfits ≡ w.misfits
-      → IsRefusal owner w.bound w.owner p TotalTooLarge → IsExpandRefusal owner w (record w { owner = p; misfits = misfits }) TotalTooLarge
-  refused_total owner w p misfits same refusal = (refusal, λ j. record w { owner = refusal.5 j; misfits = same j })
+  pub refuses : (owner : S → List ℕ → ℕ → ℕ) (w : WorkerOf S F) (p : OwnerOf S) (misfits : List Packet) (fault : OwnerFault) → misfits ≡ w.misfits
+      → IsRefusal owner w.bound w.owner p fault → IsExpandRefusal owner w (record w { owner = p; misfits = misfits }) fault
+  refuses owner w p misfits fault same refusal =
+      (refusal, λ j. record w { owner = refused_same owner w.bound w.owner p fault refusal j; misfits = same j })
 
 module _ {S F : Type 0} (values : List ℕ → F → List ℕ) where
   -- ---- sending
@@ -115,6 +119,19 @@ module _ {S F : Type 0} (values : List ℕ → F → List ℕ) where
     popped = record { link = received; fewer = fewer; ends = same };
     unfit = unfit;
     worker = refl;
+  }
+
+  pub holds : (w : WorkerOf S F) (p : OwnerOf S) (misfits : List Packet) (mid ins : List (In F)) (from : ℕ) (m n : Message) → n ≡ m → misfits ≡ w.misfits → p ≡ w.owner
+      → AreSameIns w.ins mid
+      → ((u : ℕ) → received_from (values_in values w) mid u ≡ put (received_from (values_in values w) w.ins) from (received_from (values_in values w) w.ins from ++ m ∷ []) u)
+      → AreSameIns mid ins
+      → ((u : ℕ) → received_from (values_in values w) mid u ≡ put (received_from (values_in values w) ins) from (received_from (values_in values w) ins from ++ n ∷ []) u)
+      → known_from (values_in values w) ins from ≢ [] → HasHeld values from w (record w { owner = p; misfits = misfits; ins = ins })
+  holds w p misfits mid ins from m n is same_values same_owner same taken same_again back some = record {
+    link = put_again (received_from (values_in values w) w.ins) (received_from (values_in values w) ins) (received_from (values_in values w) mid) from m n is taken back;
+    known_is = some;
+    ends = ins_through w.ins mid ins same same_again;
+    worker = λ j. record w { owner = same_owner j; misfits = same_values j; ins = ins };
   }
 
 -- ---- counting

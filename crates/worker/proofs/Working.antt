@@ -1,5 +1,5 @@
 -- What a worker keeps in each thing that it does.
-use Rattle.std.proofs.Common.{◌≡◌, ◌==◌, ℕ, zero, suc, Bool, true, false, List, [], ◌∷◌, ◌++◌, length, Option, Some, None, cond, true≢false, refl, sym, ap, ◌∙◌, subst}
+use Rattle.std.proofs.Common.{◌≡◌, ◌==◌, ℕ, zero, suc, Bool, true, false, List, [], ◌∷◌, ◌++◌, length, Option, Some, None, cond, refl, sym, ap, ◌∙◌, subst}
 use Rattle.std.specs.Prelude.{slice_set, slice_get}
 use Rattle.std.proofs.Math.Logic.{∥∥₁_elim}
 use Rattle.std.proofs.lemmas.List.{length-set}
@@ -37,12 +37,12 @@ module _ {S F : Type 0} (owner : S → List ℕ → ℕ → ℕ) (values : List 
 
   -- from each log of the worker there is one that it has afterwards
   kept_after : (old new : WorkerOf S F) → IsKept owner values old → length new.outs ≡ length old.outs → length new.ins ≡ length old.ins
-      → length new.owner.outboxes ≡ length old.owner.outboxes → (new.spent ≡ false → old.spent ≡ false)
+      → length new.owner.outboxes ≡ length old.owner.outboxes
       → ((log : Log) → IsWorking owner values old log → (next : Log) × IsWorking owner values new next) → IsKept owner values new
-  kept_after old new is outs ins boxes whole on = record {
+  kept_after old new is outs ins boxes on = record {
     outs = outs ∙ (is.outs ∙ sym boxes);
     ins = ins ∙ (is.ins ∙ sym boxes);
-    working = λ e. ∥∥₁_elim (is.working (whole e)) squash₁ (λ (p : (log : Log) × IsWorking owner values old log). ∣ on p.0 p.1 ∣₁);
+    working = ∥∥₁_elim is.working squash₁ (λ (p : (log : Log) × IsWorking owner values old log). ∣ on p.0 p.1 ∣₁);
   }
 
   -- what was set aside is told by another list that is the same
@@ -51,14 +51,14 @@ module _ {S F : Type 0} (owner : S → List ℕ → ℕ → ℕ) (values : List 
 
   -- ---- counting
   pub counted : (w : WorkerOf S F) (r : Bool) (u t : ℕ) → IsKept owner values w → IsKept owner values (record w { resting = r; uncounted = u; taken = t })
-  counted w r u t kept = kept_after w (record w { resting = r; uncounted = u; taken = t }) kept refl refl refl (λ e. e) (λ log working. (
+  counted w r u t kept = kept_after w (record w { resting = r; uncounted = u; taken = t }) kept refl refl refl (λ log working. (
     log,
     record { works = working.works; owner_is = working.owner_is; seen_is = working.seen_is; offered_is = working.offered_is },
   ))
 
   -- ---- looking and offering
   pub looked : (w : WorkerOf S F) (b s : Distance) → s ≡ lesser w.seen b → IsKept owner values w → IsKept owner values (record w { bound = b; seen = s })
-  looked w b s is kept = kept_after w (record w { bound = b; seen = s }) kept refl refl refl (λ e. e) (λ log working. (
+  looked w b s is kept = kept_after w (record w { bound = b; seen = s }) kept refl refl refl (λ log working. (
     happens (space_of owner w.owner) w.owner.worker log (Look b),
     record {
       works = acts (space_of owner w.owner) w.owner.worker log (sent_to (values_in values w) w.outs) (received_from (values_in values w) w.ins) [] w.misfits (Look b) refl refl working.works;
@@ -69,7 +69,7 @@ module _ {S F : Type 0} (owner : S → List ℕ → ℕ → ℕ) (values : List 
   ))
 
   pub offered : (w : WorkerOf S F) (d : Distance) → d ≡ lesser w.offered w.owner.best → IsKept owner values w → IsKept owner values (record w { offered = d })
-  offered w d is kept = kept_after w (record w { offered = d }) kept refl refl refl (λ e. e) (λ log working. (
+  offered w d is kept = kept_after w (record w { offered = d }) kept refl refl refl (λ log working. (
     happens (space_of owner w.owner) w.owner.worker log Offer,
     record {
       works = acts (space_of owner w.owner) w.owner.worker log (sent_to (values_in values w) w.outs) (received_from (values_in values w) w.ins) [] w.misfits Offer refl refl working.works;
@@ -84,7 +84,7 @@ module _ {S F : Type 0} (owner : S → List ℕ → ℕ → ℕ) (values : List 
   -- nothing more was sent
   pub ends_looked_at : (w : WorkerOf S F) (outs : List (Out F)) → length outs ≡ length w.outs → ((v : ℕ) → sent_to (values_in values w) outs v ≡ sent_to (values_in values w) w.outs v)
       → IsKept owner values w → IsKept owner values (record w { outs = outs })
-  ends_looked_at w outs len same kept = kept_after w (record w { outs = outs }) kept len refl refl (λ e. e) (λ log working. (
+  ends_looked_at w outs len same kept = kept_after w (record w { outs = outs }) kept len refl refl (λ log working. (
     log,
     record {
       works = subst (λ (f : ℕ → List Message). IsWorker (space_of owner w.owner) w.owner.worker log f (received_from (values_in values w) w.ins) [] w.misfits)
@@ -110,7 +110,7 @@ module _ {S F : Type 0} (owner : S → List ℕ → ℕ → ℕ) (values : List 
   sent_one w p misfits outs to m same_values kept first others fits len sent =
       with_misfits (record w { owner = p; outs = outs }) misfits same_values
       (subst (λ (o : OwnerOf S). IsKept owner values (record w { owner = o; outs = outs })) (sym others)
-      (kept_after w (record w { owner = q; outs = outs }) kept len refl (length-set w.owner.outboxes to rest) (λ e. e) (λ log working.
+      (kept_after w (record w { owner = q; outs = outs }) kept len refl (length-set w.owner.outboxes to rest) (λ log working.
       let x : log.owner ≡ under w.owner w.bound = working.owner_is in
       let box : list_at log.owner.outboxes to ≡ m ∷ rest = ap (λ (o : machine.Owner). list_at o.outboxes to) x ∙ first in
       let space = space_of owner w.owner in
@@ -141,7 +141,7 @@ module _ {S F : Type 0} (owner : S → List ℕ → ℕ → ℕ) (values : List 
   -- nothing more was received
   pub nothing_received : (w : WorkerOf S F) (ins : List (In F)) → length ins ≡ length w.ins → ((v : ℕ) → received_from (values_in values w) ins v ≡ received_from (values_in values w) w.ins v)
       → IsKept owner values w → IsKept owner values (record w { ins = ins })
-  nothing_received w ins len same kept = kept_after owner values w (record w { ins = ins }) kept refl len refl (λ e. e) (λ log working. (
+  nothing_received w ins len same kept = kept_after owner values w (record w { ins = ins }) kept refl len refl (λ log working. (
     log,
     record {
       works = subst (λ (f : ℕ → List Message). IsWorker (space_of owner w.owner) w.owner.worker log (sent_to (values_in values w) w.outs) f [] w.misfits)
@@ -158,7 +158,7 @@ module _ {S F : Type 0} (owner : S → List ℕ → ℕ → ℕ) (values : List 
       → ((v : ℕ) → received_from (values_in values w) ins v ≡ put (received_from (values_in values w) w.ins) from (received_from (values_in values w) w.ins from ++ m ∷ []) v)
       → IsKept owner values (record w { ins = ins; misfits = record { sender = from; message = m } ∷ [] })
   set_aside w ins from m kept none unfit len received =
-      kept_after owner values w (record w { ins = ins; misfits = record { sender = from; message = m } ∷ [] }) kept refl len refl (λ e. e) (λ log working.
+      kept_after owner values w (record w { ins = ins; misfits = record { sender = from; message = m } ∷ [] }) kept refl len refl (λ log working.
       let space = space_of owner w.owner in
       let me = w.owner.worker in
       let one : List Packet = record { sender = from; message = m } ∷ [] in
@@ -183,7 +183,7 @@ module _ {S F : Type 0} (owner : S → List ℕ → ℕ → ℕ) (values : List 
       → IsKept owner values (record w { owner = p; misfits = misfits; ins = ins })
   received_one w p misfits ins from m same_values kept fit taken same_space same_number len received =
       with_misfits owner values (record w { owner = p; ins = ins }) misfits same_values
-      (kept_after owner values w (record w { owner = p; ins = ins }) kept refl len boxes (λ e. e) (λ log working.
+      (kept_after owner values w (record w { owner = p; ins = ins }) kept refl len boxes (λ log working.
       let space = space_of owner w.owner in
       let me = w.owner.worker in
       let next = happens space me log (Take from m) in
@@ -222,7 +222,7 @@ module _ {S F : Type 0} (owner : S → List ℕ → ℕ → ℕ) (values : List 
   -- ---- expanding
   pub expanded_one : (w : WorkerOf S F) (p : OwnerOf S) (posted : ℕ) → IsKept owner values w → Expands owner w.bound w.owner posted p
       → length p.outboxes ≡ length w.owner.outboxes → IsKept owner values (record w { owner = p })
-  expanded_one w p posted kept done boxes = kept_after owner values w (record w { owner = p }) kept refl refl boxes (λ e. e) (λ log working.
+  expanded_one w p posted kept done boxes = kept_after owner values w (record w { owner = p }) kept refl refl boxes (λ log working.
       let space = space_of owner w.owner in
       let me = w.owner.worker in
       let next = happens space me log (Expand done.index) in
@@ -244,15 +244,6 @@ module _ {S F : Type 0} (owner : S → List ℕ → ℕ → ℕ) (values : List 
         },
       ))
 
-  -- ---- memory ran out
-  pub ran_out : (w new : WorkerOf S F) → IsKept owner values w → new.spent ≡ true → length new.outs ≡ length w.outs → length new.ins ≡ length w.ins
-      → length new.owner.outboxes ≡ length w.owner.outboxes → IsKept owner values new
-  ran_out w new kept gone outs ins boxes = record {
-    outs = outs ∙ (kept.outs ∙ sym boxes);
-    ins = ins ∙ (kept.ins ∙ sym boxes);
-    working = λ e. absurd (true≢false (sym gone ∙ e));
-  }
-
   -- what came of a request to expand
   pub expanded_kept : (w : WorkerOf S F) (p : OwnerOf S) (misfits : List Packet) (r : Option ℕ) → misfits ≡ w.misfits → IsKept owner values w
       → IsExpansion owner w.bound w.owner p r → length p.outboxes ≡ length w.owner.outboxes → IsKept owner values (record w { owner = p; misfits = misfits })
@@ -265,11 +256,11 @@ module _ {S F : Type 0} (owner : S → List ℕ → ℕ → ℕ) (values : List 
       → under o Infinite ≡ start_owner (searched owner space n) (owner space.spread space.task.initial n == number) → o.space ≡ space
       → o.worker ≡ number → length o.outboxes ≡ n → length outs ≡ n → ((v : ℕ) → sent_to (values (ranges space.task)) outs v ≡ []) → length ins ≡ n
       → ((v : ℕ) → received_from (values (ranges space.task)) ins v ≡ [])
-      → IsKept owner values (record { owner = o; outs = outs; ins = ins; bound = Infinite; seen = Infinite; offered = Infinite; misfits = []; spent = false; resting = false; uncounted = 0; taken = 0 })
+      → IsKept owner values (record { owner = o; outs = outs; ins = ins; bound = Infinite; seen = Infinite; offered = Infinite; misfits = []; resting = false; uncounted = 0; taken = 0 })
   begun space number n outs ins o started same_space same_number boxes out_len none_sent in_len none_received = record {
     outs = out_len ∙ sym boxes;
     ins = in_len ∙ sym boxes;
-    working = λ _. ∣ (
+    working = ∣ (
       start (searched owner space n) number,
       record {
         works = subst (λ (s : SpaceOf S). IsWorker (searched owner s (length o.outboxes)) o.worker (start (searched owner space n) number)

@@ -1,5 +1,5 @@
 -- What a worker does in one step, and in one turn: a pass of the loop of hash distributed A* (Kishimoto, Fukunaga and Botea 2013).
-use Rattle.std.specs.Prelude.{◌≡◌, ℕ, zero, suc, ◌+◌, ◌<◌, ◌≤◌, ◌⊎◌, Bool, true, false, ◌&&◌, ◌||◌, not, ◌==◌, List, [], ◌∷◌, ◌++◌, length, slice_get, slice_set, Option, Some, None, pos, ◌+ℤ◌, ◌-ℤ◌}
+use Rattle.std.specs.Prelude.{◌≡◌, ◌≢◌, ℕ, zero, suc, ◌+◌, ◌<◌, ◌≤◌, ◌⊎◌, Bool, true, false, ◌&&◌, ◌||◌, not, ◌==◌, List, [], ◌∷◌, ◌++◌, length, slice_get, slice_set, Option, Some, None, pos, ◌+ℤ◌, ◌-ℤ◌}
 use Rattle.cost.specs.Distances.{Distance, ◌≤ᵈ◌, lesser}
 use Rattle.owner_theory.specs.Owners.{Message, list_at, put, took, fits}
 use Rattle.owner_theory.specs.Worlds.{idle}
@@ -44,11 +44,9 @@ pub record HasExpanded {S F : Type 0} (owner : S → List ℕ → ℕ → ℕ) (
   pub expansion : IsExpansion owner old.bound old.owner new.owner posted
   pub worker : new ≡ record old { owner = new.owner; uncounted = old.uncounted + posted_by posted }
 
--- why it is not expanded; the worker is as it was, unless memory ran out
+-- why it is not expanded; the worker is as it was
 abbrev pub IsExpandRefusal : {S F : Type 0} → (S → List ℕ → ℕ → ℕ) → WorkerOf S F → WorkerOf S F → OwnerFault → Type 0
-IsExpandRefusal owner old new OutOfMemory = new ≡ record old { owner = new.owner; spent = true }
-IsExpandRefusal owner old new LimitReached = IsRefusal owner old.bound old.owner new.owner LimitReached × (new ≡ old)
-IsExpandRefusal owner old new TotalTooLarge = IsRefusal owner old.bound old.owner new.owner TotalTooLarge × (new ≡ old)
+IsExpandRefusal owner old new fault = IsRefusal owner old.bound old.owner new.owner fault × (new ≡ old)
 
 -- the messages in outboxes that are not yet added to the units are added
 pub record HasAdded {S F : Type 0} (old new : WorkerOf S F) (before after : View) : Type 0 where
@@ -104,6 +102,13 @@ pub record HasSetAside {S F : Type 0} (owner : S → List ℕ → ℕ → ℕ) (
   pub popped : HasPopped values from message old new
   pub unfit : fits (space_of owner old.owner) old.owner.worker message ≡ false
   pub worker : new ≡ record old { ins = new.ins; misfits = record { sender = from; message = message } ∷ [] }
+
+-- the owner could not take the oldest message from that worker, and the worker holds it: the message is known to be left to take
+pub record HasHeld {S F : Type 0} (values : List ℕ → F → List ℕ) (from : ℕ) (old new : WorkerOf S F) : Type 0 where
+  pub link : (u : ℕ) → received_from (values_in values old) new.ins u ≡ received_from (values_in values old) old.ins u
+  pub known_is : known_from (values_in values old) new.ins from ≢ []
+  pub ends : AreSameIns old.ins new.ins
+  pub worker : new ≡ record old { ins = new.ins }
 
 -- what came of receiving from that worker
 abbrev pub HasReceived : {S F : Type 0} → (S → List ℕ → ℕ → ℕ) → (List ℕ → F → List ℕ) → ℕ → WorkerOf S F → WorkerOf S F → Received → Type 0
@@ -168,6 +173,14 @@ pub record HasStopped {S F : Type 0} (owner : S → List ℕ → ℕ → ℕ) (v
   pub receives : chained (ReceivesFrom owner values) from old received
   pub aside : HasSetAside owner values from received new
 
+-- a turn that ends with a message that the owner could not take: the links before it were received from, and nothing else is done
+pub record HasHeldBack {S F : Type 0} (owner : S → List ℕ → ℕ → ℕ) (values : List ℕ → F → List ℕ) (old new : WorkerOf S F) : Type 0 where
+  pub from : ℕ
+  pub within : from < length old.ins
+  pub received : WorkerOf S F
+  pub receives : chained (ReceivesFrom owner values) from old received
+  pub held : HasHeld values from received new
+
 -- what came of receiving from each link: no message was set aside, or one was, and nothing was received from the links after it
 abbrev pub HasReceivedEach : {S F : Type 0} → (S → List ℕ → ℕ → ℕ) → (List ℕ → F → List ℕ) → WorkerOf S F → WorkerOf S F → Bool → Type 0
 HasReceivedEach owner values old new true = chained (ReceivesFrom owner values) (length old.ins) old new
@@ -180,9 +193,10 @@ pub record HasRefused {S F : Type 0} (owner : S → List ℕ → ℕ → ℕ) (v
   pub looks : HasLooked received new before after
   pub refusal : IsRefusal owner new.bound new.owner new.owner fault
 
--- why a turn is refused; only want of memory leaves a worker that is spent
+-- why a turn is refused: memory ran out for a message, and the worker holds it; or the owner refused to expand
 abbrev pub IsTurnRefusal : {S F : Type 0} → (S → List ℕ → ℕ → ℕ) → (List ℕ → F → List ℕ) → WorkerOf S F → WorkerOf S F → View → View → OwnerFault → Type 0
-IsTurnRefusal owner values old new before after OutOfMemory = new.spent ≡ true
+IsTurnRefusal owner values old new before after OutOfMemory =
+    (HasHeldBack owner values old new × (after ≡ before)) ⊎ HasRefused owner values OutOfMemory old new before after
 IsTurnRefusal owner values old new before after LimitReached = HasRefused owner values LimitReached old new before after
 IsTurnRefusal owner values old new before after TotalTooLarge = HasRefused owner values TotalTooLarge old new before after
 

@@ -14,9 +14,9 @@ use Rattle.links.specs.declared.ends.In.{In}
 use Rattle.links.specs.Ends.{sent, received, known, SameOut, SameIn}
 
 -- the owner; the ends of its links, by the other worker; the bound read last, the least bound read, and the least cost offered;
--- messages that were taken from a link and do not fit this owner; whether memory ran out half way, so that the owner may be at
--- the end of no run; whether it is not counted among the units, because it had nothing to do; how many messages stand in its
--- outboxes that are not yet added to the units; and how many messages it has taken that are not yet subtracted from them
+-- messages that were taken from a link and do not fit this owner; whether it is not counted among the units, because it had
+-- nothing to do; how many messages stand in its outboxes that are not yet added to the units; and how many messages it has taken
+-- that are not yet subtracted from them
 pub record WorkerOf (S F : Type 0) : Type 0 where
   pub owner : OwnerOf S
   pub outs : List (Out F)
@@ -25,7 +25,6 @@ pub record WorkerOf (S F : Type 0) : Type 0 where
   pub seen : Distance
   pub offered : Distance
   pub misfits : List Packet
-  pub spent : Bool
   pub resting : Bool
   pub uncounted : ℕ
   pub taken : ℕ
@@ -45,7 +44,7 @@ sent_to values outs v = list_at (map (λ o. map (message_of values) (sent o)) ou
 abbrev pub received_from : {F : Type 0} → (F → List ℕ) → List (In F) → ℕ → List Message
 received_from values ins u = list_at (map (λ i. map (message_of values) (received i)) ins) u
 
--- the messages that are known to be in the ring from a worker
+-- the messages that are known to be left to take from a worker
 abbrev pub known_from : {F : Type 0} → (F → List ℕ) → List (In F) → ℕ → List Message
 known_from values ins u = list_at (map (λ i. map (message_of values) (known i)) ins) u
 
@@ -56,11 +55,11 @@ pub record IsWorking {S F : Type 0} (owner : S → List ℕ → ℕ → ℕ) (va
   pub seen_is : log.seen ≡ w.seen
   pub offered_is : log.offered ≡ w.offered
 
--- there is a link to each worker and from each, and there is such a log, unless memory ran out
+-- there is a link to each worker and from each, and there is such a log
 pub record IsKept {S F : Type 0} (owner : S → List ℕ → ℕ → ℕ) (values : List ℕ → F → List ℕ) (w : WorkerOf S F) : Type 0 where
   pub outs : length w.outs ≡ length w.owner.outboxes
   pub ins : length w.ins ≡ length w.owner.outboxes
-  pub working : w.spent ≡ false → ∥ ((log : Log) × IsWorking owner values w log) ∥₁
+  pub working : ∥ ((log : Log) × IsWorking owner values w log) ∥₁
 
 -- the same ends, one for one
 pub record AreSameOuts {F : Type 0} (old new : List (Out F)) : Type 0 where
@@ -82,7 +81,6 @@ pub record IsFirstWorker {S F : Type 0} (searched_space : SpaceOf S) (v workers 
   pub seen : w.seen ≡ Infinite
   pub offered : w.offered ≡ Infinite
   pub misfits : w.misfits ≡ []
-  pub spent : w.spent ≡ false
   pub resting : w.resting ≡ false
   pub uncounted : w.uncounted ≡ 0
   pub taken : w.taken ≡ 0

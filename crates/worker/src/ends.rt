@@ -1,11 +1,11 @@
 //! Rows of ends of links.
 
-ghost use Rattle.std.specs.Prelude.{◌≡◌, ℕ, List, suc, ◌<◌, ◌≤◌, ◌++◌, ◌∷◌, [], false, length, slice_get, Some, IsTrue, IfSome, IfNone};
+ghost use Rattle.std.specs.Prelude.{◌≡◌, ℕ, List, suc, ◌≢◌, ◌<◌, ◌≤◌, ◌++◌, ◌∷◌, [], false, length, slice_get, Some, IsTrue, IfSome, IfNone};
 ghost use Rattle.owner_theory.specs.Owners.{put};
 ghost use Rattle.closed.specs.Tables.{message_of};
 ghost use Rattle.links.specs.declared.ends.Out.{Out as OutOf};
 ghost use Rattle.links.specs.declared.ends.In.{In as InOf};
-ghost use Rattle.links.specs.Ends.{room, known};
+ghost use Rattle.links.specs.Ends.{room, known, WasTakenLast};
 ghost use Rattle.links.specs.Ranks.{HasSmallRank};
 ghost use Rattle.worker.specs.Workers.{sent_to, received_from, known_from, AreSameOuts, AreSameIns};
 
@@ -40,10 +40,23 @@ pub(crate) fn pop<F: StateForm + Drop>(ins: &mut Vec<In<F>>, from: usize) -> Opt
     requires { from < length ins.old.items }
     ensures same { AreSameIns ins.old.items ins.new.items }
     ensures some { IfSome result (λ m. (values : F → List ℕ) (v : ℕ) → received_from values ins.new.items v ≡ put (received_from values ins.old.items) from (received_from values ins.old.items from ++ message_of values m ∷ []) v) }
+    ensures last { IfSome result (λ m. (i : InOf F) → slice_get ins.new.items from ≡ Some i → WasTakenLast i m) }
     ensures small { IfSome result HasSmallRank }
     ensures none { IfNone result ((values : F → List ℕ) (v : ℕ) → received_from values ins.new.items v ≡ received_from values ins.old.items v) }
     ensures fewer { (values : F → List ℕ) → length (known_from values ins.old.items from) ≤ suc (length (known_from values ins.new.items from)) }
     ensures unknown { IfNone result ((i : InOf F) → slice_get ins.old.items from ≡ Some i → known i ≡ []) }
 {
     ins[from].pop()
+}
+
+/// Gives back the message that was taken last from that worker. Allocates nothing.
+pub(crate) fn give_back<F: StateForm + Drop>(ins: &mut Vec<In<F>>, from: usize, message: Message<F>)
+    requires within { from < length ins.old.items }
+    requires last { (i : InOf F) → slice_get ins.old.items from ≡ Some i → WasTakenLast i message }
+    requires small { HasSmallRank message }
+    ensures same { AreSameIns ins.old.items ins.new.items }
+    ensures taken { (values : F → List ℕ) (v : ℕ) → received_from values ins.old.items v ≡ put (received_from values ins.new.items) from (received_from values ins.new.items from ++ message_of values message ∷ []) v }
+    ensures known { (values : F → List ℕ) → known_from values ins.new.items from ≢ [] }
+{
+    ins[from].give_back(message);
 }

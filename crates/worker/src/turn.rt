@@ -1,8 +1,8 @@
 //! One turn of a worker.
 
-ghost use Rattle.std.specs.Prelude.{◌≡◌, ◌≢◌, [], true, length, IfOk, IfErr};
+ghost use Rattle.std.specs.Prelude.{◌≡◌, ◌≢◌, [], length, IfOk, IfErr};
 ghost use Rattle.board.specs.Seats.{IsSeatOf, view};
-ghost use Rattle.worker.specs.Turns.{chained, SendsTo, HasReceivedEach, IsTurn, IsTurnRefusal};
+ghost use Rattle.worker.specs.Turns.{chained, SendsTo, HasReceivedEach, HasHeldBack, IsTurn, IsTurnRefusal};
 
 use crate::outcome::{Received, Turn};
 use crate::worker::Worker;
@@ -28,12 +28,12 @@ fn next_turn(board: &Board, seat: &mut Seat) -> Turn
 
 impl<'a, S: Spread + Drop, F: StateForm + Drop> Worker<'a, S, F> {
     /// Takes at most one message from each link. Returns false if one was set aside, after which it takes no more. Fails only if
-    /// allocation fails, after which the worker must not be used again.
+    /// allocation fails, and then the worker holds the message that could not be taken, and has taken none after it.
     fn receive_each(&mut self) -> Result<bool, AllocError>
         requires none_aside { self.old.misfits ≡ [] }
         requires none_taken { self.old.taken ≡ 0 }
         ensures received { IfOk result (HasReceivedEach S.owner F.values self.old self.new) }
-        ensures spent { IfErr result (λ _. (self.new.spent ≡ true) × (self.new.uncounted ≡ self.old.uncounted)) }
+        ensures refused { IfErr result (λ _. HasHeldBack S.owner F.values self.old self.new) }
     {
         for from in 0..self.workers() {
             if let Received::SetAside = self.receive(from)? {
@@ -57,8 +57,8 @@ impl<'a, S: Spread + Drop, F: StateForm + Drop> Worker<'a, S, F> {
     /// messages that this put into outboxes to the units, offers its best goal, sends at most one message over each link, and
     /// subtracts what it has taken from the units. A message that is not for its owner ends the turn.
     ///
-    /// A fault is that of the owner. It leaves the worker as it was after it read the bound, except `OutOfMemory`, after which the
-    /// worker must not be used again.
+    /// A fault leaves the worker as it was after it read the bound; where memory ran out for a message, the worker holds it and it
+    /// still counts as pending. A caller that goes on after a fault calls `count_taken` first.
     pub fn turn(&mut self, board: &Board, seat: &mut Seat) -> Result<Turn, OwnerFault>
         requires seat { IsSeatOf board.now seat.old }
         requires none_aside { self.old.misfits ≡ [] }

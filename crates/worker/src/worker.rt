@@ -1,12 +1,12 @@
 //! The worker, and what it does in one step.
 
-ghost use Rattle.std.specs.Prelude.{◌≡◌, ℕ, ◌+◌, ◌^◌, ◌<◌, [], true, length, IfOk, IfErr};
+ghost use Rattle.std.specs.Prelude.{◌≡◌, ℕ, ◌+◌, ◌^◌, ◌<◌, [], length, IfOk, IfErr};
 ghost use Rattle.fdr.specs.Tasks.{ranges};
 ghost use Rattle.board.specs.Seats.{IsSeatOf, view};
 ghost use Rattle.worker.specs.Workers.{sent_to, received_from, values_in, misfits_of, IsFirstWorker, IsKept};
-ghost use Rattle.worker.specs.Turns.{HasLooked, HasOffered, HasExpanded, IsExpandRefusal, posted_by, SendsOrNot, HasReceived};
+ghost use Rattle.worker.specs.Turns.{HasLooked, HasOffered, HasExpanded, IsExpandRefusal, posted_by, SendsOrNot, HasReceived, HasHeld};
 
-use crate::ends::{has_room, pop, push};
+use crate::ends::{give_back, has_room, pop, push};
 use crate::fitting::is_for;
 use crate::outcome::Received;
 use board::{Board, Seat};
@@ -38,8 +38,6 @@ pub struct Worker<'a, S: Spread + Drop, F: StateForm + Drop> {
     pub(crate) number: usize,
     /// A buffer for the values of a state.
     state: Vec<u32>,
-    /// Whether memory ran out half way, so that the owner may be at the end of no run.
-    spent: bool,
     /// Whether it is not counted among the units.
     pub(crate) resting: bool,
     /// The number of messages in its outboxes that are not yet added to the units.
@@ -63,7 +61,6 @@ impl<'a, S: Spread + Drop, F: StateForm + Drop> Model for Worker<'a, S, F> {
       seen = w.seen;
       offered = w.offered;
       misfits = misfits_of (F.values (ranges w.owner.space.task)) w.misfit;
-      spent = w.spent;
       resting = w.resting;
       uncounted = w.uncounted;
       taken = w.taken;
@@ -77,7 +74,6 @@ impl<'a, S: Spread + Drop, F: StateForm + Drop> Model for Worker<'a, S, F> {
       seen = w.seen;
       offered = w.offered;
       misfits = misfits_of (F.values (ranges w.owner.space.task)) w.misfit;
-      spent = w.spent;
       resting = w.resting;
       uncounted = w.uncounted;
       taken = w.taken;
@@ -135,7 +131,6 @@ impl<'a, S: Spread + Drop, F: StateForm + Drop> Worker<'a, S, F> {
             misfit: None,
             number,
             state: vec![in alloc; 0u32; space.task().variable_count()]?,
-            spent: false,
             resting: false,
             uncounted: 0,
             taken: 0,
@@ -181,13 +176,14 @@ impl<'a, S: Spread + Drop, F: StateForm + Drop> Worker<'a, S, F> {
     }
 
     /// Takes the oldest message from that worker, if the link is found to hold one. A message that is not for this owner is set
-    /// aside. Fails only if allocation fails, after which the worker must not be used again.
+    /// aside. Fails only if allocation fails, and then the worker holds the message: it is the next that is taken from that worker,
+    /// and it still counts as pending.
     pub fn receive(&mut self, from: usize) -> Result<Received, AllocError>
         requires within { from < length self.old.ins }
         requires none_aside { self.old.misfits ≡ [] }
         requires countable { self.old.taken + 1 < 2 ^ 64 }
         ensures received { IfOk result (HasReceived S.owner F.values from self.old self.new) }
-        ensures spent { IfErr result (λ _. self.new ≡ record self.old { ins = self.new.ins; spent = true }) }
+        ensures refused { IfErr result (λ _. HasHeld F.values from self.old self.new) }
     {
         self.owner.recall();
         let Some(message) = pop(&mut self.ins, from) else {
@@ -207,33 +203,28 @@ impl<'a, S: Spread + Drop, F: StateForm + Drop> Worker<'a, S, F> {
             });
             return Ok(Received::SetAside);
         }
-        if let Err(_returned) = self.owner.take(message) {
-            self.spent = true;
-            return Err(AllocError);
+        match self.owner.take(message) {
+            Ok(()) => {
+                self.taken += 1;
+                Ok(Received::Taken)
+            }
+            Err((returned, error)) => {
+                give_back(&mut self.ins, from, returned);
+                Err(error)
+            }
         }
-        self.taken += 1;
-        Ok(Received::Taken)
     }
 
     /// Expands the next node below the bound that was read last. Returns how many messages that put into outboxes, or `None` if
-    /// there is no such node. A fault leaves the worker as it was, except `OutOfMemory`, after which it must not be used again.
+    /// there is no such node. A fault is that of the owner, and leaves the worker as it was.
     pub fn expand(&mut self) -> Result<Option<usize>, OwnerFault>
         requires { self.old.uncounted ≡ 0 }
         ensures expanded { IfOk result (HasExpanded S.owner self.old self.new) }
         ensures refused { IfErr result (IsExpandRefusal S.owner self.old self.new) }
     {
-        match self.owner.expand(self.bound) {
-            Ok(posted) => {
-                self.uncounted = posted_by(posted);
-                Ok(posted)
-            }
-            Err(OwnerFault::OutOfMemory) => {
-                self.spent = true;
-                Err(OwnerFault::OutOfMemory)
-            }
-            Err(OwnerFault::TotalTooLarge) => Err(OwnerFault::TotalTooLarge),
-            Err(OwnerFault::LimitReached) => Err(OwnerFault::LimitReached),
-        }
+        let posted = self.owner.expand(self.bound)?;
+        self.uncounted = posted_by(posted);
+        Ok(posted)
     }
 
     /// The number of workers.
@@ -265,8 +256,8 @@ impl<'a, S: Spread + Drop, F: StateForm + Drop> Worker<'a, S, F> {
         self.resting
     }
 
-    /// What holds of every worker, the type's invariant stated as a contract: it has a link to each worker and from each, and,
-    /// unless memory ran out, its owner is at the end of a run that tells what went over its links, and what was seen and offered.
+    /// What holds of every worker, the type's invariant stated as a contract: it has a link to each worker and from each, and its
+    /// owner is at the end of a run that tells what went over its links, and what was seen and offered.
     pub fn recall(&self)
         ensures { IsKept S.owner F.values self.now }
     {

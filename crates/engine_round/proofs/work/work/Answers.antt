@@ -4,7 +4,7 @@ use Rattle.worker.specs.declared.outcome.Turn.{Turn}
 use Rattle.worker.specs.Turns.{IsTurn}
 use Rattle.std.specs.Prelude.{Bool}
 use Rattle.engine_round.specs.Turns.{HasRelayed}
-use Rattle.engine_round.proofs.Relays.{still_at_work, aside_turn, spent_turn}
+use Rattle.engine_round.proofs.Relays.{still_at_work, aside_turn, memory_turn}
 use Rattle.engine_round.proofs.Kept.{at_start, one_turn, last_turn, stopped_turn, refused_turn}
 use Rattle.engine_round.proofs.work.work.Goals.{in-Ok-Last, in-Ok-Misfit, in-Err}
 use Rattle.engine_round.proofs.work.work.Goals as goal
@@ -51,8 +51,8 @@ returns-in-loop g c =
           (subst (λ (t : Turn). IsTurn {F = g.row.F.Denot} g.S.Spread.owner g.F.StateForm.values c.loop.worker c.take_turn.new.worker (view c.loop.seat) (view c.take_turn.new.seat) t) w.in-Ok-Next.field-0-is w.in-Ok-Next.ensures.turned))
           (subst (λ (t : Bool). HasRelayed {F = g.row.F.Denot} g.S.Spread.owner g.F.StateForm.values c.args.board.now c.take_turn.new.seat c.take_turn.new.worker w.relay.new.seat w.relay.new.worker t) w.in-Ok-false.field-0-test w.in-Ok-false.ensures.relayed)
           w.halt.ensures.seat w.halt.ensures.view)
-      | goal.in-Ok-Next+in-Err-relay w ↦ rw (w.worker-is, w.seat-is, w.fault-is) (spent_turn g.S.Spread.owner g.F.StateForm.values (g.G.Gate.may_stop c.args.gate.now) c.args.board.now c.args.seat w.halt-in-Err-relay.new.seat
-          c.args.worker w.relay.new.worker w.halt-in-Err-relay.ensures.seat w.in-Err-relay.ensures.spent)
+      | goal.in-Ok-Next+in-Err-relay w ↦ rw (w.worker-is, w.seat-is, w.fault-is) (memory_turn g.S.Spread.owner g.F.StateForm.values (g.G.Gate.may_stop c.args.gate.now) c.args.board.now c.args.seat w.halt-in-Err-relay.new.seat
+          c.args.worker w.relay.new.worker w.halt-in-Err-relay.ensures.seat)
       | in-Ok-Last w ↦ rw (w.worker-is, w.seat-is, w.fault-is) (last c.take_turn.new.seat c.loop.worker c.take_turn.new.worker c.loop.invariant c.take_turn.ensures.seat
           c.take_turn.ensures.none_uncounted
           (subst (λ (t : Turn). IsTurn {F = g.row.F.Denot} g.S.Spread.owner g.F.StateForm.values c.loop.worker c.take_turn.new.worker (view c.loop.seat) (view c.take_turn.new.seat) t)

@@ -19,7 +19,7 @@ loop-place-preserved g c =
     let s0 = c.args.state.now in
     let inv = c.loop-place.invariant in
     let space = space_of g.S.Spread.owner h in
-    let made = subst (λ (x : Successor g.row.F.Denot). IsSuccessor g.F.StateForm.IsForm g.F.StateForm.values space h.worker s0 x)
+    let made = subst (λ (x : Successor g.row.F.Denot). IsSuccessor g.F.StateForm.IsForm g.F.StateForm.values space s0 x)
     (sym c.index-successors-place.is) (c.requires.each c.loop-place.place s c.loop-place-test.true) in
     let at : slice_index os (length c.loop-place.known.items) ≡ s.operator =
     ap (λ k. get_or os k 0) inv.as_many ∙ operator_at ss c.loop-place.place s c.loop-place-test.true c.index-successors-place.is in
@@ -34,6 +34,6 @@ loop-place-preserved g c =
           let w = c.changes_nothing.ensures e in
           nothing_by space h.worker c.args.next.index s0 c.args.next.rank h.nodes (g.F.StateForm.values (ranges h.space.task) s.state)
           (slice_index os (length c.loop-place.known.items)) t
-          (ap (λ k. step h.space.task s0 k) at ∙ made.leads) leads (made.own w.0) (made.no_goal w.1)
+          (ap (λ k. step h.space.task s0 k) at ∙ made.leads) leads (sym made.owner ∙ w.0) (sym made.goal ∙ w.1)
           (λ after parent cost steps. w.2 after parent (cost ∙ ap (λ k. c.args.next.rank.cost + cost_of h.space.task k) at) steps)));
     }

@@ -1,5 +1,4 @@
-use Rattle.std.proofs.Common.{◌≡◌, ℕ, List, true, Some, sym, ap, ◌∙◌, subst}
-use Rattle.std.proofs.lemmas.Bool.{eqb-true}
+use Rattle.std.proofs.Common.{◌≡◌, ◌<◌, ℕ, List, true, Some, sym, ap, ◌∙◌, subst}
 use Rattle.fdr.specs.Tasks.{FiniteDomainTask, ranges, IsState, IsAssignment, applies_at, is_goal_state, step, with_values}
 use Rattle.owner_space.specs.Spaces.{SpaceOf}
 use Rattle.owner_space.specs.Steps.{effect_at}
@@ -47,13 +46,11 @@ returns-clause-made g c =
     let leads = steps_to T0 s0 o c.requires.applies ∙ ap (λ (v : List ℕ). Some v) (sym value) in
     let same : c.write_successor.new.values ≡ g.F.StateForm.values (ranges T0) made =
     same_some _ _ (sym (subst (λ (t : FiniteDomainTask). step t s0 o ≡ Some c.write_successor.new.values) task c.write_successor.ensures.step) ∙ leads) in
-    let space = sym c.space-space.ensures in
-    let back = sym same in
-    let owners = sym c.owners.ensures in
+    let space = c.space-space.ensures in
     record {
       form = form;
       leads = leads;
-      own = λ e. (λ j. g.S.Spread.owner ((space j).spread) (back j) (owners j))
-          ∙ (sym c.owner_of-owner.ensures.value ∙ (eqb-true c.owner_of-owner.result c.worker.result e ∙ c.worker.ensures));
-      no_goal = λ e. (λ j. is_goal_state (sym task j) (back j)) ∙ (sym c.is_goal-is_goal.ensures ∙ e);
+      owner = c.owner_of-owner.ensures.value ∙ (λ j. g.S.Spread.owner ((space j).spread) (same j) (c.owners.ensures j));
+      there = subst (λ n. c.owner_of-owner.result < n) c.owners.ensures c.owner_of-owner.ensures.below;
+      goal = c.is_goal-is_goal.ensures ∙ (λ j. is_goal_state (task j) (same j));
     }

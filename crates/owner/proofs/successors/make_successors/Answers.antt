@@ -12,7 +12,7 @@ loop-operator-preserved g c =
     let os = c.args.operators.now in
     let ss = c.loop-operator.successors.items in
     let s = c.in_ok-successor.successor in
-    let P = λ (x : Successor g.row.F.Denot). IsSuccessor g.F.StateForm.IsForm g.F.StateForm.values (space_of g.S.Spread.owner c.args.holdings.now) c.args.holdings.now.worker c.args.state.now x in
+    let P = λ (x : Successor g.row.F.Denot). IsSuccessor g.F.StateForm.IsForm g.F.StateForm.values (space_of g.S.Spread.owner c.args.holdings.now) c.args.state.now x in
     record {
       operators = ap (λ (l : List (Successor g.row.F.Denot)). map (λ x. x.operator) l) c.in_ok-push.ensures.items
           ∙ operators_more ss s os c.loop-operator.operator-index c.loop-operator-test.true inv.operators c.in_ok-successor.ensures.operator;

@@ -7,5 +7,5 @@ abbrev pub invariant-loop-operator : goal.invariant-loop-operator
 invariant-loop-operator g l =
     record {
       operators : map (λ s. s.operator) l.successors.items ≡ take l.operator-index l.operators;
-      each : All (IsSuccessor g.F.StateForm.IsForm g.F.StateForm.values (space_of g.S.Spread.owner l.holdings) l.holdings.worker l.state) l.successors.items;
+      each : All (IsSuccessor g.F.StateForm.IsForm g.F.StateForm.values (space_of g.S.Spread.owner l.holdings) l.state) l.successors.items;
     }

@@ -1,4 +1,4 @@
-use Rattle.worker.proofs.Rows.{taken_some, taken_none, none_known, known_fewer}
+use Rattle.worker.proofs.Rows.{taken_some, taken_none, none_known, known_fewer, last_there}
 use Rattle.worker.proofs.ends.pop.Goals as goal
 
 pub returns-clause-some : goal.returns-clause-some
@@ -16,3 +16,6 @@ returns-clause-unknown g c =
 pub returns-clause-fewer : goal.returns-clause-fewer
 returns-clause-fewer g c = λ values.
     known_fewer values c.args.ins.now.items c.args.from c.index_mut.result.now c.pop.new.self c.requires c.index_mut.ensures.value c.pop.ensures.fewer
+
+pub returns-clause-last : goal.returns-clause-last
+returns-clause-last g c = last_there c.pop.result c.args.ins.now.items c.args.from c.pop.new.self c.requires c.pop.ensures.last

@@ -1,6 +1,5 @@
-use Rattle.std.proofs.Common.{◌∙◌, ap, sym, subst}
+use Rattle.std.proofs.Common.{sym, subst}
 use Rattle.owner_theory.specs.Families.{IsSearchSpace}
-use Rattle.netcore.specs.Worlds.{WorldOf}
 use Rattle.netcore.proofs.Places.{at_here}
 use Rattle.netcore.proofs.Expanding.{owner_space}
 use Rattle.fdr.specs.Tasks.{ranges}
@@ -12,7 +11,7 @@ new-requires-clause-lawful g c =
     let at = at_here c.self.inside.owners.items 0 c.index-first.result.now c.self.invariant.some c.index-first.ensures in
     let sp = subst IsSearchSpace (owner_space g.S.Spread.owner _ 0 c.index-first.result.now c.self.invariant at) c.recall.ensures.space in
     rw (← joined_same (g.F.StateForm.values (ranges c.self.inside.space.now.task)) c.self.inside.underway.items)
-    (lawful_end g.S.Spread.owner _ c.self.invariant sp (ap (λ (w : WorldOf g.row.S.Denot). w.spent) c.self.view_is ∙ c.requires))
+    (lawful_end g.S.Spread.owner _ c.self.invariant sp)
 
 pub new-requires-clause-form : goal.new-requires-clause-form
 new-requires-clause-form g c = rw (← joined_same (g.F.StateForm.values (ranges c.self.inside.space.now.task)) c.self.inside.underway.items) (form_of g.S.Spread.owner _ c.self.invariant)

@@ -1,6 +1,6 @@
 use Rattle.std.proofs.Common.{◌≡◌, ◌<◌, ◌∙◌, true, false, length, sym, arith}
 use Rattle.std.proofs.lemmas.Bool.{not-true, not-false}
-use Rattle.netcore.specs.Possible.{differ}
+use Rattle.netcore.specs.Worlds.{differ}
 use Rattle.netcore.proofs.Places.{at_here, at_some}
 use Rattle.netcore.proofs.Bounding.{look_past, look_none, look_done, look_kept, same_or_differ, not_different}
 use Rattle.netcore.proofs.world.World.look.Goals as goal

@@ -1,5 +1,6 @@
 use Rattle.std.proofs.Common.{◌<◌, ◌∙◌, ap, sym, length, arith}
-use Rattle.netcore.specs.Possible.{would_change, own_step}
+use Rattle.netcore.specs.Worlds.{would_change}
+use Rattle.netcore.specs.Possible.{own_step}
 use Rattle.netcore.proofs.Choosing.{passed_over, counted}
 use Rattle.netcore.proofs.world.World.nth_own.Goals as goal
 

@@ -1,6 +1,7 @@
 use Rattle.std.proofs.Common.{◌≡◌, length}
 use Rattle.std.specs.Prelude.{slice_get}
-use Rattle.netcore.specs.Possible.{would_change, own_step, by_owner}
+use Rattle.netcore.specs.Worlds.{would_change}
+use Rattle.netcore.specs.Possible.{own_step, by_owner}
 use Rattle.netcore.proofs.Choosing.{passing}
 use Rattle.netcore.proofs.world.World.nth_own.Given as goal
 

@@ -1,6 +1,6 @@
 use Rattle.std.proofs.Common.{◌<◌, ◌∙◌, sym, length, arith}
 use Rattle.netcore.specs.declared.step.WorldStep.TheVariants.{Send}
-use Rattle.netcore.specs.Possible.{would_change}
+use Rattle.netcore.specs.Worlds.{would_change}
 use Rattle.netcore.proofs.Choosing.{passed_over, counted}
 use Rattle.netcore.proofs.world.World.nth_send_of.Goals as goal
 

@@ -1,7 +1,8 @@
 use Rattle.std.proofs.Common.{◌≡◌, length}
 use Rattle.std.specs.Prelude.{slice_get}
 use Rattle.netcore.specs.declared.step.WorldStep.TheVariants.{Send}
-use Rattle.netcore.specs.Possible.{would_change, sends_of}
+use Rattle.netcore.specs.Worlds.{would_change}
+use Rattle.netcore.specs.Possible.{sends_of}
 use Rattle.netcore.proofs.Choosing.{passing}
 use Rattle.netcore.proofs.world.World.nth_send_of.Given as goal
 

@@ -2,7 +2,8 @@ use Rattle.std.proofs.Common.{◌≡◌, ◌∙◌, length, arith, rules, tests}
 use Rattle.std.specs.Prelude.{filter}
 use Rattle.std.proofs.lemmas.Iterator.{YieldsList-from_range}
 use Rattle.std.proofs.lemmas.Iterator.Consumers.{YieldsList-from_filter, count_from_yields_List}
-use Rattle.netcore.specs.Possible.{would_change, own_step, below}
+use Rattle.netcore.specs.Worlds.{would_change}
+use Rattle.netcore.specs.Possible.{own_step, below}
 use Rattle.netcore.proofs.Choosing.{count_passing}
 use Rattle.netcore.proofs.world.World.own_count.Goals as goal
 

@@ -1,9 +1,6 @@
-use Rattle.std.proofs.Common.{◌≡◌, take, false}
+use Rattle.std.proofs.Common.{take}
 use Rattle.netcore.specs.Worlds.{IsWorldAfter}
 use Rattle.netcore.proofs.world.World.run.Given as goal
 
 abbrev pub invariant-loop-step : goal.invariant-loop-step
-invariant-loop-step g l = record {
-  world : IsWorldAfter g.S.Spread.owner l.space l.owners (take l.step-index l.steps) l.world;
-  whole : l.world.spent ≡ false;
-}
+invariant-loop-step g l = IsWorldAfter g.S.Spread.owner l.space l.owners (take l.step-index l.steps) l.world

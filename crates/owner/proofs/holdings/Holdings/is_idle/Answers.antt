@@ -4,7 +4,7 @@ use Rattle.fdr.specs.Tasks.{ranges}
 use Rattle.owner_theory.specs.Worlds.{is_empty}
 use Rattle.owner.specs.Owned.{OwnerOf, space_of, under}
 use Rattle.owner.proofs.Owning.{idle_not, idle_from, none_from}
-use Rattle.owner.proofs.Showing.{shown_empty}
+use Rattle.owner_outboxes.proofs.Showing.{shown_empty}
 use Rattle.owner.proofs.holdings.Holdings.is_idle.Goals as goal
 
 pub returns-then-is_none : goal.returns-then-is_none

@@ -2,7 +2,7 @@ use Rattle.std.proofs.Common.{ap, ◌∙◌}
 use Rattle.fdr.specs.Tasks.{ranges}
 use Rattle.owner_theory.specs.Worlds.{waiting}
 use Rattle.owner.specs.Owned.{OwnerOf}
-use Rattle.owner.proofs.Showing.{shown_count}
+use Rattle.owner_outboxes.proofs.Showing.{shown_count}
 use Rattle.owner.proofs.holdings.Holdings.messages.Goals as goal
 
 pub returns : goal.returns

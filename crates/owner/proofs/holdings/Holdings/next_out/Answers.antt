@@ -6,7 +6,7 @@ use Rattle.owner_theory.specs.Owners.{list_at}
 use Rattle.closed.specs.Tables.{message_of}
 use Rattle.owner.specs.Owned.{OwnerOf, space_of, IsMessageTo}
 use Rattle.owner.proofs.Owning.{boxes_in, popped_kept, popped_fits}
-use Rattle.owner.proofs.Showing.{shown_first, shown_others, shown_emptied}
+use Rattle.owner_outboxes.proofs.Showing.{shown_first, shown_others, shown_emptied}
 use Rattle.owner.proofs.holdings.Holdings.next_out.Goals as goal
 
 pub invariant_of-self : goal.invariant_of-self

@@ -3,7 +3,7 @@ use Rattle.fdr.specs.Tasks.{ranges}
 use Rattle.owner_theory.specs.Owners.{list_at}
 use Rattle.closed.specs.Tables.{message_of}
 use Rattle.owner.specs.Owned.{OwnerOf}
-use Rattle.owner.proofs.Showing.{shown_at}
+use Rattle.owner_outboxes.proofs.Showing.{shown_at}
 use Rattle.owner.proofs.holdings.Holdings.outbox.Goals as goal
 
 pub returns : goal.returns

@@ -1,7 +1,7 @@
 use Rattle.std.proofs.Common.{length, sym, ap, ◌∙◌}
 use Rattle.fdr.specs.Tasks.{ranges}
 use Rattle.owner.specs.Owned.{OwnerOf}
-use Rattle.owner.proofs.Showing.{shown_length}
+use Rattle.owner_outboxes.proofs.Showing.{shown_length}
 use Rattle.owner.proofs.holdings.Holdings.owners.Goals as goal
 
 pub returns : goal.returns

@@ -7,7 +7,7 @@ use Rattle.owner.specs.Queues.{ReachedOf}
 use Rattle.owner.specs.Held.{IsOwner}
 use Rattle.owner.specs.Outboxes.{shown}
 use Rattle.owner.proofs.Owning.{boxes_in, start_kept, first_kept, none_kept, started_own, started_none}
-use Rattle.owner.proofs.Showing.{shown_none}
+use Rattle.owner_outboxes.proofs.Showing.{shown_none}
 use Rattle.owner.proofs.holdings.Holdings.start.Goals as goal
 use Rattle.owner.proofs.holdings.Holdings.start.Goals.{then-owner_of-worker+in_ok-reach+then-is_goal, then-owner_of-worker+in_ok-reach+else-is_goal, else-owner_of-worker}
 

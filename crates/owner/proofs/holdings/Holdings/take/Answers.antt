@@ -42,7 +42,8 @@ returns-clause-taken g c = λ bound.
     } in
     let task = c.task.ensures ∙ ap (λ (s : SpaceOf g.row.S.Denot). s.task) (c.space.ensures ∙ c.in_ok-reach.ensures.space) in
     let best = c.best_with-self-inside.ensures
-    ∙ ap (λ (t : FiniteDomainTask). cond (is_goal_state t c.args.state.now) (lesser o.best (Finite c.args.rank.cost)) o.best) task in
+    ∙ ap (λ b. cond b (lesser o.best (Finite c.args.rank.cost)) o.best)
+    (c.is_goal-is_goal.ensures ∙ ap (λ (t : FiniteDomainTask). is_goal_state t c.args.state.now) task) in
     taken_is g.S.Spread.owner o c.reach.new.self.space c.reach.new.self.nodes
     (boxes_in g.F.StateForm.values c.self.inside.outboxes c.reach.new.self.space) c.best_with-self-inside.result bound c.args.state.now c.args.rank
     c.args.parent c.in_ok-reach.ensures.nodes (ap (boxes_in g.F.StateForm.values c.self.inside.outboxes) c.in_ok-reach.ensures.space) best

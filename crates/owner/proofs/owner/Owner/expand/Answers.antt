@@ -3,14 +3,14 @@ use Rattle.std.specs.List.{list_any}
 use Rattle.fdr.specs.Tasks.{FiniteDomainTask, ranges, IsState, applies_at}
 use Rattle.fdr_successors.specs.Applicable.{applicable_operators}
 use Rattle.owner_theory.specs.Worlds.{no_open}
-use Rattle.owner.specs.declared.fault.OwnerFault.TheVariants.{TotalTooLarge}
+use Rattle.owner.specs.declared.fault.OwnerFault.TheVariants.{OutOfMemory, TotalTooLarge}
 use Rattle.owner_space.specs.Spaces.{SpaceOf}
 use Rattle.owner.specs.Owned.{OwnerOf, space_of, under, IsRefusal, Expands}
 use Rattle.scp.specs.Places.{PlacesOf}
-use Rattle.owner.specs.Held.{IsSmallStep, places_in}
+use Rattle.owner.specs.Held.{places_in}
 use Rattle.owner.proofs.Choosing.{is_next, no_open_some}
 use Rattle.owner.proofs.Outcomes.{get_at}
-use Rattle.owner.proofs.Expanding.{is_large, least_index, least_cost, least_steps, least_state, all_apply, all_small, large_successor, expands}
+use Rattle.owner.proofs.Expanding.{is_large, least_index, least_cost, least_steps, least_state, all_apply, all_small, large_successor, expands, refused_memory}
 use Rattle.owner.proofs.owner.Owner.expand.Goals as goal
 
 pub returns-in_default-clause-expanded : goal.returns-in_default-clause-expanded
@@ -70,44 +70,42 @@ enter-requires g c =
     subst (λ (p : PlacesOf). IsState (ranges p.task) c.deref-3.result.now) (sym c.self.invariant.2)
     (least_state g.S.Spread.owner h e l c.deref-3.result.now c.recall.ensures.owner s)
 
-pub treat_successors-requires-clause-state : goal.treat_successors-requires-clause-state
-treat_successors-requires-clause-state g c =
+pub expand_node-requires-clause-allowed : goal.expand_node-requires-clause-allowed
+expand_node-requires-clause-allowed g c = λ p. true≢false (sym (c.if-is_at_limit.ensures.1 p))
+
+pub expand_node-requires-clause-least : goal.expand_node-requires-clause-least
+expand_node-requires-clause-least g c = c.in-Some.ensures.some.0
+
+pub expand_node-requires-clause-state : goal.expand_node-requires-clause-state
+expand_node-requires-clause-state g c =
     let h = c.self.inside.holdings in
     let e = c.in-Some.next in
     let l = c.in-Some.ensures.some.0 in
     let s = c.deref-3.ensures.value ∙ c.read_state.ensures.state l.node (get_at h.nodes e.index l.node l.there) in
-    subst (λ (p : PlacesOf). IsState (ranges c.expand_next.new.self.space.task) p.state) (sym c.enter.ensures)
-    (subst (λ (x : OwnerOf g.row.S.Denot). IsState (ranges x.space.task) c.deref-3.result.now) (sym (c.expand_next.ensures.nodes e l.node l l.there))
-    (least_state g.S.Spread.owner h e l c.deref-3.result.now c.recall.ensures.owner s))
+    subst (λ (p : PlacesOf). IsState (ranges h.space.task) p.state) (sym c.enter.ensures)
+    (least_state g.S.Spread.owner h e l c.deref-3.result.now c.recall.ensures.owner s)
 
-pub treat_successors-requires-clause-places : goal.treat_successors-requires-clause-places
-treat_successors-requires-clause-places g c =
+pub expand_node-requires-clause-places : goal.expand_node-requires-clause-places
+expand_node-requires-clause-places g c =
     c.enter.ensures ∙ (ap (λ (p : PlacesOf). record p { state = c.deref-3.result.now }) c.self.invariant.2
-    ∙ (λ j. places_in ((sym c.expand_next.ensures.space) j) (((sym c.enter.ensures) j).state)))
+    ∙ (λ j. places_in c.self.inside.holdings.space (((sym c.enter.ensures) j).state)))
 
-pub treat_successors-requires-clause-apply : goal.treat_successors-requires-clause-apply
-treat_successors-requires-clause-apply g c =
+pub expand_node-requires-clause-apply : goal.expand_node-requires-clause-apply
+expand_node-requires-clause-apply g c =
     let h = c.self.inside.holdings in
-    let e = c.in-Some.next in
-    let l = c.in-Some.ensures.some.0 in
     let found = c.deref-4.ensures.value ∙ (c.in_ok-applicable.ensures.found
     ∙ (λ j. applicable_operators ((c.space-space.ensures j).task) ((c.deref.ensures.value ∙ sym c.deref-3.ensures.value) j))) in
-    subst (λ (p : PlacesOf). All (λ o. applies_at c.expand_next.new.self.space.task o p.state ≡ true) c.deref-4.result.now) (sym c.enter.ensures)
-    (subst (λ (x : OwnerOf g.row.S.Denot). All (λ o. applies_at x.space.task o c.deref-3.result.now ≡ true) c.deref-4.result.now)
-    (sym (c.expand_next.ensures.nodes e l.node l l.there))
-    (all_apply h.space.task c.deref-3.result.now c.deref-4.result.now found))
+    subst (λ (p : PlacesOf). All (λ o. applies_at h.space.task o p.state ≡ true) c.deref-4.result.now) (sym c.enter.ensures)
+    (all_apply h.space.task c.deref-3.result.now c.deref-4.result.now found)
 
-pub treat_successors-requires-clause-small : goal.treat_successors-requires-clause-small
-treat_successors-requires-clause-small g c =
+pub expand_node-requires-clause-small : goal.expand_node-requires-clause-small
+expand_node-requires-clause-small g c =
     let h = c.self.inside.holdings in
     let e = c.in-Some.next in
-    let l = c.in-Some.ensures.some.0 in
     let task = c.task.ensures ∙ ap (λ (x : SpaceOf g.row.S.Denot). x.task) c.space-space.ensures in
     let none = sym (c.if-has_large_successor.ensures
     ∙ (λ j. list_any (is_large (task j) e.rank) ((c.deref-2.ensures.value ∙ sym c.deref-4.ensures.value) j))) in
-    subst (λ (x : OwnerOf g.row.S.Denot). All (IsSmallStep x.space.task e.rank) c.deref-4.result.now)
-    (sym (c.expand_next.ensures.nodes e l.node l l.there))
-    (all_small h.space.task e.rank c.deref-4.result.now none)
+    all_small h.space.task e.rank c.deref-4.result.now none
 
 pub returns-clause-expanded : goal.returns-clause-expanded
 returns-clause-expanded g c =
@@ -121,8 +119,29 @@ returns-clause-expanded g c =
     ∙ (λ j. applicable_operators ((c.space-space.ensures j).task) ((c.deref.ensures.value ∙ sym (entered ∙ c.deref-3.ensures.value)) j))) in
     let none = sym (c.if-has_large_successor.ensures
     ∙ (λ j. list_any (is_large (task j) e.rank) ((c.deref-2.ensures.value ∙ sym c.deref-4.ensures.value) j))) in
-    subst (λ (x : OwnerOf g.row.S.Denot). Expands g.S.Spread.owner c.args.bound x c.in_ok-posted.posted c.treat_successors.new.holdings) c.self.view_is
-    (expands g.S.Spread.owner h e l c.args.bound c.enter.new.self.state c.deref-4.result.now c.in_ok-posted.posted c.expand_next.new.self
-    c.treat_successors.new.holdings c.in-Some.ensures.some.1 (λ p. true≢false (sym (c.if-is_at_limit.ensures.1 p))) s found none
-    (c.expand_next.ensures.nodes e l.node l l.there) c.in_ok-posted.ensures.treated c.in_ok-posted.ensures.posted
-    c.treat_successors.ensures.space c.treat_successors.ensures.worker c.treat_successors.ensures.expansions)
+    subst (λ (x : OwnerOf g.row.S.Denot). Expands g.S.Spread.owner c.args.bound x c.in_ok-posted.posted c.expand_node.new.holdings) c.self.view_is
+    (expands g.S.Spread.owner h e l c.args.bound c.enter.new.self.state c.deref-4.result.now c.in_ok-posted.posted
+    c.expand_node.new.holdings c.in-Some.ensures.some.1 (λ p. true≢false (sym (c.if-is_at_limit.ensures.1 p))) s found none
+    (c.in_ok-posted.ensures.treated l.node l.there) c.in_ok-posted.ensures.posted
+    c.expand_node.ensures.space c.expand_node.ensures.worker c.in_ok-posted.ensures.counted)
+
+pub returns-in_err-applicable-clause-refused : goal.returns-in_err-applicable-clause-refused
+returns-in_err-applicable-clause-refused g c =
+    let h = c.self.inside.holdings in
+    refused_memory g.S.Spread.owner c.args.bound c.args.self.now h c.from_residual.result c.from_residual.ensures.1
+    (subst (λ (x : OwnerOf g.row.S.Denot). IsRefusal g.S.Spread.owner c.args.bound x h OutOfMemory) c.self.view_is (
+      no_open_some (space_of g.S.Spread.owner h) (under h c.args.bound) c.in-Some.next c.in-Some.ensures.some.0 c.in-Some.ensures.some.1,
+      (λ p. true≢false (sym (c.if-is_at_limit.ensures.1 p))),
+      refl,
+    ))
+
+pub returns-in_err-posted-clause-refused : goal.returns-in_err-posted-clause-refused
+returns-in_err-posted-clause-refused g c =
+    let h = c.self.inside.holdings in
+    refused_memory g.S.Spread.owner c.args.bound c.args.self.now c.expand_node.new.holdings c.from_residual-in_err-posted.result
+    c.from_residual-in_err-posted.ensures.1
+    (subst (λ (x : OwnerOf g.row.S.Denot). IsRefusal g.S.Spread.owner c.args.bound x c.expand_node.new.holdings OutOfMemory) c.self.view_is (
+      no_open_some (space_of g.S.Spread.owner h) (under h c.args.bound) c.in-Some.next c.in-Some.ensures.some.0 c.in-Some.ensures.some.1,
+      (λ p. true≢false (sym (c.if-is_at_limit.ensures.1 p))),
+      c.in_err-posted.ensures.unchanged,
+    ))

@@ -1,59 +1,155 @@
-use Rattle.std.proofs.Common.{◌≡◌, ◌<◌, length, Some, sym, ap, ◌∙◌, subst}
-use Rattle.std.specs.Prelude.{map, slice_get, slice_set}
-use Rattle.owner_theory.specs.Owners.{Node, marked}
+use Rattle.std.proofs.Common.{◌≡◌, ◌<◌, ℕ, List, length, false, Some, sym, ap, ◌∙◌, subst}
+use Rattle.std.specs.Prelude.{map, fold, slice_get, slice_set}
+use Rattle.std.proofs.lemmas.List.{length-map}
+use Rattle.cost.specs.Distances.{Finite, ◌+ᵈ◌}
+use Rattle.fdr.specs.Tasks.{ranges}
+use Rattle.owner_theory.specs.Owners.{At, Node, marked}
 use Rattle.openlist.specs.declared.entry.OpenEntry.{OpenEntry}
 use Rattle.openlist.specs.BucketLists.{all_entries}
+use Rattle.closed.specs.Tables.{Table, reached, outcomes_of, arrival}
 use Rattle.owner_space.specs.declared.ties.Ties.{Ties}
-use Rattle.owner.specs.Queues.{h_of, AreQueued, IsQueue}
 use Rattle.owner_space.specs.Turned.{turned}
-use Rattle.owner.proofs.Queues.{after_marking, marks_least, popped_below, no_least, entries_below, rest_words}
+use Rattle.owner.specs.Queues.{ReachedOf, h_of, AreQueued, IsQueue, IsLeast}
+use Rattle.owner.proofs.Outcomes.{at_below}
+use Rattle.owner.proofs.Queues.{queue_permuted, rest_queued, marks_least, marked_below, reopened, entries_below}
+use Rattle.owner.proofs.Adding.{length-outcomes_of}
 use Rattle.owner.proofs.reached.Reached.expand_least.Goals as goal
+
+pub invariant_of-self : goal.invariant_of-self
+invariant_of-self g c =
+    (c.self.invariant.0, queue_permuted c.self.inside.space.now.ties (h_of c.self.inside.space.now) _ _ _ c.reserve.ensures.entries c.self.invariant.1)
 
 pub mark_expanded-requires : goal.mark_expanded-requires
 mark_expanded-requires g c =
     let space = c.self.inside.space.now in
-    let back = c.turned.ensures ∙ ap (λ (t : Ties). turned t c.in-Some.entry) c.ties-ties.ensures in
-    subst (λ (e : OpenEntry). e.index < length c.self.inside.table.nodes) (sym back)
-    (popped_below space.ties (h_of space) _ (all_entries c.self.inside.queue) (all_entries c.pop.new.self) c.in-Some.entry c.self.invariant.1 c.in-Some.ensures.rest)
+    let h = h_of space in
+    let nodes = c.self.inside.table.nodes in
+    let least = subst (λ (r : ReachedOf g.row.S.Denot). IsLeast r.space.ties (h_of r.space) r.nodes c.in-Some.next) (sym c.self.view_is)
+    c.in-Some.ensures.some in
+    at_below nodes c.in-Some.next.index least.node least.there
+
+pub mark_open-requires : goal.mark_open-requires
+mark_open-requires g c =
+    let space = c.self.inside.space.now in
+    let h = h_of space in
+    let nodes = c.self.inside.table.nodes in
+    let least = subst (λ (r : ReachedOf g.row.S.Denot). IsLeast r.space.ties (h_of r.space) r.nodes c.in-Some.next) (sym c.self.view_is)
+    c.in-Some.ensures.some in
+    subst (λ (t : Table). c.in-Some.next.index < length t.nodes) (sym c.in-Err.ensures.unchanged)
+    (marked_below space.ties h nodes c.mark_expanded.new.self.nodes c.in-Some.next least c.mark_expanded.ensures.nodes)
+
+pub invariant_of-self-in-Err : goal.invariant_of-self-in-Err
+invariant_of-self-in-Err g c =
+    let space = c.self.inside.space.now in
+    let h = h_of space in
+    let nodes = c.self.inside.table.nodes in
+    let least = subst (λ (r : ReachedOf g.row.S.Denot). IsLeast r.space.ties (h_of r.space) r.nodes c.in-Some.next) (sym c.self.view_is)
+    c.in-Some.ensures.some in
+    let back = subst (λ (t : Table). (n : Node) → slice_get t.nodes c.in-Some.next.index ≡ Some n
+    → c.mark_open.new.self.nodes ≡ slice_set t.nodes c.in-Some.next.index (record n { expanded = false })) c.in-Err.ensures.unchanged
+    c.mark_open.ensures.nodes in
+    let same : c.mark_open.new.self.nodes ≡ nodes = reopened space.ties h nodes c.mark_expanded.new.self.nodes c.in-Some.next least
+    c.mark_expanded.ensures.nodes c.mark_open.new.self.nodes back in (
+      c.mark_open.ensures.ranges ∙ ap (λ (t : Table). t.ranges) c.in-Err.ensures.unchanged ∙ c.mark_expanded.ensures.ranges ∙ c.self.invariant.0,
+      subst (λ (l : List Node). IsQueue space.ties h l (all_entries c.reserve.new.self)) (sym same)
+          (queue_permuted space.ties h nodes _ _ c.reserve.ensures.entries c.self.invariant.1),
+    )
+
+pub returns-in-Err-clause-unchanged : goal.returns-in-Err-clause-unchanged
+returns-in-Err-clause-unchanged g c =
+    let space = c.self.inside.space.now in
+    let h = h_of space in
+    let nodes = c.self.inside.table.nodes in
+    let least = subst (λ (r : ReachedOf g.row.S.Denot). IsLeast r.space.ties (h_of r.space) r.nodes c.in-Some.next) (sym c.self.view_is)
+    c.in-Some.ensures.some in
+    let back = subst (λ (t : Table). (n : Node) → slice_get t.nodes c.in-Some.next.index ≡ Some n
+    → c.mark_open.new.self.nodes ≡ slice_set t.nodes c.in-Some.next.index (record n { expanded = false })) c.in-Err.ensures.unchanged
+    c.mark_open.ensures.nodes in
+    let same : c.mark_open.new.self.nodes ≡ nodes = reopened space.ties h nodes c.mark_expanded.new.self.nodes c.in-Some.next least
+    c.mark_expanded.ensures.nodes c.mark_open.new.self.nodes back in
+    sym (subst (λ (l : List Node). c.args.self.now ≡ record { space = space; nodes = l }) (sym same) (sym c.self.view_is))
+
+pub put_all_in-requires-clause-outcomes : goal.put_all_in-requires-clause-outcomes
+put_all_in-requires-clause-outcomes g c =
+    let node = arrival (g.F.StateForm.values c.mark_expanded.new.self.ranges) in
+    ap length (c.deref.ensures.value ∙ c.in_default-improve_all.ensures.outcomes)
+    ∙ length-outcomes_of c.mark_expanded.new.self.nodes (map node c.args.messages.now) ∙ length-map c.args.messages.now node
+
+pub put_all_in-requires-clause-room : goal.put_all_in-requires-clause-room
+put_all_in-requires-clause-room g c = c.pop.ensures.room c.args.fs.now c.in_ok-reserve.ensures.room
 
 pub drop_stale-requires : goal.drop_stale-requires
 drop_stale-requires g c =
     let space = c.self.inside.space.now in
-    let back = c.turned.ensures ∙ ap (λ (t : Ties). turned t c.in-Some.entry) c.ties-ties.ensures in
-    entries_below (h_of space) _ _
-    (subst (λ (t : Ties). AreQueued (h_of space) c.mark_expanded.new.self.nodes (map (turned t) (all_entries c.pop.new.self))) (sym c.ties-ties.ensures)
-    (after_marking space.ties (h_of space) c.self.inside.table.nodes c.mark_expanded.new.self.nodes (all_entries c.self.inside.queue)
-    (all_entries c.pop.new.self) c.in-Some.entry c.self.invariant.1 c.in-Some.ensures.rest
-    (subst (λ (e : OpenEntry). (n : Node) → slice_get c.self.inside.table.nodes e.index ≡ Some n
-    → c.mark_expanded.new.self.nodes ≡ slice_set c.self.inside.table.nodes e.index (marked n)) back c.mark_expanded.ensures.nodes)))
+    let h = h_of space in
+    let nodes = c.self.inside.table.nodes in
+    let least = subst (λ (r : ReachedOf g.row.S.Denot). IsLeast r.space.ties (h_of r.space) r.nodes c.in-Some.next) (sym c.self.view_is)
+    c.in-Some.ensures.some in
+    let ms = c.args.messages.now in
+    let marked_nodes = c.mark_expanded.new.self.nodes in
+    let values = g.F.StateForm.values (ranges space.task) in
+    let ranges_are = c.mark_expanded.ensures.ranges ∙ c.self.invariant.0 in
+    let q = queue_permuted space.ties h nodes _ _ c.reserve.ensures.entries c.self.invariant.1 in
+    let (words, rest) = rest_queued space.ties h nodes marked_nodes _ (all_entries c.pop.new.self) c.in-Some.next q least
+    c.mark_expanded.ensures.nodes c.pop.result c.pop.ensures.first c.pop.ensures.rest c.pop.ensures.none in
+    let f_values = subst (λ (r : ReachedOf g.row.S.Denot). map (λ m. Finite m.rank.cost +ᵈ h_of r.space (g.F.StateForm.values (ranges r.space.task) m.state)) ms
+    ≡ map Finite c.args.fs.now) (sym c.self.view_is) c.requires.fs in
+    let outcomes = subst (λ (rs : List ℕ). c.deref.result.now ≡ outcomes_of marked_nodes (map (arrival (g.F.StateForm.values rs)) ms)) ranges_are
+    (c.deref.ensures.value ∙ c.in_default-improve_all.ensures.outcomes) in
+    let added = c.put_all_in.ensures.queued values h marked_nodes f_values c.requires.bound outcomes
+    (subst (λ (t : Ties). AreQueued h marked_nodes (map (turned t) (all_entries c.pop.new.self))) (sym c.ties-ties.ensures) rest) in
+    let after : c.improve_all.new.self.nodes ≡ fold reached marked_nodes (map (arrival values) ms) =
+    subst (λ (rs : List ℕ). c.improve_all.new.self.nodes ≡ fold reached marked_nodes (map (arrival (g.F.StateForm.values rs)) ms)) ranges_are
+    c.in_default-improve_all.ensures.nodes in
+    let queued = subst (λ (l : List Node). AreQueued h l (map (turned c.ties-ties.result) (all_entries c.put_all_in.new.list))) (sym after) added in
+    entries_below h c.improve_all.new.self.nodes (map (turned c.ties-ties.result) (all_entries c.put_all_in.new.list)) queued
 
-pub invariant_of-self : goal.invariant_of-self
-invariant_of-self g c =
+pub invariant_of-self-2 : goal.invariant_of-self-2
+invariant_of-self-2 g c =
     let space = c.self.inside.space.now in
-    let back = c.turned.ensures ∙ ap (λ (t : Ties). turned t c.in-Some.entry) c.ties-ties.ensures in (
-      c.mark_expanded.ensures.ranges ∙ c.self.invariant.0,
-      subst (λ (t : Ties). IsQueue t (h_of space) c.mark_expanded.new.self.nodes (all_entries c.drop_stale.new.list)) c.ties-ties.ensures
-          (c.drop_stale.ensures (h_of space)
-          (rest_words (all_entries c.self.inside.queue) (all_entries c.pop.new.self) c.in-Some.entry c.in-Some.ensures.rest c.self.invariant.1.words)
-          (subst (λ (t : Ties). AreQueued (h_of space) c.mark_expanded.new.self.nodes (map (turned t) (all_entries c.pop.new.self))) (sym c.ties-ties.ensures)
-          (after_marking space.ties (h_of space) c.self.inside.table.nodes c.mark_expanded.new.self.nodes (all_entries c.self.inside.queue)
-          (all_entries c.pop.new.self) c.in-Some.entry c.self.invariant.1 c.in-Some.ensures.rest
-          (subst (λ (e : OpenEntry). (n : Node) → slice_get c.self.inside.table.nodes e.index ≡ Some n
-          → c.mark_expanded.new.self.nodes ≡ slice_set c.self.inside.table.nodes e.index (marked n)) back c.mark_expanded.ensures.nodes)))),
+    let h = h_of space in
+    let nodes = c.self.inside.table.nodes in
+    let least = subst (λ (r : ReachedOf g.row.S.Denot). IsLeast r.space.ties (h_of r.space) r.nodes c.in-Some.next) (sym c.self.view_is)
+    c.in-Some.ensures.some in
+    let ms = c.args.messages.now in
+    let marked_nodes = c.mark_expanded.new.self.nodes in
+    let values = g.F.StateForm.values (ranges space.task) in
+    let ranges_are = c.mark_expanded.ensures.ranges ∙ c.self.invariant.0 in
+    let q = queue_permuted space.ties h nodes _ _ c.reserve.ensures.entries c.self.invariant.1 in
+    let (words, rest) = rest_queued space.ties h nodes marked_nodes _ (all_entries c.pop.new.self) c.in-Some.next q least
+    c.mark_expanded.ensures.nodes c.pop.result c.pop.ensures.first c.pop.ensures.rest c.pop.ensures.none in
+    let f_values = subst (λ (r : ReachedOf g.row.S.Denot). map (λ m. Finite m.rank.cost +ᵈ h_of r.space (g.F.StateForm.values (ranges r.space.task) m.state)) ms
+    ≡ map Finite c.args.fs.now) (sym c.self.view_is) c.requires.fs in
+    let outcomes = subst (λ (rs : List ℕ). c.deref.result.now ≡ outcomes_of marked_nodes (map (arrival (g.F.StateForm.values rs)) ms)) ranges_are
+    (c.deref.ensures.value ∙ c.in_default-improve_all.ensures.outcomes) in
+    let added = c.put_all_in.ensures.queued values h marked_nodes f_values c.requires.bound outcomes
+    (subst (λ (t : Ties). AreQueued h marked_nodes (map (turned t) (all_entries c.pop.new.self))) (sym c.ties-ties.ensures) rest) in
+    let after : c.improve_all.new.self.nodes ≡ fold reached marked_nodes (map (arrival values) ms) =
+    subst (λ (rs : List ℕ). c.improve_all.new.self.nodes ≡ fold reached marked_nodes (map (arrival (g.F.StateForm.values rs)) ms)) ranges_are
+    c.in_default-improve_all.ensures.nodes in
+    let queued = subst (λ (l : List Node). AreQueued h l (map (turned c.ties-ties.result) (all_entries c.put_all_in.new.list))) (sym after) added in (
+      c.improve_all.ensures.ranges ∙ ranges_are,
+      subst (λ (t : Ties). IsQueue t h c.improve_all.new.self.nodes (all_entries c.drop_stale.new.list)) c.ties-ties.ensures
+          (c.drop_stale.ensures h (c.put_all_in.ensures.words words) queued),
     )
 
-pub returns-in-Some-clause-nodes : goal.returns-in-Some-clause-nodes
-returns-in-Some-clause-nodes g c =
+pub returns-clause-nodes : goal.returns-clause-nodes
+returns-clause-nodes g c =
     let space = c.self.inside.space.now in
-    let back = c.turned.ensures ∙ ap (λ (t : Ties). turned t c.in-Some.entry) c.ties-ties.ensures in
-    rw (← c.self.view_is)
-    (marks_least space.ties (h_of space) c.self.inside.table.nodes c.mark_expanded.new.self.nodes (all_entries c.self.inside.queue)
-    (all_entries c.pop.new.self) c.in-Some.entry c.self.invariant.1 c.in-Some.ensures.rest c.in-Some.ensures.first
-    (subst (λ (e : OpenEntry). (n : Node) → slice_get c.self.inside.table.nodes e.index ≡ Some n
-    → c.mark_expanded.new.self.nodes ≡ slice_set c.self.inside.table.nodes e.index (marked n)) back c.mark_expanded.ensures.nodes))
-
-pub returns-in_default-clause-nodes : goal.returns-in_default-clause-nodes
-returns-in_default-clause-nodes g c =
-    rw (← c.self.view_is)
-    (λ e n least at. absurd (no_least c.self.inside.space.now.ties (h_of c.self.inside.space.now) _ (all_entries c.self.inside.queue) e c.self.invariant.1
-    c.in_default.ensures.none least))
+    let h = h_of space in
+    let nodes = c.self.inside.table.nodes in
+    let least = subst (λ (r : ReachedOf g.row.S.Denot). IsLeast r.space.ties (h_of r.space) r.nodes c.in-Some.next) (sym c.self.view_is)
+    c.in-Some.ensures.some in
+    let ms = c.args.messages.now in
+    let marked_nodes = c.mark_expanded.new.self.nodes in
+    let values = g.F.StateForm.values (ranges space.task) in
+    let q = queue_permuted space.ties h nodes _ _ c.reserve.ensures.entries c.self.invariant.1 in
+    let after : c.improve_all.new.self.nodes ≡ fold reached marked_nodes (map (arrival values) ms) =
+    subst (λ (rs : List ℕ). c.improve_all.new.self.nodes ≡ fold reached marked_nodes (map (arrival (g.F.StateForm.values rs)) ms))
+    (c.mark_expanded.ensures.ranges ∙ c.self.invariant.0) c.in_default-improve_all.ensures.nodes in
+    subst (λ (r : ReachedOf g.row.S.Denot). (e : OpenEntry) (n : Node) → IsLeast r.space.ties (h_of r.space) r.nodes e → At r.nodes e.index n
+    → c.improve_all.new.self.nodes ≡ fold reached (slice_set r.nodes e.index (marked n)) (map (arrival (g.F.StateForm.values (ranges r.space.task))) ms))
+    c.self.view_is
+    (λ e n first at. after ∙ ap (λ (l : List Node). fold reached l (map (arrival values) ms))
+    (marks_least space.ties h nodes marked_nodes _ (all_entries c.pop.new.self) c.in-Some.next q least c.mark_expanded.ensures.nodes
+    c.pop.result c.pop.ensures.first c.pop.ensures.rest c.pop.ensures.none e n first at))

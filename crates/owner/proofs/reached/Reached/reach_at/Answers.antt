@@ -24,7 +24,7 @@ drop_stale-requires g c =
     let h = h_of c.self.inside.space.now in
     entries_below h _ _
     (subst (λ (ns : List Node). AreQueued h ns (map (turned c.ties-ties.result) (all_entries c.put_in.new.list))) (sym c.in_ok-reach.ensures.nodes)
-    ((improve_queued c.ties-ties.result h _ _ _ _ c.args.state.now c.args.rank c.args.parent c.get-f.result c.args.outcome c.in-Better.field-0 c.in-Better.is
+    ((improve_queued c.ties-ties.result h _ _ _ _ c.args.state.now c.args.rank c.args.parent c.get-f.result c.args.outcome
     (subst (λ (t : Ties). IsQueue t h c.self.inside.table.nodes (all_entries c.self.inside.queue)) (sym c.ties-ties.ensures) c.self.invariant.1)
     c.make_room.ensures.entries (sym c.get-f.ensures.value ∙ (c.requires.f
     ∙ ap (λ (r : ReachedOf g.row.S.Denot). Finite c.args.rank.cost +ᵈ h_of r.space c.args.state.now) (sym c.self.view_is))) c.get-f.ensures.bound
@@ -35,7 +35,6 @@ pub invariant_of-self-in-Better : goal.invariant_of-self-in-Better
 invariant_of-self-in-Better g c =
     let h = h_of c.self.inside.space.now in
     let (words, queued) = improve_queued c.ties-ties.result h _ _ _ _ c.args.state.now c.args.rank c.args.parent c.get-f.result c.args.outcome
-    c.in-Better.field-0 c.in-Better.is
     (subst (λ (t : Ties). IsQueue t h c.self.inside.table.nodes (all_entries c.self.inside.queue)) (sym c.ties-ties.ensures) c.self.invariant.1)
     c.make_room.ensures.entries (sym c.get-f.ensures.value ∙ (c.requires.f
     ∙ ap (λ (r : ReachedOf g.row.S.Denot). Finite c.args.rank.cost +ᵈ h_of r.space c.args.state.now) (sym c.self.view_is))) c.get-f.ensures.bound

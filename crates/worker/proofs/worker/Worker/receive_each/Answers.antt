@@ -2,7 +2,7 @@ use Rattle.std.proofs.Common.{◌∙◌, subst, arith, refl}
 use Rattle.std.proofs.lemmas.Result.{err_from_is_err_and}
 use Rattle.worker.specs.declared.outcome.Received.{Received}
 use Rattle.worker.specs.Turns.{HasReceived, ReceivesFrom}
-use Rattle.worker.proofs.Chains.{one_more, was_received, receives_keep, ran_out_uncounted}
+use Rattle.worker.proofs.Chains.{one_more, was_received, receives_keep}
 use Rattle.worker.proofs.worker.Worker.receive_each.Goals as goal
 
 pub loop-from-init : goal.loop-from-init
@@ -21,10 +21,16 @@ receive-requires-clause-countable g c =
     let kept = receives_keep g.S.Spread.owner g.F.StateForm.values _ _ _ c.loop-from.invariant in
     omega (arith, kept.taken, c.requires.none_taken)
 
-pub returns-in_err-receive-clause-spent : goal.returns-in_err-receive-clause-spent
-returns-in_err-receive-clause-spent g c =
+pub returns-in_err-receive-clause-refused : goal.returns-in_err-receive-clause-refused
+returns-in_err-receive-clause-refused g c =
     let p = err_from_is_err_and c.from_residual.result c.from_residual.ensures.1 in
-    rw p.1 (ran_out_uncounted g.S.Spread.owner g.F.StateForm.values _ _ _ _ c.loop-from.invariant c.in_err-receive.ensures.spent)
+    rw p.1 (record {
+      from = c.loop-from.from;
+      within = omega (arith, c.workers-from-end.ensures.ins);
+      received = c.loop-from.self;
+      receives = c.loop-from.invariant;
+      held = c.in_err-receive.ensures.refused;
+    })
 
 pub returns-in-SetAside-clause-received : goal.returns-in-SetAside-clause-received
 returns-in-SetAside-clause-received g c =

@@ -4,7 +4,7 @@ use Rattle.board.specs.declared.views.View.{View}
 use Rattle.board.specs.Seats.{view}
 use Rattle.worker.specs.Workers.{WorkerOf}
 use Rattle.worker.specs.Turns.{HasReceivedEach, HasCounted}
-use Rattle.worker.proofs.Chains.{receives_keep, stopped_uncounted, as_turn, counted_uncounted, refused_uncounted, refused_turn}
+use Rattle.worker.proofs.Chains.{receives_keep, stopped_uncounted, as_turn, counted_uncounted, refused_uncounted, refused_turn, held_uncounted, held_turn}
 use Rattle.worker.proofs.worker.Worker.turn.Goals as goal
 
 pub returns-then-not-branch-clause-none_uncounted : goal.returns-then-not-branch-clause-none_uncounted
@@ -12,6 +12,16 @@ returns-then-not-branch-clause-none_uncounted g c =
     stopped_uncounted g.S.Spread.owner g.F.StateForm.values _ _
     (subst (λ (all : Bool). HasReceivedEach g.S.Spread.owner g.F.StateForm.values c.args.self.now c.receive_each.new.self all) c.if-not-branch.true
     c.in_ok-receive_each.ensures.received)
+    ∙ c.requires.none_uncounted
+
+pub returns-in_err-receive_each-clause-refused : goal.returns-in_err-receive_each-clause-refused
+returns-in_err-receive_each-clause-refused g c =
+    let p = err_from_is_err_and c.from_residual.result c.from_residual.ensures.1 in
+    rw p.1 (held_turn g.S.Spread.owner g.F.StateForm.values c.args.self.now c.receive_each.new.self (view c.args.seat.now) _ p.2 c.in_err-receive_each.ensures.refused)
+
+pub returns-in_err-receive_each-clause-none_uncounted : goal.returns-in_err-receive_each-clause-none_uncounted
+returns-in_err-receive_each-clause-none_uncounted g c =
+    held_uncounted g.S.Spread.owner g.F.StateForm.values c.args.self.now c.receive_each.new.self c.in_err-receive_each.ensures.refused
     ∙ c.requires.none_uncounted
 
 pub expand-requires : goal.expand-requires

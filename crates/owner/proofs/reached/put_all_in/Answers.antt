@@ -1,0 +1,53 @@
+use Rattle.std.proofs.Common.{◌+◌, ◌<◌, ◌≤◌, List, length, map, drop, refl, subst, arith}
+use Rattle.std.proofs.lemmas.List.{drop_more, drop_all}
+use Rattle.closed.specs.declared.message.Message.{Message}
+use Rattle.closed.specs.Tables.{reached, arrival}
+use Rattle.std.specs.Prelude.{ℕ, fold}
+use Rattle.owner_space.specs.Turned.{turned}
+use Rattle.owner.proofs.Queues.{added_words}
+use Rattle.owner.proofs.Adding.{AreAdding, at_front_of, next_added, all_added}
+use Rattle.owner.proofs.reached.put_all_in.Goals as goal
+
+pub put_in-requires : goal.put_in-requires
+put_in-requires g c =
+    let fs = c.args.fs.now in
+    let place = c.loop-place.place in
+    let lt : place < length fs = omega (arith, c.loop-place-test.true, c.requires.fs, c.loop-place.auto.place-end) in (
+      drop (place + 1) fs,
+      subst (λ (l : List ℕ). g.L.OpenList.HasRoom c.loop-place.list l) (drop_more fs place 0 lt) c.loop-place.invariant.room,
+    )
+
+pub loop-place-preserved : goal.loop-place-preserved
+loop-place-preserved g c =
+    let ms = c.args.messages.now in
+    let fs = c.args.fs.now in
+    let os = c.args.outcomes.now in
+    let place = c.loop-place.place in
+    let in_ms : place < length ms = omega (arith, c.loop-place-test.true, c.loop-place.auto.place-end) in
+    let in_fs : place < length fs = omega (arith, c.loop-place-test.true, c.requires.fs, c.loop-place.auto.place-end) in
+    let in_os : place < length os = omega (arith, c.loop-place-test.true, c.requires.outcomes, c.loop-place.auto.place-end) in
+    let m = c.index-messages-place.result in
+    let old = g.L.OpenList.entries c.loop-place.list in
+    let new = g.L.OpenList.entries c.put_in.new.list in
+    record {
+      room = c.put_in.ensures.room (drop (place + 1) fs)
+          (subst (λ (l : List ℕ). g.L.OpenList.HasRoom c.loop-place.list l) (drop_more fs place 0 in_fs) c.loop-place.invariant.room);
+      words = λ words. added_words c.args.ties _ old new c.put_in.ensures.entries c.put_in.ensures.words (c.loop-place.invariant.words words);
+      queued = λ values h after a.
+          next_added values h after c.args.ties ms fs os place m _ _ old new
+          (at_front_of ms place m in_ms c.index-messages-place.is) (drop_more fs place 0 in_fs) (drop_more os place _ in_os)
+          c.put_in.ensures.entries c.put_in.ensures.words (c.loop-place.invariant.queued values h after a);
+    }
+
+pub returns-clause-queued : goal.returns-clause-queued
+returns-clause-queued g c values h nodes f_values bound outcomes queued =
+    let ms = c.args.messages.now in
+    let fs = drop c.loop-place.place c.args.fs.now in
+    let os = drop c.loop-place.place c.args.outcomes.now in
+    let after = fold reached nodes (map (arrival values) ms) in
+    let es = map (turned c.args.ties) (g.L.OpenList.entries c.loop-place.list) in
+    let past : length ms ≤ c.loop-place.place = omega (arith, c.loop-place-test.false, c.loop-place.auto.place-end) in
+    all_added values h after c.args.ties fs os es
+    (subst (λ (l : List (Message g.row.F.Denot)). AreAdding values h after l fs os es) (drop_all c.loop-place.place ms past)
+    (c.loop-place.invariant.queued values h after
+    (record { nodes = nodes; f_values = f_values; bound = bound; outcomes = outcomes; ends = refl; queued = queued })))

@@ -1,0 +1,191 @@
+//! The successors of a node that is to be expanded, before the node is marked.
+
+ghost use Rattle.std.specs.Prelude.{◌≡◌, ℕ, ◌<◌, ◌≤◌, ◌^◌, ◌++◌, ◌∷◌, [], length, List, Some, None, true, false, if◌then◌else◌, map, filter_map, All, OnOk};
+ghost use Rattle.cost.specs.Distances.{Distance, Finite, ◌+ᵈ◌, is_at_most, lesser};
+ghost use Rattle.fdr.specs.Tasks.{ranges, IsState, applies_at, step, is_goal_state};
+ghost use Rattle.owner_theory.specs.Owners.{Node, treat, treat_all, successor_by, message_to};
+ghost use Rattle.closed.specs.Tables.{message_of, fresh};
+ghost use Rattle.owner.specs.Owned.{space_of, IsMessageTo};
+ghost use Rattle.owner.specs.Queues.{h_of};
+ghost use Rattle.owner.specs.Held.{IsSmallStep, places_in};
+ghost use Rattle.owner.specs.Successors.{IsSuccessor, AreKnown};
+ghost use Rattle.owner.specs.Batches.{pending, IsBatch, ArePosted};
+
+use crate::holdings::{Holdings, best_with, is_within};
+use crate::successors::{Successor, rank_after};
+use closed::{Message, Outcome, Parent};
+use cost::Dist;
+use openlist::OpenEntry;
+use owner_space::{f_after, write_successor};
+use packed::StateForm;
+use packed_spread::Spread;
+use scp::Places;
+use std::alloc::{AllocError, Global};
+
+/// What the successors of a node come to. Nothing is taken before there is memory for all, so that an expansion that is
+/// refused has only messages to withdraw.
+#[derive(Drop)]
+pub(crate) struct Batch<F: StateForm + Drop> {
+    /// The successors that are the owner's own.
+    pub(crate) own: Vec<Message<F>>,
+    /// Their f-values.
+    pub(crate) fs: Vec<u64>,
+    /// The owners of the others, into whose outboxes these were put, in that order.
+    pub(crate) receivers: Vec<usize>,
+    /// The least cost at which a goal state was taken, with those of the owner's own successors.
+    pub(crate) best: Dist,
+    /// A buffer for what comes of taking them.
+    pub(crate) outcomes: Vec<Outcome>,
+}
+
+impl<F: StateForm + Drop> Batch<F> {
+    /// A batch of nothing.
+    pub(crate) fn new(alloc: Global) -> Batch<F> {
+        Batch {
+            own: Vec::new(alloc),
+            fs: Vec::new(alloc),
+            receivers: Vec::new(alloc),
+            best: Dist::inf(),
+            outcomes: Vec::new(alloc),
+        }
+    }
+
+    /// Removes all successors; `best` is the least cost at which a goal state was taken.
+    pub(crate) fn clear(&mut self, best: Dist)
+        ensures own { self.new.own.items ≡ [] }
+        ensures fs { self.new.fs.items ≡ [] }
+        ensures receivers { self.new.receivers.items ≡ [] }
+        ensures best { self.new.best ≡ best }
+    {
+        self.own.clear();
+        self.fs.clear();
+        self.receivers.clear();
+        self.best = best;
+    }
+}
+
+/// Adds a successor's message, of this f-value, to the batch if it is for this owner, and else puts it into the outbox for
+/// its owner. Fails only if allocation fails.
+fn put<S: Spread + Drop, F: StateForm + Drop>(
+    holdings: &mut Holdings<'_, S, F>,
+    batch: &mut Batch<F>,
+    to: usize,
+    message: Message<F>,
+    f: u64,
+    is_goal: bool,
+) -> Result<(), AllocError>
+    requires to { to < length holdings.old.outboxes }
+    requires fits { IsMessageTo (space_of S.owner holdings.old) to (message_of (F.values (ranges holdings.old.space.task)) message) }
+    requires form { F.IsForm (ranges holdings.old.space.task) message.state }
+    requires f { Finite message.rank.cost +ᵈ h_of holdings.old.space (F.values (ranges holdings.old.space.task) message.state) ≡ Finite f }
+    requires bound { f ≤ 2 ^ 63 }
+    requires goal { is_goal ≡ is_goal_state holdings.old.space.task (F.values (ranges holdings.old.space.task) message.state) }
+    requires batch { IsBatch F.IsForm F.values S.owner holdings.old batch.old }
+    ensures treated { OnOk result ((bound : Distance) (nodes : List Node) → is_at_most bound (Finite f) ≡ false →
+        pending F.values bound nodes holdings.new batch.new ≡ treat (space_of S.owner holdings.old) holdings.old.worker (pending F.values bound nodes holdings.old batch.old) (message_of (F.values (ranges holdings.old.space.task)) message)) }
+    ensures batch { OnOk result (IsBatch F.IsForm F.values S.owner holdings.new batch.new) }
+    ensures posted { ArePosted holdings.old holdings.new batch.old.receivers.items batch.new.receivers.items }
+{
+    if to == holdings.worker() {
+        batch.best = best_with(batch.best, is_goal, message.rank.cost);
+        batch.own.push(message)?;
+        batch.fs.push(f)?;
+        return Ok(());
+    }
+    holdings.post(to, message, &mut batch.receivers)?;
+    Ok(())
+}
+
+/// Places a successor of the state whose places these are: it is dropped if its f-value reaches the bound, added to the
+/// batch if it is this owner's, and else put into the outbox for its owner; `values` is a buffer. Fails only if allocation
+/// fails.
+fn place<S: Spread + Drop, F: StateForm + Drop>(
+    alloc: Global,
+    holdings: &mut Holdings<'_, S, F>,
+    bound: Dist,
+    next: OpenEntry,
+    places: &mut Places<'_>,
+    successor: &Successor<F>,
+    values: &mut [u32],
+    batch: &mut Batch<F>,
+) -> Result<(), AllocError>
+    requires state { IsState (ranges holdings.old.space.task) places.old.state }
+    requires places { places.old ≡ places_in holdings.old.space places.old.state }
+    requires buffer { length values.old ≡ length places.old.state }
+    requires successor { IsSuccessor F.IsForm F.values (space_of S.owner holdings.old) places.old.state successor.now }
+    requires applies { applies_at holdings.old.space.task successor.now.operator places.old.state ≡ true }
+    requires small { IsSmallStep holdings.old.space.task next.rank successor.now.operator }
+    requires batch { IsBatch F.IsForm F.values S.owner holdings.old batch.old }
+    ensures treated { OnOk result ((nodes : List Node) (t : List ℕ) → step holdings.old.space.task places.old.state successor.now.operator ≡ Some t →
+        pending F.values bound nodes holdings.new batch.new ≡ treat (space_of S.owner holdings.old) holdings.old.worker (pending F.values bound nodes holdings.old batch.old) (message_to holdings.old.space.task holdings.old.worker next.index (fresh places.old.state next.rank None) successor.now.operator t)) }
+    ensures batch { OnOk result (IsBatch F.IsForm F.values S.owner holdings.new batch.new) }
+    ensures posted { ArePosted holdings.old holdings.new batch.old.receivers.items batch.new.receivers.items }
+    ensures places { places.new ≡ places.old }
+{
+    let task = holdings.space().task();
+    write_successor(task, places.state(), successor.operator, values);
+    let rank = rank_after(task, next.rank, successor.operator);
+    let f = f_after(places, successor.operator, values, rank.cost);
+    if is_within(bound, f) {
+        return Ok(()); // no memory is taken for it
+    }
+    let message = Message {
+        state: successor.state.copy(alloc)?,
+        rank,
+        parent: Parent {
+            worker: holdings.worker(),
+            index: next.index,
+            operator: successor.operator,
+        },
+    };
+    let f = f.get().unwrap(); // it is below the bound
+    put(
+        holdings,
+        batch,
+        successor.owner,
+        message,
+        f,
+        successor.is_goal,
+    )?;
+    Ok(())
+}
+
+/// Places the successors of the state whose places these are, in their order, without those of which it is known that
+/// nothing changes when they are treated; `values` is a buffer. Fails only if allocation fails.
+pub(crate) fn place_unknown<S: Spread + Drop, F: StateForm + Drop>(
+    alloc: Global,
+    holdings: &mut Holdings<'_, S, F>,
+    bound: Dist,
+    next: OpenEntry,
+    places: &mut Places<'_>,
+    successors: &[Successor<F>],
+    known: &[bool],
+    values: &mut [u32],
+    batch: &mut Batch<F>,
+) -> Result<(), AllocError>
+    requires state { IsState (ranges holdings.old.space.task) places.old.state }
+    requires places { places.old ≡ places_in holdings.old.space places.old.state }
+    requires buffer { length values.old ≡ length places.old.state }
+    requires each { All (IsSuccessor F.IsForm F.values (space_of S.owner holdings.old) places.old.state) successors.now }
+    requires small { All (λ s. IsSmallStep holdings.old.space.task next.rank s.operator) successors.now }
+    requires apply { All (λ s. applies_at holdings.old.space.task s.operator places.old.state ≡ true) successors.now }
+    requires known { length known.now ≡ length successors.now }
+    requires batch { IsBatch F.IsForm F.values S.owner holdings.old batch.old }
+    ensures treated { OnOk result ((nodes : List Node) →
+        AreKnown (space_of S.owner holdings.old) holdings.old.worker next.index (fresh places.old.state next.rank None) (pending F.values bound nodes holdings.old batch.old).nodes (map (λ s. s.operator) successors.now) known.now →
+        pending F.values bound nodes holdings.new batch.new ≡ treat_all (space_of S.owner holdings.old) holdings.old.worker (pending F.values bound nodes holdings.old batch.old) (filter_map (successor_by holdings.old.space.task holdings.old.worker next.index (fresh places.old.state next.rank None)) (map (λ s. s.operator) successors.now))) }
+    ensures batch { OnOk result (IsBatch F.IsForm F.values S.owner holdings.new batch.new) }
+    ensures posted { ArePosted holdings.old holdings.new batch.old.receivers.items batch.new.receivers.items }
+    ensures places { places.new ≡ places.old }
+{
+    for at in 0..successors.len() {
+        if known[at] {
+            continue; // nothing changes
+        }
+        let successor = &successors[at];
+        place(
+            alloc, holdings, bound, next, places, successor, values, batch,
+        )?;
+    }
+    Ok(())
+}

@@ -1,0 +1,143 @@
+//! The expansion of a node.
+
+ghost use Rattle.std.specs.Prelude.{◌≡◌, ◌≢◌, ◌+◌, ◌≤◌, ℕ, suc, [], length, List, Some, None, true, map, filter_map, is_some, if◌then◌else◌, All, IfOk, OnOk, OnErr};
+ghost use Rattle.fdr.specs.Tasks.{ranges, IsState, applies_at};
+ghost use Rattle.owner_theory.specs.Owners.{At, Node, treat_all, successor_by, mark_node};
+ghost use Rattle.owner_theory.specs.Worlds.{waiting};
+ghost use Rattle.closed.specs.Tables.{fresh};
+ghost use Rattle.owner.specs.Owned.{space_of, under};
+ghost use Rattle.owner.specs.Queues.{h_of, IsLeast};
+ghost use Rattle.owner.specs.Held.{IsSmallStep, places_in};
+ghost use Rattle.owner.specs.Batches.{ArePosted};
+
+use crate::batch::{Batch, place_unknown};
+use crate::holdings::Holdings;
+use crate::successors::{Successor, look_up, make_successors};
+use cost::Dist;
+use openlist::OpenEntry;
+use packed::StateForm;
+use packed_spread::Spread;
+use scp::Places;
+use std::alloc::{AllocError, Global};
+
+/// Buffers for the successors of a node.
+#[derive(Drop)]
+pub(crate) struct Buffers<F: StateForm + Drop> {
+    /// The values of a successor.
+    values: Vec<u32>,
+    successors: Vec<Successor<F>>,
+    /// For each successor whether it is known that nothing changes when it is treated.
+    known: Vec<bool>,
+    batch: Batch<F>,
+}
+
+impl<F: StateForm + Drop> Buffers<F> {
+    /// Buffers for states of this many variables. Fails only if allocation fails.
+    pub(crate) fn new(alloc: Global, width: usize) -> Result<Buffers<F>, AllocError>
+        ensures { IfOk result (λ b. length b.values.items ≡ width) }
+    {
+        Ok(Buffers {
+            values: vec![in alloc; 0; width]?,
+            successors: Vec::new(alloc),
+            known: Vec::new(alloc),
+            batch: Batch::new(alloc),
+        })
+    }
+}
+
+/// Expands the owner's next node, whose state's places these are, by these operators in their order: all successors are
+/// made, then all are looked up, then those are placed that may change something, and then the node is marked and the
+/// owner's own successors are taken. Fails only if allocation fails, and then the messages to withdraw are noted.
+fn try_to_expand<S: Spread + Drop, F: StateForm + Drop>(
+    alloc: Global,
+    holdings: &mut Holdings<'_, S, F>,
+    bound: Dist,
+    next: OpenEntry,
+    places: &mut Places<'_>,
+    operators: &[usize],
+    buffers: &mut Buffers<F>,
+) -> Result<(), AllocError>
+    requires allowed { holdings.old.space.limit ≢ Some holdings.old.expansions }
+    requires least { IsLeast holdings.old.space.ties (h_of holdings.old.space) holdings.old.nodes next }
+    requires state { IsState (ranges holdings.old.space.task) places.old.state }
+    requires places { places.old ≡ places_in holdings.old.space places.old.state }
+    requires buffer { length buffers.old.values.items ≡ length places.old.state }
+    requires apply { All (λ o. applies_at holdings.old.space.task o places.old.state ≡ true) operators.now }
+    requires small { All (IsSmallStep holdings.old.space.task next.rank) operators.now }
+    ensures treated { OnOk result ((n : Node) → At holdings.old.nodes next.index n → under holdings.new bound ≡ treat_all (space_of S.owner holdings.old) holdings.old.worker (mark_node (under holdings.old bound) next.index n) (filter_map (successor_by holdings.old.space.task holdings.old.worker next.index (fresh places.old.state next.rank None)) operators.now)) }
+    ensures put_out { OnOk result (waiting holdings.new.outboxes ≡ waiting holdings.old.outboxes + length buffers.new.batch.receivers.items) }
+    ensures owners { OnOk result (length holdings.new.outboxes ≡ length holdings.old.outboxes) }
+    ensures space { OnOk result (holdings.new.space ≡ holdings.old.space) }
+    ensures worker { OnOk result (holdings.new.worker ≡ holdings.old.worker) }
+    ensures counted { OnOk result (holdings.new.expansions ≡ (if is_some holdings.old.space.limit then suc holdings.old.expansions else holdings.old.expansions)) }
+    ensures posted { OnErr result (ArePosted holdings.old holdings.new [] buffers.new.batch.receivers.items) }
+    ensures places { places.new ≡ places.old }
+    ensures buffer { length buffers.new.values.items ≡ length buffers.old.values.items }
+{
+    buffers.batch.clear(holdings.best());
+    make_successors(
+        alloc,
+        holdings,
+        places.state(),
+        operators,
+        &mut buffers.values,
+        &mut buffers.successors,
+    )?;
+    look_up(
+        holdings,
+        next,
+        places.state(),
+        &buffers.successors,
+        &mut buffers.known,
+    )?;
+    place_unknown(
+        alloc,
+        holdings,
+        bound,
+        next,
+        places,
+        &buffers.successors,
+        &buffers.known,
+        &mut buffers.values,
+        &mut buffers.batch,
+    )?;
+    holdings.expand_next(&mut buffers.batch)?;
+    Ok(())
+}
+
+/// Expands the owner's next node, whose state's places these are, by these operators in their order. Returns the number of
+/// successors that were put into outboxes. Fails only if allocation fails, and then changes nothing.
+pub(crate) fn expand_node<S: Spread + Drop, F: StateForm + Drop>(
+    alloc: Global,
+    holdings: &mut Holdings<'_, S, F>,
+    bound: Dist,
+    next: OpenEntry,
+    places: &mut Places<'_>,
+    operators: &[usize],
+    buffers: &mut Buffers<F>,
+) -> Result<usize, AllocError>
+    requires allowed { holdings.old.space.limit ≢ Some holdings.old.expansions }
+    requires least { IsLeast holdings.old.space.ties (h_of holdings.old.space) holdings.old.nodes next }
+    requires state { IsState (ranges holdings.old.space.task) places.old.state }
+    requires places { places.old ≡ places_in holdings.old.space places.old.state }
+    requires buffer { length buffers.old.values.items ≡ length places.old.state }
+    requires apply { All (λ o. applies_at holdings.old.space.task o places.old.state ≡ true) operators.now }
+    requires small { All (IsSmallStep holdings.old.space.task next.rank) operators.now }
+    ensures treated { OnOk result ((n : Node) → At holdings.old.nodes next.index n → under holdings.new bound ≡ treat_all (space_of S.owner holdings.old) holdings.old.worker (mark_node (under holdings.old bound) next.index n) (filter_map (successor_by holdings.old.space.task holdings.old.worker next.index (fresh places.old.state next.rank None)) operators.now)) }
+    ensures posted { IfOk result (λ posted. waiting holdings.new.outboxes ≡ waiting holdings.old.outboxes + posted) }
+    ensures owners { length holdings.new.outboxes ≡ length holdings.old.outboxes }
+    ensures space { holdings.new.space ≡ holdings.old.space }
+    ensures worker { holdings.new.worker ≡ holdings.old.worker }
+    ensures counted { OnOk result (holdings.new.expansions ≡ (if is_some holdings.old.space.limit then suc holdings.old.expansions else holdings.old.expansions)) }
+    ensures unchanged { OnErr result (holdings.new ≡ holdings.old) }
+    ensures places { places.new ≡ places.old }
+    ensures buffer { length buffers.new.values.items ≡ length buffers.old.values.items }
+{
+    match try_to_expand(alloc, holdings, bound, next, places, operators, buffers) {
+        Ok(()) => Ok(buffers.batch.receivers.len()),
+        Err(error) => {
+            holdings.withdraw(&mut buffers.batch.receivers);
+            Err(error)
+        }
+    }
+}

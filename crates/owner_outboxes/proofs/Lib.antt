@@ -1,0 +1,5 @@
+pub mod Boxing
+pub mod Using
+pub mod Showing
+pub mod Withdrawing
+pub mod Results
