@@ -1,11 +1,12 @@
 -- The commands that work on files alone: the words that request each, and what each does.
-use Rattle.std.specs.Prelude.{◌≡◌, ℕ, List, Option, IfSome, IsSomeAnd}
+use Rattle.std.specs.Prelude.{◌≡◌, ◌≢◌, ℕ, List, Option, None, IfSome, IsSomeAnd, codes}
 use Rattle.optplan_device.specs.Events.{Event}
 use Rattle.optplan_replies.specs.declared.status.Status.{Status}
 use Rattle.optplan_command.specs.Validation.{AskForValidation, Validates}
 use Rattle.optplan_command.specs.Checking.{AskForCheck, Checks}
 use Rattle.optplan_command.specs.PlanningChecking.{AskForPlanningCheck, ChecksPlanning}
 use Rattle.optplan_command.specs.Translating.{AskForTranslation, Translates}
+use Rattle.optplan_command.specs.SolveWords.{operand}
 use Rattle.optplan_command.specs.declared.file_command.FileCommand.{FileCommand}
 use Rattle.optplan_command.specs.declared.file_command.FileCommand.TheVariants.{Validate, Check, CheckSas, Translate}
 
@@ -51,6 +52,24 @@ pub record IsRequested (words : List (List ℕ)) (command : Option FileCommand) 
   pub checks : (domain problem cert : List ℕ) → AskForPlanningCheck words domain problem cert → IsSomeAnd command (IsPlanningCheck domain problem cert)
   pub checks_sas : (sas cert : List ℕ) → AskForCheck words sas cert → IsSomeAnd command (IsCheck sas cert)
   pub translates : (domain problem : List ℕ) → AskForTranslation words domain problem → IsSomeAnd command (IsTranslation domain problem)
+
+-- the words request no command in this plain way
+abbrev pub IsNotPlain : List (List ℕ) → Type 0
+IsNotPlain words = IsRequested words None
+
+-- the command has this name, and its files are the values of its operands
+abbrev pub IsNamed : List ℕ → (List ℕ → Option (List ℕ)) → FileCommand → Type 0
+IsNamed name value (Validate domain problem plan) =
+    (name ≡ codes "validate") × (domain.now ≡ operand value (codes "DOMAIN")) × (problem.now ≡ operand value (codes "PROBLEM")) × (plan.now ≡ operand value (codes "PLAN"))
+IsNamed name value (Check domain problem cert) =
+    (name ≡ codes "check") × (domain.now ≡ operand value (codes "DOMAIN")) × (problem.now ≡ operand value (codes "PROBLEM")) × (cert.now ≡ operand value (codes "CERT"))
+IsNamed name value (CheckSas sas cert) = (name ≡ codes "check-sas") × (sas.now ≡ operand value (codes "SAS")) × (cert.now ≡ operand value (codes "CERT"))
+IsNamed name value (Translate domain problem) =
+    (name ≡ codes "translate") × (domain.now ≡ operand value (codes "DOMAIN")) × (problem.now ≡ operand value (codes "PROBLEM"))
+
+-- no command on files alone has this name
+abbrev pub NamesNoFileCommand : List ℕ → Type 0
+NamesNoFileCommand name = (name ≢ codes "validate") × (name ≢ codes "check") × (name ≢ codes "check-sas") × (name ≢ codes "translate")
 
 -- the events of a run of the command, and its exit status
 abbrev pub DoesCommand : List Event → List Event → FileCommand → Status → Type 0

@@ -6,3 +6,4 @@ pub mod Translating
 pub mod Options
 pub mod SolveWords
 pub mod FileCommands
+pub mod Requests

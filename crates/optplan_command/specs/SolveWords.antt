@@ -12,6 +12,10 @@ use Rattle.optplan_command.specs.Options.{AreSettingsOf}
 abbrev pub operand : (List ℕ → Option (List ℕ)) → List ℕ → List ℕ
 operand value name = unwrap_or (value name) []
 
+-- a value of an option is refused: there is nothing that the options request
+abbrev pub HasRefusedValue : (List ℕ → Option (List ℕ)) → Type 0
+HasRefusedValue value = (settings : Settings) → AreSettingsOf value settings → ⊥
+
 -- the planning task of these files is solved as the options request
 pub record SolvesByWords (value : List ℕ → Option (List ℕ)) (old new : List Event) (status : Status) : Type 0 where
   pub settings : Settings

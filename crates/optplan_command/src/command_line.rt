@@ -1,59 +1,32 @@
 //! The command line.
 
-ghost use Rattle.std.specs.Prelude.{◌≡◌, ◌≢◌, ◌≤◌, ◌+◌, ℕ, List, Some, IfOk, OnErr};
+ghost use Rattle.std.specs.Prelude.{◌≡◌, ◌≢◌, ◌≤◌, ◌+◌, ◌⊎◌, ℕ, List, [], Some, IfOk, IfErr, OnErr};
+ghost use Rattle.clap.specs.Walk.{Row};
+ghost use Rattle.clap.specs.Kinds.{HasKind};
+ghost use Rattle.clap.specs.Words.{fault_of, kind_of, subcommand_of};
+ghost use Rattle.clap.specs.declared.error.kind.ErrorKind.TheVariants.{DisplayHelp, DisplayVersion, OutOfMemory, ValueValidation};
 ghost use Rattle.pddl_names.specs.Names.{texts_of};
+ghost use Rattle.optplan_words.specs.Commands.{program};
 ghost use Rattle.optplan_device.specs.Events.{Event};
 ghost use Rattle.optplan_command.specs.Validation.{AskForValidation, Validates};
 ghost use Rattle.optplan_command.specs.Checking.{AskForCheck, Checks};
 ghost use Rattle.optplan_command.specs.PlanningChecking.{AskForPlanningCheck, ChecksPlanning};
 ghost use Rattle.optplan_command.specs.Translating.{AskForTranslation, Translates};
+ghost use Rattle.optplan_command.specs.FileCommands.{IsNotPlain};
+ghost use Rattle.optplan_command.specs.Requests.{DoesRequest, IsMisuse, IsRefusedRequest, value_in};
 
 use crate::file_command::{plain_command, run_files};
-use crate::file_words::{
-    check_command, check_sas_command, file_command, translate_command, validate_command,
-};
-use crate::solve_words::{solve_by_words, solve_command, solve_sas_by_words, solve_sas_command};
+use crate::file_words::file_command;
+use crate::solve_words::{solve_by_words, solve_sas_by_words};
+use clap::Error;
 use clap::error::ErrorKind;
-use clap::{Command, Error};
 use optplan_device::Device;
 use optplan_replies::{Fault, Status, put_text, report};
-use std::alloc::{AllocError, Global};
+use optplan_words::requested;
+use std::alloc::Global;
 use std::sync::Wait;
 use std::thread::Threads;
 use std::time::Clock;
-
-/// The program's version, which `--version` prints.
-const VERSION: &str = "0.1.0";
-
-const ABOUT: &str =
-    "Validates PDDL plans, checks certificates of lower bounds, and translates and solves planning tasks, with a proved verdict";
-
-/// Adds the commands that judge a plan or a certificate.
-fn with_judging<'a>(alloc: Global, command: Command<'a>) -> Result<Command<'a>, AllocError> {
-    command
-        .subcommand(validate_command(alloc)?)?
-        .subcommand(check_sas_command(alloc)?)?
-        .subcommand(check_command(alloc)?)
-}
-
-/// Adds the commands that translate or solve a task.
-fn with_solving<'a>(alloc: Global, command: Command<'a>) -> Result<Command<'a>, AllocError> {
-    command
-        .subcommand(translate_command(alloc)?)?
-        .subcommand(solve_command(alloc, "solve")?)?
-        .subcommand(solve_sas_command(alloc, "solve-sas")?)
-}
-
-/// The program as `clap` sees it: its commands, help and version. Fails only if allocation fails.
-fn program_command<'a>(alloc: Global) -> Result<Command<'a>, AllocError> {
-    let command = Command::new(alloc, "optplan")
-        .about(ABOUT)
-        .version(VERSION)
-        .subcommand_required(true)
-        .arg_required_else_help(true)
-        .disable_help_subcommand(true);
-    with_solving(alloc, with_judging(alloc, command)?)
-}
 
 /// Runs the command that `clap` finds in the words, and returns the exit status. Fails with the error in the words, with
 /// help or the version if they are requested, or if allocation fails.
@@ -62,11 +35,17 @@ fn run_words<D: Device, R: Threads + Wait + Clock + Eprint + Sync + AllocGlobal>
     words: &[String],
     device: &mut D,
 ) -> Result<Status, Error>
+    ensures done { IfOk result (λ status. (h : List Event) (name : List ℕ) (rows : List Row) → D.history device.old ≡ Some h →
+        subcommand_of program (texts_of words.now) ≡ Some (name, rows) → D.failure_count device.new ≡ D.failure_count device.old → status ≢ Status.OutOfMemory →
+        (new : List Event) × (D.history device.new ≡ Some new) × DoesRequest name (value_in rows) h new status) }
+    ensures fits { IfOk result (λ _. fault_of program (texts_of words.now) ≡ []) }
+    ensures kinds { IfErr result (λ e. fault_of program (texts_of words.now) ≢ [] → HasKind (fault_of program (texts_of words.now)) e) }
+    ensures refused { IfErr result (λ e. fault_of program (texts_of words.now) ≡ [] → (kind_of e ≡ OutOfMemory) ⊎ ((kind_of e ≡ ValueValidation) ×
+        ((name : List ℕ) (rows : List Row) → subcommand_of program (texts_of words.now) ≡ Some (name, rows) → IsRefusedRequest name (value_in rows)))) }
     ensures counted { IfOk result (λ status. status ≡ Status.DeviceFailed → D.failure_count device.old + 1 ≤ D.failure_count device.new) }
     ensures same { OnErr result (D.failure_count device.new ≡ D.failure_count device.old) }
 {
-    let command = program_command(rt.alloc())?;
-    let matches = command.try_get_matches_from(words)?;
+    let matches = requested(rt.alloc(), words)?;
     match matches.subcommand() {
         Some(("solve", words)) => solve_by_words(rt, device, words),
         Some(("solve-sas", words)) => solve_sas_by_words(rt, device, words),
@@ -81,6 +60,8 @@ fn run_words<D: Device, R: Threads + Wait + Clock + Eprint + Sync + AllocGlobal>
 /// Prints help or the version on standard output, or reports an error in the words on standard error. Returns the exit
 /// status.
 fn show<D: Device>(alloc: Global, device: &mut D, error: &Error) -> Status
+    ensures memory { kind_of error.now ≡ OutOfMemory → result ≡ Status.OutOfMemory }
+    ensures misused { kind_of error.now ≢ DisplayHelp → kind_of error.now ≢ DisplayVersion → (result ≡ Status.Misused) ⊎ (result ≡ Status.OutOfMemory) }
     ensures counted { result ≡ Status.DeviceFailed → D.failure_count device.old + 1 ≤ D.failure_count device.new }
 {
     let Ok(text) = format!(in alloc; "{error}") else {
@@ -100,6 +81,9 @@ fn show<D: Device>(alloc: Global, device: &mut D, error: &Error) -> Status
 ///
 /// Files are read and texts are written through the device. A report on standard error that fails leaves the status as it
 /// is.
+///
+/// Plain words are a command on files alone and its files, none of which begins with `-`. What other words request, with operands and
+/// options in any order, is told by the definitions of the command line's library.
 pub fn run<D: Device, R: Threads + Wait + Clock + Eprint + Sync + AllocGlobal>(
     words: &[String],
     device: &mut D,
@@ -117,6 +101,13 @@ pub fn run<D: Device, R: Threads + Wait + Clock + Eprint + Sync + AllocGlobal>(
     ensures translates { (h : List Event) (domain problem : List ℕ) → D.history device.old ≡ Some h →
         AskForTranslation (texts_of words.now) domain problem → D.failure_count device.new ≡ D.failure_count device.old → result ≢ Status.OutOfMemory →
         (new : List Event) × (D.history device.new ≡ Some new) × Translates h new domain problem result }
+    ensures requests { (h : List Event) (name : List ℕ) (rows : List Row) → D.history device.old ≡ Some h → IsNotPlain (texts_of words.now) →
+        fault_of program (texts_of words.now) ≡ [] → subcommand_of program (texts_of words.now) ≡ Some (name, rows) →
+        D.failure_count device.new ≡ D.failure_count device.old → result ≢ Status.OutOfMemory →
+        ((new : List Event) × (D.history device.new ≡ Some new) × DoesRequest name (value_in rows) h new result)
+        ⊎ ((result ≡ Status.Misused) × IsRefusedRequest name (value_in rows)) }
+    ensures misuses { IsNotPlain (texts_of words.now) → IsMisuse (fault_of program (texts_of words.now)) →
+        (result ≡ Status.Misused) ⊎ (result ≡ Status.OutOfMemory) }
     ensures device_failed { result ≡ Status.DeviceFailed → D.failure_count device.old + 1 ≤ D.failure_count device.new }
 {
     if let Some(command) = plain_command(words) {

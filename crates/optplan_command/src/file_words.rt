@@ -1,117 +1,25 @@
 //! The words of the commands that work on files alone.
 
+ghost use Rattle.std.specs.Prelude.{◌≡◌, IfSome, IfNone};
+ghost use Rattle.clap.specs.Matches.{found_of, first_value};
+ghost use Rattle.optplan_command.specs.SolveWords.{operand};
+ghost use Rattle.optplan_command.specs.FileCommands.{IsNamed, NamesNoFileCommand};
+
 use crate::file_command::FileCommand;
-use clap::{Arg, ArgMatches, Command};
-use std::alloc::{AllocError, Global};
+use clap::ArgMatches;
 
-const VALIDATE_ABOUT: &str = "Says whether a plan is valid and what it costs";
-
-const VALIDATE_LONG: &str =
-    "Says whether a plan is valid and what it costs, or the first step that is at fault.
-
-Reads a domain and a problem in PDDL 2.1 level 1 with types, negative preconditions and action costs, and a plan with
-one (name arguments) a step, as VAL does, and prints one line:
-
-  valid N                     the plan is valid and costs N (status 0)
-  no such action S            step S names no action of the task (status 3)
-  not applicable S LITERAL    step S does not apply, since LITERAL does not hold (status 3)
-  goal open LITERAL           every step applies, and LITERAL of the goal does not hold at the end (status 3)
-
-Steps count from 1. With the metric minimize (total-cost) an action costs what it increases the total cost by, without
-it each action costs 1. A text that cannot be read is refused with one line on standard error (status 1).";
-
-const CHECK_SAS_ABOUT: &str =
-    "Says whether a certificate proves that every plan costs at least its bound";
-
-const CHECK_SAS_LONG: &str =
-    "Says whether a certificate proves that every plan costs at least its bound, or where it fails first.
-
-Reads a finite-domain task as Fast Downward's translator writes it (output.sas, version 3, without axioms and conditional
-effects) and a certificate for it, and prints one line:
-
-  accepted N                  every plan costs at least N (status 0)
-  accepted unsolvable         there is no plan (status 0)
-  rejected CLAUSE PLACE       the certificate fails in this clause, C3 to C8, at this place (status 3)
-
-Columns, tables, states and operators count from 0. A text that cannot be read is refused with one line on standard
-error (status 1).";
-
-const CHECK_ABOUT: &str =
-    "Says whether a certificate proves that every valid plan costs at least its bound";
-
-const CHECK_LONG: &str =
-    "Says whether a certificate proves that every valid plan costs at least its bound, or where it fails first.
-
-Reads a domain and a problem in PDDL 2.1 level 1 with types, negative preconditions and action costs, and a certificate
-for them, and prints one line:
-
-  accepted N                  every valid plan costs at least N (status 0)
-  accepted unsolvable         there is no valid plan (status 0)
-  rejected CLAUSE PLACE       the certificate fails in this clause, C1 to C8, at this place (status 3)
-
-Variables, columns, tables, states and operators count from 0. A text that cannot be read is refused with one line on
-standard error (status 1).";
-
-const TRANSLATE_ABOUT: &str =
-    "Translates a planning task to a finite-domain task with the same plans";
-
-const TRANSLATE_LONG: &str =
-    "Translates a planning task to a finite-domain task with the same plans and the same costs.
-
-Reads a domain and a problem in PDDL 2.1 level 1 with types, negative preconditions and action costs, and prints the
-task as output.sas, version 3, as Fast Downward's search reads it (status 0). A text that cannot be read is refused with
-one line on standard error (status 1).";
-
-/// An operand that names a file.
-pub(crate) fn file<'a>(alloc: Global, name: &'a str, help: &'a str) -> Arg<'a> {
-    Arg::new(alloc, name).required(true).help(help)
-}
-
-/// The command `validate`. Fails only if allocation fails.
-pub(crate) fn validate_command<'a>(alloc: Global) -> Result<Command<'a>, AllocError> {
-    Command::new(alloc, "validate")
-        .about(VALIDATE_ABOUT)
-        .long_about(VALIDATE_LONG)
-        .arg(file(alloc, "DOMAIN", "The domain's file"))?
-        .arg(file(alloc, "PROBLEM", "The problem's file"))?
-        .arg(file(alloc, "PLAN", "The plan's file"))
-}
-
-/// The command `check`. Fails only if allocation fails.
-pub(crate) fn check_command<'a>(alloc: Global) -> Result<Command<'a>, AllocError> {
-    Command::new(alloc, "check")
-        .about(CHECK_ABOUT)
-        .long_about(CHECK_LONG)
-        .arg(file(alloc, "DOMAIN", "The domain's file"))?
-        .arg(file(alloc, "PROBLEM", "The problem's file"))?
-        .arg(file(alloc, "CERT", "The certificate's file"))
-}
-
-/// The command `check-sas`. Fails only if allocation fails.
-pub(crate) fn check_sas_command<'a>(alloc: Global) -> Result<Command<'a>, AllocError> {
-    Command::new(alloc, "check-sas")
-        .about(CHECK_SAS_ABOUT)
-        .long_about(CHECK_SAS_LONG)
-        .arg(file(alloc, "SAS", "The task's file"))?
-        .arg(file(alloc, "CERT", "The certificate's file"))
-}
-
-/// The command `translate`. Fails only if allocation fails.
-pub(crate) fn translate_command<'a>(alloc: Global) -> Result<Command<'a>, AllocError> {
-    Command::new(alloc, "translate")
-        .about(TRANSLATE_ABOUT)
-        .long_about(TRANSLATE_LONG)
-        .arg(file(alloc, "DOMAIN", "The domain's file"))?
-        .arg(file(alloc, "PROBLEM", "The problem's file"))
-}
-
-/// The file that an operand names.
-fn named<'a>(words: &ArgMatches<'a>, operand: &str) -> &'a str {
-    words.get_str(operand).unwrap_or("")
+/// The file that an operand names, the empty text if it names none.
+fn named<'a>(words: &ArgMatches<'a>, role: &str) -> &'a str
+    ensures { result.now ≡ operand (λ name. first_value (found_of words.now) name) role.now }
+{
+    words.get_str(role).unwrap_or("")
 }
 
 /// The command of this name, with the files that its words name, if it is one on files alone.
-pub(crate) fn file_command<'a>(name: &str, words: &ArgMatches<'a>) -> Option<FileCommand<'a>> {
+pub(crate) fn file_command<'a>(name: &str, words: &ArgMatches<'a>) -> Option<FileCommand<'a>>
+    ensures some { IfSome result (IsNamed name.now (λ name. first_value (found_of words.now) name)) }
+    ensures none { IfNone result (NamesNoFileCommand name.now) }
+{
     match name {
         "validate" => Some(FileCommand::Validate {
             domain: named(words, "DOMAIN"),

@@ -1,8 +1,11 @@
 //! The values of options.
 
-ghost use Rattle.std.specs.Prelude.{◌≢◌, ◌≤◌, IfOk, IfSome, IfNone, SomeIff, codes};
+ghost use Rattle.std.specs.Prelude.{◌≡◌, ◌≢◌, ◌≤◌, ◌⊎◌, ℕ, Option, IfOk, IfErr, IfSome, IfNone, SomeIff, codes};
 ghost use Rattle.std.specs.Str.Parse.{digits_value};
 ghost use Rattle.clap.specs.Matches.{found_of, first_value};
+ghost use Rattle.clap.specs.Words.{kind_of};
+ghost use Rattle.clap.specs.declared.error.kind.ErrorKind.TheVariants.{OutOfMemory, ValueValidation};
+ghost use Rattle.owner_space.specs.declared.ties.Ties.{Ties as TiesOf};
 ghost use Rattle.optplan_command.specs.Options.{IsNumberIn, IsNumberOf, NamesTies, IsTiesOf};
 
 use clap::error::ErrorKind;
@@ -29,7 +32,9 @@ pub(crate) struct RefusedValue<'a> {
 
 impl<'a> RefusedValue<'a> {
     /// The command's error for the value; an out-of-memory error if allocation fails.
-    pub(crate) fn error(self, alloc: Global, command: Command<'_>) -> Error {
+    pub(crate) fn error(self, alloc: Global, command: Command<'_>) -> Error
+        ensures { (kind_of result ≡ OutOfMemory) ⊎ (kind_of result ≡ ValueValidation) }
+    {
         let RefusedValue {
             option,
             value,
@@ -77,6 +82,7 @@ pub(crate) fn number_for<'a>(
 ) -> Result<Option<u64>, RefusedValue<'a>>
     ensures number { IfOk result (IsNumberOf least most (first_value (found_of words.now) option.entry.now)) }
     ensures within { IfOk result (λ number. IfSome number (λ n. (least ≤ n) × (n ≤ most))) }
+    ensures refused { IfErr result (λ _. (number : Option ℕ) → IsNumberOf least most (first_value (found_of words.now) option.entry.now) number → ⊥) }
 {
     let Some(value) = words.get_str(option) else {
         return Ok(None);
@@ -108,7 +114,8 @@ pub(crate) fn ties_for<'a>(
     words: &ArgMatches<'a>,
     option: &'a str,
 ) -> Result<Ties, RefusedValue<'a>>
-    ensures { IfOk result (IsTiesOf (first_value (found_of words.now) option.entry.now)) }
+    ensures taken { IfOk result (IsTiesOf (first_value (found_of words.now) option.entry.now)) }
+    ensures refused { IfErr result (λ _. (ties : TiesOf) → IsTiesOf (first_value (found_of words.now) option.entry.now) ties → ⊥) }
 {
     let Some(value) = words.get_str(option) else {
         return Ok(Ties::Shallow);

@@ -1,11 +1,11 @@
 //! The words of the commands that work on files alone.
 
 ghost use Rattle.std.specs.Prelude.{◌≡◌, IfOk};
-ghost use Rattle.clap.specs.Words.{rule_of};
 ghost use Rattle.optplan_words.specs.Commands as spec;
 ghost use Rattle.optplan_words.specs.Commands.{IsCommand};
 
-use clap::{Arg, Command};
+use crate::arguments::{file, with_arg};
+use clap::Command;
 use std::alloc::{AllocError, Global};
 
 const VALIDATE_ABOUT: &str = "Says whether a plan is valid and what it costs";
@@ -66,55 +66,48 @@ Reads a domain and a problem in PDDL 2.1 level 1 with types, negative preconditi
 task as output.sas, version 3, as Fast Downward's search reads it (status 0). A text that cannot be read is refused with
 one line on standard error (status 1).";
 
-/// An operand that names a file.
-pub(crate) fn file<'a>(alloc: Global, name: &'a str, help: &'a str) -> Arg<'a>
-    ensures { rule_of result ≡ spec.operand name.entry.now }
-{
-    Arg::new(alloc, name).required(true).help(help)
-}
-
 /// The command `validate`. Fails only if allocation fails.
 pub(crate) fn validate_command<'a>(alloc: Global) -> Result<Command<'a>, AllocError>
     ensures { IfOk result (IsCommand spec.validate) }
 {
-    Command::new(alloc, "validate")
+    let command = Command::new(alloc, "validate")
         .about(VALIDATE_ABOUT)
-        .long_about(VALIDATE_LONG)
-        .arg(file(alloc, "DOMAIN", "The domain's file"))?
-        .arg(file(alloc, "PROBLEM", "The problem's file"))?
-        .arg(file(alloc, "PLAN", "The plan's file"))
+        .long_about(VALIDATE_LONG);
+    let command = with_arg(command, file(alloc, "DOMAIN", "The domain's file"))?;
+    let command = with_arg(command, file(alloc, "PROBLEM", "The problem's file"))?;
+    with_arg(command, file(alloc, "PLAN", "The plan's file"))
 }
 
 /// The command `check`. Fails only if allocation fails.
 pub(crate) fn check_command<'a>(alloc: Global) -> Result<Command<'a>, AllocError>
     ensures { IfOk result (IsCommand spec.check) }
 {
-    Command::new(alloc, "check")
+    let command = Command::new(alloc, "check")
         .about(CHECK_ABOUT)
-        .long_about(CHECK_LONG)
-        .arg(file(alloc, "DOMAIN", "The domain's file"))?
-        .arg(file(alloc, "PROBLEM", "The problem's file"))?
-        .arg(file(alloc, "CERT", "The certificate's file"))
+        .long_about(CHECK_LONG);
+    let command = with_arg(command, file(alloc, "DOMAIN", "The domain's file"))?;
+    let command = with_arg(command, file(alloc, "PROBLEM", "The problem's file"))?;
+    with_arg(command, file(alloc, "CERT", "The certificate's file"))
 }
 
 /// The command `check-sas`. Fails only if allocation fails.
 pub(crate) fn check_sas_command<'a>(alloc: Global) -> Result<Command<'a>, AllocError>
     ensures { IfOk result (IsCommand spec.check_sas) }
 {
-    Command::new(alloc, "check-sas")
+    let command = Command::new(alloc, "check-sas")
         .about(CHECK_SAS_ABOUT)
-        .long_about(CHECK_SAS_LONG)
-        .arg(file(alloc, "SAS", "The task's file"))?
-        .arg(file(alloc, "CERT", "The certificate's file"))
+        .long_about(CHECK_SAS_LONG);
+    let command = with_arg(command, file(alloc, "SAS", "The task's file"))?;
+    with_arg(command, file(alloc, "CERT", "The certificate's file"))
 }
 
 /// The command `translate`. Fails only if allocation fails.
 pub(crate) fn translate_command<'a>(alloc: Global) -> Result<Command<'a>, AllocError>
     ensures { IfOk result (IsCommand spec.translate) }
 {
-    Command::new(alloc, "translate")
+    let command = Command::new(alloc, "translate")
         .about(TRANSLATE_ABOUT)
-        .long_about(TRANSLATE_LONG)
-        .arg(file(alloc, "DOMAIN", "The domain's file"))?
-        .arg(file(alloc, "PROBLEM", "The problem's file"))
+        .long_about(TRANSLATE_LONG);
+    let command = with_arg(command, file(alloc, "DOMAIN", "The domain's file"))?;
+    with_arg(command, file(alloc, "PROBLEM", "The problem's file"))
 }

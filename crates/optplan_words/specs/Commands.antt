@@ -1,8 +1,9 @@
 -- The commands of the program, with their operands and options, as the parser of command lines sees them.
 use Rattle.std.specs.Prelude.{◌≡◌, true, false, List, [], ◌∷◌, ◌++◌, Some, codes}
-use Rattle.clap.specs.Words.{App, Rule, Shape, Text, app_of, new_rule}
+use Rattle.clap.specs.Words.{App, Rule, Shape, Text, app_of, new_rule, rule_of}
 use Rattle.clap.specs.Simple.{new_shape}
 use Rattle.clap.specs.declared.builder.action.ArgAction.TheVariants.{SetTrue}
+use Rattle.clap.specs.declared.builder.arg.Arg.{Arg}
 use Rattle.clap.specs.declared.builder.command.Command.{Command}
 use Rattle.clap.specs.declared.builder.command.Command.TheViews.{out-Command}
 
@@ -24,16 +25,20 @@ option_or name value = record (option name) { defaults = value ∷ [] }
 abbrev pub flag : Text → Rule
 flag name = record (new_rule name) { long = Some name; action = Some SetTrue }
 
-abbrev pub ending_options : List Rule
-ending_options = option (codes "limit") ∷ option (codes "time") ∷ option (codes "memory") ∷ option_or (codes "steps") (codes "1000000") ∷ []
-
 abbrev pub search_options : List Rule
 search_options =
     option (codes "simulate") ∷ option_or (codes "workers") (codes "4") ∷ option_or (codes "ring") (codes "64")
-    ∷ option_or (codes "table") (codes "100000") ∷ option_or (codes "ties") (codes "shallow") ∷ ending_options
+    ∷ option_or (codes "table") (codes "100000") ∷ option_or (codes "ties") (codes "shallow") ∷ []
+
+abbrev pub ending_options : List Rule
+ending_options = option (codes "limit") ∷ option (codes "time") ∷ option (codes "memory") ∷ option_or (codes "steps") (codes "1000000") ∷ []
 
 abbrev pub output_options : List Rule
 output_options = flag (codes "progress") ∷ option (codes "plan") ∷ option (codes "cert") ∷ []
+
+-- the options of the commands that solve a task
+abbrev pub options : List Rule
+options = search_options ++ ending_options ++ output_options
 
 -- ---- commands
 
@@ -53,22 +58,26 @@ check_sas = command (codes "check-sas") (operand (codes "SAS") ∷ operand (code
 abbrev pub translate : Shape
 translate = command (codes "translate") (operand (codes "DOMAIN") ∷ operand (codes "PROBLEM") ∷ [])
 
+-- the command that solves a planning task, by this name
 abbrev pub solve : Text → Shape
-solve name = command name (operand (codes "DOMAIN") ∷ operand (codes "PROBLEM") ∷ (search_options ++ output_options))
+solve name = command name (operand (codes "DOMAIN") ∷ operand (codes "PROBLEM") ∷ options)
 
+-- the command that solves a finite-domain task, by this name
 abbrev pub solve_sas : Text → Shape
-solve_sas name = command name (operand (codes "SAS") ∷ (search_options ++ output_options))
+solve_sas name = command name (operand (codes "SAS") ∷ options)
 
--- the program: one of its commands must be named, and without words it prints its help
+-- one of the program's commands must be named, and without words it prints its help
+abbrev pub bare_program : Shape
+bare_program = record (new_shape (codes "optplan")) {
+  has_version = true;
+  subcommand_required = true;
+  arg_required_else_help = true;
+  disable_help_subcommand = true;
+}
+
 abbrev pub program : App
 program = record {
-  top = record (new_shape (codes "optplan")) {
-    is_leaf = false;
-    has_version = true;
-    subcommand_required = true;
-    arg_required_else_help = true;
-    disable_help_subcommand = true;
-  };
+  top = record bare_program { is_leaf = false };
   subs = validate ∷ check_sas ∷ check ∷ translate ∷ solve (codes "solve") ∷ solve_sas (codes "solve-sas") ∷ [];
 }
 
@@ -78,8 +87,14 @@ program = record {
 abbrev pub IsCommand : Shape → Command → Type 0
 IsCommand shape c = (app_of c ≡ record { top = shape; subs = [] }) × ((out-Command c).has_globals ≡ false)
 
+-- the application with these operands and options behind its own
+abbrev pub with_rules : App → List Rule → App
+with_rules a rules = record a { top = record a.top { rules = a.top.rules ++ rules } }
+
 -- the second command is the first with these operands and options behind its own
 abbrev pub AddsRules : Command → List Rule → Command → Type 0
-AddsRules old rules new =
-    (app_of new ≡ record (app_of old) { top = record (app_of old).top { rules = (app_of old).top.rules ++ rules } })
-    × ((out-Command new).has_globals ≡ (out-Command old).has_globals)
+AddsRules old rules new = (app_of new ≡ with_rules (app_of old) rules) × ((out-Command new).has_globals ≡ (out-Command old).has_globals)
+
+-- the argument is of this rule, and of one command alone
+abbrev pub IsArg : Rule → Arg → Type 0
+IsArg rule a = (rule_of a ≡ rule) × (a.global ≡ false)

@@ -1,10 +1,10 @@
 //! The commands of the program.
 
-ghost use Rattle.std.specs.Prelude.{◌≡◌, true, IfOk, IfErr, map};
+ghost use Rattle.std.specs.Prelude.{◌≡◌, IfOk, map};
 ghost use Rattle.std.specs.String.{string_bytes};
-ghost use Rattle.clap.specs.Words.{app_of, kind_of, subcommand_of, subcommand_rows_of, takes};
-ghost use Rattle.clap.specs.declared.error.kind.ErrorKind.TheVariants.{OutOfMemory};
-ghost use Rattle.optplan_words.specs.Commands.{program};
+ghost use Rattle.clap.specs.Words.{app_of, FailsBy, fault_of, subcommand_of, subcommand_rows_of};
+ghost use Rattle.optplan_words.specs.Commands as spec;
+ghost use Rattle.optplan_words.specs.Commands.{program, IsCommand};
 
 use crate::files::{check_command, check_sas_command, translate_command, validate_command};
 use crate::solving::{solve_command, solve_sas_command};
@@ -18,7 +18,9 @@ const ABOUT: &str =
     "Validates PDDL plans, checks certificates of lower bounds, and translates and solves planning tasks, with a proved verdict";
 
 /// The program without its commands.
-fn bare_program<'a>(alloc: Global) -> Command<'a> {
+fn bare_program<'a>(alloc: Global) -> Command<'a>
+    ensures { IsCommand spec.bare_program result }
+{
     Command::new(alloc, "optplan")
         .about(ABOUT)
         .version(VERSION)
@@ -31,20 +33,20 @@ fn bare_program<'a>(alloc: Global) -> Command<'a> {
 fn program_command<'a>(alloc: Global) -> Result<Command<'a>, AllocError>
     ensures { IfOk result (λ c. app_of c ≡ program) }
 {
-    bare_program(alloc)
-        .subcommand(validate_command(alloc)?)?
-        .subcommand(check_sas_command(alloc)?)?
-        .subcommand(check_command(alloc)?)?
-        .subcommand(translate_command(alloc)?)?
-        .subcommand(solve_command(alloc, "solve")?)?
-        .subcommand(solve_sas_command(alloc, "solve-sas")?)
+    let program = bare_program(alloc);
+    let program = program.subcommand(validate_command(alloc)?)?;
+    let program = program.subcommand(check_sas_command(alloc)?)?;
+    let program = program.subcommand(check_command(alloc)?)?;
+    let program = program.subcommand(translate_command(alloc)?)?;
+    let program = program.subcommand(solve_command(alloc, "solve")?)?;
+    program.subcommand(solve_sas_command(alloc, "solve-sas")?)
 }
 
 /// What these words request, the first of which is the program's name: a command with the values of its operands and options. Fails
 /// with the error in the words, with help or the version if they are requested, or if allocation fails.
 pub fn requested<'a>(alloc: Global, words: &'a [String]) -> Result<ArgMatches<'a>, Error>
     ensures found { IfOk result (λ m. subcommand_rows_of m ≡ subcommand_of program (map string_bytes words.now)) }
-    ensures refused { IfErr result (λ e. takes program (map string_bytes words.now) ≡ true → kind_of e ≡ OutOfMemory) }
+    ensures fails { FailsBy (fault_of program (map string_bytes words.now)) result }
 {
     program_command(alloc)?.try_get_matches_from(words)
 }

@@ -1,12 +1,11 @@
 //! The words of the commands that solve a task.
 
 ghost use Rattle.std.specs.Prelude.{◌≡◌, IfOk};
-ghost use Rattle.clap.specs.Words.{rule_of};
 ghost use Rattle.optplan_words.specs.Commands as spec;
 ghost use Rattle.optplan_words.specs.Commands.{IsCommand, AddsRules};
 
-use crate::files::file;
-use clap::{Arg, ArgAction, Command};
+use crate::arguments::{file, flag, option, option_or, with_arg};
+use clap::Command;
 use std::alloc::{AllocError, Global};
 
 const SOLVE_ABOUT: &str = "Finds a plan that no plan is cheaper than, or that there is no plan";
@@ -69,129 +68,135 @@ greatest. deep mostly finds a plan after fewer expansions where many states have
 The certificate that --cert asks for is what the command check-sas takes, beside the task. A text that cannot be read is
 refused with one line on standard error, and so is a task that is too large (status 1).";
 
-/// An option that takes a value.
-fn option<'a>(alloc: Global, name: &'a str, value: &'a str, help: &'a str) -> Arg<'a>
-    ensures { rule_of result ≡ spec.option name.entry.now }
-{
-    Arg::new(alloc, name)
-        .long(name)
-        .value_name(value)
-        .help(help)
-}
-
 /// Adds the options that end the search.
 fn with_ending_options<'a>(alloc: Global, command: Command<'a>) -> Result<Command<'a>, AllocError>
     ensures { IfOk result (AddsRules command.entry spec.ending_options) }
 {
-    command
-        .arg(option(
-            alloc,
-            "limit",
-            "N",
-            "How many states each worker may expand",
-        ))?
-        .arg(option(
-            alloc,
-            "time",
-            "SECONDS",
-            "Ends the search by threads after so many seconds, as at a limit",
-        ))?
-        .arg(option(
-            alloc,
-            "memory",
-            "MIB",
-            "Ends the search by threads once its states take so many MiB, as at a limit",
-        ))?
-        .arg(option(
-            alloc,
-            "steps",
-            "N",
-            "How many steps may be drawn with --simulate",
-        )
-        .default_value("1000000"))
+    let limit = option(
+        alloc,
+        "limit",
+        "N",
+        "How many states each worker may expand",
+    );
+    let time = option(
+        alloc,
+        "time",
+        "SECONDS",
+        "Ends the search by threads after so many seconds, as at a limit",
+    );
+    let memory = option(
+        alloc,
+        "memory",
+        "MIB",
+        "Ends the search by threads once its states take so many MiB, as at a limit",
+    );
+    let steps = option_or(
+        alloc,
+        "steps",
+        "N",
+        "1000000",
+        "How many steps may be drawn with --simulate",
+    );
+    let command = with_arg(command, limit)?;
+    let command = with_arg(command, time)?;
+    let command = with_arg(command, memory)?;
+    with_arg(command, steps)
 }
 
-/// Adds the options of the search.
+/// Adds the options of how states are searched.
 fn with_search_options<'a>(alloc: Global, command: Command<'a>) -> Result<Command<'a>, AllocError>
     ensures { IfOk result (AddsRules command.entry spec.search_options) }
 {
-    let command = command
-        .arg(option(
-            alloc,
-            "simulate",
-            "SEED",
-            "Searches in one thread, by steps that are drawn from this seed",
-        ))?
-        .arg(option(
-            alloc,
-            "workers",
-            "N",
-            "How many workers share the states, each in a thread of its own, 1 to 64",
-        )
-        .default_value("4"))?
-        .arg(option(
-            alloc,
-            "ring",
-            "N",
-            "How many messages may be underway from one worker to another, 1 to 65536; a search by drawn steps has no such bound",
-        )
-        .default_value("64"))?
-        .arg(option(
-            alloc,
-            "table",
-            "N",
-            "How many entries a table of lower bounds may have, 1 to 16777216",
-        )
-        .default_value("100000"))?
-        .arg(option(
-            alloc,
-            "ties",
-            "ORDER",
-            "Which of the states of the same f-value is expanded first, shallow or deep: the one of the least cost, or the greatest",
-        )
-        .default_value("shallow"))?;
-    with_ending_options(alloc, command)
+    let simulate = option(
+        alloc,
+        "simulate",
+        "SEED",
+        "Searches in one thread, by steps that are drawn from this seed",
+    );
+    let workers = option_or(
+        alloc,
+        "workers",
+        "N",
+        "4",
+        "How many workers share the states, each in a thread of its own, 1 to 64",
+    );
+    let ring = option_or(
+        alloc,
+        "ring",
+        "N",
+        "64",
+        "How many messages may be underway from one worker to another, 1 to 65536; a search by drawn steps has no such bound",
+    );
+    let table = option_or(
+        alloc,
+        "table",
+        "N",
+        "100000",
+        "How many entries a table of lower bounds may have, 1 to 16777216",
+    );
+    let ties = option_or(
+        alloc,
+        "ties",
+        "ORDER",
+        "shallow",
+        "Which of the states of the same f-value is expanded first, shallow or deep: the one of the least cost, or the greatest",
+    );
+    let command = with_arg(command, simulate)?;
+    let command = with_arg(command, workers)?;
+    let command = with_arg(command, ring)?;
+    let command = with_arg(command, table)?;
+    with_arg(command, ties)
 }
 
 /// Adds the options for what is written beside the answer.
 fn with_output_options<'a>(alloc: Global, command: Command<'a>) -> Result<Command<'a>, AllocError>
     ensures { IfOk result (AddsRules command.entry spec.output_options) }
 {
-    command
-        .arg(
-            Arg::new(alloc, "progress")
-                .long("progress")
-                .action(ArgAction::SetTrue)
-                .help("Tells on standard error, about once a second, how far the search is"),
-        )?
-        .arg(option(alloc, "plan", "FILE", "Writes the plan to this file too"))?
-        .arg(option(
-            alloc,
-            "cert",
-            "FILE",
-            "Writes a certificate of the answer to this file",
-        ))
+    let progress = flag(
+        alloc,
+        "progress",
+        "Tells on standard error, about once a second, how far the search is",
+    );
+    let plan = option(alloc, "plan", "FILE", "Writes the plan to this file too");
+    let cert = option(
+        alloc,
+        "cert",
+        "FILE",
+        "Writes a certificate of the answer to this file",
+    );
+    let command = with_arg(command, progress)?;
+    let command = with_arg(command, plan)?;
+    with_arg(command, cert)
 }
 
-/// The command `solve`, by this name. Fails only if allocation fails.
+/// Adds the options of the commands that solve a task.
+fn with_options<'a>(alloc: Global, command: Command<'a>) -> Result<Command<'a>, AllocError>
+    ensures { IfOk result (AddsRules command.entry spec.options) }
+{
+    let command = with_search_options(alloc, command)?;
+    let command = with_ending_options(alloc, command)?;
+    with_output_options(alloc, command)
+}
+
+/// The command that solves a planning task, by this name. Fails only if allocation fails.
 pub fn solve_command<'a>(alloc: Global, name: &'a str) -> Result<Command<'a>, AllocError>
     ensures { IfOk result (IsCommand (spec.solve name.entry.now)) }
 {
     let command = Command::new(alloc, name)
         .about(SOLVE_ABOUT)
-        .long_about(SOLVE_LONG)
-        .arg(file(alloc, "DOMAIN", "The domain's file"))?
-        .arg(file(alloc, "PROBLEM", "The problem's file"))?;
-    with_output_options(alloc, with_search_options(alloc, command)?)
+        .long_about(SOLVE_LONG);
+    let command = with_arg(command, file(alloc, "DOMAIN", "The domain's file"))?;
+    let command = with_arg(command, file(alloc, "PROBLEM", "The problem's file"))?;
+    with_options(alloc, command)
 }
 
-/// The command `solve-sas`, by this name. Fails only if allocation fails.
+/// The command that solves a finite-domain task, by this name. Fails only if allocation fails.
 pub fn solve_sas_command<'a>(alloc: Global, name: &'a str) -> Result<Command<'a>, AllocError>
     ensures { IfOk result (IsCommand (spec.solve_sas name.entry.now)) }
 {
     let command = Command::new(alloc, name)
         .about(SOLVE_SAS_ABOUT)
-        .long_about(SOLVE_SAS_LONG)
-        .arg(file(alloc, "SAS", "The task's file"))?;
-    with_output_options(alloc, with_search_options(alloc, command)?)
+        .long_about(SOLVE_SAS_LONG);
+    let command = with_arg(command, file(alloc, "SAS", "The task's file"))?;
+    with_options(alloc, command)
 }

@@ -1,6 +1,7 @@
 //! The words of the program: its commands, operands and options, and what a line of words requests.
 #![tactic(auto)]
 
+mod arguments;
 mod files;
 mod program;
 mod solving;

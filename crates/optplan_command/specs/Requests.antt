@@ -1,0 +1,35 @@
+-- What the program does by words that name one of its commands, with operands and options in any order, `--` among them. Which
+-- command they name, and with which values, is told by the definitions of the parser of command lines.
+use Rattle.std.specs.Prelude.{◌≡◌, ◌≢◌, ◌⊎◌, ℕ, List, [], All, Option, codes}
+use Rattle.clap.specs.Walk.{Row, first_of}
+use Rattle.clap.specs.declared.error.kind.ErrorKind.{ErrorKind}
+use Rattle.clap.specs.declared.error.kind.ErrorKind.TheVariants.{DisplayHelp, DisplayVersion}
+use Rattle.optplan_device.specs.Events.{Event}
+use Rattle.optplan_replies.specs.declared.status.Status.{Status}
+use Rattle.optplan_command.specs.Validation.{Validates}
+use Rattle.optplan_command.specs.Checking.{Checks}
+use Rattle.optplan_command.specs.PlanningChecking.{ChecksPlanning}
+use Rattle.optplan_command.specs.Translating.{Translates}
+use Rattle.optplan_command.specs.SolveWords.{HasRefusedValue, SolvesByWords, SolvesSasByWords, operand}
+
+-- the value of an operand or an option, by its name
+abbrev pub value_in : List Row → List ℕ → Option (List ℕ)
+value_in rows name = first_of name rows
+
+-- the command of this name is done, with these values of its operands and options
+pub record DoesRequest (name : List ℕ) (value : List ℕ → Option (List ℕ)) (old new : List Event) (status : Status) : Type 0 where
+  pub validates : name ≡ codes "validate" → Validates old new (operand value (codes "DOMAIN")) (operand value (codes "PROBLEM")) (operand value (codes "PLAN")) status
+  pub checks : name ≡ codes "check" → ChecksPlanning old new (operand value (codes "DOMAIN")) (operand value (codes "PROBLEM")) (operand value (codes "CERT")) status
+  pub checks_sas : name ≡ codes "check-sas" → Checks old new (operand value (codes "SAS")) (operand value (codes "CERT")) status
+  pub translates : name ≡ codes "translate" → Translates old new (operand value (codes "DOMAIN")) (operand value (codes "PROBLEM")) status
+  pub solves : name ≡ codes "solve" → SolvesByWords value old new status
+  pub solves_sas : name ≡ codes "solve-sas" → SolvesSasByWords value old new status
+
+-- the command solves a task, and a value of an option is refused
+abbrev pub IsRefusedRequest : List ℕ → (List ℕ → Option (List ℕ)) → Type 0
+IsRefusedRequest name value = ((name ≡ codes "solve") ⊎ (name ≡ codes "solve-sas")) × HasRefusedValue value
+
+-- words with an error of one of these kinds are misused: there is such a kind, and none is a request for help or the version
+pub record IsMisuse (kinds : List ErrorKind) : Type 0 where
+  pub some : kinds ≢ []
+  pub no_help : All (λ k. (k ≢ DisplayHelp) × (k ≢ DisplayVersion)) kinds

@@ -1,0 +1,93 @@
+//! Worked tasks by two and four workers, under each of the gates.
+
+use crate::gates::{FirstIsLate, LastIsFirst};
+use crate::texts::{
+    DRIVE_DOMAIN, DRIVE_PROBLEM, GRIP_DOMAIN, GRIP_PROBLEM, ROAD_DOMAIN, ROAD_PROBLEM,
+    ROAD_PROBLEM_WITHOUT_WAY,
+};
+use checker_pddl::{PlanningVerdict, check_pddl};
+use cost::Dist;
+use optplan_pddl::{Options, PlanningAnswer, solve};
+use optplan_sas::Answer;
+use std::process::Abort;
+use std::sync::Wait;
+use std::test::Fail;
+use std::thread::Threads;
+use std::time::Clock;
+
+/// Checks that the checker accepts the certificate for this bound.
+fn certifies<R: Threads + Sync + Abort + AllocGlobal>(
+    rt: &R,
+    domain: &str,
+    problem: &str,
+    cert: &[u8],
+    bound: Dist,
+) -> Result<(), Fail> {
+    match check_pddl(rt, domain.as_bytes(), problem.as_bytes(), cert)? {
+        PlanningVerdict::Accepted(accepted) => assert_eq!(rt; accepted, bound),
+        PlanningVerdict::Rejected(violation) => panic!(rt; "rejected {violation}"),
+    }
+    Ok(())
+}
+
+/// Checks that the answer is a plan whose text ends so, with a certificate for this cost; or, without a cost, that there is no plan.
+fn is_right<R: Threads + Sync + Abort + AllocGlobal>(
+    rt: &R,
+    domain: &str,
+    problem: &str,
+    answer: &PlanningAnswer,
+    ending: &str,
+    cost: Option<u64>,
+) -> Result<(), Fail> {
+    match (answer, cost) {
+        (Answer::Solved(solution), Some(cost)) => {
+            assert!(rt; solution.found.plan_text.as_str().ends_with(ending));
+            assert_eq!(rt; solution.found.cost, cost);
+            let bound = Dist::fin(cost).ok_or("a distance")?;
+            certifies(rt, domain, problem, &solution.cert, bound)
+        }
+        (Answer::Unsolvable(cert), None) => certifies(rt, domain, problem, cert, Dist::inf()),
+        _ => panic!(rt; "another answer"),
+    }
+}
+
+/// The answers for a task under both gates, by two and by four workers.
+fn answers<R: Threads + Wait + Clock + Sync + Abort + AllocGlobal>(
+    rt: &R,
+    domain: &str,
+    problem: &str,
+    ending: &str,
+    cost: Option<u64>,
+) -> Result<(), Fail> {
+    let (first, second) = (domain.as_bytes(), problem.as_bytes());
+    for workers in [2, 4] {
+        let options = Options::new().with_workers(workers);
+        let late = solve(rt, first, second, &options, &FirstIsLate::new())?;
+        is_right(rt, domain, problem, &late, ending, cost)?;
+        let early = solve(rt, first, second, &options, &LastIsFirst::of(workers))?;
+        is_right(rt, domain, problem, &early, ending, cost)?;
+    }
+    Ok(())
+}
+
+#[test]
+fn a_road(rt: HostRuntime) -> Result<(), Fail> {
+    let plan = "(go a b)\n(go b c)\n; cost = 2 (unit cost)\n";
+    answers(&rt, ROAD_DOMAIN, ROAD_PROBLEM, plan, Some(2))
+}
+
+#[test]
+fn a_way_around(rt: HostRuntime) -> Result<(), Fail> {
+    let plan = "(go a b)\n(go b c)\n; cost = 7 (general cost)\n";
+    answers(&rt, DRIVE_DOMAIN, DRIVE_PROBLEM, plan, Some(7))
+}
+
+#[test]
+fn no_way(rt: HostRuntime) -> Result<(), Fail> {
+    answers(&rt, ROAD_DOMAIN, ROAD_PROBLEM_WITHOUT_WAY, "", None)
+}
+
+#[test]
+fn two_balls(rt: HostRuntime) -> Result<(), Fail> {
+    answers(&rt, GRIP_DOMAIN, GRIP_PROBLEM, "; cost = 7 (unit cost)\n", Some(7))
+}
