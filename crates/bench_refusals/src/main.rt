@@ -1,0 +1,185 @@
+//! Owners in one thread that go on where memory is refused: the step that was refused is asked for again. They search a grid of 64 states to
+//! the end, and then their states are printed, so that the text is the same whichever growth is refused. On standard error stands how many
+//! steps were refused. Where memory is refused before the search or after it, nothing is printed and the status is 6.
+#![tactic(auto)]
+
+ghost use Rattle.std.specs.Prelude.{◌≤◌, IfOk};
+
+use fdr::{FdrTask, Operator};
+use netcore::{World, WorldStep};
+use optplan_device::{Device, ProcessDevice};
+use owner::{Entry, Owner, OwnerFault, Space, Ties};
+use packed::{Bits, StateForm};
+use packed_spread::{Spread, Zobrist};
+use rand_core::{Rng, SeedableRng};
+use rand_xoshiro::Xoshiro256PlusPlus;
+use scp::make_columns;
+use std::alloc::{AllocError, Global};
+use std::process::ExitCode;
+use std::thread::Threads;
+use test_tasks::{fact, operator, task};
+
+/// The seed of the words that draw the steps.
+const SEED: u64 = 1;
+
+/// The number of owners.
+const OWNERS: usize = 3;
+
+/// The number of variables.
+const VARIABLES: usize = 3;
+
+/// The number of values of each of them.
+const VALUES: u32 = 4;
+
+/// How often a step is asked for before the program gives up: no more than one growth is refused.
+const ATTEMPTS: u32 = 3;
+
+/// Operators that lead from a value of each variable to the next one.
+fn unit_steps(alloc: Global) -> Result<Vec<Operator>, AllocError> {
+    let mut operators = Vec::new(alloc);
+    for variable in 0..VARIABLES {
+        for value in 1..VALUES {
+            let (low, high) = (fact(variable, value - 1), fact(variable, value));
+            operators.push(operator(alloc, &[low], &[high])?)?;
+            operators.push(operator(alloc, &[high], &[low])?)?;
+        }
+    }
+    Ok(operators)
+}
+
+/// The grid, from one corner to another.
+fn grid(alloc: Global) -> Result<Option<FdrTask>, AllocError> {
+    let goal = &[fact(0, 3), fact(1, 3), fact(2, 3)];
+    task(alloc, &[4, 4, 4], &[0, 0, 0], goal, unit_steps(alloc)?)
+}
+
+/// Does the step, again where memory is refused. Returns how often it was.
+fn step_at_last<S: Spread + Drop, F: StateForm + Drop>(
+    world: &mut World<'_, S, F>,
+    step: WorldStep,
+) -> Result<u64, OwnerFault>
+    ensures { IfOk result (λ count. count ≤ 3) }
+{
+    for refused in 0..ATTEMPTS {
+        match world.step(step) {
+            Ok(_) => return Ok(refused as u64),
+            Err(OwnerFault::OutOfMemory) => {}
+            Err(fault) => return Err(fault),
+        }
+    }
+    Err(OwnerFault::OutOfMemory)
+}
+
+/// Does drawn steps until no work is left. Returns how many were refused.
+fn search<S: Spread + Drop, F: StateForm + Drop>(
+    world: &mut World<'_, S, F>,
+) -> Result<u64, OwnerFault> {
+    let mut generator = Xoshiro256PlusPlus::seed_from_u64(SEED);
+    let mut refused = 0u64;
+    for _ in 0..1_000_000 {
+        let possible = world.possible_count();
+        if world.count() == 0 || possible == 0 {
+            break;
+        }
+        let number = generator.next_u64() as u128 % possible;
+        let step = world.possible_step(number).unwrap_or(WorldStep::Look(0));
+        refused = refused.saturating_add(step_at_last(world, step)?);
+    }
+    Ok(refused)
+}
+
+/// Appends the line of a state with its entry.
+fn push_entry(
+    alloc: Global,
+    text: &mut String,
+    worker: usize,
+    state: &[u32],
+    entry: Entry,
+) -> Result<(), AllocError> {
+    let Entry {
+        rank,
+        parent,
+        expanded,
+    } = entry;
+    let from = match parent {
+        Some(parent) => format!(in alloc; "{} {} {}", parent.worker, parent.index, parent.operator)?,
+        None => String::from_str(alloc, "none")?,
+    };
+    let line = format!(in alloc; "owner {worker} state {state:?} cost {} steps {} from {from} expanded {expanded}\n", rank.cost, rank.steps)?;
+    text.push_str(line.as_str())?;
+    Ok(())
+}
+
+/// Appends the lines of an owner's states.
+fn push_owner<S: Spread + Drop, F: StateForm + Drop>(
+    alloc: Global,
+    text: &mut String,
+    worker: usize,
+    owner: &Owner<'_, S, F>,
+) -> Result<(), AllocError> {
+    let mut state = vec![in alloc; 0u32; owner.space().task().variable_count()]?;
+    for index in 0..owner.len() {
+        owner.copy_state(index, &mut state);
+        push_entry(alloc, text, worker, &state, owner.entry(index))?;
+    }
+    Ok(())
+}
+
+/// The text of all owners' states after the search, and how many steps were refused.
+fn searched<'a>(
+    alloc: Global,
+    space: &'a Space<'a, Zobrist<'a>>,
+) -> Result<(String, u64), OwnerFault> {
+    if !Bits::<1>::fits(space.layout()) {
+        return Err(OwnerFault::TotalTooLarge); // never: a state has six bits
+    }
+    let mut world: World<'a, Zobrist<'a>, Bits<1>> = World::start(alloc, space, OWNERS)?;
+    let refused = search(&mut world)?;
+    let mut text = String::new(alloc);
+    for (worker, owner) in world.joined().owners().iter().enumerate() {
+        push_owner(alloc, &mut text, worker, owner)?;
+    }
+    Ok((text, refused))
+}
+
+/// The same for the grid.
+fn searched_grid<'t, R: Threads + Sync>(
+    rt: &R,
+    alloc: Global,
+    task: &'t FdrTask,
+) -> Result<(String, u64), OwnerFault> {
+    let columns = make_columns(rt, alloc, task, &[])?;
+    // the type is given so that the borrow checker need not infer how long the space is borrowed
+    let space: Space<'t, Zobrist<'t>> = Space::new(
+        alloc,
+        task,
+        columns,
+        Zobrist::new(alloc, task)?,
+        None,
+        Ties::Shallow,
+    )?;
+    searched(alloc, &space)
+}
+
+/// Prints the text. Returns whether it could.
+fn put<D: Device, R: Threads + Sync>(rt: &R, alloc: Global, device: &mut D) -> bool {
+    let Ok(Some(task)) = grid(alloc) else {
+        return false;
+    };
+    let Ok((text, refused)) = searched_grid(rt, alloc, &task) else {
+        return false;
+    };
+    let Ok(told) = format!(in alloc; "{refused} refused\n") else {
+        return false;
+    };
+    device.err(told.as_bytes()).is_ok() && device.out(text.as_bytes()).is_ok()
+}
+
+fn main(rt: HostRuntime) -> ExitCode {
+    let mut device = ProcessDevice::new(&rt);
+    if put(&rt, rt.alloc(), &mut device) {
+        ExitCode::from(0)
+    } else {
+        ExitCode::from(6)
+    }
+}
