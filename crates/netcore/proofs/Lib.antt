@@ -13,3 +13,4 @@ pub mod Counting
 pub mod Choosing
 pub mod Changing
 pub mod Remaining
+pub mod Results
