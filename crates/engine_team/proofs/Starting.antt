@@ -4,7 +4,7 @@ use Rattle.std.specs.Prelude.{slice_get}
 use Rattle.std.proofs.lemmas.Bool.{cases_lt}
 use Rattle.std.proofs.lemmas.Option.{slice_get_within}
 use Rattle.cost.specs.Distances.{Distance, Infinite, ◌≤ᵈ◌, lesser, least}
-use Rattle.owner_theory.specs.Owners.{At}
+use Rattle.owner_theory.specs.Owners.{At, list_at}
 use Rattle.closed.specs.Tables.{message_of}
 use Rattle.owner.specs.Spaces.{SpaceOf}
 use Rattle.links.specs.declared.ends.Out.{Out}
@@ -16,17 +16,19 @@ use Rattle.worker.specs.Workers.{WorkerOf, IsFirstWorker, sent_to, received_from
 use Rattle.engine_team.specs.Teams.{TeamOf, IsTeam, IsFirstTeam, IsFirst, AreFreshLinks, AreFirstWorkers}
 use Rattle.engine_team.proofs.Fitting.{outs_past, received_past}
 
+-- the list at a place, where there is one for each element
+list_of : {A B : Type 0} (f : A → List B) (xs : List A) (v : ℕ) (x : A) → slice_get xs v ≡ Some x → list_at (map f xs) v ≡ f x
+list_of f [] v x e = absurd (cc)
+list_of f (y ∷ ys) zero x e = let same : y ≡ x = cc in ap f same
+list_of f (y ∷ ys) (suc v) x e = list_of f ys v x e
+
 sent_get : {F : Type 0} (values : F → List ℕ) (os : List (Out F)) (v : ℕ) (o : Out F) → slice_get os v ≡ Some o
     → sent_to values os v ≡ map (message_of values) (sent o)
-sent_get values [] v o e = absurd (cc)
-sent_get values (x ∷ os) zero o e = let same : x ≡ o = cc in ap (λ y. map (message_of values) (sent y)) same
-sent_get values (x ∷ os) (suc v) o e = sent_get values os v o e
+sent_get values os v o e = list_of (λ x. map (message_of values) (sent x)) os v o e
 
 received_get : {F : Type 0} (values : F → List ℕ) (is : List (In F)) (u : ℕ) (i : In F) → slice_get is u ≡ Some i
     → received_from values is u ≡ map (message_of values) (received i)
-received_get values [] u i e = absurd (cc)
-received_get values (x ∷ is) zero i e = let same : x ≡ i = cc in ap (λ y. map (message_of values) (received y)) same
-received_get values (x ∷ is) (suc u) i e = received_get values is u i e
+received_get values is u i e = list_of (λ x. map (message_of values) (received x)) is u i e
 
 least_infinite : {S F : Type 0} (ws : List (WorkerOf S F)) → ((v : ℕ) (w : WorkerOf S F) → At ws v w → w.offered ≡ Infinite)
     → least (map (λ w. w.offered) ws) ≡ Infinite
