@@ -1,5 +1,5 @@
 -- Results of which each side is described.
-use Rattle.std.proofs.Common.{IfErr, tt}
+use Rattle.std.proofs.Common.{IfErr}
 use Rattle.std.specs.Prelude.{Result, Ok, Err, MatchResult}
 
 -- what follows for an error
