@@ -1,20 +1,17 @@
 //! Numbered messages over a link with room for one, from one thread to another.
 
-ghost use Rattle.std.specs.Prelude.{◌≡◌, ◌≤◌, ◌^◌, IfOk};
-ghost use Rattle.std.specs.Thread.{IsSync};
-ghost use Rattle.links.specs.Ends.{SameOut, SameIn};
+ghost use Rattle.std.specs.Prelude.{◌≤◌, ◌^◌, IfOk};
 ghost use Rattle.links.specs.Ranks.{HasSmallRank};
 
-use links::{In, Message, Out, Parent, link, match_up};
+use links::{In, Message, Out, Parent, link};
 use openlist::Rank;
 use packed::{Bits, Layout, StateForm};
 use std::alloc::{AllocError, Global};
 use std::process::Abort;
-use std::snapshot::Snapshot;
 use std::sync::Wait;
 use std::test::Fail;
 use std::thread;
-use std::thread::{Promise, Scope, Threads};
+use std::thread::{Scope, Threads};
 use test_tasks::states;
 
 /// The number of messages.
@@ -41,60 +38,49 @@ fn message(alloc: Global, cost: u64) -> Result<Message<Bits<1>>, Fail>
     })
 }
 
-/// What is promised of the thread that sends: it returns the end that it was given.
-#[derive(Drop)]
-struct SendsOver {
-    sender: Snapshot<Out<Bits<1>>>,
-}
+/// How often a full or an empty link is looked at before the test gives up.
+const LOOKS: u64 = 1_000_000_000;
 
-impl Promise<Out<Bits<1>>> for SendsOver {
-    ghost use Rattle.links.specs.Ends.{SameOut};
-
-    ghost kept_by = { λ p r. SameOut p.sender.value r };
-}
-
-/// Sends a message as soon as there is room for it.
-fn send(sender: &mut Out<Bits<1>>, message: Message<Bits<1>>)
+/// Sends a message as soon as there is room for it. Returns whether there was.
+fn send(sender: &mut Out<Bits<1>>, message: Message<Bits<1>>) -> bool
     requires { HasSmallRank message }
-    ensures { SameOut sender.old sender.new }
 {
-    let mut message = message;
-    while let Err(back) = sender.push(message) {
-        message = back;
+    for _ in 0..LOOKS {
+        if sender.has_room() {
+            return sender.push(message).is_ok();
+        }
         thread::yield_now();
     }
+    false
 }
 
-/// Sends a message for each number from 0 on, by copies of one, and returns the end of the link.
-fn send_numbers(alloc: Global, sender: Out<Bits<1>>, first: Message<Bits<1>>) -> Out<Bits<1>>
-    ensures { SameOut sender.entry result }
-{
-    let mut sender = sender;
+/// Sends a message for each number from 0 on, by copies of one. Returns how many were sent.
+fn send_numbers(alloc: Global, mut sender: Out<Bits<1>>, first: Message<Bits<1>>) -> u64 {
     for cost in 0..MESSAGES {
         let Ok(state) = first.state.copy(alloc) else {
-            return sender;
+            return cost;
         };
         let message = Message {
             state,
             rank: Rank { cost, steps: 1 },
             parent: first.parent,
         };
-        send(&mut sender, message);
+        if !send(&mut sender, message) {
+            return cost;
+        }
     }
-    sender
+    MESSAGES
 }
 
-/// Takes that many messages, and returns the number of them that came in the order in which they were sent.
-fn take_numbers(receiver: &mut In<Bits<1>>) -> u64
-    ensures { SameIn receiver.old receiver.new }
-{
+/// Takes that many messages, and returns how many of them came in the order in which they were sent.
+fn take_numbers(receiver: &mut In<Bits<1>>) -> u64 {
     let mut taken = 0u64;
-    for _ in 0..1_000_000_000u64 {
+    for _ in 0..LOOKS {
         if taken == MESSAGES {
             break;
         }
         match receiver.pop() {
-            Some(message) if message.rank.cost == taken => taken += 1,
+            Some(message) if message.rank.cost == taken => taken = taken.saturating_add(1),
             Some(_) => break,
             None => thread::yield_now(),
         }
@@ -102,8 +88,7 @@ fn take_numbers(receiver: &mut In<Bits<1>>) -> u64
     taken
 }
 
-/// Sends the messages in a thread of the scope, and takes them in the caller's. Returns the sending end, and the number of messages that came
-/// in order.
+/// Sends the messages in a thread of the scope, and takes them in the caller's. Returns how many were sent, and how many came in order.
 fn pass_in<'s, E: 's, R: Threads + Wait + Sync>(
     rt: &'s R,
     alloc: Global,
@@ -111,19 +96,8 @@ fn pass_in<'s, E: 's, R: Threads + Wait + Sync>(
     sender: Out<Bits<1>>,
     receiver: &mut In<Bits<1>>,
     first: Message<Bits<1>>,
-) -> Result<(Out<Bits<1>>, u64), Fail>
-    ensures sender { IfOk result (λ r. SameOut sender.entry r.0) }
-    ensures receiver { SameIn receiver.old receiver.new }
-{
-    let promise = SendsOver {
-        sender: Snapshot::of(&sender),
-    };
-    let begun = scope.spawn_with(
-        promise,
-        move || -> Out<Bits<1>>
-            ensures { SameOut sender.entry result }
-        { send_numbers(alloc, sender, first) },
-    );
+) -> Result<(u64, u64), Fail> {
+    let begun = scope.spawn(move || -> u64 { send_numbers(alloc, sender, first) });
     let Ok(handle) = begun else {
         return Err(Fail::from("a thread"));
     };
@@ -131,35 +105,29 @@ fn pass_in<'s, E: 's, R: Threads + Wait + Sync>(
     Ok((handle.join(rt), taken))
 }
 
-/// The same in a scope of its own. Returns both ends.
+/// The same in a scope of its own.
 fn pass<R: Threads + Wait + Sync>(
     rt: &R,
     alloc: Global,
     sender: Out<Bits<1>>,
-    mut receiver: In<Bits<1>>,
+    receiver: &mut In<Bits<1>>,
     first: Message<Bits<1>>,
-) -> Result<(Out<Bits<1>>, In<Bits<1>>, u64), Fail>
-    ensures { IfOk result (λ r. SameOut sender.entry r.0 × SameIn receiver.entry r.1) }
-{
+) -> Result<(u64, u64), Fail> {
     thread::scope(
         thread::scope_env(),
         rt,
-        move |scope| -> Result<(Out<Bits<1>>, In<Bits<1>>, u64), Fail>
-            ensures { IfOk result (λ r. SameOut sender.entry r.0 × SameIn receiver.entry r.1) }
-        {
-            let (sender, taken) = pass_in(rt, alloc, scope, sender, &mut receiver, first)?;
-            Ok((sender, receiver, taken))
+        move |scope| -> Result<(u64, u64), Fail> {
+            pass_in(rt, alloc, scope, sender, receiver, first)
         },
     )
 }
 
 #[test]
 fn a_hundred_thousand_messages(rt: HostRuntime) -> Result<(), Fail> {
-    let (sender, receiver) = link(rt.alloc(), 1)?;
+    let (sender, mut receiver) = link(rt.alloc(), 1)?;
     let first = message(rt.alloc(), 0)?;
-    let (mut sender, mut receiver, taken) = pass(&rt, rt.alloc(), sender, receiver, first)?;
-    assert_eq!(rt; taken, MESSAGES);
-    assert_eq!(rt; match_up(&mut sender, &mut receiver), 0);
+    let passed = pass(&rt, rt.alloc(), sender, &mut receiver, first)?;
+    assert_eq!(rt; passed, (MESSAGES, MESSAGES));
     assert!(rt; receiver.pop().is_none());
     Ok(())
 }
