@@ -102,10 +102,16 @@ fn push_entry(
         expanded,
     } = entry;
     let from = match parent {
-        Some(parent) => format!(in alloc; "{} {} {}", parent.worker, parent.index, parent.operator)?,
+        Some(parent) => format!(in alloc;
+            "{} {} {}",
+            parent.worker, parent.index, parent.operator
+        )?,
         None => String::from_str(alloc, "none")?,
     };
-    let line = format!(in alloc; "owner {worker} state {state:?} cost {} steps {} from {from} expanded {expanded}\n", rank.cost, rank.steps)?;
+    let line = format!(in alloc;
+        "owner {worker} state {state:?} cost {} steps {} from {from} expanded {expanded}\n",
+        rank.cost, rank.steps
+    )?;
     text.push_str(line.as_str())?;
     Ok(())
 }

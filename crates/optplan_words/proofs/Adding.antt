@@ -9,10 +9,11 @@ use Rattle.optplan_words.specs.Commands.{AddsRules, IsArg, IsCommand, with_rules
 
 -- first these, then those
 pub adds_more : (a b c : Command) (xs ys : List Rule) → AddsRules a xs b → AddsRules b ys c → AddsRules a (xs ++ ys) c
-adds_more a b c xs ys first second =
-    ( second.0 ∙ ap (λ app. with_rules app ys) first.0
-      ∙ ap (λ rules. record (app_of a) { top = record (app_of a).top { rules = rules } }) (append_assoc (app_of a).top.rules xs ys)
-    , second.1 ∙ first.1)
+adds_more a b c xs ys first second = (
+  second.0 ∙ ap (λ app. with_rules app ys) first.0
+      ∙ ap (λ rules. record (app_of a) { top = record (app_of a).top { rules = rules } }) (append_assoc (app_of a).top.rules xs ys),
+  second.1 ∙ first.1,
+)
 
 -- the argument's rule may be given by its definition
 pub adds_arg : (a b : Command) (rule : Rule) (arg : Arg) → IsArg rule arg → AddsRules a (rule_of arg ∷ []) b → AddsRules a (rule ∷ []) b

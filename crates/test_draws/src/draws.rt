@@ -102,7 +102,10 @@ fn proves<'a, R: AllocGlobal + Threads + Sync + Abort, S: Spread + Drop, F: Stat
 ) -> Result<(), Fail> {
     let certificate = cert_of(rt.alloc(), joined, CertificateKind::Sas)?;
     let bound = Dist::fin(cost).ok_or("a cost")?;
-    assert_eq!(rt; check_fdr(rt, task, &certificate)?, Verdict::Accepted(bound));
+    assert_eq!(rt;
+        check_fdr(rt, task, &certificate)?,
+        Verdict::Accepted(bound)
+    );
     let goal = joined.best(rt.alloc())?.ok_or("a goal node")?;
     let mut total = 0u64;
     for &operator in plan_of(rt.alloc(), joined, goal)?.iter() {

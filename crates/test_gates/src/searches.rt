@@ -89,5 +89,11 @@ fn no_way(rt: HostRuntime) -> Result<(), Fail> {
 
 #[test]
 fn two_balls(rt: HostRuntime) -> Result<(), Fail> {
-    answers(&rt, GRIP_DOMAIN, GRIP_PROBLEM, "; cost = 7 (unit cost)\n", Some(7))
+    answers(
+        &rt,
+        GRIP_DOMAIN,
+        GRIP_PROBLEM,
+        "; cost = 7 (unit cost)\n",
+        Some(7),
+    )
 }

@@ -22,4 +22,4 @@ returns c =
     let a5 = with_subcommand a4 (spec.solve (codes "solve")) in
     let s5 = adds_command c.in_ok-program-4.program c.in_ok-program-5.program c.in_ok-solve_command.field-0 a4 (spec.solve (codes "solve")) s4 c.in_ok-solve_command.ensures c.in_ok-program-5.ensures in
     IfOk-weaker c.subcommand-6.result (AddsSubcommand c.in_ok-program-5.program c.in_ok-solve_sas_command.field-0) (λ d. app_of d ≡ program)
-        (λ d h. (adds_command c.in_ok-program-5.program d c.in_ok-solve_sas_command.field-0 a5 (spec.solve_sas (codes "solve-sas")) s5 c.in_ok-solve_sas_command.ensures h).is) c.subcommand-6.ensures
+    (λ d h. (adds_command c.in_ok-program-5.program d c.in_ok-solve_sas_command.field-0 a5 (spec.solve_sas (codes "solve-sas")) s5 c.in_ok-solve_sas_command.ensures h).is) c.subcommand-6.ensures

@@ -12,4 +12,4 @@ returns c =
     let s1 = adds_one_more c.args.command c.in_ok-command.command c.in_ok-command-2.command (spec.option (codes "limit") ∷ []) (spec.option (codes "time")) c.option-time.result s0 c.option-time.ensures c.in_ok-command-2.ensures in
     let s2 = adds_one_more c.args.command c.in_ok-command-2.command c.in_ok-command-3.command (spec.option (codes "limit") ∷ spec.option (codes "time") ∷ []) (spec.option (codes "memory")) c.option-memory.result s1 c.option-memory.ensures c.in_ok-command-3.ensures in
     IfOk-weaker c.with_arg-4.result (AddsRules c.in_ok-command-3.command (rule_of c.option_or-steps.result ∷ [])) (AddsRules c.args.command spec.ending_options)
-        (λ d h. adds_one_more c.args.command c.in_ok-command-3.command d (spec.option (codes "limit") ∷ spec.option (codes "time") ∷ spec.option (codes "memory") ∷ []) (spec.option_or (codes "steps") (codes "1000000")) c.option_or-steps.result s2 c.option_or-steps.ensures h) c.with_arg-4.ensures
+    (λ d h. adds_one_more c.args.command c.in_ok-command-3.command d (spec.option (codes "limit") ∷ spec.option (codes "time") ∷ spec.option (codes "memory") ∷ []) (spec.option_or (codes "steps") (codes "1000000")) c.option_or-steps.result s2 c.option_or-steps.ensures h) c.with_arg-4.ensures

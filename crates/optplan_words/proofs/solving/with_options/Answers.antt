@@ -10,4 +10,4 @@ returns c =
     let a = c.args.command in let b = c.in_ok-command.command in let d = c.in_ok-command-2.command in
     let both = adds_more a b d spec.search_options spec.ending_options c.in_ok-command.ensures c.in_ok-command-2.ensures in
     IfOk-weaker c.with_output_options.result (AddsRules d spec.output_options) (AddsRules a spec.options)
-        (λ e h. adds_more a d e (spec.search_options ++ spec.ending_options) spec.output_options both h) c.with_output_options.ensures
+    (λ e h. adds_more a d e (spec.search_options ++ spec.ending_options) spec.output_options both h) c.with_output_options.ensures
