@@ -1,3 +1,5 @@
 pub mod Runs
 pub mod Chains
+pub mod WholeNumbers
 pub mod RunExamples
+pub mod SmallExamples

@@ -1,2 +1,3 @@
 pub mod Runs
 pub mod Chains
+pub mod WholeNumbers

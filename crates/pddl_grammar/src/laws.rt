@@ -6,6 +6,9 @@ ghost use Rattle.pddl_syntax.specs.Typed.{declared, typed_faults};
 ghost use Rattle.pddl_names.specs.Names.{number_of, is_there};
 ghost use Rattle.pddl_task.specs.Planning.{PlanningTask, is_of_type};
 ghost use Rattle.pddl_domain.specs.Types.{type_names, supertypes, types_faults};
+ghost use Rattle.pddl_syntax.specs.declared.number.Number.TheVariants.{Whole};
+ghost use Rattle.pddl_syntax.specs.Numbers.{number_of as number_in};
+ghost use Rattle.pddl_grammar.specs.WholeNumbers.{SpellsNumber};
 ghost use Rattle.pddl_grammar.specs.Chains.{IsBelow};
 ghost use Rattle.pddl_grammar.specs.Runs.{TypedList, IsTypedList, forms_of, declarations};
 
@@ -36,4 +39,11 @@ pub fn types_are_above_by_chains()
         task.supertypes ≡ supertypes (declared false f) → slice_get task.object_types object ≡ Some (number_of (type_names (declared false f)) own) →
         is_there (type_names (declared false f)) own ≡ true → is_there (type_names (declared false f)) type ≡ true →
         is_of_type task (number_of (type_names (declared false f)) type) object ≡ true → IsBelow (declared false f) own type }
+{}
+
+/// A text is read as a whole number exactly where it is one or more digits, and behind them nothing, or a point and zeros.
+/// The number is the value of the digits in base ten.
+pub fn digits_are_read()
+    ensures read { (text : List ℕ) (n : ℕ) → SpellsNumber text n → number_in text ≡ Whole n }
+    ensures spelled { (text : List ℕ) (n : ℕ) → number_in text ≡ Whole n → SpellsNumber text n }
 {}

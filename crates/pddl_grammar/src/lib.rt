@@ -4,4 +4,4 @@
 
 mod laws;
 
-pub use laws::{lists_without_fault_are_runs, runs_are_read, types_are_above_by_chains};
+pub use laws::{digits_are_read, lists_without_fault_are_runs, runs_are_read, types_are_above_by_chains};
