@@ -9,6 +9,9 @@ ghost use Rattle.pddl_domain.specs.Types.{type_names, supertypes, types_faults};
 ghost use Rattle.pddl_syntax.specs.declared.number.Number.TheVariants.{Whole};
 ghost use Rattle.pddl_syntax.specs.Numbers.{number_of as number_in};
 ghost use Rattle.pddl_grammar.specs.WholeNumbers.{SpellsNumber};
+ghost use Rattle.pddl_terms.specs.Terms.{Scope};
+ghost use Rattle.pddl_effect.specs.Conditions.{conditions, conditions_faults};
+ghost use Rattle.pddl_grammar.specs.ConditionTrees.{Trees, SpellTrees, in_order};
 ghost use Rattle.pddl_grammar.specs.Chains.{IsBelow};
 ghost use Rattle.pddl_grammar.specs.Runs.{TypedList, IsTypedList, forms_of, declarations};
 
@@ -46,4 +49,16 @@ pub fn types_are_above_by_chains()
 pub fn digits_are_read()
     ensures read { (text : List ℕ) (n : ℕ) → SpellsNumber text n → number_in text ≡ Whole n }
     ensures spelled { (text : List ℕ) (n : ℕ) → number_in text ≡ Whole n → SpellsNumber text n }
+{}
+
+/// Expressions that are trees of `and` over literals have no fault, and give the literals of these trees from left to right,
+/// however the trees are nested.
+pub fn trees_are_read_in_order()
+    ensures faultless { (scope : Scope) (f : Forms) (trees : Trees) → SpellTrees scope f trees → conditions_faults scope f ≡ [] }
+    ensures meaning { (scope : Scope) (f : Forms) (trees : Trees) → SpellTrees scope f trees → conditions scope f ≡ in_order trees }
+{}
+
+/// Expressions in the place of conditions that have no fault are trees of `and` over literals.
+pub fn conditions_without_fault_are_trees()
+    ensures { (scope : Scope) (f : Forms) → conditions_faults scope f ≡ [] → (trees : Trees) × SpellTrees scope f trees }
 {}

@@ -4,4 +4,7 @@
 
 mod laws;
 
-pub use laws::{digits_are_read, lists_without_fault_are_runs, runs_are_read, types_are_above_by_chains};
+pub use laws::{
+    conditions_without_fault_are_trees, digits_are_read, lists_without_fault_are_runs,
+    runs_are_read, trees_are_read_in_order, types_are_above_by_chains,
+};
