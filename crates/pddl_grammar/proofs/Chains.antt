@@ -1,5 +1,5 @@
 -- A type is below another in the table of supertypes exactly where a chain of declarations leads to it.
-use Rattle.std.proofs.Common.{◌≡◌, ◌≢◌, ◌<◌, ◌≤◌, ◌+◌, ◌-◌, ◌==◌, zero, suc, ℕ, Bool, true, false, not, nat_le, cond, ◌||◌, ◌⊎◌, inl, inr, List, [], ◌∷◌, ◌++◌, length, map, get_or, codes, refl, sym, ap, subst, ◌∙◌, arith, if◌then◌else◌}
+use Rattle.std.proofs.Common.{◌≡◌, ◌<◌, ◌≤◌, ◌+◌, ◌-◌, ◌==◌, zero, suc, ℕ, Bool, true, false, not, nat_le, cond, ◌||◌, inl, inr, List, [], ◌∷◌, ◌++◌, length, map, get_or, codes, refl, sym, ap, subst, ◌∙◌, arith, if◌then◌else◌}
 use Rattle.std.specs.Prelude.{Option, Some, None, unwrap_or, slice_get}
 use Rattle.std.specs.List.{All, AllByRecursion, flat_map}
 use Rattle.std.specs.Option.{option_map, option_map_or, IfSome}
@@ -10,17 +10,16 @@ use Rattle.sexp.specs.Forms.{Forms}
 use Rattle.pddl_names.specs.Names.{is_there, number_of, with_name}
 use Rattle.pddl_names.proofs.NameLists.{same_name, is_there-number, number_of-there, is_there-with_name_kept, number_of-with_name_kept}
 use Rattle.pddl_task.specs.Planning.{PlanningTask, is_below, is_of_type}
-use Rattle.pddl_syntax.specs.declared.fault.Fault.{Fault}
 use Rattle.pddl_syntax.specs.declared.fault.FaultKind.TheVariants.{TwiceDeclared, TypeCycle}
 use Rattle.pddl_syntax.specs.Faults.{fault, faults_if}
 use Rattle.pddl_syntax.specs.Typed.{Declared, declared, typed_faults}
 use Rattle.pddl_domain.specs.declared.types.Subtype.{Subtype}
-use Rattle.pddl_domain.specs.Types.{with_parent, all_types, type_names, numbered, subtypes, first_of_name, first_parent, parent_of, parents, supertypes, differs, is_twice, is_cyclic, subtype_faults, types_faults}
-use Rattle.pddl_domain.specs.Cycles.{ancestor, LiesOnCycle, lies_on_cycle}
+use Rattle.pddl_domain.specs.Types.{with_parent, all_types, type_names, numbered, subtypes, first_of_name, first_parent, parent_of, supertypes, differs, is_twice, is_cyclic, subtype_faults, types_faults}
+use Rattle.pddl_domain.specs.Cycles.{ancestor, lies_on_cycle}
 use Rattle.pddl_domain.proofs.Ancestors.{ancestor-add, ancestor-within, lies, ends_lie}
 use Rattle.pddl_domain.proofs.TypeSteps.{names_within, supertypes_within, parents_within}
-use Rattle.pddl_grammar.specs.Runs.{Placed, TypedRun, TypedList, names_of, of_type, declared_by, declarations}
-use Rattle.pddl_grammar.specs.Chains.{IsDeclaration, IsSupertype, Leads, IsBelow}
+use Rattle.pddl_grammar.specs.Runs.{Placed, TypedRun, names_of, of_type, declared_by, declarations}
+use Rattle.pddl_grammar.specs.Chains.{IsSupertype, Leads, IsBelow}
 use Rattle.pddl_grammar.proofs.Runs.{parts_empty, runs_declared, faultless_runs}
 
 -- ---- each declaration gives a supertype
@@ -209,11 +208,11 @@ module _ (ds : List Declared) (typed : AllByRecursion HasType ds) (faultless : s
       let first = first_there names ds a c h in
       let from = found_has (From ds names) (number_of names a) (subtypes ds) origins first.0 first.1 in
       let agree : option_map_or (λ (e : Subtype). differs e.parent (Some (number_of names c))) (first_of_name (subtypes ds) (number_of names a)) false ≡ false =
-          agrees names (first_of_name (subtypes ds)) (lies_on_cycle table) ds a c clean h in
+      agrees names (first_of_name (subtypes ds)) (lies_on_cycle table) ds a c clean h in
       let same : differs (Some (number_of names from.0.above)) (Some (number_of names c)) ≡ false =
-          ap (λ (p : Option ℕ). differs p (Some (number_of names c))) (sym from.0.parent_is)
-          ∙ ap (λ (o : Option Subtype). option_map_or (λ (e : Subtype). differs e.parent (Some (number_of names c))) o false) (sym first.1)
-          ∙ agree in
+      ap (λ (p : Option ℕ). differs p (Some (number_of names c))) (sym from.0.parent_is)
+      ∙ ap (λ (o : Option Subtype). option_map_or (λ (e : Subtype). differs e.parent (Some (number_of names c))) o false) (sym first.1)
+      ∙ agree in
       at (number_of names a) (type_of_supertype names ds a c low h)
       ∙ ap first_parent first.1
       ∙ ap (λ (p : Option ℕ). unwrap_or p 0) from.0.parent_is
@@ -228,7 +227,7 @@ module _ (ds : List Declared) (typed : AllByRecursion HasType ds) (faultless : s
   cyclic_root : (e : Subtype) → e.name ≡ 0 → is_cyclic (lies_on_cycle table) e ≡ false → unwrap_or e.parent 0 ≡ 0
   cyclic_root e is h =
       let away : differs (Some 0) e.parent ≡ false =
-          ap (λ (b : Bool). if b then differs (Some 0) e.parent else lies_on_cycle table e.name) (sym (eq-eqb e.name 0 is)) ∙ h in
+      ap (λ (b : Bool). if b then differs (Some 0) e.parent else lies_on_cycle table e.name) (sym (eq-eqb e.name 0 is)) ∙ h in
       by e.parent refl away
     where
       by : (p : Option ℕ) → e.parent ≡ p → differs (Some 0) p ≡ false → unwrap_or p 0 ≡ 0

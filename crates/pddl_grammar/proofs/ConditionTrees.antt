@@ -1,9 +1,9 @@
 -- What a condition's expressions give are the literals of its tree.
-use Rattle.std.proofs.Common.{◌≡◌, ◌≤◌, ◌==◌, ℕ, ◌+◌, suc, not, Bool, true, false, ◌⊎◌, inl, inr, List, [], ◌∷◌, ◌++◌, length, codes, refl, sym, ap, subst, ◌∙◌, arith, if◌then◌else◌}
+use Rattle.std.proofs.Common.{◌≡◌, ◌==◌, ℕ, ◌+◌, not, Bool, true, false, inl, inr, List, [], ◌∷◌, ◌++◌, length, codes, refl, sym, ap, ◌∙◌, arith, if◌then◌else◌}
 use Rattle.std.specs.Prelude.{Option, Some, None, option_to_list, option_and_then, slice_get}
 use Rattle.std.specs.Option.{option_map}
 use Rattle.std.proofs.lemmas.Bool.{eqb-true, eq-eqb}
-use Rattle.sexp.specs.Forms.{Forms, none, word, group, behind}
+use Rattle.sexp.specs.Forms.{Forms, none, word, group}
 use Rattle.pddl_names.specs.Names.{same_text, is_there, number_of, place_of}
 use Rattle.pddl_names.proofs.NameLists.{same_text-true, place_of-there, is_there-place}
 use Rattle.pddl_task.specs.Lifted.{Lifted}
@@ -14,7 +14,7 @@ use Rattle.pddl_task.specs.declared.schema.Condition.TheVariants.{Positive, Nega
 use Rattle.pddl_syntax.specs.declared.word.WordKind.{WordKind}
 use Rattle.pddl_syntax.specs.declared.word.WordKind.TheVariants.{Dash, Name, Variable, Other}
 use Rattle.pddl_syntax.specs.declared.fault.Fault.{Fault}
-use Rattle.pddl_syntax.specs.declared.fault.FaultKind.TheVariants.{Shape, Unsupported, UnknownName, Arity}
+use Rattle.pddl_syntax.specs.declared.fault.FaultKind.TheVariants.{Shape, UnknownName, Arity}
 use Rattle.pddl_syntax.specs.Faults.{fault, faults_if}
 use Rattle.pddl_syntax.specs.Words.{word_kind, is_one_of}
 use Rattle.pddl_syntax.specs.Heads.{Heads, arity_of}
@@ -22,10 +22,10 @@ use Rattle.pddl_syntax.specs.Sections.{more_faults}
 use Rattle.pddl_terms.specs.declared.beginning.Beginning.{Beginning}
 use Rattle.pddl_terms.specs.declared.beginning.Beginning.TheVariants.{Conjunction, Negation, Equality, Increasing, Unread, Atom, NoName}
 use Rattle.pddl_terms.specs.declared.beginning.Setting.TheVariants.{InCondition}
-use Rattle.pddl_terms.specs.Beginnings.{unsupported_heads, by_kind, other_beginning, beginning}
-use Rattle.pddl_terms.specs.Terms.{Scope, term_of, term_by_kind, with_term, terms, first_term_faults, term_faults, term_faults_by_kind, terms_faults, count, lifted_of, lifted, arity_faults, lifted_faults}
-use Rattle.pddl_effect.specs.Conditions.{equality, negated_condition, negated_inside, negated_conditions, group_conditions, conditions, second_term_faults, two_terms_faults, negated_group_faults, negated_inside_faults, first_negated_faults, negated_faults, group_faults, conditions_faults}
-use Rattle.pddl_grammar.specs.ConditionTrees.{Trees, nothing, leaf, all_of, in_order, IsAtom, IsEquality, IsPlain, IsNegationOf, IsNegated, IsLiteral, SpellTrees}
+use Rattle.pddl_terms.specs.Beginnings.{unsupported_heads, by_kind, beginning}
+use Rattle.pddl_terms.specs.Terms.{Scope, term_of, term_by_kind, with_term, terms, term_faults, term_faults_by_kind, terms_faults, count, lifted_of, lifted, arity_faults, lifted_faults}
+use Rattle.pddl_effect.specs.Conditions.{equality, negated_condition, negated_inside, negated_conditions, group_conditions, conditions, second_term_faults, two_terms_faults, negated_group_faults, negated_inside_faults, negated_faults, group_faults, conditions_faults}
+use Rattle.pddl_grammar.specs.ConditionTrees.{Trees, nothing, leaf, all_of, in_order, IsPlain, IsNegationOf, IsNegated, IsLiteral, SpellTrees}
 use Rattle.pddl_grammar.proofs.Runs.{parts_empty}
 
 none_in_both : (xs ys : List Fault) → xs ≡ [] → ys ≡ [] → xs ++ ys ≡ []

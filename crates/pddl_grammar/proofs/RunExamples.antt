@@ -1,7 +1,7 @@
 -- Small typed lists.
-use Rattle.std.proofs.Common.{◌≡◌, ℕ, ◌+◌, Bool, true, false, List, [], ◌∷◌, codes, refl}
+use Rattle.std.proofs.Common.{◌≡◌, ℕ, ◌+◌, true, false, List, [], ◌∷◌, codes, refl}
 use Rattle.std.specs.Prelude.{Some}
-use Rattle.sexp.specs.Forms.{Forms, none, word}
+use Rattle.sexp.specs.Forms.{none, word}
 use Rattle.pddl_syntax.specs.declared.fault.FaultKind.TheVariants.{Shape}
 use Rattle.pddl_syntax.specs.Faults.{fault}
 use Rattle.pddl_syntax.specs.Typed.{declared, typed_faults}

@@ -4,14 +4,13 @@ use Rattle.std.specs.Prelude.{Option, Some, None}
 use Rattle.std.specs.List.{AllByRecursion, flat_map}
 use Rattle.std.proofs.lemmas.Bool.{eqb-true}
 use Rattle.sexp.specs.Forms.{Forms, none, word, group}
-use Rattle.pddl_names.specs.Names.{same_text}
 use Rattle.pddl_names.proofs.NameLists.{same_text-true, same_text-equal}
 use Rattle.pddl_syntax.specs.declared.word.WordKind.{WordKind}
 use Rattle.pddl_syntax.specs.declared.word.WordKind.TheVariants.{Dash, Name, Variable, Other}
 use Rattle.pddl_syntax.specs.declared.typed.Item.{Item}
 use Rattle.pddl_syntax.specs.declared.typed.Item.TheVariants.{Entry, Hyphen, Wrong}
 use Rattle.pddl_syntax.specs.declared.fault.Fault.{Fault}
-use Rattle.pddl_syntax.specs.declared.fault.FaultKind.TheVariants.{Shape, Unsupported, UnknownName}
+use Rattle.pddl_syntax.specs.declared.fault.FaultKind.TheVariants.{Unsupported, UnknownName}
 use Rattle.pddl_syntax.specs.Faults.{fault}
 use Rattle.pddl_syntax.specs.Words.{word_kind}
 use Rattle.pddl_syntax.specs.Typed.{Declared, item_of, item_of_kind, is_either, either_at, either_faults, type_of_word, type_at, type_after, type_after_item, declared, declared_item, declared_behind, type_word_faults, type_faults, typed_faults, item_faults}

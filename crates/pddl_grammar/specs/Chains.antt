@@ -1,5 +1,5 @@
 -- Chains of declared supertypes.
-use Rattle.std.specs.Prelude.{◌≡◌, ℕ, ◌⊎◌, List, [], ◌∷◌, Option, Some, codes}
+use Rattle.std.specs.Prelude.{◌≡◌, ℕ, ◌⊎◌, List, [], ◌∷◌, Some, codes}
 use Rattle.pddl_syntax.specs.Typed.{Declared}
 
 -- the declaration gives the first type the second as its supertype

@@ -1,5 +1,5 @@
 -- Typed lists as runs: names, and behind each run of them a hyphen and their type.
-use Rattle.std.specs.Prelude.{◌≡◌, ◌≢◌, ℕ, Bool, true, false, List, [], ◌∷◌, ◌++◌, map, Option, Some, codes}
+use Rattle.std.specs.Prelude.{◌≡◌, ◌≢◌, ℕ, Bool, true, false, List, [], ◌∷◌, ◌++◌, map, Some, codes}
 use Rattle.std.specs.List.{AllByRecursion, flat_map}
 use Rattle.sexp.specs.Forms.{Forms, none, word}
 use Rattle.pddl_syntax.specs.declared.word.WordKind.TheVariants.{Name, Variable}
