@@ -1,0 +1,6 @@
+pub mod Runs
+pub mod Chains
+pub mod WholeNumbers
+pub mod ConditionTrees
+pub mod RunExamples
+pub mod SmallExamples

@@ -1,0 +1,64 @@
+//! Laws of the parts of PDDL texts. The contract of each function states one; its body is empty.
+
+ghost use Rattle.std.specs.Prelude.{◌≡◌, ℕ, Bool, true, false, List, [], Some, slice_get};
+ghost use Rattle.sexp.specs.Forms.{Forms};
+ghost use Rattle.pddl_syntax.specs.Typed.{declared, typed_faults};
+ghost use Rattle.pddl_names.specs.Names.{number_of, is_there};
+ghost use Rattle.pddl_task.specs.Planning.{PlanningTask, is_of_type};
+ghost use Rattle.pddl_domain.specs.Types.{type_names, supertypes, types_faults};
+ghost use Rattle.pddl_syntax.specs.declared.number.Number.TheVariants.{Whole};
+ghost use Rattle.pddl_syntax.specs.Numbers.{number_of as number_in};
+ghost use Rattle.pddl_grammar.specs.WholeNumbers.{SpellsNumber};
+ghost use Rattle.pddl_terms.specs.Terms.{Scope};
+ghost use Rattle.pddl_effect.specs.Conditions.{conditions, conditions_faults};
+ghost use Rattle.pddl_grammar.specs.ConditionTrees.{Trees, SpellTrees, in_order};
+ghost use Rattle.pddl_grammar.specs.Chains.{IsBelow};
+ghost use Rattle.pddl_grammar.specs.Runs.{TypedList, IsTypedList, forms_of, declarations};
+
+/// A typed list of runs whose types are known has no fault, and declares the names in order, each with its run's type,
+/// and with `object` where the run has none.
+pub fn runs_are_read()
+    ensures faultless { (variables : Bool) (known : List ℕ → Bool) (home : ℕ) (l : TypedList) → IsTypedList variables known l →
+        typed_faults variables known home true (forms_of l) ≡ [] }
+    ensures meaning { (variables : Bool) (known : List ℕ → Bool) (l : TypedList) → IsTypedList variables known l →
+        declared variables (forms_of l) ≡ declarations l }
+{}
+
+/// A typed list without a fault is one of runs whose types are known.
+pub fn lists_without_fault_are_runs()
+    ensures { (variables : Bool) (known : List ℕ → Bool) (home : ℕ) (f : Forms) → typed_faults variables known home true f ≡ [] →
+        (l : TypedList) × IsTypedList variables known l × (f ≡ forms_of l) }
+{}
+
+/// An object of a task fits a type exactly where some chain of declared supertypes leads there from the object's own type,
+/// or the type is `object`. The task has the supertypes that a section of types without a fault declares; its types are
+/// numbered by the names that are declared there.
+pub fn types_are_above_by_chains()
+    ensures fits { (home : ℕ) (f : Forms) → types_faults home f ≡ [] → (task : PlanningTask) (object : ℕ) (own type : List ℕ) →
+        task.supertypes ≡ supertypes (declared false f) → slice_get task.object_types object ≡ Some (number_of (type_names (declared false f)) own) →
+        is_there (type_names (declared false f)) own ≡ true → IsBelow (declared false f) own type →
+        is_of_type task (number_of (type_names (declared false f)) type) object ≡ true }
+    ensures chain { (home : ℕ) (f : Forms) → types_faults home f ≡ [] → (task : PlanningTask) (object : ℕ) (own type : List ℕ) →
+        task.supertypes ≡ supertypes (declared false f) → slice_get task.object_types object ≡ Some (number_of (type_names (declared false f)) own) →
+        is_there (type_names (declared false f)) own ≡ true → is_there (type_names (declared false f)) type ≡ true →
+        is_of_type task (number_of (type_names (declared false f)) type) object ≡ true → IsBelow (declared false f) own type }
+{}
+
+/// A text is read as a whole number exactly where it is one or more digits, and behind them nothing, or a point and zeros.
+/// The number is the value of the digits in base ten.
+pub fn digits_are_read()
+    ensures read { (text : List ℕ) (n : ℕ) → SpellsNumber text n → number_in text ≡ Whole n }
+    ensures spelled { (text : List ℕ) (n : ℕ) → number_in text ≡ Whole n → SpellsNumber text n }
+{}
+
+/// Expressions that are trees of `and` over literals have no fault, and give the literals of these trees from left to right,
+/// however the trees are nested.
+pub fn trees_are_read_in_order()
+    ensures faultless { (scope : Scope) (f : Forms) (trees : Trees) → SpellTrees scope f trees → conditions_faults scope f ≡ [] }
+    ensures meaning { (scope : Scope) (f : Forms) (trees : Trees) → SpellTrees scope f trees → conditions scope f ≡ in_order trees }
+{}
+
+/// Expressions in the place of conditions that have no fault are trees of `and` over literals.
+pub fn conditions_without_fault_are_trees()
+    ensures { (scope : Scope) (f : Forms) → conditions_faults scope f ≡ [] → (trees : Trees) × SpellTrees scope f trees }
+{}
