@@ -6,3 +6,5 @@ pub mod Translations
 pub mod FileCommands
 pub mod PlainWords
 pub mod Operands
+pub mod Refusals
+pub mod Requests

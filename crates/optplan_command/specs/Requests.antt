@@ -1,7 +1,8 @@
 -- What the program does by words that name one of its commands, with operands and options in any order, `--` among them. Which
 -- command they name, and with which values, is told by the definitions of the parser of command lines.
-use Rattle.std.specs.Prelude.{◌≡◌, ◌≢◌, ◌⊎◌, ℕ, List, [], All, Option, codes}
+use Rattle.std.specs.Prelude.{◌≡◌, ◌≢◌, ◌⊎◌, ℕ, List, [], Option, codes}
 use Rattle.clap.specs.Walk.{Row, first_of}
+use Rattle.clap.specs.Kinds.{IsAmong}
 use Rattle.clap.specs.declared.error.kind.ErrorKind.{ErrorKind}
 use Rattle.clap.specs.declared.error.kind.ErrorKind.TheVariants.{DisplayHelp, DisplayVersion}
 use Rattle.optplan_device.specs.Events.{Event}
@@ -32,4 +33,4 @@ IsRefusedRequest name value = ((name ≡ codes "solve") ⊎ (name ≡ codes "sol
 -- words with an error of one of these kinds are misused: there is such a kind, and none is a request for help or the version
 pub record IsMisuse (kinds : List ErrorKind) : Type 0 where
   pub some : kinds ≢ []
-  pub no_help : All (λ k. (k ≢ DisplayHelp) × (k ≢ DisplayVersion)) kinds
+  pub no_help : (k : ErrorKind) → IsAmong k kinds → (k ≢ DisplayHelp) × (k ≢ DisplayVersion)

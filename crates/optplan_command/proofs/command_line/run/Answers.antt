@@ -1,3 +1,5 @@
+use Rattle.std.proofs.Common.{inr, ⊎_elim}
+use Rattle.clap.specs.Words.{kind_of}
 use Rattle.optplan_command.proofs.FileCommands.{something, validated, planning_checked, checked, translated}
 use Rattle.optplan_command.proofs.command_line.run.Goals as goal
 
@@ -52,3 +54,9 @@ returns-in-Err-clause-checks_planning g c = λ h domain problem cert is asks sam
 pub returns-in-Err-clause-translates : goal.returns-in-Err-clause-translates
 returns-in-Err-clause-translates g c = λ h domain problem is asks same known.
     absurd (something c.plain_command.result _ (c.plain_command.ensures.translates domain problem asks) c.in_default.not-Some)
+
+pub returns-in-Err-clause-misuses : goal.returns-in-Err-clause-misuses
+returns-in-Err-clause-misuses g c = λ plain misuse.
+    ⊎_elim (λ memory. inr (c.show.ensures.memory memory))
+    (λ among. let no_help = misuse.no_help (kind_of c.in-Err.error) among in c.show.ensures.misused no_help.0 no_help.1)
+    (c.in-Err.ensures.kinds misuse.some)

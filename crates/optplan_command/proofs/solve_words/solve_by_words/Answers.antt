@@ -17,7 +17,7 @@ returns-clause-done g c = λ h is same known.
       done.1,
       record {
         settings = settings;
-        asked = c.in-Ok.ensures;
+        asked = c.in-Ok.ensures.taken;
         solves = renamed_solves h done.0 _ c.unwrap_or-domain.result.now _ c.unwrap_or-problem.result.now settings.options settings.schedule (files_of settings) c.run_solve.result d p done.2;
       },
     )

@@ -15,7 +15,7 @@ returns-clause-done g c = λ h is same known.
       done.1,
       record {
         settings = settings;
-        asked = c.in-Ok.ensures;
+        asked = c.in-Ok.ensures.taken;
         solves = renamed_solves_sas h done.0 _ c.unwrap_or-sas.result.now settings.options settings.schedule (files_of settings) c.run_solve_sas.result s done.2;
       },
     )
