@@ -67,9 +67,9 @@ class ProgressTest(ProgramTest):
         self.assertTrue(2 <= len(lines) <= 5, told.err)
         self.assertEqual(seconds, sorted(set(seconds)))
         self.assertTrue(1 <= seconds[0] and seconds[-1] <= 5, told.err)
-        # No state of a tower of n discs is more than 2^n - 1 moves from another.
+        # No state of a tower of n discs is more than 2^n - 1 moves from another; and for a moment all that is left may be underway between the two.
         for _, expanded, kept, least_open, best in lines:
-            self.assertTrue(0 < expanded and 0 < kept <= 3**14 and int(least_open) < 2**14)
+            self.assertTrue(0 < expanded and 0 < kept <= 3**14 and (least_open == b"inf" or int(least_open) < 2**14))
             self.assertEqual(best, b"inf")
 
     def test_nothing_is_told_of_short_searches(self):
