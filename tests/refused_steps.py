@@ -3,9 +3,9 @@
 
     refused_steps.py [PROGRAM]
 
-PROGRAM is the program of `crates/bench_refusals`; without it, the one that `rt run` there has left. It searches a grid by three owners and prints
+PROGRAM is the program of `crates/bench_refusals`; without it, the one that `rt run` there has left. It searches a grid by three owners and tells
 all their states. Each growth of memory is refused in turn, in a run of its own: the states are the same as without a refusal, entry by entry, or
-memory was refused before the search or behind it and nothing is printed. The last line says how many runs were refused a growth, in how many of them
+memory was refused before the search or behind it and nothing is told. The last line says how many runs were refused a growth, in how many of them
 it was that of a step, and how many ended wrongly; the status is 1 if one did, or if no step was refused.
 """
 
@@ -38,14 +38,15 @@ def main(words):
         print("usage: refused_steps.py [PROGRAM]", file=sys.stderr)
         return 2
     plain = subprocess.run([program], capture_output=True, check=False)
+    again = plain.stdout, plain.stderr.replace(b"0 refused\n", b"1 refused\n"), 0
     number = in_steps = wrong = 0
     while True:
         outcome, was_refused = run_refusing(program, number + 1)
         if not was_refused:
             break
         number += 1
-        in_steps += outcome == (plain.stdout, b"1 refused\n", 0)
-        if outcome not in ((plain.stdout, b"1 refused\n", 0), (plain.stdout, b"0 refused\n", 0), (b"", b"", 6)):
+        in_steps += outcome == again
+        if outcome not in (again, (plain.stdout, plain.stderr, 0), (b"", b"", 6)):
             wrong += 1
             print(f"growth {number}: {outcome}")
     print(f"{number} growths refused, {in_steps} of them in a step, {wrong} ended wrongly")

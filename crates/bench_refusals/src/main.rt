@@ -1,6 +1,6 @@
 //! Owners in one thread that go on where memory is refused: the step that was refused is asked for again. They search a grid of 64 states to
-//! the end, and then their states are printed, so that the text is the same whichever growth is refused. On standard error stands how many
-//! steps were refused. Where memory is refused before the search or after it, nothing is printed and the status is 6.
+//! the end, and then tell their states on standard error, so that the text is the same whichever growth is refused, and behind them how many
+//! steps were refused. Where memory is refused before the search or after it, nothing is told and the status is 6.
 #![tactic(auto)]
 
 ghost use Rattle.std.specs.Prelude.{◌≤◌, IfOk};
@@ -131,21 +131,29 @@ fn push_owner<S: Spread + Drop, F: StateForm + Drop>(
     Ok(())
 }
 
-/// The text of all owners' states after the search, and how many steps were refused.
-fn searched<'a>(
-    alloc: Global,
-    space: &'a Space<'a, Zobrist<'a>>,
-) -> Result<(String, u64), OwnerFault> {
+/// What is told of a search.
+struct Told {
+    /// The owners' states, with how many steps were refused.
+    states: String,
+    /// How many states they keep.
+    line: String,
+}
+
+/// What is told of the search of a space.
+fn searched<'a>(alloc: Global, space: &'a Space<'a, Zobrist<'a>>) -> Result<Told, OwnerFault> {
     if !Bits::<1>::fits(space.layout()) {
         return Err(OwnerFault::TotalTooLarge); // never: a state has six bits
     }
     let mut world: World<'a, Zobrist<'a>, Bits<1>> = World::start(alloc, space, OWNERS)?;
     let refused = search(&mut world)?;
-    let mut text = String::new(alloc);
+    let (mut states, mut kept) = (String::new(alloc), 0usize);
     for (worker, owner) in world.joined().owners().iter().enumerate() {
-        push_owner(alloc, &mut text, worker, owner)?;
+        push_owner(alloc, &mut states, worker, owner)?;
+        kept = kept.saturating_add(owner.len());
     }
-    Ok((text, refused))
+    states.push_str(format!(in alloc; "{refused} refused\n")?.as_str())?;
+    let line = format!(in alloc; "{kept} states kept\n")?;
+    Ok(Told { states, line })
 }
 
 /// The same for the grid.
@@ -153,7 +161,7 @@ fn searched_grid<'t, R: Threads + Sync>(
     rt: &R,
     alloc: Global,
     task: &'t FdrTask,
-) -> Result<(String, u64), OwnerFault> {
+) -> Result<Told, OwnerFault> {
     let columns = make_columns(rt, alloc, task, &[])?;
     // the type is given so that the borrow checker need not infer how long the space is borrowed
     let space: Space<'t, Zobrist<'t>> = Space::new(
@@ -167,18 +175,17 @@ fn searched_grid<'t, R: Threads + Sync>(
     searched(alloc, &space)
 }
 
-/// Prints the text. Returns whether it could.
+/// Tells the states, and prints how many there are. Returns whether it could.
 fn put<D: Device, R: Threads + Sync>(rt: &R, alloc: Global, device: &mut D) -> bool {
     let Ok(Some(task)) = grid(alloc) else {
         return false;
     };
-    let Ok((text, refused)) = searched_grid(rt, alloc, &task) else {
-        return false;
-    };
-    let Ok(told) = format!(in alloc; "{refused} refused\n") else {
-        return false;
-    };
-    device.err(told.as_bytes()).is_ok() && device.out(text.as_bytes()).is_ok()
+    match searched_grid(rt, alloc, &task) {
+        Ok(told) => {
+            device.err(told.states.as_bytes()).is_ok() && device.out(told.line.as_bytes()).is_ok()
+        }
+        Err(_) => false,
+    }
 }
 
 fn main(rt: HostRuntime) -> ExitCode {
