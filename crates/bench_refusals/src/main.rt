@@ -132,6 +132,7 @@ fn push_owner<S: Spread + Drop, F: StateForm + Drop>(
 }
 
 /// What is told of a search.
+#[derive(Drop)]
 struct Told {
     /// The owners' states, with how many steps were refused.
     states: String,
