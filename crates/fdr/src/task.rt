@@ -1,6 +1,6 @@
 //! Finite-domain tasks and their limits.
 
-ghost use Rattle.std.specs.Prelude.{◌≡◌, ◌<◌, All, length, slice_index, unwrap_or, IfOk, IfErr, OnOk};
+ghost use Rattle.std.specs.Prelude.{◌≡◌, ◌<◌, Some, true, All, length, slice_index, unwrap_or, IfOk, IfErr, OnOk};
 ghost use Rattle.fdr.specs.Tasks as spec;
 ghost use Rattle.fdr.specs.Tasks.{IsTask, IsWithinLimits, IsState};
 
@@ -205,6 +205,18 @@ impl FdrTask {
                 true
             }
             _ => false,
+        }
+    }
+
+    /// Replaces the state by its successor under the operator with this number, which has to apply in the state: that is
+    /// not tested again.
+    pub fn advance(&self, operator: usize, state: &mut [u32])
+        requires state { length state.old ≡ length self.now.value_names }
+        requires applies { spec.applies_at self.now operator state.old ≡ true }
+        ensures { spec.step self.now state.old operator ≡ Some state.new }
+    {
+        if let Some(operator) = self.operators.get(operator) {
+            set_values(&operator.effect, state);
         }
     }
 

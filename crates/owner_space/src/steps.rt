@@ -27,5 +27,5 @@ pub fn write_successor(task: &FdrTask, state: &[u32], operator: usize, values: &
 {
     task.recall(); // a successor of a state is a state
     values.copy_from_slice(state);
-    task.apply(operator, values);
+    task.advance(operator, values);
 }
