@@ -1,6 +1,6 @@
 //! The command that solves a planning task, over any device.
 
-ghost use Rattle.std.specs.Prelude.{◌≡◌, ◌≢◌, ◌≤◌, ◌+◌, ◌++◌, ℕ, List, Some, IfOk, IfErr};
+ghost use Rattle.std.specs.Prelude.{◌≡◌, ◌≢◌, ◌≤◌, ◌+◌, List, Some, IfOk, IfErr};
 ghost use Rattle.optplan_device.specs.Events.{Event};
 ghost use Rattle.optplan_sas.specs.Choices.{Choices};
 ghost use Rattle.optplan_pddl.specs.Answers.{IsPlanningAnswer, IsPlanningRefusal};

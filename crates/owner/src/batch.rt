@@ -1,7 +1,7 @@
 //! The successors of a node that is to be expanded, before the node is marked.
 
-ghost use Rattle.std.specs.Prelude.{◌≡◌, ℕ, ◌<◌, ◌≤◌, ◌^◌, ◌++◌, ◌∷◌, [], length, List, Some, None, true, false, if◌then◌else◌, map, filter_map, All, OnOk};
-ghost use Rattle.cost.specs.Distances.{Distance, Finite, ◌+ᵈ◌, is_at_most, lesser};
+ghost use Rattle.std.specs.Prelude.{◌≡◌, ℕ, ◌<◌, ◌≤◌, ◌^◌, [], length, List, Some, None, true, false, map, filter_map, All, OnOk};
+ghost use Rattle.cost.specs.Distances.{Distance, Finite, ◌+ᵈ◌, is_at_most};
 ghost use Rattle.fdr.specs.Tasks.{ranges, IsState, applies_at, step, is_goal_state};
 ghost use Rattle.owner_theory.specs.Owners.{Node, treat, treat_all, successor_by, message_to};
 ghost use Rattle.closed.specs.Tables.{message_of, fresh};

@@ -1,6 +1,6 @@
 //! The expansion of a node.
 
-ghost use Rattle.std.specs.Prelude.{◌≡◌, ◌≢◌, ◌+◌, ◌≤◌, ℕ, suc, [], length, List, Some, None, true, map, filter_map, is_some, if◌then◌else◌, All, IfOk, OnOk, OnErr};
+ghost use Rattle.std.specs.Prelude.{◌≡◌, ◌≢◌, ◌+◌, suc, [], length, Some, None, true, filter_map, is_some, if◌then◌else◌, All, IfOk, OnOk, OnErr};
 ghost use Rattle.fdr.specs.Tasks.{ranges, IsState, applies_at};
 ghost use Rattle.owner_theory.specs.Owners.{At, Node, treat_all, successor_by, mark_node};
 ghost use Rattle.owner_theory.specs.Worlds.{waiting};
