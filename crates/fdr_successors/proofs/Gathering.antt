@@ -4,14 +4,14 @@ use Rattle.std.specs.Prelude.{All, filter, slice_index}
 use Rattle.std.specs.List.{range_with_len}
 use Rattle.std.proofs.lemmas.List.{append_assoc, map-append}
 use Rattle.std.proofs.lemmas.List.Folds.{drop_split}
-use Rattle.std.proofs.lemmas.List.Elements.{All-head, All-tail, All-weaker, All-nil, filter-append}
+use Rattle.std.proofs.lemmas.List.Elements.{All-head, All-tail, All-weaker, filter-append}
 use Rattle.std.proofs.lemmas.Bool.{cases_lt, eqb-true, false_from_ne_true, lt-ltb, le-ltb}
 use Rattle.fdr.specs.declared.fact.Fact.{Fact}
 use Rattle.fdr.specs.Tasks.{FiniteDomainTask, applies_at}
 use Rattle.fdr_successors.specs.declared.candidate.Candidate.{Candidate}
 use Rattle.fdr_successors.specs.declared.tables.Switch.{Switch}
 use Rattle.fdr_successors.specs.Applicable.{applicable_operators}
-use Rattle.fdr_successors.specs.Groups.{IsInGroup, IsTestable, IsReady, IsSwitch, IsGenerator, AreLinked, SameNumbers, group_of, numbers_of, applies_to, passes, chosen, found_under, found_in_groups, found_outside}
+use Rattle.fdr_successors.specs.Groups.{IsInGroup, IsSwitch, IsGenerator, AreLinked, SameNumbers, group_of, numbers_of, applies_to, passes, chosen, found_under, found_in_groups, found_outside}
 use Rattle.fdr_successors.proofs.Numbers.{filter_permuted}
 
 -- ---- filters
@@ -144,21 +144,3 @@ gathered_all task ws starts cs rests grouped state g =
     let all = sym (under_switches task state starts cs rests ws 0 grouped g.switches g.linked) ∙ map_filter (λ (c : Candidate). c.operator) (λ (o : ℕ). applies_at task o state) cs in
     subst (λ (os : List ℕ). SameNumbers os (applicable_operators task state)) (sym all)
     (filter_permuted (λ (o : ℕ). applies_at task o state) (range_with_len 0 (length task.operators)) (numbers_of cs) g.numbers)
-
--- what the state selects can be tested
-pub switch_ready : (task : FiniteDomainTask) (state starts : List ℕ) (cs : List Candidate) (rests : List Fact) → length state ≡ length task.value_names →
-    (w : Switch) → IsSwitch task starts cs rests w → IsReady starts cs (length rests) state w
-switch_ready task state starts cs rests long w s =
-    let P : Candidate → Type 0 = IsTestable (length state) (length rests) in
-    let x = slice_index state w.variable in
-    record {
-      variable = let l = s.variable in omega arith;
-      placed = s.placed;
-      testable =
-          ⊎_elim
-          (λ (l : x < w.range).
-          subst (λ (ds : List Candidate). All P ds) (sym (chosen_inside state starts cs w l))
-          (All-weaker (IsInGroup task rests w.variable x) P (λ c i. subst (λ (n : ℕ). IsTestable n (length rests) c) (sym long) i.testable) (group_of starts cs w x) (s.keyed x l)))
-          (λ (l : w.range ≤ x). subst (λ (ds : List Candidate). All P ds) (sym (chosen_outside state starts cs w l)) (All-nil P))
-          (cases_lt x w.range);
-    }
