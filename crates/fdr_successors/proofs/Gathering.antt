@@ -1,12 +1,13 @@
 -- What is found in the groups that a state chooses, and outside the groups, is all that applies.
-use Rattle.std.proofs.Common.{◌≡◌, ℕ, zero, suc, ◌+◌, ◌-◌, ◌<◌, ◌≤◌, Bool, true, false, ◌&&◌, cond, List, [], ◌∷◌, ◌++◌, length, map, drop, refl, sym, ◌∙◌, ap, subst, arith, ⊎_elim}
+use Rattle.std.proofs.Common.{◌≡◌, ℕ, zero, suc, ◌+◌, ◌-◌, ◌<◌, ◌≤◌, Bool, true, false, cond, List, [], ◌∷◌, ◌++◌, length, map, drop, refl, sym, ◌∙◌, ap, subst, arith, ⊎_elim}
 use Rattle.std.specs.Prelude.{All, filter, slice_index}
 use Rattle.std.specs.List.{range_with_len}
 use Rattle.std.proofs.lemmas.List.{append_assoc, map-append}
 use Rattle.std.proofs.lemmas.List.Folds.{drop_split}
-use Rattle.std.proofs.lemmas.List.Elements.{All-head, All-tail, All-weaker, All-nil, filter-append}
+use Rattle.std.proofs.lemmas.List.Elements.{All-head, All-tail, All-weaker, filter-append}
 use Rattle.std.proofs.lemmas.Bool.{cases_lt, eqb-true, false_from_ne_true, lt-ltb, le-ltb}
-use Rattle.fdr.specs.Tasks.{FiniteDomainTask, applies_at, holds}
+use Rattle.fdr.specs.declared.fact.Fact.{Fact}
+use Rattle.fdr.specs.Tasks.{FiniteDomainTask, applies_at}
 use Rattle.fdr_successors.specs.declared.candidate.Candidate.{Candidate}
 use Rattle.fdr_successors.specs.declared.tables.Switch.{Switch}
 use Rattle.fdr_successors.specs.Applicable.{applicable_operators}
@@ -41,123 +42,105 @@ map_filter f p (x ∷ xs) = map_step f (p (f x)) x (filter (λ y. p (f y)) xs) (
 -- ---- one switch
 
 -- a candidate under another value than the state's does not apply
-fails_elsewhere : (task : FiniteDomainTask) (state : List ℕ) (variable value : ℕ) → (slice_index state variable ≡ value → ⊥) →
-    (c : Candidate) → IsInGroup task variable value c → applies_to task state c ≡ false
-fails_elsewhere task state variable value other c in' =
+fails_elsewhere : (task : FiniteDomainTask) (rests : List Fact) (state : List ℕ) (variable value : ℕ) → (slice_index state variable ≡ value → ⊥) →
+    (c : Candidate) → IsInGroup task rests variable value c → applies_to task state c ≡ false
+fails_elsewhere task rests state variable value other c in' =
     false_from_ne_true (applies_to task state c) (λ yes. other (eqb-true (slice_index state variable) value (in'.key state yes)))
 
-pass_step : (guard applies : Bool) → (applies ≡ true → guard ≡ true) → applies ≡ (guard && applies)
-pass_step true applies h = refl
-pass_step false true h = absurd (cc (h refl))
-pass_step false false h = refl
-
--- a test of the guard first is the same
-guard_needed : (task : FiniteDomainTask) (state : List ℕ) (variable value : ℕ) (c : Candidate) → IsInGroup task variable value c →
-    applies_to task state c ≡ passes task state c
-guard_needed task state variable value c in' = pass_step (holds state c.guard) (applies_to task state c) (in'.guard state)
+-- where the variable has the value, a test of the guard and the rest is the same
+tested_by_rest : (task : FiniteDomainTask) (rests : List Fact) (state : List ℕ) (variable : ℕ) (c : Candidate) → IsInGroup task rests variable (slice_index state variable) c →
+    applies_to task state c ≡ passes rests state c
+tested_by_rest task rests state variable c in' = in'.applies state refl
 
 -- those that apply of the candidates from a start on
 from_start : FiniteDomainTask → List ℕ → List ℕ → List Candidate → Switch → ℕ → List Candidate
 from_start task state starts cs w k = filter (applies_to task state) (drop (slice_index starts (w.first + k)) cs)
 
-one_group : (task : FiniteDomainTask) (state starts : List ℕ) (cs : List Candidate) (w : Switch) (k : ℕ) → IsSwitch task starts cs w → k < w.range →
+one_group : (task : FiniteDomainTask) (state starts : List ℕ) (cs : List Candidate) (rests : List Fact) (w : Switch) (k : ℕ) → IsSwitch task starts cs rests w → k < w.range →
     from_start task state starts cs w k ≡ filter (applies_to task state) (group_of starts cs w k) ++ from_start task state starts cs w (k + 1)
 unfolding from_start
-one_group task state starts cs w k s l =
+one_group task state starts cs rests w k s l =
     ap (λ (ds : List Candidate). filter (applies_to task state) ds) (drop_split cs (slice_index starts (w.first + k)) (slice_index starts (w.first + (k + 1))) (s.placed.rising k l))
     ∙ filter-append (applies_to task state) (group_of starts cs w k) (drop (slice_index starts (w.first + (k + 1))) cs)
 
 -- the groups of n values that the state does not have
-pass_over : (task : FiniteDomainTask) (state starts : List ℕ) (cs : List Candidate) (w : Switch) → IsSwitch task starts cs w →
+pass_over : (task : FiniteDomainTask) (state starts : List ℕ) (cs : List Candidate) (rests : List Fact) (w : Switch) → IsSwitch task starts cs rests w →
     (n k : ℕ) → k + n ≤ w.range → ((j : ℕ) → k ≤ j → j < k + n → slice_index state w.variable ≡ j → ⊥) →
     from_start task state starts cs w k ≡ from_start task state starts cs w (k + n)
-pass_over task state starts cs w s zero k l other = let e : k ≡ k + 0 = omega arith in ap (from_start task state starts cs w) e
-pass_over task state starts cs w s (suc n) k l other =
+pass_over task state starts cs rests w s zero k l other = let e : k ≡ k + 0 = omega arith in ap (from_start task state starts cs w) e
+pass_over task state starts cs rests w s (suc n) k l other =
     let here : k < w.range = omega arith in
     let empty : filter (applies_to task state) (group_of starts cs w k) ≡ [] =
     filter_none (applies_to task state) (group_of starts cs w k)
-    (All-weaker (IsInGroup task w.variable k) (λ c. applies_to task state c ≡ false)
-    (fails_elsewhere task state w.variable k (other k (omega arith) (omega arith))) (group_of starts cs w k) (s.keyed k here)) in
-    let rest = pass_over task state starts cs w s n (k + 1) (omega arith) (λ j low high. other j (omega arith) (omega arith)) in
+    (All-weaker (IsInGroup task rests w.variable k) (λ c. applies_to task state c ≡ false)
+    (fails_elsewhere task rests state w.variable k (other k (omega arith) (omega arith))) (group_of starts cs w k) (s.keyed k here)) in
+    let rest = pass_over task state starts cs rests w s n (k + 1) (omega arith) (λ j low high. other j (omega arith) (omega arith)) in
     let e : k + 1 + n ≡ k + suc n = omega arith in
-    one_group task state starts cs w k s here
+    one_group task state starts cs rests w k s here
     ∙ ap (λ (ds : List Candidate). ds ++ from_start task state starts cs w (k + 1)) empty
     ∙ rest ∙ ap (from_start task state starts cs w) e
 
-chosen_inside : (task : FiniteDomainTask) (state starts : List ℕ) (cs : List Candidate) (w : Switch) → slice_index state w.variable < w.range →
+chosen_inside : (state starts : List ℕ) (cs : List Candidate) (w : Switch) → slice_index state w.variable < w.range →
     chosen starts cs state w ≡ group_of starts cs w (slice_index state w.variable)
-chosen_inside task state starts cs w l = ap (λ (b : Bool). cond b (group_of starts cs w (slice_index state w.variable)) []) (lt-ltb (slice_index state w.variable) w.range l)
+chosen_inside state starts cs w l = ap (λ (b : Bool). cond b (group_of starts cs w (slice_index state w.variable)) []) (lt-ltb (slice_index state w.variable) w.range l)
 
-chosen_outside : (task : FiniteDomainTask) (state starts : List ℕ) (cs : List Candidate) (w : Switch) → w.range ≤ slice_index state w.variable →
+chosen_outside : (state starts : List ℕ) (cs : List Candidate) (w : Switch) → w.range ≤ slice_index state w.variable →
     chosen starts cs state w ≡ []
-chosen_outside task state starts cs w l = ap (λ (b : Bool). cond b (group_of starts cs w (slice_index state w.variable)) []) (le-ltb (slice_index state w.variable) w.range l)
+chosen_outside state starts cs w l = ap (λ (b : Bool). cond b (group_of starts cs w (slice_index state w.variable)) []) (le-ltb (slice_index state w.variable) w.range l)
 
-one_switch : (task : FiniteDomainTask) (state starts : List ℕ) (cs : List Candidate) (w : Switch) → IsSwitch task starts cs w →
-    from_start task state starts cs w 0 ≡ filter (passes task state) (chosen starts cs state w) ++ from_start task state starts cs w w.range
-one_switch task state starts cs w s =
+one_switch : (task : FiniteDomainTask) (state starts : List ℕ) (cs : List Candidate) (rests : List Fact) (w : Switch) → IsSwitch task starts cs rests w →
+    from_start task state starts cs w 0 ≡ filter (passes rests state) (chosen starts cs state w) ++ from_start task state starts cs w w.range
+one_switch task state starts cs rests w s =
     let x = slice_index state w.variable in
     let G : ℕ → List Candidate = from_start task state starts cs w in
     ⊎_elim
     (λ (l : x < w.range).
-    let before = pass_over task state starts cs w s x 0 (omega arith) (λ j low high e. omega arith) in
+    let before = pass_over task state starts cs rests w s x 0 (omega arith) (λ j low high e. omega arith) in
     let e : 0 + x ≡ x = omega arith in
-    let behind = pass_over task state starts cs w s (w.range - (x + 1)) (x + 1) (omega arith) (λ j low high same. omega arith) in
+    let behind = pass_over task state starts cs rests w s (w.range - (x + 1)) (x + 1) (omega arith) (λ j low high same. omega arith) in
     let f : x + 1 + (w.range - (x + 1)) ≡ w.range = omega arith in
-    let guarded : filter (applies_to task state) (group_of starts cs w x) ≡ filter (passes task state) (chosen starts cs state w) =
-    filter_same (applies_to task state) (passes task state) (group_of starts cs w x)
-    (All-weaker (IsInGroup task w.variable x) (λ c. applies_to task state c ≡ passes task state c) (guard_needed task state w.variable x) (group_of starts cs w x) (s.keyed x l))
-    ∙ ap (λ (ds : List Candidate). filter (passes task state) ds) (sym (chosen_inside task state starts cs w l)) in
-    before ∙ ap G e ∙ one_group task state starts cs w x s l
+    let guarded : filter (applies_to task state) (group_of starts cs w x) ≡ filter (passes rests state) (chosen starts cs state w) =
+    filter_same (applies_to task state) (passes rests state) (group_of starts cs w x)
+    (All-weaker (IsInGroup task rests w.variable x) (λ c. applies_to task state c ≡ passes rests state c) (tested_by_rest task rests state w.variable) (group_of starts cs w x) (s.keyed x l))
+    ∙ ap (λ (ds : List Candidate). filter (passes rests state) ds) (sym (chosen_inside state starts cs w l)) in
+    before ∙ ap G e ∙ one_group task state starts cs rests w x s l
     ∙ ap (λ (ds : List Candidate). ds ++ G (x + 1)) guarded
-    ∙ ap (λ (ds : List Candidate). filter (passes task state) (chosen starts cs state w) ++ ds) (behind ∙ ap G f))
+    ∙ ap (λ (ds : List Candidate). filter (passes rests state) (chosen starts cs state w) ++ ds) (behind ∙ ap G f))
     (λ (l : w.range ≤ x).
-    let before = pass_over task state starts cs w s w.range 0 (omega arith) (λ j low high e. omega arith) in
+    let before = pass_over task state starts cs rests w s w.range 0 (omega arith) (λ j low high e. omega arith) in
     let e : 0 + w.range ≡ w.range = omega arith in
     before ∙ ap G e
-    ∙ ap (λ (ds : List Candidate). filter (passes task state) ds ++ G w.range) (sym (chosen_outside task state starts cs w l)))
+    ∙ ap (λ (ds : List Candidate). filter (passes rests state) ds ++ G w.range) (sym (chosen_outside state starts cs w l)))
     (cases_lt x w.range)
 
 -- ---- all switches
 
-under_switch : (task : FiniteDomainTask) (state starts : List ℕ) (cs : List Candidate) (w : Switch) → IsSwitch task starts cs w →
+under_switch : (task : FiniteDomainTask) (state starts : List ℕ) (cs : List Candidate) (rests : List Fact) (w : Switch) → IsSwitch task starts cs rests w →
     numbers_of (filter (applies_to task state) (drop (slice_index starts w.first) cs)) ≡
-    found_under task starts cs state w ++ numbers_of (filter (applies_to task state) (drop (slice_index starts (w.first + w.range)) cs))
+    found_under starts cs rests state w ++ numbers_of (filter (applies_to task state) (drop (slice_index starts (w.first + w.range)) cs))
 unfolding from_start
-under_switch task state starts cs w s =
+under_switch task state starts cs rests w s =
     let e : w.first ≡ w.first + 0 = omega arith in
     ap (λ (i : ℕ). numbers_of (filter (applies_to task state) (drop (slice_index starts i) cs))) e
-    ∙ ap (λ (ds : List Candidate). numbers_of ds) (one_switch task state starts cs w s)
-    ∙ map-append (λ (c : Candidate). c.operator) (filter (passes task state) (chosen starts cs state w)) (filter (applies_to task state) (drop (slice_index starts (w.first + w.range)) cs))
+    ∙ ap (λ (ds : List Candidate). numbers_of ds) (one_switch task state starts cs rests w s)
+    ∙ map-append (λ (c : Candidate). c.operator) (filter (passes rests state) (chosen starts cs state w)) (filter (applies_to task state) (drop (slice_index starts (w.first + w.range)) cs))
 
-under_switches : (task : FiniteDomainTask) (state starts : List ℕ) (cs : List Candidate) (ws : List Switch) (at end : ℕ) →
-    All (IsSwitch task starts cs) ws → AreLinked starts at ws end →
-    numbers_of (filter (applies_to task state) (drop at cs)) ≡ found_in_groups task starts cs state ws ++ found_outside task state (drop end cs)
-under_switches task state starts cs [] at end all linked = ap (λ (i : ℕ). numbers_of (filter (applies_to task state) (drop i cs))) linked
-under_switches task state starts cs (w ∷ ws) at end all linked =
+under_switches : (task : FiniteDomainTask) (state starts : List ℕ) (cs : List Candidate) (rests : List Fact) (ws : List Switch) (at end : ℕ) →
+    All (IsSwitch task starts cs rests) ws → AreLinked starts at ws end →
+    numbers_of (filter (applies_to task state) (drop at cs)) ≡ found_in_groups starts cs rests state ws ++ found_outside task state (drop end cs)
+under_switches task state starts cs rests [] at end all linked = ap (λ (i : ℕ). numbers_of (filter (applies_to task state) (drop i cs))) linked
+under_switches task state starts cs rests (w ∷ ws) at end all linked =
     let next = slice_index starts (w.first + w.range) in
     ap (λ (i : ℕ). numbers_of (filter (applies_to task state) (drop i cs))) (sym linked.0)
-    ∙ under_switch task state starts cs w (All-head (IsSwitch task starts cs) w ws all)
-    ∙ ap (λ (os : List ℕ). found_under task starts cs state w ++ os) (under_switches task state starts cs ws next end (All-tail (IsSwitch task starts cs) w ws all) linked.1)
-    ∙ sym (append_assoc (found_under task starts cs state w) (found_in_groups task starts cs state ws) (found_outside task state (drop end cs)))
+    ∙ under_switch task state starts cs rests w (All-head (IsSwitch task starts cs rests) w ws all)
+    ∙ ap (λ (os : List ℕ). found_under starts cs rests state w ++ os) (under_switches task state starts cs rests ws next end (All-tail (IsSwitch task starts cs rests) w ws all) linked.1)
+    ∙ sym (append_assoc (found_under starts cs rests state w) (found_in_groups starts cs rests state ws) (found_outside task state (drop end cs)))
 
 -- what a generator gathers has the numbers of all operators that apply
-pub gathered_all : (task : FiniteDomainTask) (ws : List Switch) (starts : List ℕ) (cs : List Candidate) (grouped : ℕ) (state : List ℕ) →
-    IsGenerator task ws starts cs grouped →
-    SameNumbers (found_in_groups task starts cs state ws ++ found_outside task state (drop grouped cs)) (applicable_operators task state)
-gathered_all task ws starts cs grouped state g =
-    let all = sym (under_switches task state starts cs ws 0 grouped g.switches g.linked) ∙ map_filter (λ (c : Candidate). c.operator) (λ (o : ℕ). applies_at task o state) cs in
+pub gathered_all : (task : FiniteDomainTask) (ws : List Switch) (starts : List ℕ) (cs : List Candidate) (rests : List Fact) (grouped : ℕ) (state : List ℕ) →
+    IsGenerator task ws starts cs rests grouped →
+    SameNumbers (found_in_groups starts cs rests state ws ++ found_outside task state (drop grouped cs)) (applicable_operators task state)
+gathered_all task ws starts cs rests grouped state g =
+    let all = sym (under_switches task state starts cs rests ws 0 grouped g.switches g.linked) ∙ map_filter (λ (c : Candidate). c.operator) (λ (o : ℕ). applies_at task o state) cs in
     subst (λ (os : List ℕ). SameNumbers os (applicable_operators task state)) (sym all)
     (filter_permuted (λ (o : ℕ). applies_at task o state) (range_with_len 0 (length task.operators)) (numbers_of cs) g.numbers)
-
--- the guards of a chosen group are on variables that exist
-pub chosen_guards : (task : FiniteDomainTask) (state starts : List ℕ) (cs : List Candidate) (w : Switch) → IsSwitch task starts cs w →
-    All (λ c. c.guard.variable < length task.value_names) (chosen starts cs state w)
-chosen_guards task state starts cs w s =
-    let P : Candidate → Type 0 = λ c. c.guard.variable < length task.value_names in
-    let x = slice_index state w.variable in
-    ⊎_elim
-    (λ (l : x < w.range).
-    subst (λ (ds : List Candidate). All P ds) (sym (chosen_inside task state starts cs w l))
-    (All-weaker (IsInGroup task w.variable x) P (λ c i. i.exists) (group_of starts cs w x) (s.keyed x l)))
-    (λ (l : w.range ≤ x). subst (λ (ds : List Candidate). All P ds) (sym (chosen_outside task state starts cs w l)) (All-nil P))
-    (cases_lt x w.range)

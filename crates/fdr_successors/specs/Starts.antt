@@ -1,20 +1,9 @@
--- How the starts of groups are made from entries, which are candidates with their keys.
-use Rattle.std.specs.Prelude.{◌≡◌, ℕ, ◌+◌, ◌<◌, ◌≤◌, List, length, map, slice_index, slice_range, All}
+-- How the starts of groups are made from entries in the order of their keys.
+use Rattle.std.specs.Prelude.{◌≡◌, ℕ, ◌+◌, ◌<◌, ◌≤◌, List, length, slice_index, slice_range, All}
 use Rattle.fdr.specs.Tasks.{FiniteDomainTask}
-use Rattle.fdr_successors.specs.declared.candidate.Candidate.{Candidate}
 use Rattle.fdr_successors.specs.declared.order.Entry.{Entry}
 use Rattle.fdr_successors.specs.declared.tables.Switch.{Switch}
-use Rattle.fdr_successors.specs.Groups.{IsInGroup, IsSwitch, AreLinked}
-
--- if the key is on a variable that exists, the operator is in the key's group
-abbrev pub IsEntry : FiniteDomainTask → Entry → Type 0
-IsEntry task e = e.key.variable < length task.value_names → IsInGroup task e.key.variable e.key.value e.candidate
-
-abbrev pub candidates_of : List Entry → List Candidate
-candidates_of entries = map (λ e. e.candidate) entries
-
-abbrev pub operators_of : List Entry → List ℕ
-operators_of entries = map (λ e. e.candidate.operator) entries
+use Rattle.fdr_successors.specs.Groups.{IsPlaced, AreLinked}
 
 abbrev pub HasKey : ℕ → ℕ → Entry → Type 0
 HasKey variable value e = (e.key.variable ≡ variable) × (e.key.value ≡ value)
@@ -33,8 +22,14 @@ pub record AddsStarts (entries : List Entry) (variable range at end : ℕ) (old 
   pub last : slice_index new (length old + range) ≡ end
   pub groups : (k : ℕ) → k < range → IsGroup entries variable k (slice_index new (length old + k)) (slice_index new (length old + (k + 1)))
 
+-- the groups are where the switch says, and the entries under a value have it as their key
+pub record IsKeySwitch (task : FiniteDomainTask) (starts : List ℕ) (entries : List Entry) (w : Switch) : Type 0 where
+  pub variable : w.variable < length task.value_names
+  pub placed : IsPlaced (length entries) starts w
+  pub keyed : (k : ℕ) → k < w.range → All (HasKey w.variable k) (slice_range entries (slice_index starts (w.first + k)) (slice_index starts (w.first + (k + 1))))
+
 -- the switches and the starts for the entries before a place
 pub record AreTables (task : FiniteDomainTask) (entries : List Entry) (ws : List Switch) (starts : List ℕ) (grouped : ℕ) : Type 0 where
-  pub switches : All (IsSwitch task starts (candidates_of entries)) ws
+  pub switches : All (IsKeySwitch task starts entries) ws
   pub linked : AreLinked starts 0 ws grouped
   pub within : grouped ≤ length entries

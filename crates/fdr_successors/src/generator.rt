@@ -1,13 +1,15 @@
 //! The successor generator of a task.
 
 ghost use Rattle.std.specs.Prelude.{◌≡◌, ◌++◌, [], ◌<◌, All, length, IfOk, OnOk, OnErr, filter};
+ghost use Rattle.std.specs.List.{list_all};
+ghost use Rattle.fdr.specs.Tasks.{holds};
 ghost use Rattle.fdr_successors.specs.Applicable.{applicable_operators};
-ghost use Rattle.fdr_successors.specs.Groups.{IsPlaced, chosen, passes, numbers_of, found_outside, found_in_groups, IsSwitch, SameNumbers};
+ghost use Rattle.fdr_successors.specs.Groups.{IsPlaced, IsReady, IsTestable, chosen, passes, numbers_of, found_outside, found_in_groups, SameNumbers};
 
 use crate::candidate::Candidate;
-use crate::order::{candidates_of, ordered_entries};
+use crate::order::{listing_of, ordered_entries};
 use crate::tables::{Switch, tables_of};
-use fdr::FdrTask;
+use fdr::{Fact, FdrTask};
 use std::alloc::{AllocError, Global};
 use std::marker::Model;
 
@@ -16,18 +18,20 @@ use std::marker::Model;
 ///
 /// Each operator is listed under its key, the fact of its precondition that the fewest operators have, together with
 /// its guard, a second fact. A state selects one group for each variable on which there are keys. Guards are tested in
-/// the selected groups, and an operator whose guard holds is tested in full. So a state takes a look-up for each such
-/// variable, a guard test for each operator in the selected groups, a full test for each operator whose guard holds,
-/// and the sorting of the result. This is slow if many operators have no rare fact, since the groups are then long: if
-/// all variables have two values, about half of the guards are tested.
+/// the selected groups, and the remaining facts of an operator whose guard holds. So a state takes a look-up for each
+/// such variable, a guard test for each operator in the selected groups, a test of the remaining facts for each operator
+/// whose guard holds, and the sorting of the result. This is slow if many operators have no rare fact, since the groups
+/// are then long: if all variables have two values, about half of the guards are tested.
 ///
-/// It takes memory for each operator, and for each value of the variables on which there are keys.
+/// It takes memory for each operator, for each value of the variables on which there are keys, and for each fact of a
+/// precondition other than the key and the guard.
 #[derive(Drop)]
 pub struct SuccessorGenerator<'a> {
     task: &'a FdrTask,
     switches: Vec<Switch>,
     starts: Vec<usize>,
     candidates: Vec<Candidate>,
+    rests: Vec<Fact>,
     grouped: usize,
 }
 
@@ -39,7 +43,7 @@ impl<'a> Model for SuccessorGenerator<'a> {
 
     ghost view = { λ g. g.task.now };
 
-    ghost invariant = { λ g. IsGenerator g.task.now g.switches.items g.starts.items g.candidates.items g.grouped };
+    ghost invariant = { λ g. IsGenerator g.task.now g.switches.items g.starts.items g.candidates.items g.rests.items g.grouped };
 }
 
 /// The operators under the value that the variable of a switch has in the state.
@@ -62,20 +66,30 @@ fn group<'a>(
     }
 }
 
-/// Appends those operators of a group that apply. Their guards are tested first. Fails only if allocation fails.
+/// Whether every fact holds in the state.
+fn all_hold(facts: &[Fact], state: &[u32]) -> bool
+    requires { All (λ f. f.variable < length state.now) facts.now }
+    ensures { result ≡ list_all (holds state.now) facts.now }
+{
+    facts.iter().all(|fact| state[fact.variable] == fact.value)
+}
+
+/// Appends those operators of a selected group that apply: those whose guard and rest hold. Fails only if allocation
+/// fails.
 fn add_guarded(
-    task: &FdrTask,
+    rests: &[Fact],
     group: &[Candidate],
     state: &[u32],
     found: &mut Vec<usize>,
 ) -> Result<(), AllocError>
-    requires state { length state.now ≡ length task.now.value_names }
-    requires guards { All (λ c. c.guard.variable < length state.now) group.now }
-    ensures { OnOk result (found.new.items ≡ found.old.items ++ numbers_of (filter (passes task.now state.now) group.now)) }
+    requires row { All (λ f. f.variable < length state.now) rests.now }
+    requires testable { All (IsTestable (length state.now) (length rests.now)) group.now }
+    ensures { OnOk result (found.new.items ≡ found.old.items ++ numbers_of (filter (passes rests.now state.now) group.now)) }
 {
     for candidate in group {
         let guard = candidate.guard;
-        if state[guard.variable] == guard.value && task.applies(candidate.operator, state) {
+        let rest = candidate.rest;
+        if state[guard.variable] == guard.value && all_hold(&rests[rest.first..rest.end], state) {
             found.push(candidate.operator)?;
         }
     }
@@ -103,20 +117,20 @@ fn add_others(
 /// Appends those of the grouped candidates that apply, from the groups that the state selects. Fails only if allocation
 /// fails.
 fn add_chosen(
-    task: &FdrTask,
     switches: &[Switch],
     starts: &[usize],
     candidates: &[Candidate],
+    rests: &[Fact],
     state: &[u32],
     found: &mut Vec<usize>,
 ) -> Result<(), AllocError>
-    requires state { length state.now ≡ length task.now.value_names }
-    requires switches { All (IsSwitch task.now starts.now candidates.now) switches.now }
-    ensures { OnOk result (found.new.items ≡ found.old.items ++ found_in_groups task.now starts.now candidates.now state.now switches.now) }
+    requires row { All (λ f. f.variable < length state.now) rests.now }
+    requires switches { All (IsReady starts.now candidates.now (length rests.now) state.now) switches.now }
+    ensures { OnOk result (found.new.items ≡ found.old.items ++ found_in_groups starts.now candidates.now rests.now state.now switches.now) }
 {
     for switch in switches {
         let group = group(*switch, starts, candidates, state);
-        add_guarded(task, group, state, found)?;
+        add_guarded(rests, group, state, found)?;
     }
     Ok(())
 }
@@ -129,12 +143,13 @@ impl<'a> SuccessorGenerator<'a> {
     {
         let entries = ordered_entries(alloc, task)?;
         let tables = tables_of(alloc, task, &entries)?;
-        let candidates = candidates_of(alloc, &entries)?;
+        let listing = listing_of(alloc, task, &entries)?;
         Ok(SuccessorGenerator {
             task,
             switches: tables.switches,
             starts: tables.starts,
-            candidates,
+            candidates: listing.candidates,
+            rests: listing.rests,
             grouped: tables.grouped,
         })
     }
@@ -169,10 +184,10 @@ impl<'a> SuccessorGenerator<'a> {
         ensures { OnOk result (SameNumbers found.new.items (applicable_operators self.now state.now)) }
     {
         add_chosen(
-            self.task,
             &self.switches,
             &self.starts,
             &self.candidates,
+            &self.rests,
             state,
             found,
         )?;

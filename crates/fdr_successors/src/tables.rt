@@ -1,7 +1,7 @@
 //! The start of the operators of each key.
 
 ghost use Rattle.std.specs.Prelude.{◌≡◌, ◌+◌, ◌<◌, ◌≤◌, All, length, IfOk, OnErr};
-ghost use Rattle.fdr_successors.specs.Starts.{IsEntry, IsGroup, AddsStarts, AreTables};
+ghost use Rattle.fdr_successors.specs.Starts.{IsGroup, AddsStarts, AreTables};
 
 use crate::order::Entry;
 use fdr::FdrTask;
@@ -67,7 +67,6 @@ pub(crate) fn tables_of(
     task: &FdrTask,
     entries: &[Entry],
 ) -> Result<Tables, AllocError>
-    requires { All (IsEntry task.now) entries.now }
     ensures { IfOk result (λ t. AreTables task.now entries.now t.switches.items t.starts.items t.grouped) }
 {
     let mut switches = Vec::new(alloc);

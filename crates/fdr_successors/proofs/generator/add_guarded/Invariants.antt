@@ -5,4 +5,4 @@ use Rattle.fdr_successors.proofs.generator.add_guarded.Given as goal
 
 abbrev pub invariant-loop-candidate : goal.invariant-loop-candidate
 invariant-loop-candidate l =
-    l.found.items ≡ l.fn.found.items ++ numbers_of (filter (passes l.task l.state) (take l.candidate-index l.group))
+    l.found.items ≡ l.fn.found.items ++ numbers_of (filter (passes l.rests l.state) (take l.candidate-index l.group))

@@ -10,6 +10,6 @@ loop-variable-preserved c =
           (let first : w.len.result ≡ length c.loop-variable.starts.items = omega arith in
           rw first
           (tables_more c.args.task.now c.args.entries.now c.loop-variable.switches.items c.loop-variable.variable w.range.result c.loop-variable.at w.in_ok-at.at c.loop-variable.starts.items w.add_starts.new.starts.items
-          c.requires (omega arith) c.loop-variable.invariant w.in_ok-at.ensures.0 w.in_ok-at.ensures.1))
+          (omega arith) c.loop-variable.invariant w.in_ok-at.ensures.0 w.in_ok-at.ensures.1))
       | else-at-entries w ↦ rw (w.switches-is, w.starts-is, w.at-is) c.loop-variable.invariant
     ]
