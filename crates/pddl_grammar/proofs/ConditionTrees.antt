@@ -1,35 +1,30 @@
 -- What a condition's expressions give are the literals of its tree.
-use Rattle.std.proofs.Common.{◌≡◌, ◌==◌, ℕ, ◌+◌, not, Bool, true, false, inl, inr, List, [], ◌∷◌, ◌++◌, length, codes, refl, sym, ap, ◌∙◌, arith, if◌then◌else◌}
-use Rattle.std.specs.Prelude.{Option, Some, None, option_to_list, option_and_then, slice_get}
+use Rattle.std.proofs.Common.{◌≡◌, ℕ, Bool, true, false, inl, inr, List, [], ◌∷◌, ◌++◌, codes, refl, sym, ap, ◌∙◌, arith, if◌then◌else◌}
+use Rattle.std.specs.Prelude.{Option, Some, option_to_list}
 use Rattle.std.specs.Option.{option_map}
-use Rattle.std.proofs.lemmas.Bool.{eqb-true, eq-eqb}
 use Rattle.sexp.specs.Forms.{Forms, none, word, group}
-use Rattle.pddl_names.specs.Names.{same_text, is_there, number_of, place_of}
-use Rattle.pddl_names.proofs.NameLists.{same_text-true, place_of-there, is_there-place}
+use Rattle.pddl_names.specs.Names.{same_text}
+use Rattle.pddl_names.proofs.NameLists.{same_text-true}
 use Rattle.pddl_task.specs.Lifted.{Lifted}
 use Rattle.pddl_task.specs.declared.schema.Term.{Term}
-use Rattle.pddl_task.specs.declared.schema.Term.TheVariants.{Parameter, Object}
 use Rattle.pddl_task.specs.declared.schema.Condition.{Condition}
 use Rattle.pddl_task.specs.declared.schema.Condition.TheVariants.{Positive, Negative, Equal, Different}
 use Rattle.pddl_syntax.specs.declared.word.WordKind.{WordKind}
 use Rattle.pddl_syntax.specs.declared.word.WordKind.TheVariants.{Dash, Name, Variable, Other}
 use Rattle.pddl_syntax.specs.declared.fault.Fault.{Fault}
-use Rattle.pddl_syntax.specs.declared.fault.FaultKind.TheVariants.{Shape, UnknownName, Arity}
-use Rattle.pddl_syntax.specs.Faults.{fault, faults_if}
+use Rattle.pddl_syntax.specs.declared.fault.FaultKind.TheVariants.{Shape}
+use Rattle.pddl_syntax.specs.Faults.{fault}
 use Rattle.pddl_syntax.specs.Words.{word_kind, is_one_of}
-use Rattle.pddl_syntax.specs.Heads.{Heads, arity_of}
 use Rattle.pddl_syntax.specs.Sections.{more_faults}
 use Rattle.pddl_terms.specs.declared.beginning.Beginning.{Beginning}
 use Rattle.pddl_terms.specs.declared.beginning.Beginning.TheVariants.{Conjunction, Negation, Equality, Increasing, Unread, Atom, NoName}
 use Rattle.pddl_terms.specs.declared.beginning.Setting.TheVariants.{InCondition}
 use Rattle.pddl_terms.specs.Beginnings.{unsupported_heads, by_kind, beginning}
-use Rattle.pddl_terms.specs.Terms.{Scope, term_of, term_by_kind, with_term, terms, term_faults, term_faults_by_kind, terms_faults, count, lifted_of, lifted, arity_faults, lifted_faults}
+use Rattle.pddl_terms.specs.Terms.{Scope, term_of, with_term, terms, term_faults, terms_faults, lifted_faults}
 use Rattle.pddl_effect.specs.Conditions.{equality, negated_condition, negated_inside, negated_conditions, group_conditions, conditions, second_term_faults, two_terms_faults, negated_group_faults, negated_inside_faults, negated_faults, group_faults, conditions_faults}
 use Rattle.pddl_grammar.specs.ConditionTrees.{Trees, nothing, leaf, all_of, in_order, IsPlain, IsNegationOf, IsNegated, IsLiteral, SpellTrees}
 use Rattle.pddl_grammar.proofs.Runs.{parts_empty}
-
-none_in_both : (xs ys : List Fault) → xs ≡ [] → ys ≡ [] → xs ++ ys ≡ []
-none_in_both xs ys p q = ap (λ (zs : List Fault). zs ++ ys) p ∙ q
+use Rattle.pddl_grammar.proofs.Atoms.{none_in_both, term_clear, terms_known, atom_read, atom_faultless, faultless_atom}
 
 -- ---- heads
 
@@ -69,59 +64,7 @@ equality_is t e = ap (beginning InCondition) e
 negation_is : (t : List ℕ) → t ≡ codes "not" → beginning InCondition t ≡ Negation
 negation_is t e = ap (beginning InCondition) e
 
--- ---- terms
-
-term_clear : (scope : Scope) (s : ℕ) (t : List ℕ) (k : WordKind) → term_faults_by_kind scope s t k ≡ [] → (x : Term) × (term_by_kind scope t k ≡ Some x)
-term_clear scope s t Dash h = absurd cc
-term_clear scope s t Other h = absurd cc
-term_clear scope s t Variable h = by (is_there scope.variables t) refl h where
-  by : (b : Bool) → is_there scope.variables t ≡ b → faults_if (not b) (fault UnknownName s) [] ≡ [] → (x : Term) × (option_map Parameter (place_of scope.variables t) ≡ Some x)
-  by true e k = (Parameter (number_of scope.variables t), ap (option_map Parameter) (place_of-there scope.variables t e))
-  by false e k = absurd cc
-term_clear scope s t Name h = by (is_there scope.objects t) refl h where
-  by : (b : Bool) → is_there scope.objects t ≡ b → faults_if (not b) (fault UnknownName s) [] ≡ [] → (x : Term) × (option_map Object (place_of scope.objects t) ≡ Some x)
-  by true e k = (Object (number_of scope.objects t), ap (option_map Object) (place_of-there scope.objects t e))
-  by false e k = absurd cc
-
-term_known : (scope : Scope) (s : ℕ) (t : List ℕ) (k : WordKind) (x : Term) → term_by_kind scope t k ≡ Some x → term_faults_by_kind scope s t k ≡ []
-term_known scope s t Dash x h = absurd cc
-term_known scope s t Other x h = absurd cc
-term_known scope s t Variable x h = by (place_of scope.variables t) refl h where
-  by : (o : Option ℕ) → place_of scope.variables t ≡ o → option_map Parameter o ≡ Some x → faults_if (not (is_there scope.variables t)) (fault UnknownName s) [] ≡ []
-  by None e k = absurd cc
-  by (Some n) e k = ap (λ (b : Bool). faults_if (not b) (fault UnknownName s) []) (is_there-place scope.variables t n e)
-term_known scope s t Name x h = by (place_of scope.objects t) refl h where
-  by : (o : Option ℕ) → place_of scope.objects t ≡ o → option_map Object o ≡ Some x → faults_if (not (is_there scope.objects t)) (fault UnknownName s) [] ≡ []
-  by None e k = absurd cc
-  by (Some n) e k = ap (λ (b : Bool). faults_if (not b) (fault UnknownName s) []) (is_there-place scope.objects t n e)
-
-terms_clear : (scope : Scope) (f : Forms) → terms_faults scope f ≡ [] → (ts : List Term) × (terms scope f ≡ Some ts) × (length ts ≡ count f)
-terms_clear scope none h = ([], refl, refl)
-terms_clear scope (word s e t f) h =
-    let parts = parts_empty (term_faults scope s t) (terms_faults scope f) h in
-    let x = term_clear scope s t (word_kind t) parts.0 in
-    let later = terms_clear scope f parts.1 in (
-      x.0 ∷ later.0,
-      ap (λ (o : Option Term). with_term o (terms scope f)) x.1 ∙ ap (with_term (Some x.0)) later.1,
-      omega (arith, later.2),
-    )
-terms_clear scope (group s e i f) h = absurd cc
-
-terms_known : (scope : Scope) (f : Forms) (ts : List Term) → terms scope f ≡ Some ts → (terms_faults scope f ≡ []) × (length ts ≡ count f)
-terms_known scope none ts h = let same : [] ≡ ts = cc in (refl, sym (ap length same))
-terms_known scope (word s e t f) ts h = by (term_of scope t) (terms scope f) refl refl h (terms_known scope f)
-  where
-    by : (x : Option Term) (xs : Option (List Term)) → term_of scope t ≡ x → terms scope f ≡ xs → with_term x xs ≡ Some ts
-        → ((us : List Term) → terms scope f ≡ Some us → (terms_faults scope f ≡ []) × (length us ≡ count f))
-        → (term_faults scope s t ++ terms_faults scope f ≡ []) × (length ts ≡ count f + 1)
-    by (Some y) (Some us) p q k later =
-        let same : y ∷ us ≡ ts = cc in
-        let l = later us q in
-        let long : length (y ∷ us) ≡ count f + 1 = omega (arith, l.1) in
-        (none_in_both (term_faults scope s t) (terms_faults scope f) (term_known scope s t (word_kind t) y p) l.0, sym (ap length same) ∙ long)
-    by (Some y) None p q k later = absurd cc
-    by None xs p q k later = absurd cc
-terms_known scope (group s e i f) ts h = absurd cc
+-- ---- two terms
 
 more_none : (f : Forms) → more_faults f ≡ [] → f ≡ none
 more_none none h = refl
@@ -159,62 +102,12 @@ two_known scope home (word s e t (word s2 e2 t2 (word s3 e3 t3 f))) x y h =
 two_known scope home (word s e t (word s2 e2 t2 (group s3 e3 i f))) x y h =
     let long = (terms_known scope (word s e t (word s2 e2 t2 (group s3 e3 i f))) (x ∷ y ∷ []) h).1 in absurd (omega (arith, long))
 
--- ---- atoms
-
-module _ (heads : Heads) (scope : Scope) (home hs : ℕ) (t : List ℕ) (f : Forms) where
-  placed : (n : ℕ) → arity_of heads t ≡ Some n → (p : ℕ) × (place_of heads.names t ≡ Some p)
-  placed n h = by (place_of heads.names t) refl h where
-    by : (o : Option ℕ) → place_of heads.names t ≡ o → option_and_then (slice_get heads.arities) o ≡ Some n → (p : ℕ) × (place_of heads.names t ≡ Some p)
-    by None e k = absurd cc
-    by (Some p) e k = (p, e)
-
-  lifted_clear : lifted_faults heads scope home hs t f ≡ [] → (a : Lifted) × (lifted heads scope t f ≡ Some a)
-  lifted_clear h = by (arity_of heads t) refl parts.0
-    where
-      parts : (arity_faults (arity_of heads t) home hs (count f) ≡ []) × (terms_faults scope f ≡ [])
-      parts = parts_empty (arity_faults (arity_of heads t) home hs (count f)) (terms_faults scope f) h
-
-      fits : (n : ℕ) (b : Bool) → (n == count f) ≡ b → faults_if (not b) (fault Arity home) [] ≡ [] → n ≡ count f
-      fits n true e k = eqb-true n (count f) e
-      fits n false e k = absurd cc
-
-      by : (o : Option ℕ) → arity_of heads t ≡ o → arity_faults o home hs (count f) ≡ [] → (a : Lifted) × (lifted heads scope t f ≡ Some a)
-      by None e k = absurd cc
-      by (Some n) e k =
-          let p = placed n e in
-          let ts = terms_clear scope f parts.1 in
-          let same : n ≡ length ts.0 = fits n (n == count f) refl k ∙ sym ts.2 in (
-            record { predicate = p.0; terms = ts.0 },
-            ap (λ (o : Option ℕ). lifted_of o (arity_of heads t) (terms scope f)) p.1
-                ∙ ap (λ (o : Option ℕ). lifted_of (Some p.0) o (terms scope f)) e
-                ∙ ap (lifted_of (Some p.0) (Some n)) ts.1
-                ∙ ap (λ (b : Bool). if b then Some (record { predicate = p.0; terms = ts.0 }) else None) (eq-eqb n (length ts.0) same),
-          )
-
-  lifted_known : (a : Lifted) → lifted heads scope t f ≡ Some a → lifted_faults heads scope home hs t f ≡ []
-  lifted_known a h = by (place_of heads.names t) (arity_of heads t) (terms scope f) refl refl h
-    where
-      fits : (n p : ℕ) (ts : List Term) (b : Bool) → (n == length ts) ≡ b → (if b then Some (record { predicate = p; terms = ts }) else None) ≡ Some a → n ≡ length ts
-      fits n p ts true e k = eqb-true n (length ts) e
-      fits n p ts false e k = absurd cc
-
-      by : (p n : Option ℕ) (ts : Option (List Term)) → arity_of heads t ≡ n → terms scope f ≡ ts → lifted_of p n ts ≡ Some a → arity_faults (arity_of heads t) home hs (count f) ++ terms_faults scope f ≡ []
-      by (Some p) (Some n) (Some ts) e q k =
-          let known = terms_known scope f ts q in
-          none_in_both (arity_faults (arity_of heads t) home hs (count f)) (terms_faults scope f)
-          (ap (λ (o : Option ℕ). arity_faults o home hs (count f)) e
-          ∙ ap (λ (b : Bool). faults_if (not b) (fault Arity home) []) (eq-eqb n (count f) (fits n p ts (n == length ts) refl k ∙ known.1)))
-          known.0
-      by (Some p) (Some n) None e q k = absurd cc
-      by (Some p) None ts e q k = absurd cc
-      by None n ts e q k = absurd cc
-
 -- ---- what is without fault is spelled
 
 module _ (scope : Scope) where
   atom_spelled : (positive : Bool) (home hs : ℕ) (t : List ℕ) (f : Forms) → beginning InCondition t ≡ Atom → lifted_faults scope.predicates scope home hs t f ≡ [] → (c : Condition) × IsPlain scope positive t f c
   atom_spelled positive home hs t f is h =
-      let a = lifted_clear scope.predicates scope home hs t f h in (if positive then Positive a.0 else Negative a.0, inl (is, a.0, a.1, refl))
+      let a = faultless_atom scope.predicates scope home hs t f h in (if positive then Positive a.0 else Negative a.0, inl (is, a.0, a.1, refl))
 
   equality_spelled : (positive : Bool) (home : ℕ) (t : List ℕ) (f : Forms) → t ≡ codes "=" → two_terms_faults scope home f ≡ [] → (c : Condition) × IsPlain scope positive t f c
   equality_spelled positive home t f is h =
@@ -271,8 +164,8 @@ module _ (scope : Scope) where
   negation_known not_at home none c h = absurd h
   negation_known not_at home (group s e i f) c h = absurd h
   negation_known not_at home (word s e t f) c (inl h) = (
-    ap (negated_group_faults scope not_at home s t f) h.0 ∙ lifted_known scope.predicates scope home s t f h.1 h.2,
-    ap (negated_condition scope t f) h.0 ∙ ap (λ (o : Option Lifted). option_to_list (option_map Negative o)) h.2 ∙ ap (λ (d : Condition). d ∷ []) (sym h.3),
+    ap (negated_group_faults scope not_at home s t f) h.0 ∙ atom_faultless scope.predicates scope home s t f h.1 h.2,
+    ap (negated_condition scope t f) h.0 ∙ ap (λ (o : Option Lifted). option_to_list (option_map Negative o)) (atom_read scope.predicates scope t f h.1 h.2) ∙ ap (λ (d : Condition). d ∷ []) (sym h.3),
   )
   negation_known not_at home (word s e t f) c (inr h) = (
     ap (negated_group_faults scope not_at home s t f) (equality_is t h.0) ∙ two_known scope home f h.1 h.2 h.3,
@@ -289,8 +182,8 @@ module _ (scope : Scope) where
   literal_known : (s hs : ℕ) (t : List ℕ) (i : Forms) (c : Condition) (faults : List Fault) (parts : List Condition) → IsLiteral scope t i c
       → (group_faults scope s hs t i (beginning InCondition t) faults ≡ []) × (group_conditions scope t i (beginning InCondition t) parts ≡ c ∷ [])
   literal_known s hs t i c faults parts (inl (inl h)) = (
-    ap (λ (b : Beginning). group_faults scope s hs t i b faults) h.0 ∙ lifted_known scope.predicates scope s hs t i h.1 h.2,
-    ap (λ (b : Beginning). group_conditions scope t i b parts) h.0 ∙ ap (λ (o : Option Lifted). option_to_list (option_map Positive o)) h.2 ∙ ap (λ (d : Condition). d ∷ []) (sym h.3),
+    ap (λ (b : Beginning). group_faults scope s hs t i b faults) h.0 ∙ atom_faultless scope.predicates scope s hs t i h.1 h.2,
+    ap (λ (b : Beginning). group_conditions scope t i b parts) h.0 ∙ ap (λ (o : Option Lifted). option_to_list (option_map Positive o)) (atom_read scope.predicates scope t i h.1 h.2) ∙ ap (λ (d : Condition). d ∷ []) (sym h.3),
   )
   literal_known s hs t i c faults parts (inl (inr h)) = (
     ap (λ (b : Beginning). group_faults scope s hs t i b faults) (equality_is t h.0) ∙ two_known scope s i h.1 h.2 h.3,

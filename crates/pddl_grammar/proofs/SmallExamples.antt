@@ -1,11 +1,19 @@
--- Small chains, numbers and conditions.
-use Rattle.std.proofs.Common.{◌≡◌, ℕ, Bool, true, false, List, [], ◌∷◌, inl, inr, codes, refl, length}
-use Rattle.std.specs.Prelude.{Some}
+-- Small chains, numbers, atoms and conditions.
+use Rattle.std.proofs.Common.{◌≡◌, ◌<◌, suc, zero, ℕ, Bool, true, false, List, [], ◌∷◌, inl, inr, codes, refl, sym, ◌∙◌, length, slice_get, arith, true≢false}
+use Rattle.std.specs.Prelude.{◌≢◌, Some}
+use Rattle.std.proofs.lemmas.Option.{none-some, same_Some}
 use Rattle.sexp.specs.Forms.{Forms, none, word, group}
-use Rattle.pddl_names.specs.Names.{number_of}
+use Rattle.pddl_names.specs.Names.{same_text, number_of}
+use Rattle.pddl_names.proofs.NameLists.{same_text-equal}
 use Rattle.pddl_task.specs.Lifted.{Lifted}
 use Rattle.pddl_task.specs.declared.schema.Condition.TheVariants.{Positive, Negative}
-use Rattle.pddl_terms.specs.Terms.{Scope}
+use Rattle.pddl_task.specs.declared.schema.Term.TheVariants.{Parameter, Object}
+use Rattle.pddl_syntax.specs.declared.fault.FaultKind.TheVariants.{Arity}
+use Rattle.pddl_syntax.specs.Faults.{fault}
+use Rattle.pddl_syntax.specs.Heads.{Heads}
+use Rattle.pddl_terms.specs.Terms.{Scope, lifted, lifted_faults}
+use Rattle.pddl_grammar.specs.Atoms.{IsFirstAt, SpellsAtom}
+use Rattle.pddl_grammar.proofs.Atoms.{atom_read}
 use Rattle.pddl_effect.specs.Conditions.{conditions, conditions_faults}
 use Rattle.pddl_grammar.specs.ConditionTrees.{nothing, leaf, all_of, in_order}
 use Rattle.pddl_task.specs.Planning.{is_below}
@@ -15,6 +23,17 @@ use Rattle.pddl_syntax.specs.Typed.{Declared}
 use Rattle.pddl_domain.specs.Types.{type_names, supertypes}
 use Rattle.pddl_grammar.specs.Chains.{IsBelow}
 use Rattle.pddl_grammar.specs.WholeNumbers.{value_of}
+
+-- the first and the second of texts
+first : (t : List ℕ) (texts : List (List ℕ)) → IsFirstAt (t ∷ texts) t 0
+first t texts = record { there = refl; not_before = λ j lt at. omega (arith, lt) }
+
+second : (s t : List ℕ) (texts : List (List ℕ)) → same_text s t ≡ false → IsFirstAt (s ∷ t ∷ texts) t 1
+second s t texts apart = record { there = refl; not_before = before }
+  where
+    before : (j : ℕ) → j < 1 → slice_get (s ∷ t ∷ texts) j ≢ Some t
+    before zero lt at = true≢false (sym (same_text-equal s t (same_Some s t at)) ∙ apart)
+    before (suc j) lt at = omega (arith, lt)
 
 -- truck - vehicle vehicle - thing
 abbrev vehicles : List Declared
@@ -46,6 +65,41 @@ fraction = refl
 
 point_alone : number_in (codes "4.") ≡ NoNumber
 point_alone = refl
+
+-- a predicate `at` of two parameters behind one of none, and what is in scope
+abbrev places : Heads
+places = record { names = codes "light" ∷ codes "at" ∷ []; arities = 0 ∷ 2 ∷ [] }
+
+abbrev rooms : Scope
+rooms = record { predicates = places; functions = record { names = []; arities = [] }; variables = codes "?x" ∷ codes "?y" ∷ []; objects = codes "home" ∷ [] }
+
+-- ?y home
+abbrev y_home : Forms
+y_home = word 4 6 (codes "?y") (word 7 11 (codes "home") none)
+
+-- ?y alone
+abbrev y_alone : Forms
+y_alone = word 4 6 (codes "?y") none
+
+-- (at ?y home)
+abbrev at_home : Lifted
+at_home = record { predicate = 1; terms = Parameter 1 ∷ Object 0 ∷ [] }
+
+at_home_read : lifted places rooms (codes "at") y_home ≡ Some at_home
+at_home_read = refl
+
+at_home_spelled : SpellsAtom places rooms (codes "at") y_home at_home
+at_home_spelled = record {
+  declared = second (codes "light") (codes "at") [] refl;
+  arity = refl;
+  terms = ((refl, second (codes "?x") (codes "?y") [] refl), ((refl, first (codes "home") []), tt));
+}
+
+alone_faults : lifted_faults places rooms 0 1 (codes "at") y_alone ≡ fault Arity 0 ∷ []
+alone_faults = refl
+
+no_atom_alone : (a : Lifted) → SpellsAtom places rooms (codes "at") y_alone a → ⊥
+no_atom_alone a h = none-some a (atom_read places rooms (codes "at") y_alone a h)
 
 -- (and (p) (and (not (q)) (p))) and nothing else, where p and q are predicates without parameters
 abbrev flags : Scope

@@ -8,7 +8,8 @@ use Rattle.pddl_task.specs.declared.schema.Condition.TheVariants.{Positive, Nega
 use Rattle.pddl_terms.specs.declared.beginning.Beginning.TheVariants.{Atom}
 use Rattle.pddl_terms.specs.declared.beginning.Setting.TheVariants.{InCondition}
 use Rattle.pddl_terms.specs.Beginnings.{beginning}
-use Rattle.pddl_terms.specs.Terms.{Scope, terms, lifted}
+use Rattle.pddl_terms.specs.Terms.{Scope, terms}
+use Rattle.pddl_grammar.specs.Atoms.{SpellsAtom}
 
 -- Trees in a row. A leaf has its literal, and a conjunction the trees that it joins; both have the trees that follow.
 pub data Trees : Type 0 where
@@ -24,9 +25,9 @@ in_order (all_of parts more) = in_order parts ++ in_order more
 
 -- ---- how literals are written
 
--- the head and the expressions behind it are a declared predicate with its terms; the literal has this sign
+-- the head and the expressions behind it are an atom of the declared predicates; the literal has this sign
 abbrev pub IsAtom : Scope → Bool → List ℕ → Forms → Condition → Type 0
-IsAtom scope positive t f c = (beginning InCondition t ≡ Atom) × (a : Lifted) × (lifted scope.predicates scope t f ≡ Some a) × (c ≡ (if positive then Positive a else Negative a))
+IsAtom scope positive t f c = (beginning InCondition t ≡ Atom) × (a : Lifted) × SpellsAtom scope.predicates scope t f a × (c ≡ (if positive then Positive a else Negative a))
 
 -- the same of `=` and two terms
 abbrev pub IsEquality : Scope → Bool → List ℕ → Forms → Condition → Type 0

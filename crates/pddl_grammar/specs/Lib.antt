@@ -1,4 +1,5 @@
 pub mod Runs
 pub mod Chains
 pub mod WholeNumbers
+pub mod Atoms
 pub mod ConditionTrees

@@ -9,8 +9,11 @@ ghost use Rattle.pddl_domain.specs.Types.{type_names, supertypes, types_faults};
 ghost use Rattle.pddl_syntax.specs.declared.number.Number.TheVariants.{Whole};
 ghost use Rattle.pddl_syntax.specs.Numbers.{number_of as number_in};
 ghost use Rattle.pddl_grammar.specs.WholeNumbers.{SpellsNumber};
-ghost use Rattle.pddl_terms.specs.Terms.{Scope};
+ghost use Rattle.pddl_syntax.specs.Heads.{Heads};
+ghost use Rattle.pddl_task.specs.Lifted.{Lifted};
+ghost use Rattle.pddl_terms.specs.Terms.{Scope, lifted, lifted_faults};
 ghost use Rattle.pddl_effect.specs.Conditions.{conditions, conditions_faults};
+ghost use Rattle.pddl_grammar.specs.Atoms.{SpellsAtom};
 ghost use Rattle.pddl_grammar.specs.ConditionTrees.{Trees, SpellTrees, in_order};
 ghost use Rattle.pddl_grammar.specs.Chains.{IsBelow};
 ghost use Rattle.pddl_grammar.specs.Runs.{TypedList, IsTypedList, forms_of, declarations};
@@ -49,6 +52,23 @@ pub fn types_are_above_by_chains()
 pub fn digits_are_read()
     ensures read { (text : List ℕ) (n : ℕ) → SpellsNumber text n → number_in text ≡ Whole n }
     ensures spelled { (text : List ℕ) (n : ℕ) → number_in text ≡ Whole n → SpellsNumber text n }
+{}
+
+/// A head and the expressions behind it are read as an atom exactly where the head is declared, and the expressions are as
+/// many variables and objects in scope as the head has parameters. The atom has the head's number and these terms.
+pub fn atoms_are_read()
+    ensures read { (heads : Heads) (scope : Scope) (t : List ℕ) (f : Forms) (a : Lifted) → SpellsAtom heads scope t f a →
+        lifted heads scope t f ≡ Some a }
+    ensures spelled { (heads : Heads) (scope : Scope) (t : List ℕ) (f : Forms) (a : Lifted) → lifted heads scope t f ≡ Some a →
+        SpellsAtom heads scope t f a }
+{}
+
+/// A head and the expressions behind it have no fault exactly where they are an atom of the declared heads.
+pub fn atoms_without_fault()
+    ensures faultless { (heads : Heads) (scope : Scope) (home hs : ℕ) (t : List ℕ) (f : Forms) (a : Lifted) → SpellsAtom heads scope t f a →
+        lifted_faults heads scope home hs t f ≡ [] }
+    ensures spelled { (heads : Heads) (scope : Scope) (home hs : ℕ) (t : List ℕ) (f : Forms) → lifted_faults heads scope home hs t f ≡ [] →
+        (a : Lifted) × SpellsAtom heads scope t f a }
 {}
 
 /// Expressions that are trees of `and` over literals have no fault, and give the literals of these trees from left to right,

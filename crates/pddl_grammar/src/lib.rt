@@ -5,6 +5,7 @@
 mod laws;
 
 pub use laws::{
-    conditions_without_fault_are_trees, digits_are_read, lists_without_fault_are_runs,
-    runs_are_read, trees_are_read_in_order, types_are_above_by_chains,
+    atoms_are_read, atoms_without_fault, conditions_without_fault_are_trees, digits_are_read,
+    lists_without_fault_are_runs, runs_are_read, trees_are_read_in_order,
+    types_are_above_by_chains,
 };
