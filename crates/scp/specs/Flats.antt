@@ -3,6 +3,8 @@ use Rattle.std.specs.Prelude.{ℕ, List, Vec}
 use Rattle.std.specs.Global.{Global}
 use Rattle.scp.specs.declared.flat.Flat.{Flat}
 use Rattle.scp.specs.declared.flat.Flat.TheVariants.{Short, Middle, Long}
+use Rattle.scp.specs.declared.flat.BlockSums.{BlockSums}
+use Rattle.scp.specs.declared.flat.BlockSums.TheVariants.{Short as ShortSums, Middle as MiddleSums, Long as LongSums}
 use Rattle.scp.specs.Rows.{PatternRows}
 
 -- the greatest word
@@ -15,3 +17,9 @@ abbrev pub blocks_in : Flat → List (Vec PatternRows Global)
 blocks_in (Short blocks) = blocks.items
 blocks_in (Middle blocks) = blocks.items
 blocks_in (Long blocks) = blocks.items
+
+-- the sums, one for each lane
+abbrev pub words_in : BlockSums → List ℕ
+words_in (ShortSums row) = row.words
+words_in (MiddleSums row) = row.words
+words_in (LongSums row) = row.words

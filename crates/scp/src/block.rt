@@ -6,7 +6,7 @@ ghost use Rattle.fdr.specs.Tasks.{ranges, IsState};
 ghost use Rattle.abstraction.specs.Abstractions.{value_at};
 ghost use Rattle.abstraction.specs.Columns.{column_value};
 ghost use Rattle.scp.specs.ColumnTables.{on_projection};
-ghost use Rattle.scp.specs.Places.{AreKept, first_rows};
+ghost use Rattle.scp.specs.Places.{AreMoved, IsEntered, first_rows};
 ghost use Rattle.scp.specs.Rows.{lane_sum, Gains, AreOf, IsBlockOf, HasWord, value_of, blocks_value};
 
 use crate::column::projection_to;
@@ -171,23 +171,24 @@ pub(crate) fn first_block<'b, 'a, R: Row>(
     }
 }
 
-/// The greatest value of blocks at a state, as `greatest_value` gives it. Of the first block the abstract states are
-/// given for the patterns that are not touched.
+/// The greatest value of blocks at a successor of an entered state, as `greatest_value` gives it. Of the first block the
+/// abstract states and the sums of the entered state are given, and which patterns are touched.
 pub(crate) fn greatest_after<R: Row>(
     blocks: &[Vec<PatternRows<'_, R>>],
-    touched: &[bool],
+    entered: &[u32],
     indices: &[usize],
+    entered_sums: &R,
+    touched: &[usize],
     state: &[u32],
 ) -> Dist
     requires state { All (λ b. All (λ p. IsState (ranges p.task) state.now) b.items) blocks.now }
-    requires touched { length touched.now ≡ length (first_rows blocks.now) }
-    requires indices { length indices.now ≡ length (first_rows blocks.now) }
-    requires same { AreKept touched.now indices.now state.now (first_rows blocks.now) }
+    requires entered { IsEntered R.most (first_rows blocks.now) entered.now indices.now (R.words entered_sums.now) }
+    requires moved { AreMoved (first_rows blocks.now) touched.now entered.now state.now }
     ensures { result ≡ blocks_value R.most state.now blocks.now }
 {
     if blocks.is_empty() {
         return Dist::ZERO;
     }
-    let first = sums_after(&blocks[0], touched, indices, state).greatest();
+    let first = sums_after(&blocks[0], entered, indices, entered_sums, touched, state).greatest();
     first.max(greatest_value(&blocks[1..], state))
 }

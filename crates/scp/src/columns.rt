@@ -31,7 +31,7 @@ pub struct Columns<'a> {
     task: &'a FdrTask,
     columns: Vec<Vec<ColumnTable<'a>>>,
     flat: Flat<'a>,
-    touches: Vec<Vec<bool>>,
+    touches: Vec<Vec<usize>>,
     ghost of_task: { All (λ column. All (λ t. t.task ≡ task.now) column.items) columns.items },
     ghost few_columns: { length columns.items ≤ 64 },
     ghost none_empty: { All (λ column. column.items ≢ []) columns.items },

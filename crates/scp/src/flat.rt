@@ -4,8 +4,8 @@ ghost use Rattle.std.specs.Prelude.{◌≡◌, ℕ, List, ◌≤◌, length, map
 ghost use Rattle.cost.specs.Distances.{greatest};
 ghost use Rattle.fdr.specs.Tasks.{ranges, IsState};
 ghost use Rattle.scp.specs.Rows.{AreOf, value_of, blocks_value};
-ghost use Rattle.scp.specs.Places.{AreIndices, AreKept, AreTouches, first_rows};
-ghost use Rattle.scp.specs.Flats.{most_in, blocks_in};
+ghost use Rattle.scp.specs.Places.{AreMoved, AreTouches, IsEntered, first_rows};
+ghost use Rattle.scp.specs.Flats.{most_in, blocks_in, words_in};
 
 use crate::block::{first_block, greatest_after, greatest_value, make_blocks};
 use crate::limit::columns_limit;
@@ -25,6 +25,14 @@ pub(crate) enum Flat<'a> {
     Middle(Vec<Vec<PatternRows<'a, MiddleRow>>>),
     /// Words of 64 bits.
     Long(Vec<Vec<PatternRows<'a, LongRow>>>),
+}
+
+/// The sums of the rows of a state in a block, lane by lane, in words of 16, 32 or 64 bits.
+#[derive(Clone, Copy)]
+pub(crate) enum BlockSums {
+    Short(ShortRow),
+    Middle(MiddleRow),
+    Long(LongRow),
 }
 
 /// The blocks of columns. Fails only if allocation fails.
@@ -72,26 +80,25 @@ pub(crate) fn pattern_count(flat: &Flat<'_>) -> usize
     }
 }
 
-/// Enters the abstract states of a state, one for each pattern of the first block.
-pub(crate) fn enter_flat(flat: &Flat<'_>, state: &[u32], indices: &mut [usize])
+/// Enters the abstract states of a state, one for each pattern of the first block. Returns the sums of its rows there.
+pub(crate) fn enter_flat(flat: &Flat<'_>, state: &[u32], indices: &mut [usize]) -> BlockSums
     requires state { All (λ p. IsState (ranges p.task) state.now) (first_rows (blocks_in flat.now)) }
     requires len { length indices.old ≡ length (first_rows (blocks_in flat.now)) }
-    ensures len { length indices.new ≡ length (first_rows (blocks_in flat.now)) }
-    ensures each { AreIndices indices.new state.now (first_rows (blocks_in flat.now)) }
+    ensures { IsEntered (most_in flat.now) (first_rows (blocks_in flat.now)) state.now indices.new (words_in result) }
 {
     match flat {
-        Flat::Short(blocks) => enter(first_block(blocks), state, indices),
-        Flat::Middle(blocks) => enter(first_block(blocks), state, indices),
-        Flat::Long(blocks) => enter(first_block(blocks), state, indices),
+        Flat::Short(blocks) => BlockSums::Short(enter(first_block(blocks), state, indices)),
+        Flat::Middle(blocks) => BlockSums::Middle(enter(first_block(blocks), state, indices)),
+        Flat::Long(blocks) => BlockSums::Long(enter(first_block(blocks), state, indices)),
     }
 }
 
-/// For each of so many operators, the patterns of the first block that it touches.
+/// For each of so many operators, the places of the patterns of the first block that it touches.
 pub(crate) fn touches_in(
     alloc: Global,
     flat: &Flat<'_>,
     count: usize,
-) -> Result<Vec<Vec<bool>>, AllocError>
+) -> Result<Vec<Vec<usize>>, AllocError>
     ensures { IfOk result (λ touches. AreTouches count (first_rows (blocks_in flat.now)) touches.items) }
 {
     match flat {
@@ -101,23 +108,32 @@ pub(crate) fn touches_in(
     }
 }
 
-/// The greatest value of the blocks at a state, as `flat_value` gives it. Of the first block the abstract states are
-/// given for the patterns that are not touched.
+/// The greatest value of the blocks at a successor of an entered state, as `flat_value` gives it. Of the first block the
+/// abstract states and the sums of the entered state are given, and which patterns are touched.
 pub(crate) fn flat_value_after(
     flat: &Flat<'_>,
-    touched: &[bool],
+    entered: &[u32],
     indices: &[usize],
+    entered_sums: &BlockSums,
+    touched: &[usize],
     state: &[u32],
 ) -> Dist
     requires state { All (λ b. All (λ p. IsState (ranges p.task) state.now) b.items) (blocks_in flat.now) }
-    requires touched { length touched.now ≡ length (first_rows (blocks_in flat.now)) }
-    requires indices { length indices.now ≡ length (first_rows (blocks_in flat.now)) }
-    requires same { AreKept touched.now indices.now state.now (first_rows (blocks_in flat.now)) }
+    requires entered { IsEntered (most_in flat.now) (first_rows (blocks_in flat.now)) entered.now indices.now (words_in entered_sums.now) }
+    requires moved { AreMoved (first_rows (blocks_in flat.now)) touched.now entered.now state.now }
     ensures { result ≡ blocks_value (most_in flat.now) state.now (blocks_in flat.now) }
 {
-    match flat {
-        Flat::Short(blocks) => greatest_after(blocks, touched, indices, state),
-        Flat::Middle(blocks) => greatest_after(blocks, touched, indices, state),
-        Flat::Long(blocks) => greatest_after(blocks, touched, indices, state),
+    match (flat, entered_sums) {
+        (Flat::Short(blocks), BlockSums::Short(sums)) => {
+            greatest_after(blocks, entered, indices, sums, touched, state)
+        }
+        (Flat::Middle(blocks), BlockSums::Middle(sums)) => {
+            greatest_after(blocks, entered, indices, sums, touched, state)
+        }
+        (Flat::Long(blocks), BlockSums::Long(sums)) => {
+            greatest_after(blocks, entered, indices, sums, touched, state)
+        }
+        // no word is of another width than the rows
+        _ => flat_value(flat, state),
     }
 }

@@ -1,10 +1,10 @@
 //! Patterns with the values of the tables of several columns side by side.
 
-ghost use Rattle.std.specs.Prelude.{◌≡◌, ◌≢◌, ℕ, List, ◌+◌, ◌<◌, min, map, length, slice_index, slice_index_or, false, All, IfOk};
+ghost use Rattle.std.specs.Prelude.{◌≡◌, ◌≢◌, ℕ, List, ◌+◌, ◌-◌, ◌<◌, ◌≤◌, min, map, length, slice_index, slice_index_or, false, All, IfOk};
 ghost use Rattle.cost.specs.Distances.{Infinite};
 ghost use Rattle.fdr.specs.Tasks.{ranges, IsState};
 ghost use Rattle.abstraction.specs.Projections.{size_of, index_of};
-ghost use Rattle.scp.specs.Places.{AreKept, AreIndices, AreTouches, IsTouched, Keeps};
+ghost use Rattle.scp.specs.Places.{AreIndices, AreMoved, AreTouched, AreTouches, IsEntered, Keeps, sum_at};
 ghost use Rattle.scp.specs.Rows.{word_of, word_in, word_at, lane_sum, added};
 
 use crate::row::Row;
@@ -111,22 +111,14 @@ impl<'a, R: Row> PatternRows<'a, R> {
         self.projection.touches(operator)
     }
 
-    /// Adds the row of the state, whose abstract state is given.
-    fn add_known(&self, index: usize, state: &[u32], sums: &mut R)
+    /// The row of the state, whose abstract state is given.
+    fn known_row(&self, index: usize, state: &[u32]) -> &R
         requires state { IsState (ranges self.now.task) state.now }
         requires index { index ≡ index_of (ranges self.now.task) self.now.pattern state.now }
-        ensures { (lane : ℕ) → slice_index (R.words sums.new) lane ≡ min (slice_index (R.words sums.old) lane + word_at state.now lane self.now) R.most }
+        ensures { (lane : ℕ) → slice_index (R.words result.now) lane ≡ word_at state.now lane self.now }
     {
         let _ = state;
-        sums.add(&self.rows[index]);
-    }
-
-    /// Adds the row of the state.
-    fn add_to(&self, state: &[u32], sums: &mut R)
-        requires { IsState (ranges self.now.task) state.now }
-        ensures { (lane : ℕ) → slice_index (R.words sums.new) lane ≡ min (slice_index (R.words sums.old) lane + word_at state.now lane self.now) R.most }
-    {
-        sums.add(&self.rows[self.projection.index(state)]);
+        &self.rows[index]
     }
 }
 
@@ -137,69 +129,108 @@ pub(crate) fn sums<R: Row>(patterns: &[PatternRows<'_, R>], state: &[u32]) -> R
 {
     let mut sums = R::zero();
     for pattern in patterns {
-        pattern.add_to(state, &mut sums);
+        sums.add(pattern.known_row(pattern.index(state), state));
     }
     sums
 }
 
-/// The sums of the rows of a state, as `sums` gives them. Its abstract states are given for the patterns that are not
-/// touched.
+/// Enters the abstract states of a state, one for each pattern. Returns the sums of its rows, as `sums` gives them.
+pub(crate) fn enter<R: Row>(
+    patterns: &[PatternRows<'_, R>],
+    state: &[u32],
+    indices: &mut [usize],
+) -> R
+    requires state { All (λ p. IsState (ranges p.task) state.now) patterns.now }
+    requires len { length indices.old ≡ length patterns.now }
+    ensures { IsEntered R.most patterns.now state.now indices.new (R.words result) }
+{
+    let mut sums = R::zero();
+    for place in 0..patterns.len() {
+        let index = patterns[place].index(state);
+        indices[place] = index;
+        sums.add(patterns[place].known_row(index, state));
+    }
+    sums
+}
+
+/// Subtracts the rows of an entered state, of the patterns at these places.
+fn subtract_rows<R: Row>(
+    patterns: &[PatternRows<'_, R>],
+    places: &[usize],
+    entered: &[u32],
+    indices: &[usize],
+    sums: &mut R,
+)
+    requires places { All (λ k. k < length patterns.now) places.now }
+    requires indices { AreIndices indices.now entered.now patterns.now }
+    ensures { (lane : ℕ) → slice_index (R.words sums.new) lane ≡ slice_index (R.words sums.old) lane - sum_at entered.now lane patterns.now places.now }
+{
+    for place in places {
+        sums.subtract(patterns[*place].known_row(indices[*place], entered));
+    }
+}
+
+/// Adds the rows of a state, of the patterns at these places. A sum that is too great becomes the greatest word.
+fn add_rows<R: Row>(patterns: &[PatternRows<'_, R>], places: &[usize], state: &[u32], sums: &mut R)
+    requires places { All (λ k. k < length patterns.now) places.now }
+    requires state { All (λ p. IsState (ranges p.task) state.now) patterns.now }
+    requires sums { (lane : ℕ) → slice_index (R.words sums.old) lane ≤ R.most }
+    ensures { (lane : ℕ) → slice_index (R.words sums.new) lane ≡ min (slice_index (R.words sums.old) lane + sum_at state.now lane patterns.now places.now) R.most }
+{
+    for place in places {
+        let index = patterns[*place].index(state);
+        sums.add(patterns[*place].known_row(index, state));
+    }
+}
+
+/// The sums of the rows of a successor of an entered state, as `sums` gives them. They are those of the entered state, with
+/// the rows of the touched patterns exchanged, unless a sum of the entered state is the greatest word.
 pub(crate) fn sums_after<R: Row>(
     patterns: &[PatternRows<'_, R>],
-    touched: &[bool],
+    entered: &[u32],
     indices: &[usize],
+    entered_sums: &R,
+    touched: &[usize],
     state: &[u32],
 ) -> R
     requires state { All (λ p. IsState (ranges p.task) state.now) patterns.now }
-    requires touched { length touched.now ≡ length patterns.now }
-    requires indices { length indices.now ≡ length patterns.now }
-    requires same { AreKept touched.now indices.now state.now patterns.now }
+    requires entered { IsEntered R.most patterns.now entered.now indices.now (R.words entered_sums.now) }
+    requires moved { AreMoved patterns.now touched.now entered.now state.now }
     ensures { (lane : ℕ) → slice_index (R.words result) lane ≡ min (lane_sum state.now lane patterns.now) R.most }
 {
-    let mut sums = R::zero();
-    for (place, pattern) in patterns.iter().enumerate() {
-        if touched[place] {
-            pattern.add_to(state, &mut sums);
-        } else {
-            pattern.add_known(indices[place], state, &mut sums);
-        }
+    if !entered_sums.is_finite() {
+        return sums(patterns, state);
     }
-    sums
+    // all rows are subtracted before one is added, since a sum that became the greatest word is not exact
+    let mut after = *entered_sums;
+    subtract_rows(patterns, touched, entered, indices, &mut after);
+    add_rows(patterns, touched, state, &mut after);
+    after
 }
 
-/// Enters the abstract states of a state, one for each pattern.
-pub(crate) fn enter<R: Row>(patterns: &[PatternRows<'_, R>], state: &[u32], indices: &mut [usize])
-    requires state { All (λ p. IsState (ranges p.task) state.now) patterns.now }
-    requires len { length indices.old ≡ length patterns.now }
-    ensures len { length indices.new ≡ length patterns.now }
-    ensures each { AreIndices indices.new state.now patterns.now }
-{
-    for place in 0..patterns.len() {
-        indices[place] = patterns[place].index(state);
-    }
-}
-
-/// For each pattern, whether the operator touches it.
+/// The places of the patterns that the operator touches, in increasing order.
 fn touched_by<R: Row>(
     alloc: Global,
     patterns: &[PatternRows<'_, R>],
     operator: usize,
-) -> Result<Vec<bool>, AllocError>
-    ensures { IfOk result (λ touched. IsTouched patterns.now operator touched.items) }
+) -> Result<Vec<usize>, AllocError>
+    ensures { IfOk result (λ touched. AreTouched patterns.now operator (length patterns.now) touched.items) }
 {
-    let mut touched = Vec::with_capacity(alloc, patterns.len())?;
-    for pattern in patterns {
-        touched.push(pattern.touches(operator))?;
+    let mut touched = Vec::new(alloc);
+    for place in 0..patterns.len() {
+        if patterns[place].touches(operator) {
+            touched.push(place)?;
+        }
     }
     Ok(touched)
 }
 
-/// For each of so many operators, the patterns that it touches.
+/// For each of so many operators, the places of the patterns that it touches.
 pub(crate) fn touches<R: Row>(
     alloc: Global,
     patterns: &[PatternRows<'_, R>],
     count: usize,
-) -> Result<Vec<Vec<bool>>, AllocError>
+) -> Result<Vec<Vec<usize>>, AllocError>
     ensures { IfOk result (λ touches. AreTouches count patterns.now touches.items) }
 {
     let mut touches = Vec::with_capacity(alloc, count)?;

@@ -1,15 +1,15 @@
 //! The places of a state in the tables of columns.
 
-ghost use Rattle.std.specs.Prelude.{◌≡◌, ℕ, List, ◌^◌, true, length, Some, All, IfOk};
+ghost use Rattle.std.specs.Prelude.{◌≡◌, ℕ, List, ◌^◌, length, Some, All, IfOk, IfSome};
 ghost use Rattle.cost.specs.Distances.{IsWithin};
 ghost use Rattle.fdr.specs.Tasks.{ranges, step, IsState};
 ghost use Rattle.checker_clauses.specs.Clauses.{heuristic_of};
-ghost use Rattle.scp.specs.Flats.{most_in, blocks_in};
-ghost use Rattle.scp.specs.Places.{AreIndices, AreTouches, first_rows};
+ghost use Rattle.scp.specs.Flats.{most_in, blocks_in, words_in};
+ghost use Rattle.scp.specs.Places.{AreTouches, IsEntered, first_rows};
 ghost use Rattle.scp.specs.Rows.{AreOf, blocks_value};
 
 use crate::columns::Columns;
-use crate::flat::{Flat, enter_flat, flat_value_after, pattern_count};
+use crate::flat::{BlockSums, Flat, enter_flat, flat_value_after, pattern_count};
 use cost::Dist;
 use std::alloc::{AllocError, Global};
 use std::marker::Model;
@@ -21,11 +21,12 @@ use std::marker::Model;
 pub struct Places<'a> {
     columns: &'a Columns<'a>,
     flat: &'a Flat<'a>,
-    touches: &'a [Vec<bool>],
+    touches: &'a [Vec<usize>],
     state: Vec<u32>,
     /// The abstract states of the state, one for each pattern, once they are entered.
     indices: Vec<usize>,
-    are_entered: bool,
+    /// The sums of the rows of the state in the first block, once they are entered.
+    sums: Option<BlockSums>,
     ghost flat_of_task: { All (λ b. AreOf columns.now.task b.items) (blocks_in flat.now) },
     ghost flat_value: { (s : List ℕ) → IsState (ranges columns.now.task) s →
         blocks_value (most_in flat.now) s (blocks_in flat.now) ≡ heuristic_of columns.now.task columns.now.columns s },
@@ -33,26 +34,31 @@ pub struct Places<'a> {
 }
 
 impl<'a> Model for Places<'a> {
-    ghost use Rattle.scp.specs.Flats.{blocks_in};
-    ghost use Rattle.scp.specs.Places.{PlacesOf, AreEntered, first_rows};
+    ghost use Rattle.scp.specs.Places.{PlacesOf, AreEntered};
 
     ghost Value = { PlacesOf };
 
     ghost view = { λ p. record { task = p.columns.now.task; columns = p.columns.now.columns; state = p.state.items } };
 
-    ghost invariant = { λ p. AreEntered p.columns.now.task (first_rows (blocks_in p.flat.now)) p.state.items p.indices.items p.are_entered };
+    ghost invariant = { λ p. AreEntered p.columns.now.task p.flat.now p.state.items p.indices.items p.sums };
 }
 
-/// Enters the abstract states of a state, one for each pattern of the first block, unless they are entered.
-fn enter_once(flat: &Flat<'_>, state: &[u32], indices: &mut [usize], are_entered: bool)
+/// Enters the abstract states of a state, one for each pattern of the first block, unless they are entered. Returns the
+/// sums of its rows there.
+fn enter_once(
+    flat: &Flat<'_>,
+    state: &[u32],
+    indices: &mut [usize],
+    sums: Option<BlockSums>,
+) -> BlockSums
     requires state { All (λ p. IsState (ranges p.task) state.now) (first_rows (blocks_in flat.now)) }
     requires len { length indices.old ≡ length (first_rows (blocks_in flat.now)) }
-    requires entered { are_entered ≡ true → AreIndices indices.old state.now (first_rows (blocks_in flat.now)) }
-    ensures len { length indices.new ≡ length (first_rows (blocks_in flat.now)) }
-    ensures each { AreIndices indices.new state.now (first_rows (blocks_in flat.now)) }
+    requires entered { IfSome sums (λ s. IsEntered (most_in flat.now) (first_rows (blocks_in flat.now)) state.now indices.old (words_in s)) }
+    ensures { IsEntered (most_in flat.now) (first_rows (blocks_in flat.now)) state.now indices.new (words_in result) }
 {
-    if !are_entered {
-        enter_flat(flat, state, indices);
+    match sums {
+        Some(sums) => sums,
+        None => enter_flat(flat, state, indices),
     }
 }
 
@@ -62,7 +68,7 @@ impl<'a> Places<'a> {
         alloc: Global,
         columns: &'a Columns<'a>,
         flat: &'a Flat<'a>,
-        touches: &'a [Vec<bool>],
+        touches: &'a [Vec<usize>],
     ) -> Result<Places<'a>, AllocError>
         requires of_task { All (λ b. AreOf columns.now.task b.items) (blocks_in flat.now) }
         requires value { (s : List ℕ) → IsState (ranges columns.now.task) s →
@@ -79,7 +85,7 @@ impl<'a> Places<'a> {
             touches,
             state,
             indices,
-            are_entered: false,
+            sums: None,
         })
     }
 
@@ -96,12 +102,12 @@ impl<'a> Places<'a> {
         ensures { self.new ≡ record self.old { state = state.now } }
     {
         self.state.copy_from_slice(state);
-        self.are_entered = false;
+        self.sums = None;
     }
 
     /// Returns the estimate of the columns for the successor of the state by the operator, as `Columns::h` gives it. The
-    /// abstract states of the state are computed at the first call after `enter`, and later ones compute anew only those of
-    /// patterns that the operator touches. No memory is allocated.
+    /// abstract states of the state and the sums of its rows are computed at the first call after `enter`, and later ones
+    /// add only the rows of patterns that the operator touches. No memory is allocated.
     pub fn h_after(&mut self, operator: usize, successor: &[u32]) -> Dist
         requires { step self.old.task self.old.state operator ≡ Some successor.now }
         ensures value { result ≡ heuristic_of self.old.task self.old.columns successor.now }
@@ -112,8 +118,15 @@ impl<'a> Places<'a> {
         let touches = self.touches;
         columns.recall();
         columns.task().recall(); // a successor of a state is a state
-        enter_once(self.flat, &self.state, &mut self.indices, self.are_entered);
-        self.are_entered = true;
-        flat_value_after(self.flat, &touches[operator], &self.indices, successor)
+        let sums = enter_once(self.flat, &self.state, &mut self.indices, self.sums);
+        self.sums = Some(sums);
+        flat_value_after(
+            self.flat,
+            &self.state,
+            &self.indices,
+            &sums,
+            &touches[operator],
+            successor,
+        )
     }
 }

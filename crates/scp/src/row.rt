@@ -11,7 +11,7 @@ pub(crate) const LANES: usize = 8;
 /// Eight words side by side, each of which represents a distance: the greatest word the infinite one, and another its
 /// number.
 pub(crate) trait Row: Copy {
-    ghost use Rattle.std.specs.Prelude.{◌≡◌, ◌≢◌, ℕ, ◌+◌, ◌<◌, min, List, map, slice_index};
+    ghost use Rattle.std.specs.Prelude.{◌≡◌, ◌≢◌, ℕ, ◌+◌, ◌-◌, ◌<◌, min, true, List, map, slice_index};
     ghost use Rattle.cost.specs.Distances as distances;
     ghost use Rattle.scp.specs.Rows.{word_of, distance_below, lanes};
 
@@ -28,6 +28,14 @@ pub(crate) trait Row: Copy {
     /// Adds the words of another row, lane by lane. A sum that is too great becomes the greatest word.
     fn add(&mut self, other: &Self)
         ensures { (lane : ℕ) → slice_index (words self.new) lane ≡ min (slice_index (words self.old) lane + slice_index (words other.now) lane) most };
+
+    /// Subtracts the words of another row, lane by lane. A difference below 0 becomes 0.
+    fn subtract(&mut self, other: &Self)
+        ensures { (lane : ℕ) → slice_index (words self.new) lane ≡ slice_index (words self.old) lane - slice_index (words other.now) lane };
+
+    /// Whether each word represents a finite distance.
+    fn is_finite(&self) -> bool
+        ensures { result ≡ true → (lane : ℕ) → slice_index (words self.now) lane < most };
 
     /// Adds the word of a distance in one lane. A sum that is too great becomes the greatest word.
     fn add_value(&mut self, lane: usize, value: Dist)
@@ -80,6 +88,16 @@ impl Row for ShortRow {
         for lane in 0..LANES {
             self.words[lane] = self.words[lane].saturating_add(other.words[lane]);
         }
+    }
+
+    fn subtract(&mut self, other: &ShortRow) {
+        for lane in 0..LANES {
+            self.words[lane] = self.words[lane].saturating_sub(other.words[lane]);
+        }
+    }
+
+    fn is_finite(&self) -> bool {
+        self.words.iter().all(|word| *word < u16::MAX)
     }
 
     fn add_value(&mut self, lane: usize, value: Dist) {
@@ -137,6 +155,16 @@ impl Row for MiddleRow {
         }
     }
 
+    fn subtract(&mut self, other: &MiddleRow) {
+        for lane in 0..LANES {
+            self.words[lane] = self.words[lane].saturating_sub(other.words[lane]);
+        }
+    }
+
+    fn is_finite(&self) -> bool {
+        self.words.iter().all(|word| *word < u32::MAX)
+    }
+
     fn add_value(&mut self, lane: usize, value: Dist) {
         self.words[lane] = self.words[lane].saturating_add(middle_word(value));
     }
@@ -191,6 +219,16 @@ impl Row for LongRow {
                 .saturating_add(other.words[lane])
                 .min(LONG_MOST);
         }
+    }
+
+    fn subtract(&mut self, other: &LongRow) {
+        for lane in 0..LANES {
+            self.words[lane] = self.words[lane].saturating_sub(other.words[lane]);
+        }
+    }
+
+    fn is_finite(&self) -> bool {
+        self.words.iter().all(|word| *word < LONG_MOST)
     }
 
     fn add_value(&mut self, lane: usize, value: Dist) {

@@ -1,6 +1,5 @@
-use Rattle.std.proofs.Common.{take}
-use Rattle.scp.specs.Places.{IsTouched}
+use Rattle.scp.specs.Places.{AreTouched}
 use Rattle.scp.proofs.pattern_rows.touched_by.Given as goal
 
-abbrev pub invariant-loop-pattern : goal.invariant-loop-pattern
-invariant-loop-pattern g l = IsTouched (take l.pattern-index l.patterns) l.operator l.touched.items
+abbrev pub invariant-loop-place : goal.invariant-loop-place
+invariant-loop-place g l = AreTouched l.patterns l.operator l.place l.touched.items

@@ -1,11 +1,11 @@
-use Rattle.std.proofs.Common.{◌≡◌, ◌<◌, ◌∙◌, ◌+◌, length, ap, sym, arith, min, map}
+use Rattle.std.proofs.Common.{◌≡◌, ◌<◌, ◌∙◌, length, ap, sym, arith, map}
 use Rattle.fdr.specs.Tasks.{ranges}
 use Rattle.abstraction.specs.Projections.{index_of}
 use Rattle.abstraction.specs.ProjectionLaws.{index_below}
 use Rattle.std.specs.Prelude.{slice_index}
 use Rattle.scp.specs.Rows.{word_in}
 use Rattle.scp.proofs.RowLists.{word_read}
-use Rattle.scp.proofs.pattern_rows.PatternRows.add_known.Goals as goal
+use Rattle.scp.proofs.pattern_rows.PatternRows.known_row.Goals as goal
 
 pub index-requires : goal.index-requires
 index-requires g c =
@@ -23,7 +23,4 @@ returns g c = rw (← c.self.view_is) (λ lane.
     let ok = rw (← c.self.view_is) at c.requires.state in
     let within : c.args.index < length rows = omega (arith, index_below (ranges p.task) c.args.state.now ok p.pattern p.exist, c.self.invariant, is) in
     let read = word_read words rows c.args.index lane c.index.result.now within in
-    c.add.ensures lane
-    ∙ ap (λ r. min (slice_index (words c.args.sums.now) lane + slice_index (words r) lane) g.R.Row.most) c.index.ensures
-    ∙ ap (λ n. min (slice_index (words c.args.sums.now) lane + n) g.R.Row.most) (sym read)
-    ∙ ap (λ i. min (slice_index (words c.args.sums.now) lane + word_in (map words rows) i lane) g.R.Row.most) is)
+    ap (λ r. slice_index (words r) lane) c.index.ensures ∙ sym read ∙ ap (λ i. word_in (map words rows) i lane) is)
