@@ -1,12 +1,13 @@
-use Rattle.owner_space.proofs.Applying.{applied_state, applied_leads}
+use Rattle.std.proofs.Common.{◌≡◌, List, ℕ, Some, subst}
+use Rattle.fdr.specs.Tasks.{step}
+use Rattle.owner_space.proofs.Applying.{leads_to_state}
 use Rattle.owner_space.proofs.steps.write_successor.Goals as goal
 
 pub returns-clause-step : goal.returns-clause-step
 returns-clause-step c =
-    applied_leads c.args.task.now c.args.state.now c.copy_from_slice.new.self c.apply.new.state c.args.operator c.requires.applies
-    c.copy_from_slice.ensures.after c.apply.ensures.state
+    subst (λ (s : List ℕ). step c.args.task.now s c.args.operator ≡ Some c.advance.new.state) c.copy_from_slice.ensures.after c.advance.ensures
 
 pub returns-clause-state : goal.returns-clause-state
 returns-clause-state c =
-    applied_state c.args.task.now c.args.state.now c.copy_from_slice.new.self c.apply.new.state c.args.operator c.recall.ensures.task
-    c.requires.state c.copy_from_slice.ensures.after c.apply.ensures.state
+    leads_to_state c.args.task.now c.copy_from_slice.new.self c.args.state.now c.advance.new.state c.args.operator c.recall.ensures.task
+    c.requires.state c.copy_from_slice.ensures.after c.advance.ensures
