@@ -1,2 +1,3 @@
+pub mod ShortTexts
 pub mod FirstFound
 pub mod OneAnswer

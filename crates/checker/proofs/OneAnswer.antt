@@ -16,11 +16,11 @@ one_verdict task c (Accepted d) (Rejected y) p q = absurd (none_where_held task 
 one_verdict task c (Rejected x) (Accepted e) p q = absurd (none_where_held task c x p q.1)
 one_verdict task c (Rejected x) (Rejected y) p q = ap Rejected (one_first task c x y p q)
 
-pub one_answer : (sas cert : List ℕ) (v w : Verdict) → length sas < 2 ^ 64 - 1 → length cert ≤ 2 ^ 30 → IsAnswer sas cert v → IsAnswer sas cert w → v ≡ w
-one_answer sas cert v w room short p q =
+pub one_answer : (sas cert : List ℕ) (v w : Verdict) → length sas < 2 ^ 64 - 1 → IsAnswer sas cert v → IsAnswer sas cert w → v ≡ w
+one_answer sas cert v w room p q =
     let same_task : p.task ≡ q.task = one_reading_is sas p.task q.task room p.spelled q.spelled in
     let same_certificate : p.certificate ≡ q.certificate =
     one_certificate p.certificate q.certificate p.certificate_spelled.lawful q.certificate_spelled.lawful
-    (sym p.certificate_spelled.spelled ∙ q.certificate_spelled.spelled) (subst (λ (text : List ℕ). length text ≤ 2 ^ 30) p.certificate_spelled.spelled short) in
+    (sym p.certificate_spelled.spelled ∙ q.certificate_spelled.spelled) (subst (λ (text : List ℕ). length text ≤ 2 ^ 30) p.certificate_spelled.spelled p.certificate_spelled.short) in
     one_verdict q.task q.certificate v w
     (subst (λ c. IsVerdict q.task c v) same_certificate (subst (λ t. IsVerdict t p.certificate v) same_task p.holds)) q.holds

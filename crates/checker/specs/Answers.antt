@@ -1,5 +1,5 @@
 -- The answers to the texts of a finite-domain task and of a certificate.
-use Rattle.std.specs.Prelude.{◌≡◌, ◌≢◌, ◌⊎◌, ℕ, Bool, true, false, List, Err}
+use Rattle.std.specs.Prelude.{◌≡◌, ◌≢◌, ◌⊎◌, ℕ, ◌≤◌, ◌^◌, Bool, true, false, List, length, Err}
 use Rattle.fdr.specs.Tasks.{FiniteDomainTask}
 use Rattle.sasfile.specs.SasTexts.{SpellsTask}
 use Rattle.sasfile.specs.Reading.{task_in}
@@ -19,14 +19,16 @@ abbrev pub is_for_finite_domain : Kind → Bool
 is_for_finite_domain FiniteDomain = true
 is_for_finite_domain (Planning atoms variables) = false
 
--- The text spells the certificate, which is for a finite-domain task.
+-- The text, of at most 1,073,741,824 bytes, spells the certificate, which is for a finite-domain task.
 pub record SpellsSasCertificate (text : List ℕ) (c : CertificateValue) : Type 0 where
+  pub short : length text ≤ 2 ^ 30
   pub lawful : IsLawful c
   pub spelled : text ≡ spelling c
   pub kind : is_for_finite_domain c.kind ≡ true
 
--- The text spells a certificate for a planning task.
+-- The text, of at most 1,073,741,824 bytes, spells a certificate for a planning task.
 pub record SpellsOther (text : List ℕ) : Type 0 where
+  pub short : length text ≤ 2 ^ 30
   pub certificate : CertificateValue
   pub lawful : IsLawful certificate
   pub spelled : text ≡ spelling certificate

@@ -1,6 +1,6 @@
 //! Laws of verdicts. Each function states one in its contract; its body is empty.
 
-ghost use Rattle.std.specs.Prelude.{◌≡◌, ◌<◌, ◌≤◌, ◌-◌, ◌^◌, ℕ, List, length};
+ghost use Rattle.std.specs.Prelude.{◌≡◌, ◌<◌, ◌-◌, ◌^◌, ℕ, List, length};
 ghost use Rattle.fdr.specs.Tasks.{FiniteDomainTask};
 ghost use Rattle.cert_value.specs.Certificates.{CertificateValue};
 ghost use Rattle.checker.specs.Verdicts.{IsVerdict};
@@ -13,7 +13,7 @@ pub fn one_verdict()
     ensures { (task : FiniteDomainTask) (c : CertificateValue) (v w : Verdict) → IsVerdict task c v → IsVerdict task c w → v ≡ w }
 {}
 
-/// Proves that two texts that fit in memory have at most one answer.
+/// Proves that the text of a task, if it fits in memory, and the text of a certificate have at most one answer.
 pub fn one_answer()
-    ensures { (sas cert : List ℕ) (v w : Verdict) → length sas < 2 ^ 64 - 1 → length cert ≤ 2 ^ 30 → IsAnswer sas cert v → IsAnswer sas cert w → v ≡ w }
+    ensures { (sas cert : List ℕ) (v w : Verdict) → length sas < 2 ^ 64 - 1 → IsAnswer sas cert v → IsAnswer sas cert w → v ≡ w }
 {}

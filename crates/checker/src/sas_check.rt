@@ -34,6 +34,7 @@ const KIND_LINE: usize = 2;
 
 /// Reads the certificate for a finite-domain task that the text spells. Fails with the first fault of the text, or if
 /// allocation fails; a certificate for a planning task has the fault `Expected` on line 2.
+#[tactic(auto, using(crate::proofs::ShortTexts::read_short))]
 fn read_sas_certificate(alloc: Global, cert: &[u8]) -> Result<Certificate, CertFault>
     ensures found { IfOk result (λ c. SpellsSasCertificate cert.now c) }
     ensures fault { IfErr result (λ e. e ≢ CertFault.OutOfMemory → IsCertificateFault cert.now e) }
@@ -104,6 +105,10 @@ pub fn check_sas_owned<R: AllocGlobal + Threads + Sync>(
 ) -> Result<Verdict, CheckFault>
     ensures answer { IfOk result (IsAnswer sas.items cert.items) }
     ensures refused { IfErr result (IsRefusal sas.items cert.items) }
+    ensures bound { (task : FiniteDomainTask) (bound : Distance) → SpellsTask sas.items task →
+        IfOk result (λ verdict. verdict ≡ Accepted bound → EveryPlanCostsAtLeast task bound) }
+    ensures none { (task : FiniteDomainTask) → SpellsTask sas.items task →
+        IfOk result (λ verdict. verdict ≡ Accepted Infinite → HasNoPlan task) }
 {
     let task = read_task(rt.alloc(), &sas)?;
     drop(sas);

@@ -1,5 +1,5 @@
 -- Verdicts on planning tasks by those on finite-domain tasks, and by what is wrong first.
-use Rattle.std.proofs.Common.{inl, inr, ◌≡◌, ℕ, zero, suc, ◌<◌, List, [], ◌∷◌, refl, sym, ap, subst, ◌∙◌, length, map, arith}
+use Rattle.std.proofs.Common.{inl, inr, ◌≡◌, ℕ, zero, suc, ◌<◌, ◌≤◌, ◌^◌, List, [], ◌∷◌, refl, sym, ap, subst, ◌∙◌, length, map, arith}
 use Rattle.std.specs.Prelude.{◌≢◌, ◌+◌, slice_index, All, Result, Ok, Err, IfOk, IfErr}
 use Rattle.std.specs.List.{AllByRecursion}
 use Rattle.std.specs.List.Sorted.{IsStrictlyIncreasing}
@@ -115,29 +115,29 @@ pub translation_bound : (task : PlanningTask) (t : TranslatedTask) (f : FiniteDo
 translation_bound task t f bound same is h = (same.bounds bound).0 (subst (λ (g : FiniteDomainTask). EveryPlanCostsAtLeast g bound) is h)
 
 -- the verdict on a certificate that a text spells is an answer
-pub answer_is : (task : PlanningTask) (domain problem cert : List ℕ) (c : CertificateValue) (v : PlanningVerdict) → SpellTask domain problem task → IsLawful c → cert ≡ spelling c
+pub answer_is : (task : PlanningTask) (domain problem cert : List ℕ) (c : CertificateValue) (v : PlanningVerdict) → SpellTask domain problem task → IsLawful c × (cert ≡ spelling c) × (length cert ≤ 2 ^ 30)
     → ((words : List (List (List ℕ))) × (variables : List Variable) × (c.kind ≡ Planning words variables))
     → ((words : List (List (List ℕ))) (variables : List Variable) → c.kind ≡ Planning words variables
     → IsPlanningVerdict (record { task = task; words = words; variables = variables }) c v)
     → IsAnswer domain problem cert v
-answer_is task domain problem cert c v spelled lawful text (words, variables, kind) verdict =
+answer_is task domain problem cert c v spelled (lawful, text, short) (words, variables, kind) verdict =
     record {
       judged = record { task = task; words = words; variables = variables };
       certificate = c;
-      spelled = record { task_spelled = spelled; certificate_spelled = record { lawful = lawful; spelled = text; kind = kind } };
+      spelled = record { task_spelled = spelled; certificate_spelled = record { short = short; lawful = lawful; spelled = text; kind = kind } };
       holds = verdict words variables kind;
     }
 
 -- and where there is none, that is a refusal
-pub refusal_is : (task : PlanningTask) (domain problem cert : List ℕ) (c : CertificateValue) (e : PlanningCheckFault) → SpellTask domain problem task → IsLawful c → cert ≡ spelling c
+pub refusal_is : (task : PlanningTask) (domain problem cert : List ℕ) (c : CertificateValue) (e : PlanningCheckFault) → SpellTask domain problem task → IsLawful c × (cert ≡ spelling c) × (length cert ≤ 2 ^ 30)
     → IsUnanswered task c e → IsRefusal domain problem cert e
-refusal_is task domain problem cert c e spelled lawful text (inl (kind, is)) =
-    inr (inl ((task, spelled), subst (IsRefusedCertificate cert) (sym is) ((λ k. absurd cc), inr (refl, record { certificate = c; lawful = lawful; spelled = text; kind = kind }))))
-refusal_is task domain problem cert c e spelled lawful text (inr (words, variables, kind, unjudged)) =
+refusal_is task domain problem cert c e spelled (lawful, text, short) (inl (kind, is)) =
+    inr (inl ((task, spelled), subst (IsRefusedCertificate cert) (sym is) ((λ k. absurd cc), inr (refl, record { short = short; certificate = c; lawful = lawful; spelled = text; kind = kind }))))
+refusal_is task domain problem cert c e spelled (lawful, text, short) (inr (words, variables, kind, unjudged)) =
     inr (inr (
       record { task = task; words = words; variables = variables },
       c,
-      record { task_spelled = spelled; certificate_spelled = record { lawful = lawful; spelled = text; kind = kind } },
+      record { task_spelled = spelled; certificate_spelled = record { short = short; lawful = lawful; spelled = text; kind = kind } },
       unjudged,
     ))
 

@@ -1,5 +1,5 @@
 -- The answers to the texts of a planning task and of a certificate.
-use Rattle.std.specs.Prelude.{◌≡◌, ◌≢◌, ◌⊎◌, ℕ, List, Err}
+use Rattle.std.specs.Prelude.{◌≡◌, ◌≢◌, ◌⊎◌, ℕ, ◌≤◌, ◌^◌, List, length, Err}
 use Rattle.pddl_task.specs.Planning.{PlanningTask}
 use Rattle.pddl.specs.Texts.{SpellTask, IsTaskRefusal}
 use Rattle.pddl.specs.declared.fault.PddlFault.TheVariants as pddl_fault
@@ -16,14 +16,17 @@ use Rattle.checker_pddl.specs.declared.fault.PlanningCheckFault.TheVariants.{Out
 use Rattle.checker_pddl.specs.declared.verdict.PlanningVerdict.{PlanningVerdict}
 use Rattle.checker_pddl.specs.Judgements.{Judged, atoms_of, placed_of, IsPlanningVerdict}
 
--- The text spells the certificate, which is for a planning task and lists these atoms and variables.
+-- The text, of at most 1,073,741,824 bytes, spells the certificate, which is for a planning task and lists these atoms
+-- and variables.
 pub record SpellsPlanningCertificate (text : List ℕ) (c : CertificateValue) (words : List (List (List ℕ))) (variables : List Variable) : Type 0 where
+  pub short : length text ≤ 2 ^ 30
   pub lawful : IsLawful c
   pub spelled : text ≡ spelling c
   pub kind : c.kind ≡ Planning words variables
 
--- The text spells a certificate for a finite-domain task.
+-- The text, of at most 1,073,741,824 bytes, spells a certificate for a finite-domain task.
 pub record SpellsOther (text : List ℕ) : Type 0 where
+  pub short : length text ≤ 2 ^ 30
   pub certificate : CertificateValue
   pub lawful : IsLawful certificate
   pub spelled : text ≡ spelling certificate

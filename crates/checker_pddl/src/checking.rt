@@ -1,6 +1,6 @@
 //! The verdict on the texts of a planning task and of a certificate for it.
 
-ghost use Rattle.std.specs.Prelude.{◌≡◌, ◌≤◌, ℕ, List, IsTrue, IfOk, IfErr};
+ghost use Rattle.std.specs.Prelude.{◌≡◌, ◌≤◌, ◌^◌, ℕ, List, length, IsTrue, IfOk, IfErr};
 ghost use Rattle.cost.specs.Distances.{Distance, Infinite};
 ghost use Rattle.pddl_task.specs.Planning.{PlanningTask, IsPlanningTask, IsActionOf, has_small_costs, Action};
 ghost use Rattle.pddl_task.specs.Plans.{HasNoValidPlan};
@@ -46,8 +46,9 @@ fn read_planning_task(
 }
 
 /// Reads the certificate that the text spells. Fails with the first fault of the text, or if allocation fails.
+#[tactic(auto, using(checker::proofs::ShortTexts::read_short))]
 fn read_certificate(alloc: Global, cert: &[u8]) -> Result<Certificate, PlanningCheckFault>
-    ensures found { IfOk result (λ c. IsLawful c × (cert.now ≡ spelling c)) }
+    ensures found { IfOk result (λ c. IsLawful c × (cert.now ≡ spelling c) × (length cert.now ≤ 2 ^ 30)) }
     ensures fault { IfErr result (IsRefusedCertificate cert.now) }
 {
     match read_cert(alloc, cert) {
@@ -98,22 +99,6 @@ fn answer_to<R: AllocGlobal + Threads + Sync>(
     answer(rt, task, &certificate)
 }
 
-/// The same, but the text is dropped as soon as it has been read.
-fn answer_to_owned<R: AllocGlobal + Threads + Sync>(
-    rt: &R,
-    task: &Task,
-    cert: Vec<u8>,
-) -> Result<PlanningVerdict, PlanningCheckFault>
-    requires small { IsTrue (has_small_costs task.now) }
-    requires costs { (a : Action) → IsActionOf task.now a → a.cost ≤ max_cost }
-    ensures answer { (domain problem : List ℕ) → SpellTask domain problem task.now → IfOk result (IsAnswer domain problem cert.items) }
-    ensures refused { (domain problem : List ℕ) → SpellTask domain problem task.now → IfErr result (IsRefusal domain problem cert.items) }
-{
-    let certificate = read_certificate(rt.alloc(), &cert)?;
-    drop(cert);
-    answer(rt, task, &certificate)
-}
-
 /// Returns the verdict on the text of a certificate for the planning task that two texts spell. It is `Accepted` with a
 /// bound if the text spells a certificate with that bound that meets the clauses C1 to C8 for the task, and else
 /// `Rejected` with the first violation. After `Accepted` every valid plan of the task costs at least the bound, whoever
@@ -136,21 +121,4 @@ pub fn check_pddl<R: AllocGlobal + Threads + Sync>(
 {
     let task = read_planning_task(rt.alloc(), domain, problem)?;
     answer_to(rt, &task, cert)
-}
-
-/// The same as `check_pddl`, but each text is dropped as soon as it has been read, so that a certificate with millions
-/// of states is checked without its text in memory.
-pub fn check_pddl_owned<R: AllocGlobal + Threads + Sync>(
-    rt: &R,
-    domain: Vec<u8>,
-    problem: Vec<u8>,
-    cert: Vec<u8>,
-) -> Result<PlanningVerdict, PlanningCheckFault>
-    ensures answer { IfOk result (IsAnswer domain.items problem.items cert.items) }
-    ensures refused { IfErr result (IsRefusal domain.items problem.items cert.items) }
-{
-    let task = read_planning_task(rt.alloc(), &domain, &problem)?;
-    drop(domain);
-    drop(problem);
-    answer_to_owned(rt, &task, cert)
 }

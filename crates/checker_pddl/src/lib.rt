@@ -6,10 +6,12 @@
 mod checking;
 mod fault;
 mod judging;
+mod laws;
 mod naming;
 mod verdict;
 
-pub use checking::{check_pddl, check_pddl_owned};
+pub use checking::check_pddl;
 pub use fault::PlanningCheckFault;
 pub use judging::judge;
+pub use laws::one_answer;
 pub use verdict::{PlanningVerdict, PlanningViolation};

@@ -36,7 +36,7 @@ accepted domain problem text task t bound c spells made of is =
     λ short.
     subst (λ (b : Distance). IsAnswer domain problem text (Accepted b)) of.bound_is
     (held_accepted domain problem text task t c spells made of.kind_is of.held
-    (of.lawful (kind_lawful domain problem task t spells made) (few_entries c (subst (λ (x : List ℕ). length x ≤ 2 ^ 30) is short))) is)
+    (of.lawful (kind_lawful domain problem task t spells made) (few_entries c (subst (λ (x : List ℕ). length x ≤ 2 ^ 30) is short))) short is)
 
 -- a plan of the translation is one of the task
 pub plan_for : (domain problem : List ℕ) (task : PlanningTask) (t : TranslatedTask) (found : FoundPlan) (p : WrittenPlan (Vec Step Global)) → SpellTask domain problem task → IsTranslation task t

@@ -37,6 +37,7 @@ accepted sas task bound c text spells of is =
       certificate = c;
       certificate_spelled =
           record {
+            short = short;
             lawful = of.lawful tt (few_entries c (subst (λ t. length t ≤ 2 ^ 30) is short));
             spelled = is;
             kind = ap is_for_finite_domain of.kind_is;
