@@ -1,5 +1,5 @@
 -- The kind of a certificate for a translation has a text, and a certificate of that kind that holds is accepted.
-use Rattle.std.proofs.Common.{◌≡◌, ℕ, zero, suc, ◌+◌, ◌<◌, ◌≤◌, Bool, true, false, List, [], ◌∷◌, length, map, refl, sym, subst, arith, ltb-false, if◌then◌else◌}
+use Rattle.std.proofs.Common.{◌≡◌, ℕ, zero, suc, ◌+◌, ◌<◌, ◌≤◌, ◌^◌, Bool, true, false, List, [], ◌∷◌, length, map, refl, sym, subst, arith, ltb-false, if◌then◌else◌}
 use Rattle.std.specs.Prelude.{◌≢◌, slice_index_or, All}
 use Rattle.std.specs.List.{AllByRecursion}
 use Rattle.std.specs.List.Sorted.{IsStrictlyIncreasing}
@@ -116,11 +116,11 @@ abbrev judged_by : PlanningTask → TranslatedTask → Judged
 judged_by task t = record { task = task; words = map (words_of task.vocabulary) t.atoms; variables = map listing t.variables }
 
 pub held_accepted : (domain problem text : List ℕ) (task : PlanningTask) (t : TranslatedTask) (c : CertificateValue) → SpellTask domain problem task → IsTranslation task t
-    → c.kind ≡ translation_kind task t → IsHeld t.task c → IsLawful c → text ≡ spelling c → IsAnswer domain problem text (Accepted c.bound)
-held_accepted domain problem text task t c spelled made kind held lawful is = record {
+    → c.kind ≡ translation_kind task t → IsHeld t.task c → IsLawful c → length text ≤ 2 ^ 30 → text ≡ spelling c → IsAnswer domain problem text (Accepted c.bound)
+held_accepted domain problem text task t c spelled made kind held lawful short is = record {
   judged = judged_by task t;
   certificate = c;
-  spelled = record { task_spelled = spelled; certificate_spelled = record { lawful = lawful; spelled = is; kind = kind } };
+  spelled = record { task_spelled = spelled; certificate_spelled = record { short = short; lawful = lawful; spelled = is; kind = kind } };
   holds = translation_verdict (judged_by task t) c (Accepted c.bound) t t.task made
       (sym (atoms_again task t.atoms (own_names domain problem task spelled) made.fit.listed.known)) (sym (variables_again t.variables)) refl (refl, held);
 }

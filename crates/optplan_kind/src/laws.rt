@@ -1,6 +1,6 @@
 //! Laws of certificates for translated tasks. Each function states a law as its contract, and its body is empty.
 
-ghost use Rattle.std.specs.Prelude.{◌≡◌, ℕ, List};
+ghost use Rattle.std.specs.Prelude.{◌≡◌, ◌≤◌, ◌^◌, ℕ, List, length};
 ghost use Rattle.pddl_task.specs.Planning.{PlanningTask};
 ghost use Rattle.pddl.specs.Texts.{SpellTask};
 ghost use Rattle.translate.specs.Translated.{TranslatedTask, IsTranslation};
@@ -19,9 +19,9 @@ pub fn translation_kind_has_text()
 {}
 
 /// A certificate of that kind that holds for the translation is accepted, by its text and for its bound, by the checker,
-/// which reads only the texts.
+/// which reads only the texts, if its text has at most 2^30 bytes.
 pub fn held_certificate_is_accepted()
     ensures { (domain problem text : List ℕ) (task : PlanningTask) (t : TranslatedTask) (c : CertificateValue) →
         SpellTask domain problem task → IsTranslation task t → c.kind ≡ translation_kind task t → IsHeld t.task c → IsLawful c →
-        text ≡ spelling c → IsAnswer domain problem text (Accepted c.bound) }
+        length text ≤ 2 ^ 30 → text ≡ spelling c → IsAnswer domain problem text (Accepted c.bound) }
 {}
