@@ -13,7 +13,7 @@ use Rattle.worker.specs.Turns.{chained, ReceivesFrom, SendsTo, HasTaken, HasNoth
 use Rattle.worker.proofs.Rows.{outs_through, ins_through, outs_same, ins_same}
 use Rattle.engine_round.specs.declared.fault.TurnFault.{TurnFault}
 use Rattle.engine_round.specs.declared.fault.TurnFault.TheVariants.{Owner, Gate}
-use Rattle.engine_round.specs.Turns.{MayStop, IsSameWorker, IsSeated, IsAtWork, IsTurnFault, HasKept, HasWorked}
+use Rattle.engine_round.specs.Turns.{MayStop, IsSameWorker, IsSeated, IsAtWork, IsTurnFault, WorkedOf, HasKept, HasWorked}
 
 lesser_more : (x y z a b : Distance) → y ≡ lesser x a → z ≡ lesser y b → z ≡ lesser x (lesser a b)
 lesser_more x y z a b e f = f ∙ (ap (λ d. lesser d b) e ∙ lesser_assoc x a b)
@@ -355,4 +355,20 @@ module _ {S F : Type 0} where
       seat = there;
       kept = λ _. gated_keeps seat t w x is uncounted (subst (HasLooked w x (view seat)) (sym view_is) refusal.1);
       ended = subst (λ n. may_stop n turn stop) (sym (ap (λ (y : WorkerOf S F). y.owner.worker) refusal.1.worker)) refusal.0;
+    }
+
+    -- the turns from then on end so
+    pub worked_since : (seat : BoardSeat) (w : WorkerOf S F) (r : WorkedOf S F) → IsAtWork b s old seat w → HasWorked owner values may_stop b seat w r
+        → HasWorked owner values may_stop b s old r
+    worked_since seat w r is has = record {
+      seat = has.seat;
+      kept = λ other.
+          let now : HasKept w r.worker (view seat) (view r.seat) = has.kept other in
+          record {
+            same = same_through old w r.worker is.same now.same;
+            seated = seated_through old w r.worker (view s) (view seat) (view r.seat) is.seated now.seated;
+            told = λ none. told_from w (view s) (view seat) r.worker.bound is.seated (now.told none);
+            uncounted = now.uncounted;
+          };
+      ended = has.ended;
     }

@@ -121,3 +121,8 @@ pub record HasWorked {S F : Type 0} (owner : S → List ℕ → ℕ → ℕ) (va
   pub seat : IsSeatOf b r.seat
   pub kept : r.fault ≢ Some (Owner OutOfMemory) → HasKept old r.worker (view s) (view r.seat)
   pub ended : HasEnded owner values may_stop r.worker r.fault
+
+-- one turn, and what was relayed behind it: the worker is at work, or these were its turns
+abbrev pub HasStepped : {S F : Type 0} → (S → List ℕ → ℕ → ℕ) → (List ℕ → F → List ℕ) → MayStop → Board → BoardSeat → WorkerOf S F → BoardSeat → WorkerOf S F → Bool → Type 0
+HasStepped owner values may_stop b s old t w true = IsAtWork b s old t w
+HasStepped owner values may_stop b s old t w false = HasWorked owner values may_stop b s old (record { worker = w; seat = t; fault = None })

@@ -1,9 +1,9 @@
 //! The turns of one worker in a round.
 
-ghost use Rattle.std.specs.Prelude.{◌≡◌, [], IfOk, IfErr};
+ghost use Rattle.std.specs.Prelude.{◌≡◌, [], Some, IfOk, IfErr};
 ghost use Rattle.board.specs.Seats.{IsSeatOf, view};
 ghost use Rattle.worker.specs.Turns.{IsTurn};
-ghost use Rattle.engine_round.specs.Turns.{IsTurnFault, HasWorked};
+ghost use Rattle.engine_round.specs.Turns.{IsTurnFault, HasStepped, HasWorked};
 
 use crate::fault::TurnFault;
 use crate::gate::Gate;
@@ -65,6 +65,50 @@ fn take_turn<'a, S: Spread + Drop, F: StateForm + Drop, G: Gate>(
     worker.turn(board, seat).map_err(TurnFault::Owner)
 }
 
+/// Takes a turn, and relays messages behind it where another is to follow. Where none is to follow, the round is ended for all workers,
+/// unless nothing is counted as left to do. Returns whether another turn is to follow. `number` is the worker's, and `turn` that of the
+/// turn in the round. Fails with the fault that ends the worker's turns.
+fn take_step<'a, S: Spread + Drop, F: StateForm + Drop, G: Gate>(
+    board: &Board,
+    seat: &mut Seat,
+    number: usize,
+    worker: &mut Worker<'a, S, F>,
+    gate: &G,
+    turn: u64,
+) -> Result<bool, TurnFault>
+    requires seat { IsSeatOf board.now seat.old }
+    requires number { number ≡ worker.old.owner.worker }
+    requires none_aside { worker.old.misfits ≡ [] }
+    requires none_uncounted { worker.old.uncounted ≡ 0 }
+    requires none_taken { worker.old.taken ≡ 0 }
+    ensures stepped { IfOk result (HasStepped S.owner F.values (G.may_stop gate.now) board.now seat.old worker.old seat.new worker.new) }
+    ensures fault { IfErr result (λ fault. HasWorked S.owner F.values (G.may_stop gate.now) board.now seat.old worker.old
+        (record { worker = worker.new; seat = seat.new; fault = Some fault })) }
+{
+    match take_turn(board, seat, number, worker, gate, turn) {
+        Ok(Turn::Next) => match relay(board, seat, worker) {
+            Ok(true) => Ok(true),
+            Ok(false) => {
+                board.halt(seat);
+                Ok(false)
+            }
+            Err(AllocError) => {
+                board.halt(seat);
+                Err(TurnFault::Owner(OwnerFault::OutOfMemory))
+            }
+        },
+        Ok(Turn::Last) => Ok(false),
+        Ok(Turn::Misfit) => {
+            board.halt(seat);
+            Ok(false)
+        }
+        Err(fault) => {
+            board.halt(seat);
+            Err(fault)
+        }
+    }
+}
+
 /// Takes turns until nothing is counted as left to do, or the round is ended, and relays messages between them. A message that is not
 /// for the worker, a fault and the gate, which is asked before each turn of this worker, end the round for all workers. `number` is the
 /// worker's.
@@ -86,30 +130,13 @@ pub(crate) fn work<'a, R: Wait + Clock, S: Spread + Drop, F: StateForm + Drop, G
     worker.begin_round();
     for _ in rt.forever() {
         turn = turn.saturating_add(1);
-        let fault = match take_turn(board, &mut seat, number, &mut worker, gate, turn) {
-            Ok(Turn::Next) => match relay(board, &mut seat, &mut worker) {
-                Ok(true) => {
-                    pause.after(rt, worker.is_resting());
-                    continue;
-                }
-                Ok(false) => {
-                    board.halt(&mut seat);
-                    None
-                }
-                Err(AllocError) => {
-                    board.halt(&mut seat);
-                    Some(TurnFault::Owner(OwnerFault::OutOfMemory))
-                }
-            },
-            Ok(Turn::Last) => None,
-            Ok(Turn::Misfit) => {
-                board.halt(&mut seat);
-                None
+        let fault = match take_step(board, &mut seat, number, &mut worker, gate, turn) {
+            Ok(true) => {
+                pause.after(rt, worker.is_resting());
+                continue;
             }
-            Err(fault) => {
-                board.halt(&mut seat);
-                Some(fault)
-            }
+            Ok(false) => None,
+            Err(fault) => Some(fault),
         };
         return Worked {
             worker,
