@@ -1,5 +1,5 @@
 -- What the program does by the words of a command.
-use Rattle.std.proofs.Common.{◌≡◌, ℕ, ◌+◌, ◌*◌, List, [], ◌∷◌, length, get_or, ap, sym, ◌∙◌, subst, refl, arith, Some, codes}
+use Rattle.std.proofs.Common.{◌≡◌, ℕ, ◌+◌, ◌*◌, inl, inr, List, [], ◌∷◌, length, get_or, ap, sym, ◌∙◌, subst, refl, arith, Some, codes}
 use Rattle.std.specs.Prelude.{Option, None, Box, option_map}
 use Rattle.clap.specs.Walk.{Row, Text, first_of, rows_of}
 use Rattle.clap.specs.Matches.{first_value}
@@ -15,9 +15,12 @@ use Rattle.optplan_command.specs.Validation.{Validates}
 use Rattle.optplan_command.specs.Checking.{Checks}
 use Rattle.optplan_command.specs.PlanningChecking.{ChecksPlanning}
 use Rattle.optplan_command.specs.Translating.{Translates}
-use Rattle.optplan_command.specs.SolveWords.{SolvesByWords, SolvesSasByWords, operand}
+use Rattle.optplan_command.specs.SolveWords.{HasRefusedValue, SolvesByWords, SolvesSasByWords, operand}
+use Rattle.optplan_command.specs.SolvingCommands.{name_of, Solved}
+use Rattle.optplan_command.specs.declared.solve_words.SolvingCommand.{SolvingCommand}
+use Rattle.optplan_command.specs.declared.solve_words.SolvingCommand.TheVariants.{Solve, SolveSas}
 use Rattle.optplan_command.specs.FileCommands.{IsNamed, NamesNoFileCommand, DoesCommand}
-use Rattle.optplan_command.specs.Requests.{DoesRequest, value_in}
+use Rattle.optplan_command.specs.Requests.{DoesRequest, IsRefusedRequest, value_in}
 use Rattle.optplan_command.specs.declared.file_command.FileCommand.{FileCommand}
 use Rattle.optplan_command.specs.declared.file_command.FileCommand.TheVariants.{Validate, Check, CheckSas, Translate}
 
@@ -52,7 +55,7 @@ module _ {Z : Type 0} where
 -- ---- what is done
 
 module _ (name : List ℕ) (value : List ℕ → Option (List ℕ)) (old new : List Event) (status : Status) where
-  pub does_solve : name ≡ codes "solve" → SolvesByWords value old new status → DoesRequest name value old new status
+  does_solve : name ≡ codes "solve" → SolvesByWords value old new status → DoesRequest name value old new status
   does_solve is solved = record {
     validates = λ e. absurd (apart (codes "solve") (codes "validate") (λ m. omega (arith, m)) (sym is ∙ e));
     checks = λ e. absurd (apart (codes "solve") (codes "check") (λ m. omega (arith, m)) (sym is ∙ e));
@@ -62,7 +65,7 @@ module _ (name : List ℕ) (value : List ℕ → Option (List ℕ)) (old new : L
     solves_sas = λ e. absurd (apart (codes "solve") (codes "solve-sas") (λ m. omega (arith, m)) (sym is ∙ e));
   }
 
-  pub does_solve_sas : name ≡ codes "solve-sas" → SolvesSasByWords value old new status → DoesRequest name value old new status
+  does_solve_sas : name ≡ codes "solve-sas" → SolvesSasByWords value old new status → DoesRequest name value old new status
   does_solve_sas is solved = record {
     validates = λ e. absurd (apart (codes "solve-sas") (codes "validate") (λ m. omega (arith, m)) (sym is ∙ e));
     checks = λ e. absurd (apart (codes "solve-sas") (codes "check") (λ m. omega (arith, m)) (sym is ∙ e));
@@ -71,6 +74,11 @@ module _ (name : List ℕ) (value : List ℕ → Option (List ℕ)) (old new : L
     solves = λ e. absurd (apart (codes "solve-sas") (codes "solve") (λ m. omega (arith, m)) (sym is ∙ e));
     solves_sas = λ e. solved;
   }
+
+  -- a command that solves a task
+  pub does_solved : (command : SolvingCommand) → name ≡ name_of command → Solved command value old new status → DoesRequest name value old new status
+  does_solved Solve is solved = does_solve is solved
+  does_solved SolveSas is solved = does_solve_sas is solved
 
   -- a command on files alone
   pub does_files : (command : FileCommand) → IsNamed name value command → DoesCommand old new command status → DoesRequest name value old new status
@@ -110,3 +118,9 @@ module _ (name : List ℕ) (value : List ℕ → Option (List ℕ)) (old new : L
     solves = λ e. absurd (apart (codes "translate") (codes "solve") (λ m. omega (arith, m)) (sym is ∙ e));
     solves_sas = λ e. absurd (apart (codes "translate") (codes "solve-sas") (λ m. omega (arith, m)) (sym is ∙ e));
   }
+
+-- a value of an option of a command that solves a task is refused
+pub refused_solving : (name : List ℕ) (value : List ℕ → Option (List ℕ)) (command : SolvingCommand) → name ≡ name_of command → HasRefusedValue value
+    → IsRefusedRequest name value
+refused_solving name value Solve is refused = (inl is, refused)
+refused_solving name value SolveSas is refused = (inr is, refused)

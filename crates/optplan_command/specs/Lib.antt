@@ -5,5 +5,6 @@ pub mod PlanningChecking
 pub mod Translating
 pub mod Options
 pub mod SolveWords
+pub mod SolvingCommands
 pub mod FileCommands
 pub mod Requests

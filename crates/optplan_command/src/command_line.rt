@@ -17,7 +17,7 @@ ghost use Rattle.optplan_command.specs.Requests.{DoesRequest, IsMisuse, IsRefuse
 
 use crate::file_command::{plain_command, run_files};
 use crate::file_words::file_command;
-use crate::solve_words::{solve_by_words, solve_sas_by_words};
+use crate::solve_words::{solve_by_words, solving_command};
 use clap::Error;
 use clap::error::ErrorKind;
 use optplan_device::Device;
@@ -46,13 +46,14 @@ fn run_words<D: Device, R: Threads + Wait + Clock + Eprint + Sync + AllocGlobal>
     ensures same { OnErr result (D.failure_count device.new ≡ D.failure_count device.old) }
 {
     let matches = requested(rt.alloc(), words)?;
-    match matches.subcommand() {
-        Some(("solve", words)) => solve_by_words(rt, device, words),
-        Some(("solve-sas", words)) => solve_sas_by_words(rt, device, words),
-        Some((name, words)) => match file_command(name, words) {
-            Some(command) => Ok(run_files(rt, device, command)),
-            None => Ok(Status::Misused),
-        },
+    let Some((name, words)) = matches.subcommand() else {
+        return Ok(Status::Misused);
+    };
+    if let Some(command) = solving_command(name) {
+        return solve_by_words(rt, device, command, words);
+    }
+    match file_command(name, words) {
+        Some(command) => Ok(run_files(rt, device, command)),
         None => Ok(Status::Misused),
     }
 }

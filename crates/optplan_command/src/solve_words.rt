@@ -1,6 +1,6 @@
 //! The words of the commands that solve a task.
 
-ghost use Rattle.std.specs.Prelude.{◌≡◌, ◌≢◌, ◌≤◌, ◌+◌, ◌⊎◌, List, Some, IfOk, IfErr, OnErr, codes};
+ghost use Rattle.std.specs.Prelude.{◌≡◌, ◌≢◌, ◌≤◌, ◌+◌, ◌⊎◌, List, Some, IfOk, IfErr, IfSome, IfNone, OnErr, codes};
 ghost use Rattle.clap.specs.Matches.{found_of, first_value};
 ghost use Rattle.clap.specs.Words.{kind_of};
 ghost use Rattle.clap.specs.declared.error.kind.ErrorKind.TheVariants.{OutOfMemory, ValueValidation};
@@ -8,15 +8,17 @@ ghost use Rattle.optplan_sas.specs.Choices.{Choices};
 ghost use Rattle.optplan_solve.specs.declared.settings.Schedule.{Schedule as ScheduleOf};
 ghost use Rattle.optplan_device.specs.Events.{Event};
 ghost use Rattle.optplan_command.specs.Options.{AreChoicesOf, IsScheduleOf, AreSettingsOf};
-ghost use Rattle.optplan_command.specs.SolveWords.{HasRefusedValue, SolvesByWords, SolvesSasByWords};
+ghost use Rattle.optplan_command.specs.SolveWords.{HasRefusedValue};
+ghost use Rattle.optplan_command.specs.SolvingCommands.{name_of, Solved};
 
 use crate::options::{RefusedValue, number_for, ties_for};
-use clap::{ArgMatches, Error};
+use clap::{ArgMatches, Command, Error};
 use optplan_device::Device;
 use optplan_replies::Status;
 use optplan_sas::{MAX_RING, MAX_TABLE, MAX_WORKERS, Options};
 use optplan_solve::{Schedule, Settings, Watch, run_solve, run_solve_sas};
 use optplan_words::{solve_command, solve_sas_command};
+use std::alloc::{AllocError, Global};
 use std::sync::Wait;
 use std::thread::Threads;
 use std::time::Clock;
@@ -82,15 +84,47 @@ fn settings_of<'a>(words: &ArgMatches<'a>) -> Result<Settings<'a>, RefusedValue<
     })
 }
 
-/// Solves a planning task as the words request, and returns the exit status. Fails with the command's error for the first
-/// value that is refused, or if allocation fails.
+/// A command that solves a task.
+#[derive(Clone, Copy, Debug)]
+pub(crate) enum SolvingCommand {
+    /// Solves a planning task.
+    Solve,
+    /// Solves a finite-domain task.
+    SolveSas,
+}
+
+/// The command of this name, if it solves a task.
+pub(crate) fn solving_command(name: &str) -> Option<SolvingCommand>
+    ensures some { IfSome result (λ command. name.now ≡ name_of command) }
+    ensures none { IfNone result ((name.now ≢ codes "solve") × (name.now ≢ codes "solve-sas")) }
+{
+    match name {
+        "solve" => Some(SolvingCommand::Solve),
+        "solve-sas" => Some(SolvingCommand::SolveSas),
+        _ => None,
+    }
+}
+
+impl SolvingCommand {
+    /// The command's definition, whose usage an error in its words shows. Fails only if allocation fails.
+    fn definition<'a>(self, alloc: Global) -> Result<Command<'a>, AllocError> {
+        match self {
+            SolvingCommand::Solve => solve_command(alloc, "optplan solve"),
+            SolvingCommand::SolveSas => solve_sas_command(alloc, "optplan solve-sas"),
+        }
+    }
+}
+
+/// Solves a task as the words of this command request, and returns the exit status. Fails with the command's error for the
+/// first value that is refused, or if allocation fails.
 pub(crate) fn solve_by_words<D: Device, R: Threads + Wait + Clock + Eprint + Sync + AllocGlobal>(
     rt: &R,
     device: &mut D,
+    command: SolvingCommand,
     words: &ArgMatches<'_>,
 ) -> Result<Status, Error>
     ensures done { IfOk result (λ status. (h : List Event) → D.history device.old ≡ Some h → D.failure_count device.new ≡ D.failure_count device.old → status ≢ Status.OutOfMemory →
-        (new : List Event) × (D.history device.new ≡ Some new) × SolvesByWords (λ name. first_value (found_of words.now) name) h new status) }
+        (new : List Event) × (D.history device.new ≡ Some new) × Solved command (λ name. first_value (found_of words.now) name) h new status) }
     ensures counted { IfOk result (λ status. status ≡ Status.DeviceFailed → D.failure_count device.old + 1 ≤ D.failure_count device.new) }
     ensures same { OnErr result (D.failure_count device.new ≡ D.failure_count device.old) }
     ensures refused { IfErr result (λ e. (kind_of e ≡ OutOfMemory) ⊎ ((kind_of e ≡ ValueValidation) × HasRefusedValue (λ name. first_value (found_of words.now) name))) }
@@ -98,34 +132,19 @@ pub(crate) fn solve_by_words<D: Device, R: Threads + Wait + Clock + Eprint + Syn
     let settings = match settings_of(words) {
         Ok(settings) => settings,
         Err(refused) => {
-            let command = solve_command(rt.alloc(), "optplan solve")?;
-            return Err(refused.error(rt.alloc(), command));
+            let definition = command.definition(rt.alloc())?;
+            return Err(refused.error(rt.alloc(), definition));
         }
     };
-    let domain = words.get_str("DOMAIN").unwrap_or("");
-    let problem = words.get_str("PROBLEM").unwrap_or("");
-    Ok(run_solve(rt, device, domain, problem, &settings))
-}
-
-/// Solves a finite-domain task as the words request, and returns the exit status. Fails with the command's error for the
-/// first value that is refused, or if allocation fails.
-pub(crate) fn solve_sas_by_words<
-    D: Device,
-    R: Threads + Wait + Clock + Eprint + Sync + AllocGlobal,
->(rt: &R, device: &mut D, words: &ArgMatches<'_>) -> Result<Status, Error>
-    ensures done { IfOk result (λ status. (h : List Event) → D.history device.old ≡ Some h → D.failure_count device.new ≡ D.failure_count device.old → status ≢ Status.OutOfMemory →
-        (new : List Event) × (D.history device.new ≡ Some new) × SolvesSasByWords (λ name. first_value (found_of words.now) name) h new status) }
-    ensures counted { IfOk result (λ status. status ≡ Status.DeviceFailed → D.failure_count device.old + 1 ≤ D.failure_count device.new) }
-    ensures same { OnErr result (D.failure_count device.new ≡ D.failure_count device.old) }
-    ensures refused { IfErr result (λ e. (kind_of e ≡ OutOfMemory) ⊎ ((kind_of e ≡ ValueValidation) × HasRefusedValue (λ name. first_value (found_of words.now) name))) }
-{
-    let settings = match settings_of(words) {
-        Ok(settings) => settings,
-        Err(refused) => {
-            let command = solve_sas_command(rt.alloc(), "optplan solve-sas")?;
-            return Err(refused.error(rt.alloc(), command));
+    match command {
+        SolvingCommand::Solve => {
+            let domain = words.get_str("DOMAIN").unwrap_or("");
+            let problem = words.get_str("PROBLEM").unwrap_or("");
+            Ok(run_solve(rt, device, domain, problem, &settings))
         }
-    };
-    let sas = words.get_str("SAS").unwrap_or("");
-    Ok(run_solve_sas(rt, device, sas, &settings))
+        SolvingCommand::SolveSas => {
+            let sas = words.get_str("SAS").unwrap_or("");
+            Ok(run_solve_sas(rt, device, sas, &settings))
+        }
+    }
 }
