@@ -1,0 +1,225 @@
+#!/usr/bin/env python3
+"""Measures how a search by threads grows with their number: in nodes expanded a second, in the time of the search, and in nodes expanded again.
+
+    engine.py BENCH_ENGINE [--baseline BASELINE] FILE..
+
+BENCH_ENGINE is the program that `rt run` in crates/bench_engine has built. BASELINE is a planner that takes the words `hda FILE --workers N`, with
+`--blind` where it is to make no tables and else the same tables as BENCH_ENGINE, ends after the seconds of `--time` at the latest with status 5, and
+prints lines `cost N`, `expanded N` and `seconds_search S`, with status 0, or 4 and no cost where there is no plan. Each FILE is an output.sas.
+
+Each task is searched blind and with tables of at most 100,000 abstract states, by 1, 2, 4 and 64 workers. A search that one worker settles with at
+most 2,000,000 expansions is done to its end by any number of workers. Else 400,000 expansions are divided among the workers, the search is
+stopped as soon as one of them has done its share, and BASELINE runs for ten seconds at most. Runs of both programs, and of all numbers
+of workers, alternate, and the fastest of three runs counts. A line for a search has
+
+    task        the file's name
+    tables      whether there are tables
+    program     ours or baseline
+    workers     how many threads search
+    expanded    how many nodes all workers expand, each as often as it is expanded
+    a second    how many nodes all workers expand in a second of the search, in thousands
+    rate        how many times as many nodes a second as the same program with one worker
+    seconds     wall time of the search alone, without reading and tables
+    speed       how many times as fast as the same program with one worker
+    more        how many nodes more than the same program with one worker are expanded
+
+where speed and more are left out if the search is stopped, and all figures if a run takes more than 120 seconds in all, which ends it. The last lines are
+medians of rate and speed. A search is left out that one worker settles with fewer than 20,000 expansions, or in less than 0.05 seconds.
+
+Figures are only printed. The status is 1 where a program fails, or answers differ: the costs of one task, or how its search ends.
+"""
+
+import argparse
+import os
+import re
+import statistics
+import subprocess
+import sys
+import time
+
+RUNS = 3
+WORKERS = (1, 2, 4, 64)
+RING = 64
+TABLE = 100_000
+MOST = 2_000_000
+SHARED = 400_000
+NO_LIMIT = 2 ** 63
+CAP = 120
+SECONDS = 10
+FEWEST = 20_000
+LEAST_SECONDS = 0.05
+# A search is taken to last at least so many seconds: the programs tell no less than milliseconds.
+LEAST_TIME = 1e-3
+ANSWER = re.compile(r"(?:settled (?P<cost>\d+|infinite)|stopped)\n")
+FIGURES = re.compile(r"expansions (?P<expansions>\d+), states \d+, milliseconds (?P<milliseconds>\d+)\n")
+
+
+class Fault(Exception):
+    """A program failed, or answered otherwise than it may."""
+
+
+class Run:
+    """One run of a program: the cost that it tells, None if it was stopped, with its expansions and the seconds of its search."""
+
+    def __init__(self, cost, expansions, seconds):
+        self.cost, self.expansions, self.seconds = cost, expansions, max(seconds, LEAST_TIME)
+
+    def rate(self):
+        return self.expansions / self.seconds
+
+
+def run(words):
+    """The status of a run and what it writes on both streams, or None where it is ended by the cap."""
+    try:
+        ran = subprocess.run(words, stdin=subprocess.DEVNULL, stdout=subprocess.PIPE, stderr=subprocess.PIPE, timeout=CAP, check=False)
+    except subprocess.TimeoutExpired:
+        return None
+    return ran.returncode, ran.stdout.decode("ascii", "replace"), ran.stderr.decode("ascii", "replace")
+
+
+def run_ours(program, file, workers, with_tables, limit):
+    """One run of BENCH_ENGINE, or None where it is ended by the cap."""
+    ran = run([program, file, str(workers), str(RING), str(TABLE if with_tables else 0), str(limit)])
+    if ran is None:
+        return None
+    status, output, errors = ran
+    answer, figures = ANSWER.fullmatch(output), FIGURES.fullmatch(errors)
+    if status != 0 or answer is None or figures is None:
+        raise Fault(f"{workers} workers: status {status}, {output[:100]!r}, {errors[:200]!r}")
+    return Run(answer["cost"], int(figures["expansions"]), int(figures["milliseconds"]) / 1e3)
+
+
+def run_baseline(program, file, workers, with_tables, seconds):
+    """One run of BASELINE, or None where it is ended by the cap."""
+    ran = run([program, "hda", file, "--workers", str(workers), "--quiet", "--time", str(seconds), *([] if with_tables else ["--blind"])])
+    if ran is None:
+        return None
+    status, output, errors = ran
+    told = dict(line.split(" ", 1) for line in output.splitlines() if " " in line)
+    if status not in (0, 4, 5) or "expanded" not in told or "seconds_search" not in told or (status == 0 and "cost" not in told):
+        raise Fault(f"the baseline with {workers} workers: status {status}, {output[-100:]!r}, {errors[:200]!r}")
+    cost = {0: told.get("cost"), 4: "infinite", 5: None}[status]
+    return Run(cost, int(told["expanded"]), float(told["seconds_search"]))
+
+
+class Search:
+    """The fastest of some runs of a program with so many workers."""
+
+    def __init__(self, program, workers, run_once):
+        self.program, self.workers, self.run_once = program, workers, run_once
+        self.best, self.is_past, self.costs = None, False, set()
+
+    def run(self):
+        """Runs it once more, if no run was ended by the cap."""
+        if self.is_past:
+            return
+        ran = self.run_once()
+        if ran is None:
+            self.best, self.is_past = None, True
+            return
+        self.costs.add(ran.cost)
+        if self.best is None or ran.seconds < self.best.seconds:
+            self.best = ran
+
+    def figures(self, one):
+        """Rate and speed beside the search by one worker, each None where it is left out."""
+        if self.best is None or one.best is None:
+            return None, None
+        is_settled = None not in self.costs | one.costs
+        return self.best.rate() / one.best.rate(), one.best.seconds / self.best.seconds if is_settled else None
+
+    def line(self, one):
+        """Its columns from the third one on."""
+        head = f"{self.program:<8} {self.workers:>7}"
+        if self.best is None:
+            return f"{head} past {CAP} seconds"
+        rate, speed = self.figures(one)
+        more = "-" if speed is None else format(self.best.expansions - one.best.expansions, ",")
+        rate, speed = ("-" if it is None else format(it, ".2f") for it in (rate, speed))
+        return f"{head} {self.best.expansions:>11,} {self.best.rate() / 1e3:>8,.0f} {rate:>6} {self.best.seconds:>8.3f} {speed:>6} {more:>11}"
+
+
+def searches_of(program, baseline, file, with_tables, is_settled):
+    """The searches of a task, by their program and the number of workers."""
+    limits = {workers: NO_LIMIT if is_settled else SHARED // workers for workers in WORKERS}
+    seconds = CAP - SECONDS if is_settled else SECONDS
+    searches = {}
+    for workers in WORKERS:
+        searches["ours", workers] = Search("ours", workers, lambda n=workers: run_ours(program, file, n, with_tables, limits[n]))
+        if baseline:
+            searches["baseline", workers] = Search(
+                "baseline", workers, lambda n=workers: run_baseline(baseline, file, n, with_tables, seconds))
+    return searches
+
+
+def measure(program, baseline, file, with_tables):
+    """The searches of a task, none if they are left out. Fails where a program fails, or does not end the search as it should."""
+    first = run_ours(program, file, 1, with_tables, MOST)
+    is_settled = first is not None and first.cost is not None
+    if is_settled and (first.expansions < FEWEST or first.seconds < LEAST_SECONDS):
+        return {}
+    searches = searches_of(program, baseline, file, with_tables, is_settled)
+    for _ in range(RUNS):
+        for search in searches.values():
+            search.run()
+    for (name, workers), search in searches.items():
+        if is_settled and name == "ours" and None in search.costs:
+            raise Fault(f"{workers} workers: stopped, with no limit that ends the search")
+    return searches
+
+
+def print_searches(name, with_tables, searches):
+    """Prints the lines of a task's searches, those of one program after the other."""
+    for program, workers in sorted(searches, key=lambda it: (it[0] != "ours", it[1])):
+        line = searches[program, workers].line(searches[program, 1])
+        print(f"{name:<20} {'yes' if with_tables else 'no':>6} {line}", flush=True)
+
+
+def median(values):
+    """The median of the values that are not left out, as it is printed."""
+    known = [it for it in values if it is not None]
+    return f"{statistics.median(known):.2f}" if known else "-"
+
+
+def print_medians(with_tables, measured):
+    """Prints the medians of rate and speed over all tasks, for each program and number of workers."""
+    for program in ("ours", "baseline"):
+        for workers in WORKERS[1:]:
+            figures = [it[program, workers].figures(it[program, 1]) for it in measured if (program, workers) in it]
+            if figures:
+                rates, speeds = zip(*figures)
+                print(f"median {'with tables' if with_tables else 'blind'}, {program}, {workers} workers: rate {median(rates)}, speed {median(speeds)}")
+
+
+def main(arguments):
+    """Measures each task and prints the lines."""
+    parser = argparse.ArgumentParser(prog="engine.py", usage="engine.py BENCH_ENGINE [--baseline BASELINE] FILE..", add_help=False)
+    parser.add_argument("program")
+    parser.add_argument("--baseline")
+    parser.add_argument("files", nargs="+")
+    words = parser.parse_args(arguments)
+    print(f"{'task':<20} {'tables':>6} {'program':<8} {'workers':>7} {'expanded':>11} {'a second':>8} {'rate':>6} {'seconds':>8} {'speed':>6} {'more':>11}")
+    started, failed, costs = time.time(), False, {file: set() for file in words.files}
+    for with_tables in (False, True):
+        measured = []
+        for file in words.files:
+            try:
+                searches = measure(words.program, words.baseline, file, with_tables)
+            except (Fault, OSError) as fault:
+                failed = True
+                print(f"engine.py: {file}: {fault}", file=sys.stderr)
+                continue
+            measured.append(searches)
+            print_searches(os.path.splitext(os.path.basename(file))[0], with_tables, searches)
+            costs[file].update(*(it.costs for it in searches.values()))
+        print_medians(with_tables, measured)
+    for file, told in costs.items():
+        if len(told - {None}) > 1:
+            failed = True
+            print(f"engine.py: {file}: answers differ: {' and '.join(sorted(told - {None}))}", file=sys.stderr)
+    print(f"{time.time() - started:.0f} seconds in all")
+    return int(failed)
+
+
+if __name__ == "__main__":
+    sys.exit(main(sys.argv[1:]))

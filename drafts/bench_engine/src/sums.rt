@@ -1,0 +1,25 @@
+//! Sums over the owners of a search.
+
+use owner::Owner;
+use packed::StateForm;
+use packed_spread::Spread;
+
+/// The number of nodes that all owners have expanded, at most the greatest `u64`.
+pub(crate) fn expanded_by<S: Spread + Drop, F: StateForm + Drop>(
+    owners: &[Owner<'_, S, F>],
+) -> u64 {
+    let mut expansions: u64 = 0;
+    for owner in owners {
+        expansions = expansions.saturating_add(owner.expansions());
+    }
+    expansions
+}
+
+/// The number of states that all owners store, at most the greatest `usize`.
+pub(crate) fn kept_by<S: Spread + Drop, F: StateForm + Drop>(owners: &[Owner<'_, S, F>]) -> usize {
+    let mut kept: usize = 0;
+    for owner in owners {
+        kept = kept.saturating_add(owner.len());
+    }
+    kept
+}
