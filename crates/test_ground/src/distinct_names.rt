@@ -3,7 +3,6 @@
 use pddl_names::Names;
 use std::alloc::Global;
 use std::process::Abort;
-use std::test::*;
 
 /// Names in the order in which they are added, each with its number: that of its first addition.
 const ADDED: &[(&str, usize)] = &[
@@ -16,34 +15,35 @@ const ADDED: &[(&str, usize)] = &[
 ];
 
 /// Adds the names, and checks the number that each is given.
-fn add_all<R: Abort>(rt: &R, alloc: Global, names: &mut Names) {
+fn add_all(rt: &impl Abort, alloc: Global, names: &mut Names) {
     for (name, number) in ADDED {
-        assert_eq!(rt; names.add(alloc, name), Ok(*number), "at {name}");
+        let given = names.add(alloc, name).expect(rt, "memory");
+        assert!(rt; given == *number, "at {name}");
     }
 }
 
-/// Checks that the name has this number.
-fn has_number<'a, R: Abort>(rt: &R, names: &'a Names, name: &'a str, number: usize) {
-    assert_eq!(rt; names.place_of(name), Some(number), "at {name}");
-    assert_eq!(rt; names.number_of(name), number, "at {name}");
-    assert_eq!(rt; names.name(number), Some(name), "at {name}");
-    assert!(rt; names.contains(name), "at {name}");
+/// Whether the name has this number.
+fn has_number(names: &Names, name: &str, number: usize) -> bool {
+    names.place_of(name) == Some(number)
+        && names.number_of(name) == number
+        && names.name(number) == Some(name)
+        && names.contains(name)
 }
 
 /// Checks that each name has its number.
-fn have_numbers<R: Abort>(rt: &R, names: &Names) {
+fn have_numbers(rt: &impl Abort, names: &Names) {
     for (name, number) in ADDED {
-        has_number(rt, names, name, *number);
+        assert!(rt; has_number(names, name, *number), "at {name}");
     }
 }
 
-/// Checks that a name which was not added has the number behind all.
-fn lacks_crate<R: Abort>(rt: &R, names: &Names) {
-    assert!(rt; !names.contains("crate"));
-    assert_eq!(rt; names.place_of("crate"), None);
-    assert_eq!(rt; names.number_of("crate"), 4);
-    assert_eq!(rt; names.name(4), None);
+/// Whether a name which was not added has the number behind all.
+fn lacks_crate(names: &Names) -> bool {
     names.are_distinct();
+    !names.contains("crate")
+        && names.place_of("crate").is_none()
+        && names.number_of("crate") == 4
+        && names.name(4).is_none()
 }
 
 #[test]
@@ -51,9 +51,9 @@ fn numbers_in_the_order_of_first_addition(rt: HostRuntime) {
     let mut names = Names::new(rt.alloc());
     assert!(rt; names.is_empty());
     add_all(&rt, rt.alloc(), &mut names);
-    assert_eq!(rt; names.len(), 4);
+    assert!(rt; names.len() == 4);
     have_numbers(&rt, &names);
-    lacks_crate(&rt, &names);
+    assert!(rt; lacks_crate(&names));
 }
 
 #[test]
@@ -61,7 +61,8 @@ fn a_copy_is_left_as_it_was(rt: HostRuntime) {
     let mut names = Names::new(rt.alloc());
     add_all(&rt, rt.alloc(), &mut names);
     let copy = names.try_clone().expect(&rt, "memory");
-    assert_eq!(rt; names.add(rt.alloc(), "crate"), Ok(4));
+    let given = names.add(rt.alloc(), "crate").expect(&rt, "memory");
+    assert!(rt; given == 4);
     have_numbers(&rt, &copy);
-    lacks_crate(&rt, &copy);
+    assert!(rt; lacks_crate(&copy));
 }

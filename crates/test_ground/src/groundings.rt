@@ -1,8 +1,8 @@
 //! The least closed set of atoms, and the ground actions over it.
 
-use crate::texts::{Told, tells};
+use crate::texts::{Told, joined, tells};
+use std::alloc::Global;
 use std::process::Abort;
-use std::test::*;
 
 /// Towns a, b and c, and the place d.
 const PLACES: &str =
@@ -31,64 +31,66 @@ const END: &str = "(:action end :parameters (?x - town) :precondition (at c) :ef
 const BOTH: &str = "(:action both :parameters (?x - town) :effect (and (at c) (at ?x)))";
 
 /// Checks the grounding of the action over the towns, for this goal.
-fn grounds<R: Abort + AllocGlobal>(
-    rt: &R,
-    action: &str,
-    goal: &str,
-    want: &str,
-) -> Result<(), Fail> {
-    let domain = format!(in rt.alloc(); "{PLACES}{action})")?;
-    let problem = format!(in rt.alloc(); "{AT_A}{goal}))")?;
-    tells(rt, domain.as_str(), problem.as_str(), Told::Grounding, want)
+fn grounds(rt: &impl Abort, alloc: Global, action: &str, goal: &str, want: &str) {
+    let domain = joined(rt, alloc, PLACES, action, ")");
+    let problem = joined(rt, alloc, AT_A, goal, "))");
+    tells(
+        rt,
+        alloc,
+        domain.as_str(),
+        problem.as_str(),
+        Told::Grounding,
+        want,
+    );
 }
 
 #[test]
-fn roads_are_followed(rt: HostRuntime) -> Result<(), Fail> {
+fn roads_are_followed(rt: HostRuntime) {
     let want = "at a|at b|at c|road a b|road b c\n\ngo a b|go b c";
-    grounds(&rt, GO, "()", want)?;
-    grounds(&rt, GO, "(at c)", want)
+    grounds(&rt, rt.alloc(), GO, "()", want);
+    grounds(&rt, rt.alloc(), GO, "(at c)", want);
 }
 
 #[test]
-fn negative_preconditions_are_left_out(rt: HostRuntime) -> Result<(), Fail> {
+fn negative_preconditions_are_left_out(rt: HostRuntime) {
     let want = "at a|road a b|road b c|done\n\nclose a|close b|close c";
-    grounds(&rt, CLOSE, "()", want)
+    grounds(&rt, rt.alloc(), CLOSE, "()", want);
 }
 
 #[test]
-fn schemas_without_parameters(rt: HostRuntime) -> Result<(), Fail> {
+fn schemas_without_parameters(rt: HostRuntime) {
     let want = "at a|at c|road a b|road b c\n\nleap";
-    grounds(&rt, LEAP, "()", want)
+    grounds(&rt, rt.alloc(), LEAP, "()", want);
 }
 
 #[test]
-fn objects_that_differ_or_are_equal(rt: HostRuntime) -> Result<(), Fail> {
+fn objects_that_differ_or_are_equal(rt: HostRuntime) {
     let pairs = "at a|road a b|road b c\n\npair a b|pair a c|pair b a|pair b c|pair c a|pair c b";
-    grounds(&rt, PAIR, "()", pairs)?;
+    grounds(&rt, rt.alloc(), PAIR, "()", pairs);
     let same = "at a|road a b|road b c\n\nsame a a|same b b|same c c";
-    grounds(&rt, SAME, "()", same)
+    grounds(&rt, rt.alloc(), SAME, "()", same);
 }
 
 #[test]
-fn objects_of_a_supertype(rt: HostRuntime) -> Result<(), Fail> {
+fn objects_of_a_supertype(rt: HostRuntime) {
     let want = "at a|at b|at c|at d|road a b|road b c\n\nvisit a|visit b|visit c|visit d";
-    grounds(&rt, VISIT, "()", want)
+    grounds(&rt, rt.alloc(), VISIT, "()", want);
 }
 
 #[test]
-fn atoms_of_the_goal_are_listed(rt: HostRuntime) -> Result<(), Fail> {
+fn atoms_of_the_goal_are_listed(rt: HostRuntime) {
     let pairs =
         "at a|at c|road a b|road b c\n\npair a b|pair a c|pair b a|pair b c|pair c a|pair c b";
-    grounds(&rt, PAIR, "(at c)", pairs)?;
-    grounds(&rt, END, "()", "at a|road a b|road b c\n\n")?;
+    grounds(&rt, rt.alloc(), PAIR, "(at c)", pairs);
+    grounds(&rt, rt.alloc(), END, "()", "at a|road a b|road b c\n\n");
     let ends = "at a|at c|road a b|road b c|done\n\nend a|end b|end c";
-    grounds(&rt, END, "(at c)", ends)
+    grounds(&rt, rt.alloc(), END, "(at c)", ends);
 }
 
 #[test]
-fn effects_on_a_constant_and_a_parameter(rt: HostRuntime) -> Result<(), Fail> {
+fn effects_on_a_constant_and_a_parameter(rt: HostRuntime) {
     let want = "at a|at b|at c|road a b|road b c\n\nboth a|both b|both c";
-    grounds(&rt, BOTH, "()", want)
+    grounds(&rt, rt.alloc(), BOTH, "()", want);
 }
 
 /// Balls x and y, and rooms p and q.
@@ -126,43 +128,39 @@ const TWO_LENGTHS: &str =
      (= (len a b) 3) (= (len b c) 4)) (:goal (at c)) (:metric minimize (total-cost)))";
 
 /// Checks the grounding of the task.
-fn grounds_to<R: Abort + AllocGlobal>(
-    rt: &R,
-    domain: &str,
-    problem: &str,
-    want: &str,
-) -> Result<(), Fail> {
-    tells(rt, domain, problem, Told::Grounding, want)
+fn grounds_to(rt: &impl Abort, alloc: Global, domain: &str, problem: &str, want: &str) {
+    tells(rt, alloc, domain, problem, Told::Grounding, want);
 }
 
 #[test]
-fn objects_are_told_apart_by_static_atoms(rt: HostRuntime) -> Result<(), Fail> {
+fn objects_are_told_apart_by_static_atoms(rt: HostRuntime) {
     let want =
         "room p|room q|ball x|ball y|here p|here q|in x p|in x q|in y p|in y q|free|held x|held y\n\n\
          move p q|move q p|pick x p|pick x q|pick y p|pick y q|drop x p|drop x q|drop y p|drop y q";
-    grounds_to(&rt, GRIP, TWO_BALLS, want)
+    grounds_to(&rt, rt.alloc(), GRIP, TWO_BALLS, want);
 }
 
 #[test]
-fn an_initial_state_without_atoms(rt: HostRuntime) -> Result<(), Fail> {
-    grounds_to(&rt, DOOR, ONE_DOOR, "in\n\nenter d")
+fn an_initial_state_without_atoms(rt: HostRuntime) {
+    grounds_to(&rt, rt.alloc(), DOOR, ONE_DOOR, "in\n\nenter d");
 }
 
 #[test]
-fn actions_without_a_cost_are_left_out(rt: HostRuntime) -> Result<(), Fail> {
+fn actions_without_a_cost_are_left_out(rt: HostRuntime) {
     let want = "at a|at b|at c|road a b|road a c|road b c\n\ngo a b|go b c";
-    grounds_to(&rt, DRIVE, TWO_LENGTHS, want)
+    grounds_to(&rt, rt.alloc(), DRIVE, TWO_LENGTHS, want);
 }
 
 #[test]
-fn actions_over_a_set_that_is_not_closed(rt: HostRuntime) -> Result<(), Fail> {
-    let domain = format!(in rt.alloc(); "{PLACES}{GO})")?;
+fn actions_over_a_set_that_is_not_closed(rt: HostRuntime) {
+    let domain = joined(&rt, rt.alloc(), PLACES, GO, ")");
     let problem = "(define (problem p) (:init (at a) (road a b)) (:goal ()))";
     tells(
         &rt,
+        rt.alloc(),
         domain.as_str(),
         problem,
         Told::InitialActions,
         "go a b",
-    )
+    );
 }

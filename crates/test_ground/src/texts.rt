@@ -8,136 +8,167 @@ use ground_atoms::Atoms;
 use pddl::read_task;
 use pddl_names::Names;
 use pddl_task::{GroundAction, GroundAtom, Task};
-use std::alloc::{AllocError, Global};
+use std::alloc::Global;
 use std::process::Abort;
-use std::test::Fail;
+
+/// The three texts in one.
+pub(crate) fn joined(
+    rt: &impl Abort,
+    alloc: Global,
+    first: &str,
+    between: &str,
+    last: &str,
+) -> String {
+    let mut text = String::from_str(alloc, first).expect(rt, "memory");
+    text.push_str(between).expect(rt, "memory");
+    text.push_str(last).expect(rt, "memory");
+    text
+}
+
+fn push_objects(rt: &impl Abort, text: &mut String, names: &Names, objects: &[usize]) {
+    for object in objects {
+        text.push_str(" ").expect(rt, "memory");
+        text.push_str(names.name(*object).unwrap_or("?"))
+            .expect(rt, "memory");
+    }
+}
 
 /// Appends the name of that number and those of the objects, after a `|` unless the text is empty.
 fn push_named(
+    rt: &impl Abort,
     text: &mut String,
     named: &Names,
     number: usize,
     names: &Names,
     objects: &[usize],
-) -> Result<(), AllocError> {
+) {
     if !text.is_empty() {
-        text.push_str("|")?;
+        text.push_str("|").expect(rt, "memory");
     }
-    text.push_str(named.name(number).unwrap_or("?"))?;
-    for object in objects {
-        text.push_str(" ")?;
-        text.push_str(names.name(*object).unwrap_or("?"))?;
-    }
-    Ok(())
+    text.push_str(named.name(number).unwrap_or("?"))
+        .expect(rt, "memory");
+    push_objects(rt, text, names, objects);
 }
 
-fn atoms_text(alloc: Global, task: &Task, atoms: &[GroundAtom]) -> Result<String, AllocError> {
+fn atoms_text(rt: &impl Abort, alloc: Global, task: &Task, atoms: &[GroundAtom]) -> String {
     let mut text = String::new(alloc);
     for atom in atoms {
         let objects = atom.objects.as_slice();
         push_named(
+            rt,
             &mut text,
             &task.vocabulary.predicates,
             atom.predicate,
             &task.vocabulary.objects,
             objects,
-        )?;
+        );
     }
-    Ok(text)
+    text
 }
 
-fn actions_text(
-    alloc: Global,
-    task: &Task,
-    actions: &[GroundAction],
-) -> Result<String, AllocError> {
+fn actions_text(rt: &impl Abort, alloc: Global, task: &Task, actions: &[GroundAction]) -> String {
     let mut text = String::new(alloc);
     for action in actions {
         let objects = action.objects.as_slice();
         push_named(
+            rt,
             &mut text,
             &task.vocabulary.schemas,
             action.schema,
             &task.vocabulary.objects,
             objects,
-        )?;
+        );
     }
-    Ok(text)
+    text
 }
 
 /// The atoms and the actions, separated by a blank line.
 fn lists_text(
+    rt: &impl Abort,
     alloc: Global,
     task: &Task,
     atoms: &[GroundAtom],
     actions: &[GroundAction],
-) -> Result<String, AllocError> {
-    let mut text = atoms_text(alloc, task, atoms)?;
-    text.push_str("\n\n")?;
-    text.push_str(actions_text(alloc, task, actions)?.as_str())?;
-    Ok(text)
+) -> String {
+    let atoms = atoms_text(rt, alloc, task, atoms);
+    let actions = actions_text(rt, alloc, task, actions);
+    joined(rt, alloc, atoms.as_str(), "\n\n", actions.as_str())
 }
 
-fn grounding_text(alloc: Global, task: &Task) -> Result<String, AllocError>
+/// The text as one that is owned.
+fn owned(rt: &impl Abort, alloc: Global, text: &str) -> String {
+    String::from_str(alloc, text).expect(rt, "memory")
+}
+
+fn grounding_text(rt: &impl Abort, alloc: Global, task: &Task) -> String
     requires { IsTrue (has_small_costs task.now) }
 {
     match ground(alloc, task) {
-        Ok(grounded) => lists_text(alloc, task, grounded.atoms.as_slice(), &grounded.actions),
-        Err(_) => String::from_str(alloc, "no grounding"),
+        Ok(grounded) => {
+            lists_text(
+                rt,
+                alloc,
+                task,
+                grounded.atoms.as_slice(),
+                &grounded.actions,
+            )
+        }
+        Err(_) => owned(rt, alloc, "no grounding"),
     }
 }
 
 /// The atoms as a list without repeats.
-fn listed(alloc: Global, atoms: &[GroundAtom]) -> Result<Atoms, AllocError> {
+fn listed(rt: &impl Abort, alloc: Global, atoms: &[GroundAtom]) -> Atoms {
     let mut list = Atoms::new(alloc);
     for atom in atoms {
-        list.push(atom.try_clone(alloc)?)?;
+        list.push(atom.try_clone(alloc).expect(rt, "memory"))
+            .expect(rt, "memory");
     }
-    Ok(list)
+    list
 }
 
-fn initial_actions(alloc: Global, task: &Task) -> Result<String, AllocError>
+fn initial_actions(rt: &impl Abort, alloc: Global, task: &Task) -> String
     requires { IsTrue (has_small_costs task.now) }
 {
-    let atoms = listed(alloc, &task.initial)?;
+    let atoms = listed(rt, alloc, &task.initial);
     match actions_over(alloc, task, &atoms) {
-        Ok(actions) => actions_text(alloc, task, &actions),
-        Err(_) => String::from_str(alloc, "no actions"),
+        Ok(actions) => actions_text(rt, alloc, task, &actions),
+        Err(_) => owned(rt, alloc, "no actions"),
     }
 }
 
 /// An action and an atom, separated by a `|`.
 fn open_text(
+    rt: &impl Abort,
     alloc: Global,
     task: &Task,
     actions: &[GroundAction],
     atoms: &[GroundAtom],
-) -> Result<String, AllocError> {
-    let mut text = actions_text(alloc, task, actions)?;
-    text.push_str("|")?;
-    text.push_str(atoms_text(alloc, task, atoms)?.as_str())?;
-    Ok(text)
+) -> String {
+    let actions = actions_text(rt, alloc, task, actions);
+    let atoms = atoms_text(rt, alloc, task, atoms);
+    joined(rt, alloc, actions.as_str(), "|", atoms.as_str())
 }
 
-fn opening_text(alloc: Global, task: &Task) -> Result<String, AllocError>
+fn opening_text(rt: &impl Abort, alloc: Global, task: &Task) -> String
     requires { IsTrue (has_small_costs task.now) }
 {
-    let atoms = listed(alloc, &task.initial)?;
+    let atoms = listed(rt, alloc, &task.initial);
     match is_closed(alloc, task, &atoms) {
-        Ok(()) => String::from_str(alloc, "closed"),
-        Err(OpenFault::Ground(_)) => String::from_str(alloc, "no answer"),
-        Err(OpenFault::FirstOpen(action, atom)) => open_text(alloc, task, &[action], &[atom]),
+        Ok(()) => owned(rt, alloc, "closed"),
+        Err(OpenFault::Ground(_)) => owned(rt, alloc, "no answer"),
+        Err(OpenFault::FirstOpen(action, atom)) => open_text(rt, alloc, task, &[action], &[atom]),
     }
 }
 
 /// How many atoms a task's grounding has, or that there are more than the limit.
-fn count_text(alloc: Global, task: &Task) -> Result<String, AllocError>
+fn count_text(rt: &impl Abort, alloc: Global, task: &Task) -> String
     requires { IsTrue (has_small_costs task.now) }
 {
     match ground(alloc, task) {
-        Ok(grounded) => format!(in alloc; "{}", grounded.atoms.len()),
-        Err(GroundFault::GroundLimit) => String::from_str(alloc, "more than the limit"),
-        Err(GroundFault::OutOfMemory) => String::from_str(alloc, "no grounding"),
+        Ok(grounded) => format!(in alloc; "{}", grounded.atoms.len()).expect(rt, "memory"),
+        Err(GroundFault::GroundLimit) => owned(rt, alloc, "more than the limit"),
+        Err(GroundFault::OutOfMemory) => owned(rt, alloc, "no grounding"),
     }
 }
 
@@ -154,35 +185,35 @@ pub(crate) enum Told {
     Opening,
 }
 
-fn told_of(alloc: Global, task: &Task, told: Told) -> Result<String, AllocError>
+fn told_of(rt: &impl Abort, alloc: Global, task: &Task, told: Told) -> String
     requires { IsTrue (has_small_costs task.now) }
 {
     match told {
-        Told::Grounding => grounding_text(alloc, task),
-        Told::Count => count_text(alloc, task),
-        Told::InitialActions => initial_actions(alloc, task),
-        Told::Opening => opening_text(alloc, task),
+        Told::Grounding => grounding_text(rt, alloc, task),
+        Told::Count => count_text(rt, alloc, task),
+        Told::InitialActions => initial_actions(rt, alloc, task),
+        Told::Opening => opening_text(rt, alloc, task),
     }
 }
 
 /// What is told of the task that the texts spell. Nothing else owns a task, since the proof of a function that does, and may return at many
 /// places, is long.
-fn text_of(alloc: Global, domain: &str, problem: &str, told: Told) -> Result<String, AllocError> {
+fn text_of(rt: &impl Abort, alloc: Global, domain: &str, problem: &str, told: Told) -> String {
     match read_task(alloc, domain.as_bytes(), problem.as_bytes()) {
-        Ok(task) => told_of(alloc, &task, told),
-        Err(_) => String::from_str(alloc, "no task"),
+        Ok(task) => told_of(rt, alloc, &task, told),
+        Err(_) => owned(rt, alloc, "no task"),
     }
 }
 
 /// Checks what is told of the task.
-pub(crate) fn tells<R: Abort + AllocGlobal>(
-    rt: &R,
+pub(crate) fn tells(
+    rt: &impl Abort,
+    alloc: Global,
     domain: &str,
     problem: &str,
     told: Told,
     want: &str,
-) -> Result<(), Fail> {
-    let found = text_of(rt.alloc(), domain, problem, told)?;
+) {
+    let found = text_of(rt, alloc, domain, problem, told);
     assert_eq!(rt; found.as_str(), want, "{domain} {problem}");
-    Ok(())
 }
