@@ -2,19 +2,16 @@
 
 use cert_value::{ClosedList, Values};
 use cost::Dist;
-use std::alloc::{AllocError, Global};
-use std::test::*;
+use std::alloc::Global;
+use std::process::Abort;
 
-fn three_values(alloc: Global) -> Result<Values, AllocError> {
+fn three_values(rt: &impl Abort, alloc: Global) -> Values {
     let mut values = Values::new(alloc);
-    for value in [
-        Dist::ZERO,
-        Dist::inf(),
-        Dist::fin(9_223_372_036_854_775_808).unwrap_or(Dist::ZERO),
-    ] {
-        values.push(value)?;
-    }
-    Ok(values)
+    values.push(Dist::ZERO).expect(rt, "memory");
+    values.push(Dist::inf()).expect(rt, "memory");
+    let great = Dist::fin(9_223_372_036_854_775_808).unwrap_or(Dist::ZERO);
+    values.push(great).expect(rt, "memory");
+    values
 }
 
 /// Whether the values are these, of which `None` is infinite.
@@ -28,11 +25,14 @@ fn are_values(values: &Values, wanted: &[Option<u64>]) -> bool {
 }
 
 #[test]
-fn keeps_values(rt: HostRuntime) -> Result<(), Fail> {
-    assert!(rt; Values::new(rt.alloc()).is_empty());
-    let values = three_values(rt.alloc())?;
+fn keeps_values(rt: HostRuntime) {
+    let values = three_values(&rt, rt.alloc());
     assert!(rt; are_values(&values, &[Some(0), None, Some(9_223_372_036_854_775_808)]));
-    Ok(())
+}
+
+#[test]
+fn begins_without_values(rt: HostRuntime) {
+    assert!(rt; Values::new(rt.alloc()).is_empty());
 }
 
 fn has_state(closed: &ClosedList, place: usize, state: &[u32]) -> bool {
@@ -64,15 +64,36 @@ fn has_three_states(closed: &ClosedList) -> bool {
     ) && !has_state(closed, 2, &[65_535, 0])
 }
 
+fn two_states(rt: &impl Abort, alloc: Global) -> ClosedList {
+    let mut closed = ClosedList::new(alloc);
+    closed.push(7, &[1, 2]).expect(rt, "memory");
+    closed.push(9, &[3, 65_535]).expect(rt, "memory");
+    closed
+}
+
 #[test]
-fn keeps_states(rt: HostRuntime) {
-    let mut closed = ClosedList::new(rt.alloc());
-    assert_eq!(rt; closed.width(), None);
-    closed.push(7, &[1, 2]).expect(&rt, "memory");
-    closed.push(9, &[3, 65_535]).expect(&rt, "memory");
+fn begins_without_a_width(rt: HostRuntime) {
+    assert!(rt; ClosedList::new(rt.alloc()).width().is_none());
+}
+
+#[test]
+fn keeps_two_states(rt: HostRuntime) {
+    let closed = two_states(&rt, rt.alloc());
     assert!(rt; has_two_states(&closed));
+}
+
+fn three_states(rt: &impl Abort, alloc: Global) -> ClosedList {
+    let mut closed = ClosedList::new(alloc);
+    closed.push(7, &[1, 2]).expect(rt, "memory");
+    closed.push(9, &[3, 65_535]).expect(rt, "memory");
     closed
         .push(5, &[4_294_967_295, 65_536])
-        .expect(&rt, "memory");
+        .expect(rt, "memory");
+    closed
+}
+
+#[test]
+fn keeps_states(rt: HostRuntime) {
+    let closed = three_states(&rt, rt.alloc());
     assert!(rt; has_three_states(&closed));
 }

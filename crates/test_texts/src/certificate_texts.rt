@@ -4,7 +4,7 @@ use cert_text::{CertFault, MAX_LENGTH, read_cert, write_cert};
 use cert_value::{Certificate, CertificateKind, ClosedList, PatternTable, Share, Values};
 use cost::Dist;
 use std::alloc::{AllocError, Global};
-use std::test::*;
+use std::process::Abort;
 
 const K1: &[u8] =
     b"optplan-cert 1\npddl\nbound 2\natoms 5\nat a\nat b\nat c\nroad a b\nroad b c\nvars 1\n0 3 0 1 2\ncolumns 0\nclosed 2\n0 0\n1 1\nend\n";
@@ -59,22 +59,37 @@ fn wanted(fault: &[u8]) -> Option<CertFault> {
     }
 }
 
-/// The first row with a text that does not have its fault. A row is a line's number, a fault, and texts in place of that
-/// line.
-fn first_wrong(alloc: Global, text: &[u8], rows: &[&[u8]]) -> Result<Option<usize>, Fail> {
-    for (at, row) in rows.iter().enumerate() {
-        let mut parts = row.split(|byte| *byte == b'|');
-        let (Some(line), Some(fault)) = (parts.next(), parts.next()) else {
-            return Ok(Some(at));
-        };
-        for part in parts {
-            let edited = with_line(alloc, text, number_of_digits(line), part)?;
-            if fault_of(alloc, &edited) != wanted(fault) {
-                return Ok(Some(at));
-            }
+/// The fault of the text with other bytes in place of a line.
+fn edited_fault(
+    rt: &impl Abort,
+    alloc: Global,
+    text: &[u8],
+    line: usize,
+    bytes: &[u8],
+) -> Option<CertFault> {
+    let edited = with_line(alloc, text, line, bytes).expect(rt, "memory");
+    fault_of(alloc, &edited)
+}
+
+/// Whether each text of the row has the row's fault. A row is a line's number, a fault, and texts in place of that line.
+fn has_fault(rt: &impl Abort, alloc: Global, text: &[u8], row: &[u8]) -> bool {
+    let mut parts = row.split(|byte| *byte == b'|');
+    let (Some(line), Some(fault)) = (parts.next(), parts.next()) else {
+        return false;
+    };
+    for part in parts {
+        if edited_fault(rt, alloc, text, number_of_digits(line), part) != wanted(fault) {
+            return false;
         }
     }
-    Ok(None)
+    true
+}
+
+/// Checks that the texts of each row have its fault.
+fn have_faults(rt: &impl Abort, alloc: Global, text: &[u8], rows: &[&[u8]]) {
+    for (at, row) in rows.iter().enumerate() {
+        assert!(rt; has_fault(rt, alloc, text, row), "row {at}");
+    }
 }
 
 fn dist(number: u64) -> Dist {
@@ -101,193 +116,224 @@ fn is_read(alloc: Global, text: &[u8], states: usize) -> bool {
 
 #[test]
 fn reads_and_writes_again(rt: HostRuntime) {
-    for (text, states) in [(K1, 2), (K2, 0), (K3, 2)] {
-        assert!(rt; is_read(rt.alloc(), text, states), "{states}");
+    assert!(rt; is_read(rt.alloc(), K1, 2));
+    assert!(rt; is_read(rt.alloc(), K2, 0));
+    assert!(rt; is_read(rt.alloc(), K3, 2));
+}
+
+/// Checks that each front of the text is truncated.
+fn has_truncated_fronts(rt: &impl Abort, alloc: Global, text: &[u8]) {
+    for length in 0..text.len() {
+        let fault = fault_of(alloc, &text[..length]);
+        assert!(rt; fault == Some(CertFault::Truncated), "{length}");
     }
 }
 
 #[test]
 fn every_front_is_truncated(rt: HostRuntime) {
-    for text in [K1, K2, K3] {
-        for length in 0..text.len() {
-            assert_eq!(rt;
-                fault_of(rt.alloc(), &text[..length]),
-                Some(CertFault::Truncated),
-                "{length}"
-            );
-        }
-    }
+    has_truncated_fronts(&rt, rt.alloc(), K1);
+    has_truncated_fronts(&rt, rt.alloc(), K2);
+    has_truncated_fronts(&rt, rt.alloc(), K3);
 }
 
-#[test]
-fn heads(rt: HostRuntime) -> Result<(), Fail> {
-    let rows: [&[u8]; 6] = [
-        b"1|H|optplan-cert 1\r|optplan-cert 1 |optplan-cert 2|",
-        b"2|E2|pddl\r|fdr|",
-        b"3|E3|bound  |bound |bound 2 | bound 2|bound|bound\t2|bound 2 2|bount 2|",
-        b"3|N3|bound 01|bound 2\r|bound Inf|bound +1|bound -0|bound 1.0|bound 00|bound x",
-        b"3|N3|bound 4611686018427387905|bound 18446744073709551616|bound 99999999999999999999999",
-        b"3|-|bound inf|bound 0|bound 4611686018427387904",
-    ];
-    assert_eq!(rt; first_wrong(rt.alloc(), K1, &rows)?, None);
-    Ok(())
-}
+/// Rows of the lines before the atoms.
+const HEADS: &[&[u8]] = &[
+    b"1|H|optplan-cert 1\r|optplan-cert 1 |optplan-cert 2|",
+    b"2|E2|pddl\r|fdr|",
+    b"3|E3|bound  |bound |bound 2 | bound 2|bound|bound\t2|bound 2 2|bount 2|",
+    b"3|N3|bound 01|bound 2\r|bound Inf|bound +1|bound -0|bound 1.0|bound 00|bound x",
+    b"3|N3|bound 4611686018427387905|bound 18446744073709551616|bound 99999999999999999999999",
+    b"3|-|bound inf|bound 0|bound 4611686018427387904",
+];
 
 #[test]
-fn atoms_and_variables(rt: HostRuntime) -> Result<(), Fail> {
-    let rows: [&[u8]; 12] = [
-        b"4|E11|atoms 6",
-        b"4|E4|atoms|atom 5|atoms 5 ",
-        b"4|N4|atoms x|atoms 05|atoms 4294967296",
-        b"4|T|atoms 4294967295",
-        b"5|E5|at  a|at a |at\ta|at \x7f|at \xc3\xa9|",
-        b"5|-|(AT;) ~ !|at",
-        b"10|E11|vars 0",
-        b"10|N10|vars 4294967296",
-        b"11|O11|0 3 1 0 2|0 3 0 0 1",
-        b"11|N11|0 3 0 1 5|0 0|2 2 1 0|0 x 5 5|01 1 0|0 1 4294967296",
-        b"11|E11|0 0 1|x 3 1 0|0 3 0 1|0|0  3 0 1 2|",
-        b"11|-|0 3 0 1 4|1 1 4",
-    ];
-    assert_eq!(rt; first_wrong(rt.alloc(), K1, &rows)?, None);
-    Ok(())
+fn heads(rt: HostRuntime) {
+    have_faults(&rt, rt.alloc(), K1, HEADS);
 }
 
-#[test]
-fn tables(rt: HostRuntime) -> Result<(), Fail> {
-    let rows: [&[u8]; 17] = [
-        b"12|N12|columns 65",
-        b"12|E17|columns 64",
-        b"12|E13|columns 0",
-        b"12|E12|column 1|columns|columns  1",
-        b"13|N13|column 0|column 65",
-        b"13|E17|column 2",
-        b"14|N14|table 0|table x 0|table 2 1 00|table 1 4294967296",
-        b"14|E14|table 0 0|table|table x  0|table 4294967296 0|table 18446744073709551617 0|table 2 0",
-        b"14|O14|table 2 1 0|table 2 0 0",
-        b"14|-|table 1 4294967295|table 2 0 7",
-        b"15|E15|shares 2 0 1 1|shares 1 0 1 1|shares 0 1",
-        b"15|O15|shares 2 1 1 0 1|shares 2 1 1 1 1",
-        b"15|N15|shares 1 0 0|shares 1 0 2147483648|shares 1 0 inf|shares x 1",
-        b"15|-|shares 1 0 2147483647|shares 0",
-        b"16|E16|values 3 2 1|values 16777217 0|values 0 1",
-        b"16|N16|values 01 0|values 1 36028797018963969|values 1 INF",
-        b"16|-|values 1 36028797018963968|values 2 inf 0|values 0",
-    ];
-    assert_eq!(rt; first_wrong(rt.alloc(), K2, &rows)?, None);
-    Ok(())
-}
+/// Rows of the lines of atoms and variables.
+const ATOMS_AND_VARIABLES: &[&[u8]] = &[
+    b"4|E11|atoms 6",
+    b"4|E4|atoms|atom 5|atoms 5 ",
+    b"4|N4|atoms x|atoms 05|atoms 4294967296",
+    b"4|T|atoms 4294967295",
+    b"5|E5|at  a|at a |at\ta|at \x7f|at \xc3\xa9|",
+    b"5|-|(AT;) ~ !|at",
+    b"10|E11|vars 0",
+    b"10|N10|vars 4294967296",
+    b"11|O11|0 3 1 0 2|0 3 0 0 1",
+    b"11|N11|0 3 0 1 5|0 0|2 2 1 0|0 x 5 5|01 1 0|0 1 4294967296",
+    b"11|E11|0 0 1|x 3 1 0|0 3 0 1|0|0  3 0 1 2|",
+    b"11|-|0 3 0 1 4|1 1 4",
+];
 
 #[test]
-fn states(rt: HostRuntime) -> Result<(), Fail> {
-    let rows: [&[u8]; 12] = [
-        b"13|N13|closed 4294967296",
-        b"13|E16|closed 4294967295|closed 3",
-        b"13|E15|closed 1",
-        b"14|E15|0",
-        b"14|N14|0 x|inf 0|4611686018427387905 0|0 4294967296",
-        b"14|-|4611686018427387904 0|0 4294967295",
-        b"14|E14| 0 0|",
-        b"15|E15|1 1 1|x 1 1|1|1 1 |",
-        b"15|N15|1 01",
-        b"15|-|1 0|1 1",
-        b"16|E16|end |end\r|END|",
-        b"16|X17|end\nend",
-    ];
-    assert_eq!(rt; first_wrong(rt.alloc(), K1, &rows)?, None);
-    Ok(())
+fn atoms_and_variables(rt: HostRuntime) {
+    have_faults(&rt, rt.alloc(), K1, ATOMS_AND_VARIABLES);
+}
+
+/// Rows of the lines of columns and tables.
+const TABLES: &[&[u8]] = &[
+    b"12|N12|columns 65",
+    b"12|E17|columns 64",
+    b"12|E13|columns 0",
+    b"12|E12|column 1|columns|columns  1",
+    b"13|N13|column 0|column 65",
+    b"13|E17|column 2",
+    b"14|N14|table 0|table x 0|table 2 1 00|table 1 4294967296",
+    b"14|E14|table 0 0|table|table x  0|table 4294967296 0|table 18446744073709551617 0|table 2 0",
+    b"14|O14|table 2 1 0|table 2 0 0",
+    b"14|-|table 1 4294967295|table 2 0 7",
+    b"15|E15|shares 2 0 1 1|shares 1 0 1 1|shares 0 1",
+    b"15|O15|shares 2 1 1 0 1|shares 2 1 1 1 1",
+    b"15|N15|shares 1 0 0|shares 1 0 2147483648|shares 1 0 inf|shares x 1",
+    b"15|-|shares 1 0 2147483647|shares 0",
+    b"16|E16|values 3 2 1|values 16777217 0|values 0 1",
+    b"16|N16|values 01 0|values 1 36028797018963969|values 1 INF",
+    b"16|-|values 1 36028797018963968|values 2 inf 0|values 0",
+];
+
+#[test]
+fn tables(rt: HostRuntime) {
+    have_faults(&rt, rt.alloc(), K2, TABLES);
+}
+
+/// Rows of the lines of states, and of the last line.
+const STATES: &[&[u8]] = &[
+    b"13|N13|closed 4294967296",
+    b"13|E16|closed 4294967295|closed 3",
+    b"13|E15|closed 1",
+    b"14|E15|0",
+    b"14|N14|0 x|inf 0|4611686018427387905 0|0 4294967296",
+    b"14|-|4611686018427387904 0|0 4294967295",
+    b"14|E14| 0 0|",
+    b"15|E15|1 1 1|x 1 1|1|1 1 |",
+    b"15|N15|1 01",
+    b"15|-|1 0|1 1",
+    b"16|E16|end |end\r|END|",
+    b"16|X17|end\nend",
+];
+
+#[test]
+fn states(rt: HostRuntime) {
+    have_faults(&rt, rt.alloc(), K1, STATES);
 }
 
 /// The fault of a text with another behind it.
-fn fault_behind(alloc: Global, text: &[u8], more: &[u8]) -> Result<Option<CertFault>, AllocError> {
-    let mut bytes = Vec::from_slice(alloc, text)?;
-    bytes.extend_from_slice(more)?;
-    Ok(fault_of(alloc, &bytes))
+fn fault_behind(rt: &impl Abort, alloc: Global, text: &[u8], more: &[u8]) -> Option<CertFault> {
+    let mut bytes = Vec::from_slice(alloc, text).expect(rt, "memory");
+    bytes.extend_from_slice(more).expect(rt, "memory");
+    fault_of(alloc, &bytes)
 }
+
+/// Texts, others behind them, and the line at which each is trailing.
+const BEHIND: &[(&[u8], &[u8], usize)] = &[
+    (K1, b"x", 17),
+    (K1, b"\n", 17),
+    (K1, b"x\ny\n", 17),
+    (K3, b" ", 9),
+];
 
 #[test]
-fn ends(rt: HostRuntime) -> Result<(), Fail> {
-    for (text, more, fault) in [
-        (K1, b"x".as_slice(), Some(CertFault::Trailing(17))),
-        (K1, b"\n".as_slice(), Some(CertFault::Trailing(17))),
-        (K1, b"x\ny\n".as_slice(), Some(CertFault::Trailing(17))),
-        (K3, b" ".as_slice(), Some(CertFault::Trailing(9))),
-    ] {
-        assert_eq!(rt; fault_behind(rt.alloc(), text, more)?, fault);
+fn nothing_stands_behind_the_end(rt: HostRuntime) {
+    for (text, more, line) in BEHIND {
+        let fault = fault_behind(&rt, rt.alloc(), text, more);
+        assert!(rt; fault == Some(CertFault::Trailing(*line)), "line {line}");
     }
-    for (text, fault) in [
-        (b"".as_slice(), Some(CertFault::Truncated)),
-        (b"\n".as_slice(), Some(CertFault::Header)),
-        (b"x".as_slice(), Some(CertFault::Truncated)),
-        (
-            b"optplan-cert 1\nsas\nbound 2\ncolumns 0\nclosed 3\n0\n1\nend\n".as_slice(),
-            Some(CertFault::Number(8)),
-        ),
-        (
-            b"optplan-cert 1\nsas\nbound 2\ncolumns 0\nclosed 2\n0\n1\nend\n".as_slice(),
-            None,
-        ),
-        (
-            b"optplan-cert 1\nsas\nbound 0\ncolumns 0\nclosed 0\nendx".as_slice(),
-            Some(CertFault::Truncated),
-        ),
-        (
-            b"optplan-cert 1\nsas\nbound 0\ncolumns 0\nclosed 0\nend\n".as_slice(),
-            None,
-        ),
-        (
-            b"optplan-cert 1\npddl\nbound 0\natoms 0\nvars 1\n0 1 0\n".as_slice(),
-            Some(CertFault::Number(6)),
-        ),
-    ] {
-        assert_eq!(rt; fault_of(rt.alloc(), text), fault);
-    }
-    Ok(())
 }
 
-/// A table whose values are infinite and 2^55.
-fn large_table(alloc: Global) -> Result<PatternTable, AllocError> {
+/// Texts, and the fault of each.
+const ENDS: &[(&[u8], Option<CertFault>)] = &[
+    (b"", Some(CertFault::Truncated)),
+    (b"\n", Some(CertFault::Header)),
+    (b"x", Some(CertFault::Truncated)),
+    (
+        b"optplan-cert 1\nsas\nbound 2\ncolumns 0\nclosed 3\n0\n1\nend\n",
+        Some(CertFault::Number(8)),
+    ),
+    (
+        b"optplan-cert 1\nsas\nbound 2\ncolumns 0\nclosed 2\n0\n1\nend\n",
+        None,
+    ),
+    (
+        b"optplan-cert 1\nsas\nbound 0\ncolumns 0\nclosed 0\nendx",
+        Some(CertFault::Truncated),
+    ),
+    (
+        b"optplan-cert 1\nsas\nbound 0\ncolumns 0\nclosed 0\nend\n",
+        None,
+    ),
+    (
+        b"optplan-cert 1\npddl\nbound 0\natoms 0\nvars 1\n0 1 0\n",
+        Some(CertFault::Number(6)),
+    ),
+];
+
+#[test]
+fn ends(rt: HostRuntime) {
+    for (at, (text, fault)) in ENDS.iter().enumerate() {
+        assert!(rt; fault_of(rt.alloc(), text) == *fault, "row {at}");
+    }
+}
+
+/// The values infinite and 2^55.
+fn large_values(rt: &impl Abort, alloc: Global) -> Values {
     let mut values = Values::new(alloc);
-    values.push(Dist::inf())?;
-    values.push(dist(36_028_797_018_963_968))?;
-    Ok(PatternTable {
-        pattern: [0, 4_294_967_295].to_vec(alloc)?,
-        shares: [Share {
-            operator: 7,
-            amount: 2_147_483_647,
-        }]
-        .to_vec(alloc)?,
-        values,
-    })
+    values.push(Dist::inf()).expect(rt, "memory");
+    values
+        .push(dist(36_028_797_018_963_968))
+        .expect(rt, "memory");
+    values
+}
+
+/// A table of those values.
+fn large_table(rt: &impl Abort, alloc: Global) -> PatternTable {
+    let share = Share {
+        operator: 7,
+        amount: 2_147_483_647,
+    };
+    PatternTable {
+        pattern: Vec::from_slice(alloc, &[0, 4_294_967_295]).expect(rt, "memory"),
+        shares: Vec::from_slice(alloc, &[share]).expect(rt, "memory"),
+        values: large_values(rt, alloc),
+    }
 }
 
 /// A column of that table alone.
-fn large_columns(alloc: Global) -> Result<Vec<Vec<PatternTable>>, AllocError> {
+fn large_column(rt: &impl Abort, alloc: Global) -> Vec<PatternTable> {
     let mut column = Vec::new(alloc);
-    column.push(large_table(alloc)?)?;
+    column.push(large_table(rt, alloc)).expect(rt, "memory");
+    column
+}
+
+fn large_columns(rt: &impl Abort, alloc: Global) -> Vec<Vec<PatternTable>> {
     let mut columns = Vec::new(alloc);
-    columns.push(column)?;
-    Ok(columns)
+    columns.push(large_column(rt, alloc)).expect(rt, "memory");
+    columns
 }
 
-fn large_certificate(alloc: Global) -> Result<Certificate, AllocError> {
-    let columns = large_columns(alloc)?;
+/// A state of one value, listed at the cost 0.
+fn one_state(rt: &impl Abort, alloc: Global) -> ClosedList {
     let mut closed = ClosedList::new(alloc);
-    closed.push(0, &[0])?;
-    Ok(Certificate::new(CertificateKind::Sas, Dist::inf(), columns, closed))
+    closed.push(0, &[0]).expect(rt, "memory");
+    closed
 }
 
-fn large_text(alloc: Global) -> Result<Vec<u8>, AllocError> {
-    let certificate = large_certificate(alloc)?;
-    write_cert(alloc, &certificate)
+fn large_text(rt: &impl Abort, alloc: Global) -> Vec<u8> {
+    let certificate = Certificate::new(
+        CertificateKind::Sas,
+        Dist::inf(),
+        large_columns(rt, alloc),
+        one_state(rt, alloc),
+    );
+    write_cert(alloc, &certificate).expect(rt, "memory")
 }
+
+const LARGE: &[u8] =
+    b"optplan-cert 1\nsas\nbound inf\ncolumns 1\ncolumn 1\ntable 2 0 4294967295\nshares 1 7 2147483647\nvalues 2 inf 36028797018963968\nclosed 1\n0 0\nend\n";
 
 #[test]
-fn writes_a_value(rt: HostRuntime) -> Result<(), Fail> {
-    let bytes = large_text(rt.alloc())?;
-    assert_eq!(rt;
-        bytes.as_slice(),
-        b"optplan-cert 1\nsas\nbound inf\ncolumns 1\ncolumn 1\ntable 2 0 4294967295\nshares 1 7 2147483647\nvalues 2 inf 36028797018963968\nclosed 1\n0 0\nend\n".as_slice()
-    );
-    Ok(())
+fn writes_a_value(rt: HostRuntime) {
+    let bytes = large_text(&rt, rt.alloc());
+    assert!(rt; bytes.as_slice() == LARGE);
 }

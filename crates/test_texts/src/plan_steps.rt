@@ -31,24 +31,18 @@ fn are_steps(steps: &[Step], wanted: &[NamedStep<'_>]) -> bool {
         })
 }
 
-/// Whether the second and then the first operator of a task of two are these steps.
-fn has_steps(rt: &impl Abort, alloc: Global, task: &FdrTask, wanted: &[NamedStep<'_>]) -> bool {
-    assert_eq!(rt; task.operator_count(), 2);
-    are_steps(
-        &named_steps(alloc, task, &[1, 0]).expect(rt, "memory"),
-        wanted,
-    )
+/// The second and then the first operator.
+const WANTED: &[NamedStep<'static>] = &[("wait", &[]), ("go", &["a", "b"])];
+
+/// Checks the names of the second and then the first operator of a task of two.
+fn has_steps(rt: &impl Abort, alloc: Global, task: &FdrTask) {
+    assert!(rt; task.operator_count() == 2);
+    let steps = named_steps(alloc, task, &[1, 0]).expect(rt, "memory");
+    assert!(rt; are_steps(&steps, WANTED));
 }
 
 #[test]
 fn steps_are_named(rt: HostRuntime) {
     let task = read_sas(rt.alloc(), WALK.as_bytes()).expect(&rt, "a task");
-    assert!(rt;
-        has_steps(
-            &rt,
-            rt.alloc(),
-            &task,
-            &[("wait", &[]), ("go", &["a", "b"])]
-        )
-    );
+    has_steps(&rt, rt.alloc(), &task);
 }

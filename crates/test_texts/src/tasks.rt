@@ -6,13 +6,13 @@ ghost use Rattle.pddl_task.specs.Planning.{has_small_costs};
 use pddl::read_task;
 use pddl_task::{GroundAction, GroundAtom, Task};
 use smallvec::SmallVec;
-use std::alloc::{AllocError, Global};
+use std::alloc::Global;
 use std::collections::HashSet;
 use std::process::Abort;
-use std::test::*;
 
-fn atom(alloc: Global, predicate: usize, objects: &[usize]) -> Result<GroundAtom, AllocError> {
-    Ok(GroundAtom::new(predicate, SmallVec::from_slice(alloc, objects)?))
+fn atom(rt: &impl Abort, alloc: Global, predicate: usize, objects: &[usize]) -> GroundAtom {
+    let objects = SmallVec::from_slice(alloc, objects).expect(rt, "memory");
+    GroundAtom::new(predicate, objects)
 }
 
 /// Types: object, town, and place, which is above town. Objects: a, b and c are towns, and d is a place. The action goes from
@@ -32,36 +32,36 @@ const WITH_METRIC: &str =
 const WITHOUT_METRIC: &str =
     "(define (problem p) (:init (= (length a b) 3) (= (length a d) 4)) (:goal ()))";
 
-fn has_type(rt: &impl Abort, task: &Task, type_number: usize, object: usize, want: bool) {
-    assert_eq!(rt;
-        task.is_of_type(type_number, object),
-        want,
-        "at {type_number} {object}"
-    );
-}
+/// Types, objects, and whether the object is of the type.
+const TYPES: &[(usize, usize, bool)] = &[
+    (1, 0, true),
+    (2, 0, true),
+    (0, 0, true),
+    (1, 3, false),
+    (2, 3, true),
+    (0, 4, false),
+    (3, 0, false),
+];
 
 /// Checks whether objects are of types.
-fn have_types(rt: &impl Abort, task: &Task, rows: &[(usize, usize, bool)]) {
-    for (type_number, object, want) in rows {
-        has_type(rt, task, *type_number, *object, *want);
+fn have_types(rt: &impl Abort, task: &Task) {
+    for (type_number, object, want) in TYPES {
+        assert!(rt;
+            task.is_of_type(*type_number, *object) == *want,
+            "at {type_number} {object}"
+        );
     }
+}
+
+/// Checks whether objects are of types in the task.
+fn have_types_in(rt: &impl Abort, alloc: Global, problem: &str) {
+    let task = read_task(alloc, PLACES.as_bytes(), problem.as_bytes()).expect(rt, "a task");
+    have_types(rt, &task);
 }
 
 #[test]
 fn types_lead_to_their_supertypes(rt: HostRuntime) {
-    let task = read_task(rt.alloc(), PLACES.as_bytes(), WITH_METRIC.as_bytes()).expect(
-        &rt, "a task",
-    );
-    let table = [
-        (1, 0, true),
-        (2, 0, true),
-        (0, 0, true),
-        (1, 3, false),
-        (2, 3, true),
-        (0, 4, false),
-        (3, 0, false),
-    ];
-    have_types(&rt, &task, &table);
+    have_types_in(&rt, rt.alloc(), WITH_METRIC);
 }
 
 /// Whether the atoms are `at` of this object alone.
@@ -83,50 +83,44 @@ fn cost_of_trip(action: &GroundAction, start: usize, end: usize) -> u64 {
 
 /// The cost of the action from a town to a place, if there is one.
 fn cost_between(
+    rt: &impl Abort,
     alloc: Global,
     task: &Task,
     start: usize,
     end: usize,
-) -> Result<Option<u64>, AllocError>
+) -> Option<u64>
     requires { IsTrue (has_small_costs task.now) }
 {
-    match task.action_of(alloc, 0, &[start, end])? {
-        Some(action) => Ok(Some(cost_of_trip(&action, start, end))),
-        None => Ok(None),
+    match task.action_of(alloc, 0, &[start, end]).expect(rt, "memory") {
+        Some(action) => Some(cost_of_trip(&action, start, end)),
+        None => None,
     }
 }
 
 /// The same in the task with the metric, or without it.
-fn cost_of(
-    alloc: Global,
-    problem: &str,
-    start: usize,
-    end: usize,
-) -> Result<Option<u64>, AllocError> {
-    match read_task(alloc, PLACES.as_bytes(), problem.as_bytes()) {
-        Ok(task) => cost_between(alloc, &task, start, end),
-        Err(_) => Ok(Some(0)),
-    }
+fn cost_of(rt: &impl Abort, alloc: Global, problem: &str, start: usize, end: usize) -> Option<u64> {
+    let task = read_task(alloc, PLACES.as_bytes(), problem.as_bytes()).expect(rt, "a task");
+    cost_between(rt, alloc, &task, start, end)
 }
 
+/// The start, the end, and the cost with the metric and without it, where there is an action.
+const COSTS: &[(usize, usize, Option<u64>, Option<u64>)] = &[
+    (0, 1, Some(13), Some(1)),
+    (0, 3, Some(14), Some(1)),
+    (0, 0, None, None),
+    (1, 2, None, Some(1)),
+    (3, 0, None, None),
+    (0, 4, None, None),
+];
+
 #[test]
-fn actions_are_those_of_their_objects(rt: HostRuntime) -> Result<(), Fail> {
-    // The start, the end, and the cost with the metric and without it, where there is an action.
-    let table = [
-        (0, 1, Some(13), Some(1)),
-        (0, 3, Some(14), Some(1)),
-        (0, 0, None, None),
-        (1, 2, None, Some(1)),
-        (3, 0, None, None),
-        (0, 4, None, None),
-    ];
-    for (start, end, with_metric, without) in table {
-        for (problem, want) in [(WITH_METRIC, with_metric), (WITHOUT_METRIC, without)] {
-            let cost = cost_of(rt.alloc(), problem, start, end)?;
-            assert_eq!(rt; cost, want, "at {start} {end}");
-        }
+fn actions_are_those_of_their_objects(rt: HostRuntime) {
+    for (start, end, with_metric, without) in COSTS {
+        let cost = cost_of(&rt, rt.alloc(), WITH_METRIC, *start, *end);
+        assert!(rt; cost == *with_metric, "at {start} {end}");
+        let cost = cost_of(&rt, rt.alloc(), WITHOUT_METRIC, *start, *end);
+        assert!(rt; cost == *without, "at {start} {end} without metric");
     }
-    Ok(())
 }
 
 /// Whether a set of the one atom contains the other.
@@ -136,17 +130,14 @@ fn set_of_one_contains(alloc: Global, one: GroundAtom, other: &GroundAtom) -> bo
 }
 
 /// Whether a set of the atom of 0, 1, 2, 3 and 4 contains that of these objects.
-fn set_contains(alloc: Global, objects: &[usize]) -> Result<bool, AllocError> {
-    let first = atom(alloc, 1, &[0, 1, 2, 3, 4])?;
-    let other = atom(alloc, 1, objects)?;
-    Ok(set_of_one_contains(alloc, first, &other))
+fn set_contains(rt: &impl Abort, alloc: Global, objects: &[usize]) -> bool {
+    let other = atom(rt, alloc, 1, objects);
+    set_of_one_contains(alloc, atom(rt, alloc, 1, &[0, 1, 2, 3, 4]), &other)
 }
 
 #[test]
-fn a_set_tells_equal_atoms(rt: HostRuntime) -> Result<(), Fail> {
-    assert!(rt; set_contains(rt.alloc(), &[0, 1, 2, 3, 4])?);
-    for objects in [[0, 1, 2, 3, 5], [1, 0, 2, 3, 4]] {
-        assert!(rt; !set_contains(rt.alloc(), &objects)?);
-    }
-    Ok(())
+fn a_set_tells_equal_atoms(rt: HostRuntime) {
+    assert!(rt; set_contains(&rt, rt.alloc(), &[0, 1, 2, 3, 4]));
+    assert!(rt; !set_contains(&rt, rt.alloc(), &[0, 1, 2, 3, 5]));
+    assert!(rt; !set_contains(&rt, rt.alloc(), &[1, 0, 2, 3, 4]));
 }

@@ -2,14 +2,14 @@
 
 use sexp::{SexpFault, Span, Tree, read, read_all};
 use std::alloc::Global;
-use std::test::*;
+use std::process::Abort;
 
-fn fault(rt: &HostRuntime, text: &[u8]) -> Option<SexpFault> {
-    read(rt.alloc(), text).err()
+fn fault(alloc: Global, text: &[u8]) -> Option<SexpFault> {
+    read(alloc, text).err()
 }
 
-fn fault_of_all(rt: &HostRuntime, text: &[u8]) -> Option<SexpFault> {
-    read_all(rt.alloc(), text).err()
+fn fault_of_all(alloc: Global, text: &[u8]) -> Option<SexpFault> {
+    read_all(alloc, text).err()
 }
 
 fn is_word(tree: &Tree, want: &str, place: Span) -> bool {
@@ -28,17 +28,15 @@ fn is_list(tree: &Tree, count: usize, place: Span) -> bool {
 }
 
 #[test]
-fn one_word(rt: HostRuntime) -> Result<(), Fail> {
-    let tree = read(rt.alloc(), b" Ab;c\n")?;
+fn one_word(rt: HostRuntime) {
+    let tree = read(rt.alloc(), b" Ab;c\n").expect(&rt, "a tree");
     assert!(rt; is_word(&tree, "ab", Span { start: 1, end: 3 }));
-    Ok(())
 }
 
 #[test]
-fn one_list(rt: HostRuntime) -> Result<(), Fail> {
-    let tree = read(rt.alloc(), b"(a (B) ;)\n c)")?;
+fn one_list(rt: HostRuntime) {
+    let tree = read(rt.alloc(), b"(a (B) ;)\n c)").expect(&rt, "a tree");
     assert!(rt; is_list(&tree, 3, Span { start: 0, end: 13 }));
-    Ok(())
 }
 
 fn count_of(alloc: Global, text: &[u8]) -> Option<usize> {
@@ -50,28 +48,39 @@ fn count_of(alloc: Global, text: &[u8]) -> Option<usize> {
 
 #[test]
 fn several(rt: HostRuntime) {
-    assert_eq!(rt; count_of(rt.alloc(), b"a(b)c ; \xff"), Some(3));
-    assert_eq!(rt; count_of(rt.alloc(), b""), Some(0));
+    assert!(rt; count_of(rt.alloc(), b"a(b)c ; \xff") == Some(3));
+    assert!(rt; count_of(rt.alloc(), b"") == Some(0));
 }
+
+/// Texts, and the fault of each.
+const FAULTS: &[(&[u8], SexpFault)] = &[
+    (b"a\x80", SexpFault::NotAscii(1)),
+    (b"(a (b) (c", SexpFault::Unclosed(7)),
+    (b"a )", SexpFault::StrayClose(2)),
+    (b" ; a", SexpFault::Empty),
+    (b"a b \x00", SexpFault::Trailing(2)),
+    (b"a((((", SexpFault::Trailing(1)),
+];
 
 #[test]
 fn faults(rt: HostRuntime) {
-    assert_eq!(rt; fault(&rt, b"a\x80"), Some(SexpFault::NotAscii(1)));
-    assert_eq!(rt; fault(&rt, b"(a (b) (c"), Some(SexpFault::Unclosed(7)));
-    assert_eq!(rt; fault(&rt, b"a )"), Some(SexpFault::StrayClose(2)));
-    assert_eq!(rt; fault(&rt, b" ; a"), Some(SexpFault::Empty));
-    assert_eq!(rt; fault(&rt, b"a b \x00"), Some(SexpFault::Trailing(2)));
-    assert_eq!(rt; fault(&rt, b"a(((("), Some(SexpFault::Trailing(1)));
-    assert_eq!(rt;
-        fault_of_all(&rt, b"a b \x00"),
-        Some(SexpFault::NotAscii(4))
-    );
+    for (at, (text, want)) in FAULTS.iter().enumerate() {
+        assert!(rt; fault(rt.alloc(), text) == Some(*want), "row {at}");
+    }
+    let fault = fault_of_all(rt.alloc(), b"a b \x00");
+    assert!(rt; fault == Some(SexpFault::NotAscii(4)));
+}
+
+/// The fault of a text of this many opening parentheses.
+fn fault_of_opened(rt: &impl Abort, alloc: Global, count: usize) -> Option<SexpFault> {
+    let deep = vec![in alloc; b'('; count].expect(rt, "memory");
+    fault(alloc, &deep)
 }
 
 #[test]
-fn levels(rt: HostRuntime) -> Result<(), Fail> {
-    let deep = vec![in rt.alloc(); b'('; 201]?;
-    assert_eq!(rt; fault(&rt, &deep), Some(SexpFault::TooDeep(200)));
-    assert_eq!(rt; fault(&rt, &deep[..200]), Some(SexpFault::Unclosed(199)));
-    Ok(())
+fn levels(rt: HostRuntime) {
+    let deepest = fault_of_opened(&rt, rt.alloc(), 200);
+    assert!(rt; deepest == Some(SexpFault::Unclosed(199)));
+    let deeper = fault_of_opened(&rt, rt.alloc(), 201);
+    assert!(rt; deeper == Some(SexpFault::TooDeep(200)));
 }

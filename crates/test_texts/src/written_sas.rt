@@ -91,17 +91,9 @@ fn is_rewritten(alloc: Global, spelled: &str, sizes: &[usize], wanted: &str) -> 
 
 #[test]
 fn writes_what_is_worked_out(rt: HostRuntime) {
-    let rows: [(&str, &[usize], &str); 3] = [
-        (WALK, &[3], WALK_WRITTEN),
-        (ROOMS, &[2, 1], ROOMS_WRITTEN),
-        (NOTHING, &[], NOTHING),
-    ];
-    for (spelled, sizes, wanted) in rows {
-        assert!(rt;
-            is_rewritten(rt.alloc(), spelled, sizes, wanted),
-            "at {wanted}"
-        );
-    }
+    assert!(rt; is_rewritten(rt.alloc(), WALK, &[3], WALK_WRITTEN));
+    assert!(rt; is_rewritten(rt.alloc(), ROOMS, &[2, 1], ROOMS_WRITTEN));
+    assert!(rt; is_rewritten(rt.alloc(), NOTHING, &[], NOTHING));
 }
 
 /// The text of a plan for a task of two operators.
@@ -113,18 +105,19 @@ fn plan_of(rt: &impl Abort, alloc: Global, text: &str, plan: &[usize], cost: u64
     sas_plan_text(alloc, &task, plan, cost).expect(rt, "memory")
 }
 
+/// Checks the text of a plan for a task of two operators.
+fn is_plan(rt: &impl Abort, alloc: Global, text: &str, plan: &[usize], cost: u64, wanted: &str)
+    requires { All (λ o. o < 2) plan.now }
+{
+    let written = plan_of(rt, alloc, text, plan, cost);
+    assert_eq!(rt; written.as_str(), wanted);
+}
+
 #[test]
 fn plans_are_written(rt: HostRuntime) {
-    let walk = plan_of(&rt, rt.alloc(), WALK, &[0, 1], 2);
-    assert_eq!(rt;
-        walk.as_str(),
-        "(go a b)\n(go b c)\n; cost = 2 (unit cost)\n"
-    );
-    let none = plan_of(&rt, rt.alloc(), WALK, &[], 0);
-    assert_eq!(rt; none.as_str(), "; cost = 0 (unit cost)\n");
-    let rooms = plan_of(&rt, rt.alloc(), ROOMS, &[1, 0, 1], 7);
-    assert_eq!(rt;
-        rooms.as_str(),
-        "(leave q)\n(enter q)\n(leave q)\n; cost = 7 (general cost)\n"
-    );
+    let walk = "(go a b)\n(go b c)\n; cost = 2 (unit cost)\n";
+    is_plan(&rt, rt.alloc(), WALK, &[0, 1], 2, walk);
+    is_plan(&rt, rt.alloc(), WALK, &[], 0, "; cost = 0 (unit cost)\n");
+    let rooms = "(leave q)\n(enter q)\n(leave q)\n; cost = 7 (general cost)\n";
+    is_plan(&rt, rt.alloc(), ROOMS, &[1, 0, 1], 7, rooms);
 }
