@@ -23,11 +23,8 @@ use translate_theory::ListedVariable;
 type Atom<'a> = (usize, &'a [usize]);
 
 fn atom(rt: &impl Abort, alloc: Global, row: Atom<'_>) -> GroundAtom {
-    let (predicate, objects) = row;
-    GroundAtom::new(
-        predicate,
-        SmallVec::from_slice(alloc, objects).expect(rt, "memory"),
-    )
+    let objects = SmallVec::from_slice(alloc, row.1).expect(rt, "memory");
+    GroundAtom::new(row.0, objects)
 }
 
 fn atoms(rt: &impl Abort, alloc: Global, rows: &[Atom<'_>]) -> Vec<GroundAtom> {
@@ -46,6 +43,22 @@ fn listed(rt: &impl Abort, alloc: Global, rows: &[Atom<'_>]) -> Atoms {
     atoms
 }
 
+/// Appends a literal for each row: its atom, or the negation of it.
+fn push_literals(
+    rt: &impl Abort,
+    alloc: Global,
+    literals: &mut Vec<GroundLiteral>,
+    rows: &[Atom<'_>],
+    positive: bool,
+) {
+    for row in rows {
+        let atom = atom(rt, alloc, *row);
+        literals
+            .push(GroundLiteral { atom, positive })
+            .expect(rt, "memory");
+    }
+}
+
 /// An atom for each wanted row, and the negation of one for each excluded row.
 fn literals(
     rt: &impl Abort,
@@ -54,14 +67,8 @@ fn literals(
     excluded: &[Atom<'_>],
 ) -> Vec<GroundLiteral> {
     let mut literals = Vec::new(alloc);
-    for (rows, positive) in [(excluded, false), (wanted, true)] {
-        for row in rows {
-            let atom = atom(rt, alloc, *row);
-            literals
-                .push(GroundLiteral { atom, positive })
-                .expect(rt, "memory");
-        }
-    }
+    push_literals(rt, alloc, &mut literals, excluded, false);
+    push_literals(rt, alloc, &mut literals, wanted, true);
     literals
 }
 
@@ -75,22 +82,24 @@ struct Row<'a> {
     deletes: &'a [Atom<'a>],
 }
 
-/// The action of the first schema, of cost 1.
-fn action(rt: &impl Abort, alloc: Global, row: Row<'_>) -> GroundAction {
+/// The action of the first schema, at this cost.
+fn action(rt: &impl Abort, alloc: Global, row: Row<'_>, cost: u64) -> GroundAction {
     GroundAction {
         schema: 0,
         objects: SmallVec::from_slice(alloc, row.objects).expect(rt, "memory"),
         precondition: literals(rt, alloc, row.wanted, row.excluded),
         adds: atoms(rt, alloc, row.adds),
         deletes: atoms(rt, alloc, row.deletes),
-        cost: 1,
+        cost,
     }
 }
 
-fn actions(rt: &impl Abort, alloc: Global, rows: &[Row<'_>]) -> Vec<GroundAction> {
+fn actions(rt: &impl Abort, alloc: Global, rows: &[Row<'_>], cost: u64) -> Vec<GroundAction> {
     let mut actions = Vec::new(alloc);
     for row in rows {
-        actions.push(action(rt, alloc, *row)).expect(rt, "memory");
+        actions
+            .push(action(rt, alloc, *row, cost))
+            .expect(rt, "memory");
     }
     actions
 }
@@ -103,40 +112,43 @@ fn names(rt: &impl Abort, alloc: Global, texts: &[&str]) -> Names {
     names
 }
 
-/// The names of the objects, of the predicates and of the schemas.
+/// The names of objects, predicates and schemas, the initial atoms, the atoms of the goal and those that it excludes, and
+/// whether there is a metric.
 #[derive(Clone, Copy)]
-struct Texts<'a> {
+struct TaskRow<'a> {
     objects: &'a [&'a str],
     predicates: &'a [&'a str],
     schemas: &'a [&'a str],
+    initial: &'a [Atom<'a>],
+    goal: &'a [Atom<'a>],
+    excluded: &'a [Atom<'a>],
+    metric: bool,
 }
 
-fn task(
-    rt: &impl Abort,
-    alloc: Global,
-    texts: Texts<'_>,
-    initial: &[Atom<'_>],
-    goal: &[Atom<'_>],
-) -> Task {
+fn vocabulary(rt: &impl Abort, alloc: Global, row: TaskRow<'_>) -> Vocabulary {
+    Vocabulary {
+        objects: names(rt, alloc, row.objects),
+        predicates: names(rt, alloc, row.predicates),
+        functions: Names::new(alloc),
+        schemas: names(rt, alloc, row.schemas),
+    }
+}
+
+fn task(rt: &impl Abort, alloc: Global, row: TaskRow<'_>) -> Task {
     Task {
         supertypes: Vec::new(alloc),
         object_types: Vec::new(alloc),
         arities: Vec::new(alloc),
         schemas: Vec::new(alloc),
-        initial: atoms(rt, alloc, initial),
-        goal: literals(rt, alloc, goal, &[]),
+        initial: atoms(rt, alloc, row.initial),
+        goal: literals(rt, alloc, row.goal, row.excluded),
         values: IndexMap::new(alloc),
-        metric: false,
-        vocabulary: Vocabulary {
-            objects: names(rt, alloc, texts.objects),
-            predicates: names(rt, alloc, texts.predicates),
-            functions: Names::new(alloc),
-            schemas: names(rt, alloc, texts.schemas),
-        },
+        metric: row.metric,
+        vocabulary: vocabulary(rt, alloc, row),
     }
 }
 
-fn variables(rt: &impl Abort, alloc: Global, rows: &[(&[usize], bool)]) -> Vec<ListedVariable> {
+fn variables(rt: &impl Abort, alloc: Global, rows: &[VariableRow<'_>]) -> Vec<ListedVariable> {
     let mut variables = Vec::new(alloc);
     for (places, has_none) in rows {
         let places = Vec::from_slice(alloc, *places).expect(rt, "memory");
@@ -189,6 +201,36 @@ fn parts(
     parts_of(alloc, task, atoms, actions, variables).expect(rt, "memory")
 }
 
+/// The places of a variable's atoms, and whether it has a value besides.
+type VariableRow<'a> = (&'a [usize], bool);
+
+/// The parts of the task over these actions, with variables of these rows over atoms of these rows.
+fn parts_over(
+    rt: &impl Abort,
+    alloc: Global,
+    task: &Task,
+    all: &[Atom<'_>],
+    actions: &[GroundAction],
+    rows: &[VariableRow<'_>],
+) -> Parts {
+    let atoms = listed(rt, alloc, all);
+    let variables = variables(rt, alloc, rows);
+    parts(rt, alloc, task, &atoms, actions, &variables)
+}
+
+/// The parts of a task of rows.
+fn parts_of_rows(
+    rt: &impl Abort,
+    alloc: Global,
+    row: TaskRow<'_>,
+    all: &[Atom<'_>],
+    actions: &[GroundAction],
+    rows: &[VariableRow<'_>],
+) -> Parts {
+    let task = task(rt, alloc, row);
+    parts_over(rt, alloc, &task, all, actions, rows)
+}
+
 fn name_of(names: &[Vec<String>], variable: usize, value: usize) -> &str {
     match names.get(variable) {
         Some(names) => match names.get(value) {
@@ -228,37 +270,41 @@ fn is(
     }
 }
 
-const ROAD: Texts<'static> = Texts {
+/// A road from a by b to c.
+const ROAD: TaskRow<'static> = TaskRow {
     objects: &["a", "b", "c"],
     predicates: &["at", "road"],
     schemas: &["go"],
+    initial: &[(0, &[0]), (1, &[0, 1]), (1, &[1, 2])],
+    goal: &[(0, &[2])],
+    excluded: &[],
+    metric: false,
 };
 
-/// The road from a by b to c, with these variables over `at a`, `at b`, `at c` and the two roads.
-fn road(rt: &impl Abort, alloc: Global, rows: &[(&[usize], bool)]) -> Parts {
-    let initial: [Atom<'_>; 3] = [(0, &[0]), (1, &[0, 1]), (1, &[1, 2])];
-    let all: [Atom<'_>; 5] = [(0, &[0]), (0, &[1]), (0, &[2]), (1, &[0, 1]), (1, &[1, 2])];
-    let go = [
-        Row {
-            objects: &[0, 1],
-            wanted: &[(0, &[0]), (1, &[0, 1])],
-            excluded: &[],
-            adds: &[(0, &[1])],
-            deletes: &[(0, &[0])],
-        },
-        Row {
-            objects: &[1, 2],
-            wanted: &[(0, &[1]), (1, &[1, 2])],
-            excluded: &[],
-            adds: &[(0, &[2])],
-            deletes: &[(0, &[1])],
-        },
-    ];
-    let task = task(rt, alloc, ROAD, &initial, &[(0, &[2])]);
-    let atoms = listed(rt, alloc, &all);
-    let actions = actions(rt, alloc, &go);
-    let variables = variables(rt, alloc, rows);
-    parts(rt, alloc, &task, &atoms, &actions, &variables)
+/// At a, at b, at c and the two roads.
+const ROAD_ATOMS: &[Atom<'static>] = &[(0, &[0]), (0, &[1]), (0, &[2]), (1, &[0, 1]), (1, &[1, 2])];
+
+const GO: &[Row<'static>] = &[
+    Row {
+        objects: &[0, 1],
+        wanted: &[(0, &[0]), (1, &[0, 1])],
+        excluded: &[],
+        adds: &[(0, &[1])],
+        deletes: &[(0, &[0])],
+    },
+    Row {
+        objects: &[1, 2],
+        wanted: &[(0, &[1]), (1, &[1, 2])],
+        excluded: &[],
+        adds: &[(0, &[2])],
+        deletes: &[(0, &[1])],
+    },
+];
+
+/// The parts of the road, with these variables over its atoms.
+fn road(rt: &impl Abort, alloc: Global, rows: &[VariableRow<'_>]) -> Parts {
+    let actions = actions(rt, alloc, GO, 1);
+    parts_of_rows(rt, alloc, ROAD, ROAD_ATOMS, &actions, rows)
 }
 
 fn is_road_of_one_variable(parts: &Parts) -> bool {
@@ -306,56 +352,57 @@ fn a_road_of_two_variables(rt: HostRuntime) {
     assert!(rt; is_road_of_two_variables(&parts));
 }
 
-/// The parts over all actions of the gripper: it goes from each of the rooms p and q to the other, and picks up and drops each
-/// of the balls x and y in each.
-fn gripper_parts(
-    rt: &impl Abort,
-    alloc: Global,
-    task: &Task,
-    atoms: &Atoms,
-    variables: &[ListedVariable],
-) -> Parts
-    requires { IsTrue (has_small_costs task.now) }
-{
-    let grounded = ground(alloc, task).expect(rt, "room");
-    parts(rt, alloc, task, atoms, &grounded.actions, variables)
-}
+/// Atoms of the gripper.
+const GRIPPER_ATOMS: &[Atom<'static>] = &[
+    (0, &[0]),
+    (1, &[2]),
+    (2, &[0]),
+    (2, &[1]),
+    (3, &[2, 0]),
+    (3, &[2, 1]),
+    (5, &[2]),
+    (3, &[3, 0]),
+    (3, &[3, 1]),
+    (5, &[3]),
+    (4, &[]),
+];
 
 /// Variables for the gripper's room, for each ball, and for whether the gripper is free; the atoms of rooms and balls are
 /// constant.
-fn gripper(rt: &impl Abort, alloc: Global) -> Parts {
-    let all: [Atom<'_>; 11] = [
-        (0, &[0]),
-        (1, &[2]),
-        (2, &[0]),
-        (2, &[1]),
-        (3, &[2, 0]),
-        (3, &[2, 1]),
-        (5, &[2]),
-        (3, &[3, 0]),
-        (3, &[3, 1]),
-        (5, &[3]),
-        (4, &[]),
-    ];
-    let places: [(&[usize], bool); 4] = [
-        (&[2, 3], false),
-        (&[4, 5, 6], false),
-        (&[7, 8, 9], false),
-        (&[10], true),
-    ];
-    let task = read_task(alloc, GRIPPER.as_bytes(), TWO_BALLS.as_bytes()).expect(rt, "a task");
-    gripper_parts(
+const GRIPPER_VARIABLES: &[VariableRow<'static>] = &[
+    (&[2, 3], false),
+    (&[4, 5, 6], false),
+    (&[7, 8, 9], false),
+    (&[10], true),
+];
+
+/// The parts over all actions of the gripper: it goes from each of the rooms p and q to the other, and picks up and drops each
+/// of the balls x and y in each.
+fn gripper_parts(rt: &impl Abort, alloc: Global, task: &Task) -> Parts
+    requires { IsTrue (has_small_costs task.now) }
+{
+    let grounded = ground(alloc, task).expect(rt, "room");
+    parts_over(
         rt,
         alloc,
-        &task,
-        &listed(rt, alloc, &all),
-        &variables(rt, alloc, &places),
+        task,
+        GRIPPER_ATOMS,
+        &grounded.actions,
+        GRIPPER_VARIABLES,
     )
 }
 
+fn gripper(rt: &impl Abort, alloc: Global) -> Parts {
+    let task = read_task(alloc, GRIPPER.as_bytes(), TWO_BALLS.as_bytes()).expect(rt, "a task");
+    gripper_parts(rt, alloc, &task)
+}
+
+/// What holds before x is picked up in p, and before it is dropped in q.
+const PICK: &[(usize, u32)] = &[(0, 0), (1, 0), (3, 0)];
+
+const DROP: &[(usize, u32)] = &[(0, 1), (1, 2)];
+
 fn is_gripper(parts: &Parts) -> bool {
-    let pick: [(usize, u32); 3] = [(0, 0), (1, 0), (3, 0)];
-    let drop: [(usize, u32); 2] = [(0, 1), (1, 2)];
     are_names(
         &parts.value_names,
         &[
@@ -366,8 +413,8 @@ fn is_gripper(parts: &Parts) -> bool {
     ) && parts.initial.as_slice() == [0, 0, 0, 0].as_slice()
         && are(&parts.goal, &[(1, 1), (2, 1)])
         && parts.operators.len() == 10
-        && is(&parts.operators, 2, "pick x p", &pick, &[(1, 2), (3, 1)])
-        && is(&parts.operators, 7, "drop x q", &drop, &[(1, 1), (3, 0)])
+        && is(&parts.operators, 2, "pick x p", PICK, &[(1, 2), (3, 1)])
+        && is(&parts.operators, 7, "drop x q", DROP, &[(1, 1), (3, 0)])
 }
 
 #[test]
@@ -376,25 +423,36 @@ fn a_gripper(rt: HostRuntime) {
     assert!(rt; is_gripper(&parts));
 }
 
-const DOOR: Texts<'static> = Texts {
+const DOOR: TaskRow<'static> = TaskRow {
     objects: &["d"],
     predicates: &["in", "locked"],
     schemas: &["enter"],
+    initial: &[(1, &[0])],
+    goal: &[(0, &[])],
+    excluded: &[],
+    metric: false,
 };
 
+const ENTER: &[Row<'static>] = &[Row {
+    objects: &[0],
+    wanted: &[],
+    excluded: &[(1, &[0])],
+    adds: &[(0, &[])],
+    deletes: &[],
+}];
+
+const DOOR_ATOMS: &[Atom<'static>] = &[(0, &[]), (1, &[0])];
+
 fn door(rt: &impl Abort, alloc: Global) -> Parts {
-    let enter = [Row {
-        objects: &[0],
-        wanted: &[],
-        excluded: &[(1, &[0])],
-        adds: &[(0, &[])],
-        deletes: &[],
-    }];
-    let task = task(rt, alloc, DOOR, &[(1, &[0])], &[(0, &[])]);
-    let atoms = listed(rt, alloc, &[(0, &[]), (1, &[0])]);
-    let actions = actions(rt, alloc, &enter);
-    let variables = variables(rt, alloc, &[(&[0], true), (&[1], true)]);
-    parts(rt, alloc, &task, &atoms, &actions, &variables)
+    let actions = actions(rt, alloc, ENTER, 1);
+    parts_of_rows(
+        rt,
+        alloc,
+        DOOR,
+        DOOR_ATOMS,
+        &actions,
+        &[(&[0], true), (&[1], true)],
+    )
 }
 
 fn is_door(parts: &Parts) -> bool {
@@ -409,19 +467,24 @@ fn a_door_that_may_be_locked(rt: HostRuntime) {
     assert!(rt; is_door(&parts));
 }
 
-const LAMPS: Texts<'static> = Texts {
-    objects: &[],
-    predicates: &["red", "green", "fan"],
-    schemas: &["turn"],
-};
-
 const RED: Atom<'static> = (0, &[]);
 
 const GREEN: Atom<'static> = (1, &[]);
 
 const FAN: Atom<'static> = (2, &[]);
 
-fn turn<'a>(
+const LAMPS: TaskRow<'static> = TaskRow {
+    objects: &[],
+    predicates: &["red", "green", "fan"],
+    schemas: &["turn"],
+    initial: &[RED],
+    goal: &[FAN],
+    excluded: &[RED],
+    metric: true,
+};
+
+/// An action of the lamps: the wanted and the excluded atoms, and what it adds and deletes.
+const fn turn<'a>(
     wanted: &'a [Atom<'a>],
     excluded: &'a [Atom<'a>],
     adds: &'a [Atom<'a>],
@@ -436,64 +499,69 @@ fn turn<'a>(
     }
 }
 
-/// The parts of a task of these actions, with one variable for the red and the green lamp and one for the fan.
-fn lamps(rt: &impl Abort, alloc: Global, rows: &[Row<'_>], free: bool) -> Parts {
-    let mut task = task(rt, alloc, LAMPS, &[RED], &[]);
-    task.metric = true;
-    task.goal = literals(rt, alloc, &[FAN], &[RED]);
-    let atoms = listed(rt, alloc, &[RED, GREEN, FAN]);
-    let mut actions = actions(rt, alloc, rows);
-    if free {
-        for action in actions.iter_mut() {
-            action.cost = 0;
-        }
-    }
-    let variables = variables(rt, alloc, &[(&[0, 1], true), (&[2], true)]);
-    parts(rt, alloc, &task, &atoms, &actions, &variables)
+/// The parts of a task of these actions at this cost, with one variable for the red and the green lamp and one for the fan.
+fn lamps(rt: &impl Abort, alloc: Global, rows: &[Row<'_>], cost: u64) -> Parts {
+    let actions = actions(rt, alloc, rows, cost);
+    parts_of_rows(
+        rt,
+        alloc,
+        LAMPS,
+        &[RED, GREEN, FAN],
+        &actions,
+        &[(&[0, 1], true), (&[2], true)],
+    )
 }
 
-/// An action, and the precondition and the effect of its operator.
-type Turn<'a> = (Row<'a>, &'a [(usize, u32)], &'a [(usize, u32)]);
-
-/// Whether the action has an operator with these facts.
-fn turns(rt: &impl Abort, alloc: Global, turn: &Turn<'_>) -> bool {
-    let (row, before, after) = turn;
-    let parts = lamps(rt, alloc, &[*row], false);
+/// Whether the action has an operator with these facts before and after.
+fn turns(
+    rt: &impl Abort,
+    alloc: Global,
+    row: Row<'_>,
+    before: &[(usize, u32)],
+    after: &[(usize, u32)],
+) -> bool {
+    let parts = lamps(rt, alloc, &[row], 1);
     is(&parts.operators, 0, "turn", before, after)
 }
 
 #[test]
 fn what_is_deleted(rt: HostRuntime) {
-    let rows: [Turn<'_>; 5] = [
-        // where the green lamp is on, the red one is not
-        (turn(&[GREEN], &[], &[], &[RED]), &[(0, 1)], &[]),
-        (turn(&[RED], &[], &[], &[RED]), &[(0, 0)], &[(0, 2)]),
-        (turn(&[], &[], &[], &[FAN]), &[], &[(1, 1)]),
-        (turn(&[RED], &[], &[RED], &[RED]), &[(0, 0)], &[]),
-        (turn(&[GREEN], &[], &[RED], &[GREEN]), &[(0, 1)], &[(0, 0)]),
-    ];
-    for (number, row) in rows.iter().enumerate() {
-        assert!(rt; turns(&rt, rt.alloc(), row), "row {number}");
-    }
+    let alloc = rt.alloc();
+    // where the green lamp is on, the red one is not
+    let green = turn(&[GREEN], &[], &[], &[RED]);
+    assert!(rt; turns(&rt, alloc, green, &[(0, 1)], &[]));
+    let red = turn(&[RED], &[], &[], &[RED]);
+    assert!(rt; turns(&rt, alloc, red, &[(0, 0)], &[(0, 2)]));
+    let fan = turn(&[], &[], &[], &[FAN]);
+    assert!(rt; turns(&rt, alloc, fan, &[], &[(1, 1)]));
+}
+
+#[test]
+fn what_is_added_and_deleted(rt: HostRuntime) {
+    let alloc = rt.alloc();
+    let same = turn(&[RED], &[], &[RED], &[RED]);
+    assert!(rt; turns(&rt, alloc, same, &[(0, 0)], &[]));
+    let other = turn(&[GREEN], &[], &[RED], &[GREEN]);
+    assert!(rt; turns(&rt, alloc, other, &[(0, 1)], &[(0, 0)]));
 }
 
 #[test]
 fn what_is_excluded(rt: HostRuntime) {
-    let rows: [Turn<'_>; 2] = [
-        (turn(&[RED], &[GREEN], &[], &[]), &[(0, 0)], &[]),
-        (turn(&[], &[RED], &[FAN], &[]), &[(0, 2)], &[(1, 0)]),
-    ];
-    for (number, row) in rows.iter().enumerate() {
-        assert!(rt; turns(&rt, rt.alloc(), row), "row {number}");
-    }
+    let alloc = rt.alloc();
+    let green = turn(&[RED], &[GREEN], &[], &[]);
+    assert!(rt; turns(&rt, alloc, green, &[(0, 0)], &[]));
+    let red = turn(&[], &[RED], &[FAN], &[]);
+    assert!(rt; turns(&rt, alloc, red, &[(0, 2)], &[(1, 0)]));
+}
+
+fn are_lamps(parts: &Parts) -> bool {
+    are(&parts.goal, &[(0, 2), (1, 0)]) && parts.initial.as_slice() == [0, 1].as_slice()
 }
 
 #[test]
 fn a_goal_and_a_state_of_lamps(rt: HostRuntime) {
-    let parts = lamps(&rt, rt.alloc(), &[], false);
-    let agree = are(&parts.goal, &[(0, 2), (1, 0)])
-        && parts.initial.as_slice() == [0, 1].as_slice();
-    assert!(rt; agree);
+    let parts = lamps(&rt, rt.alloc(), &[], 1);
+    assert!(rt; are_lamps(&parts));
 }
 
 /// Whether the actions of these numbers have an operator, and each has this cost.
@@ -502,16 +570,20 @@ fn are_carried(parts: &Parts, carried: &[usize], cost: Cost) -> bool {
         && parts.operators.iter().all(|operator| operator.cost == cost)
 }
 
-#[test]
-fn actions_without_operator_are_left_out(rt: HostRuntime) {
+/// Checks which of four actions at this cost have an operator.
+fn leaves_out(rt: &impl Abort, alloc: Global, cost: u64, want: Cost) {
     let rows = [
         turn(&[RED, GREEN], &[], &[], &[]),
         turn(&[RED], &[], &[], &[RED]),
         turn(&[FAN], &[FAN], &[], &[]),
         turn(&[], &[], &[FAN], &[]),
     ];
-    for (free, cost) in [(true, Cost::ZERO), (false, Cost::ONE)] {
-        let parts = lamps(&rt, rt.alloc(), &rows, free);
-        assert!(rt; are_carried(&parts, &[1, 3], cost), "free {free}");
-    }
+    let parts = lamps(rt, alloc, &rows, cost);
+    assert!(rt; are_carried(&parts, &[1, 3], want));
+}
+
+#[test]
+fn actions_without_operator_are_left_out(rt: HostRuntime) {
+    leaves_out(&rt, rt.alloc(), 0, Cost::ZERO);
+    leaves_out(&rt, rt.alloc(), 1, Cost::ONE);
 }
