@@ -7,10 +7,11 @@ BENCH_ENGINE is the program that `rt run` in crates/bench_engine has built. BASE
 `--blind` where it is to make no tables and else the same tables as BENCH_ENGINE, ends after the seconds of `--time` at the latest with status 5, and
 prints lines `cost N`, `expanded N` and `seconds_search S`, with status 0, or 4 and no cost where there is no plan. Each FILE is an output.sas.
 
-Each task is searched blind and with tables of at most 100,000 abstract states, by 1, 2, 4 and 64 workers. A search that one worker settles with at
-most 2,000,000 expansions is done to its end by any number of workers. Else 400,000 expansions are divided among the workers, the search is
-stopped as soon as one of them has done its share, and BASELINE runs for ten seconds at most. Runs of both programs, and of all numbers
-of workers, alternate, and the fastest of three runs counts. A line for a search has
+Each task is searched blind and with tables of at most 100,000 abstract states, by 1, 2, 4 and 64 workers, with links that have room for 64 messages.
+A search that one worker settles with at most 2,000,000 expansions in at most 120 seconds is done to its end by any number of workers. Else 400,000
+expansions are divided among the workers, the search is stopped as soon as one of them has done its share, and BASELINE runs for ten seconds at most. Runs of
+both programs, and of all numbers of workers, alternate, and the fastest of three runs counts: the one that expands the most nodes a second, if the
+search is stopped. A line for a search has
 
     task        the file's name
     tables      whether there are tables
@@ -67,6 +68,12 @@ class Run:
     def rate(self):
         return self.expansions / self.seconds
 
+    def is_faster(self, other):
+        """Whether it is faster than another run of the same search, which is in nodes a second if one of them was stopped."""
+        if self.cost is None or other.cost is None:
+            return self.rate() > other.rate()
+        return self.seconds < other.seconds
+
 
 def run(words):
     """The status of a run and what it writes on both streams, or None where it is ended by the cap."""
@@ -118,7 +125,7 @@ class Search:
             self.best, self.is_past = None, True
             return
         self.costs.add(ran.cost)
-        if self.best is None or ran.seconds < self.best.seconds:
+        if self.best is None or ran.is_faster(self.best):
             self.best = ran
 
     def figures(self, one):
