@@ -1,80 +1,55 @@
-//! Gates of searches by threads: when they are asked and how they end a search; and that workers take their turns at once.
+//! Gates of searches by threads: when they are asked and how they end a search; and that workers take their turns, and expand nodes, at
+//! once.
 
 ghost use Rattle.std.specs.Prelude.{◌<◌};
 
 use crate::searches::space_for;
-use engine::{EngineFault, Gate, Progress, Searched, Stop, search};
+use cost::Dist;
+use engine::{EngineFault, Gate, Open, Progress, Searched, Stop, search};
 use fdr::FdrTask;
-use owner::Space;
+use owner::{Space, Ties};
 use packed::Plain;
 use packed_spread::{ByValue, Spread};
 use scp::make_columns;
 use std::alloc::{AllocError, Global};
 use std::process::Abort;
 use std::sync::Wait;
-use std::sync::atomic::{AtomicBool, AtomicU64, Ordering};
+use std::sync::atomic::{AtomicU64, Ordering};
 use std::test::Fail;
 use std::thread::Threads;
 use std::time::Clock;
+use test_meetings::Meeting;
 use test_tasks::walk;
 
-/// How often one of two looks for the other before it gives up.
-const MOST_LOOKS: u64 = 100_000_000;
-
-/// Two who wait for each other: if their turns followed each other in one thread, they would wait in vain.
+/// The spread by values, by which the owners of states 4 and 3 are told only where both are asked for at once.
 #[derive(Drop)]
-struct Meeting {
-    first: AtomicBool,
-    second: AtomicBool,
-    /// Whether one of them gave up.
-    in_vain: AtomicBool,
+struct MeetingSpread<'a> {
+    by_value: ByValue<'a>,
+    meeting: &'a Meeting,
 }
 
-impl Meeting {
-    /// Nobody is there.
-    fn new() -> Meeting {
-        Meeting {
-            first: AtomicBool::new(false),
-            second: AtomicBool::new(false),
-            in_vain: AtomicBool::new(false),
-        }
-    }
+impl<'a> Spread for MeetingSpread<'a> {
+    ghost use Rattle.fdr.specs.Tasks as tasks;
+    ghost use Rattle.packed_spread.specs.Spreads.{value_owner};
+    ghost use Rattle.packed_spread.specs.OwnerLaws.{value_owner_is_below};
 
-    /// The first of them, or the second, is there, and waits for the other. Returns whether that came.
-    fn meet(&self, is_first: bool) -> bool {
-        let (mine, other) = if is_first {
-            (&self.first, &self.second)
-        } else {
-            (&self.second, &self.first)
-        };
-        mine.store(true, Ordering::SeqCst);
-        for _ in 0..MOST_LOOKS {
-            if other.load(Ordering::SeqCst) {
-                return true;
+    ghost ranges = { λ s. tasks.ranges s.by_value };
+
+    ghost owner = { λ _. value_owner };
+
+    ghost is_below = { λ _. value_owner_is_below };
+
+    fn owner_of(&self, state: &[u32], owners: usize) -> usize {
+        match state.first() {
+            Some(4) => {
+                self.meeting.meet(true);
             }
+            Some(3) => {
+                self.meeting.meet(false);
+            }
+            _ => {}
         }
-        self.in_vain.store(true, Ordering::SeqCst);
-        false
-    }
-
-    /// Whether both were there, and none gave up.
-    fn is_met(&self) -> bool {
-        self.first.load(Ordering::SeqCst)
-            && self.second.load(Ordering::SeqCst)
-            && !self.in_vain.load(Ordering::SeqCst)
-    }
-}
-
-impl Gate for Meeting {
-    ghost may_stop = { λ _ _ _ _. Unit {0} };
-
-    /// Each of workers 0 and 1 waits for the other in its first turn.
-    fn turn(&self, worker: usize, turn: u64, _progress: Progress) -> Result<(), Stop> {
-        if turn > 1 || self.meet(worker == 0) {
-            Ok(())
-        } else {
-            Err(Stop::Fail)
-        }
+        self.by_value.owner_of(state, owners)
     }
 }
 
@@ -151,6 +126,46 @@ fn two_workers_take_turns_at_once(rt: HostRuntime) -> Result<(), Fail> {
     let gate = Meeting::new();
     assert_eq!(&rt; ends(&rt, rt.alloc(), &task, 2, &gate)?, Ok(true));
     assert!(&rt; gate.is_met());
+    Ok(())
+}
+
+/// Whether two workers settle the task at cost 3, though each waits for the other in an expansion.
+fn settles_by_expansions_at_once<'t, R: Threads + Wait + Clock + Sync>(
+    rt: &R,
+    alloc: Global,
+    task: &'t FdrTask,
+    meeting: &'t Meeting,
+) -> Result<bool, Fail> {
+    let spread = MeetingSpread {
+        by_value: ByValue::new(task),
+        meeting,
+    };
+    let columns = make_columns(rt, alloc, task, &[])?;
+    let space: Space<'t, MeetingSpread<'t>> = Space::new(
+        alloc,
+        task,
+        columns,
+        spread,
+        None,
+        Ties::Shallow,
+    )?;
+    let end: Result<Searched<'_, MeetingSpread<'t>, Plain>, EngineFault> = search(
+        rt, alloc, &space, 2, 64, &Open,
+    );
+    match end {
+        Ok(Searched::Settled(joined)) => Ok(
+            joined.lower_bound(alloc)? == Dist::fin(3).ok_or("a distance")?,
+        ),
+        _ => Ok(false),
+    }
+}
+
+#[test]
+fn two_workers_expand_nodes_at_once(rt: HostRuntime) -> Result<(), Fail> {
+    let task = fork(rt.alloc())?;
+    let meeting = Meeting::new();
+    assert!(&rt; settles_by_expansions_at_once(&rt, rt.alloc(), &task, &meeting)?);
+    assert!(&rt; meeting.is_met());
     Ok(())
 }
 

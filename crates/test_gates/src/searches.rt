@@ -14,6 +14,7 @@ use std::sync::Wait;
 use std::test::Fail;
 use std::thread::Threads;
 use std::time::Clock;
+use test_meetings::Meeting;
 
 /// Checks that the checker accepts the certificate for this bound.
 fn certifies<R: Threads + Sync + Abort + AllocGlobal>(
@@ -96,4 +97,17 @@ fn two_balls(rt: HostRuntime) -> Result<(), Fail> {
         "; cost = 7 (unit cost)\n",
         Some(7),
     )
+}
+
+/// By two workers that wait for each other in their first turns.
+#[test]
+fn two_balls_by_workers_at_once(rt: HostRuntime) -> Result<(), Fail> {
+    let meeting = Meeting::new();
+    let options = Options::new().with_workers(2);
+    let (domain, problem) = (GRIP_DOMAIN.as_bytes(), GRIP_PROBLEM.as_bytes());
+    let answer = solve(&rt, domain, problem, &options, &meeting)?;
+    let ending = "; cost = 7 (unit cost)\n";
+    is_right(&rt, GRIP_DOMAIN, GRIP_PROBLEM, &answer, ending, Some(7))?;
+    assert!(&rt; meeting.is_met());
+    Ok(())
 }
