@@ -42,14 +42,15 @@ impl<F: StateForm + Drop> Out<F> {
     ghost use Rattle.links.specs.Ranks.{HasSmallRank};
     ghost use Rattle.links.specs.Ends.{sent, room, SameOut};
 
-    /// Whether there is certainly room for a message. Allocates nothing.
+    /// Whether there is certainly room for a message. It looks at what the receiver has taken only where no room was known, since that
+    /// word is the receiver's. Allocates nothing.
     pub fn has_room(&mut self) -> bool
         ensures ring { SameOut self.old self.new }
         ensures same { sent self.new ≡ sent self.old }
         ensures room { IsTrue result → 0 < room self.new }
         ensures known { 0 < room self.old → IsTrue result }
     {
-        self.producer.slots() > 0
+        !self.producer.is_full()
     }
 
     /// Sends a message, or returns it if the ring is full. Allocates nothing.

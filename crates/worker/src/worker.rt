@@ -165,6 +165,9 @@ impl<'a, S: Spread + Drop, F: StateForm + Drop> Worker<'a, S, F> {
         requires none_uncounted { self.old.uncounted ≡ 0 }
         ensures { SendsOrNot F.values to self.old self.new result }
     {
+        if self.owner.outbox_len(to) == 0 {
+            return false;
+        }
         if !has_room(&mut self.outs, to) {
             return false;
         }
