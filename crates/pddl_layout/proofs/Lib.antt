@@ -4,3 +4,8 @@ pub mod TypedShapes
 pub mod DomainShapes
 pub mod TermShapes
 pub mod EffectShapes
+pub mod ActionShapes
+pub mod InitialShapes
+pub mod GoalShapes
+pub mod TaskShapes
+pub mod FirstFaults

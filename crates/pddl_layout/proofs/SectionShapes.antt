@@ -34,6 +34,11 @@ sections_erased none = refl
 sections_erased (word s e t f) = refl
 sections_erased (group s e i f) = ap behind (behind_erased i) ∙ behind_erased (behind i)
 
+pub has_head_erased : (w : List ℕ) (f : Forms) → has_head w (erased f) ≡ has_head w f
+has_head_erased w none = refl
+has_head_erased w (word s e t f) = refl
+has_head_erased w (group s e i f) = refl
+
 pub all_erased : (w : List ℕ) (f : Forms) → all_sections w (erased f) ≡ map erased_part (all_sections w f)
 all_erased w none = refl
 all_erased w (word s e t f) = all_erased w f
