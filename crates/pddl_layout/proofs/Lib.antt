@@ -9,3 +9,4 @@ pub mod InitialShapes
 pub mod GoalShapes
 pub mod TaskShapes
 pub mod FirstFaults
+pub mod TokenReading
