@@ -1,5 +1,6 @@
 pub mod Alike
 pub mod SectionShapes
+pub mod SectionHeads
 pub mod TypedShapes
 pub mod DomainShapes
 pub mod TermShapes

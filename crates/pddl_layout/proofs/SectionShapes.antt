@@ -67,14 +67,19 @@ pub first_erased : (ps : List Part) → first_part (map erased_part ps) ≡ opti
 first_erased [] = refl
 first_erased (p ∷ ps) = refl
 
-section_there : (w : List ℕ) (f : Forms) → is_some (section w (erased f)) ≡ is_some (section w f)
+there_erased : (ps : List Part) → is_some (first_part (map erased_part ps)) ≡ is_some (first_part ps)
+there_erased [] = refl
+there_erased (p ∷ ps) = refl
+
+pub section_there : (w : List ℕ) (f : Forms) → is_some (section w (erased f)) ≡ is_some (section w f)
 section_there w f =
-    ap is_some (section_is_first w (erased f) ∙ ap first_part (all_erased w f) ∙ first_erased (all_sections w f))
-    ∙ by (first_part (all_sections w f)) ∙ ap is_some (sym (section_is_first w f))
-  where
-    by : (o : Option Part) → is_some (option_map erased_part o) ≡ is_some o
-    by None = refl
-    by (Some p) = refl
+    ap is_some (section_is_first w (erased f) ∙ ap first_part (all_erased w f)) ∙ there_erased (all_sections w f) ∙ ap is_some (sym (section_is_first w f))
+
+-- where the sections of a name are the same, both are there or neither is
+pub same_there : (w : List ℕ) (f g : Forms) → map erased_part (all_sections w f) ≡ map erased_part (all_sections w g) → is_some (section w f) ≡ is_some (section w g)
+same_there w f g e =
+    ap is_some (section_is_first w f) ∙ sym (there_erased (all_sections w f)) ∙ ap (λ (ps : List Part). is_some (first_part ps)) e
+    ∙ there_erased (all_sections w g) ∙ ap is_some (sym (section_is_first w g))
 
 -- ---- the faults
 
@@ -102,7 +107,7 @@ section_head_alike : (file : PlanningFile) (before : List (List ℕ)) (s z : ℕ
 section_head_alike file before s z t =
     chosen (is_one_of (section_words file) t) (tested (is_there before t && not (may_come_again t)) (fault TwiceDeclared s) (fault TwiceDeclared z) clear) faulty
 
-section_alike : (file : PlanningFile) (before : List (List ℕ)) (f : Forms) → Alike (section_faults file before f) (section_faults file before (erased f))
+pub section_alike : (file : PlanningFile) (before : List (List ℕ)) (f : Forms) → Alike (section_faults file before f) (section_faults file before (erased f))
 section_alike file before none = clear
 section_alike file before (word s e t f) = faulty
 section_alike file before (group s e none f) = faulty

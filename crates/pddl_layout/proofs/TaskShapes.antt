@@ -33,9 +33,10 @@ use Rattle.pddl.specs.Texts.{inside, part, place_in, inside_of, types_of, supert
 use Rattle.pddl.proofs.Composing.{clean_later, no_pass}
 use Rattle.pddl_laws.proofs.Clean.{kept_clean}
 use Rattle.pddl_layout.specs.Shapes.{erased, SameShape}
-use Rattle.pddl_layout.specs.Sections.{erased_part, SameSections}
+use Rattle.pddl_layout.specs.Sections.{erased_part, SameSections, HasSections}
 use Rattle.pddl_layout.proofs.Alike.{Alike, itself, equal_lists, turned, chained, clear, chosen, tested, clean_too}
-use Rattle.pddl_layout.proofs.SectionShapes.{same_value, sections_erased, all_erased, first_part, section_is_first, first_erased, head_alike, requirement_alike}
+use Rattle.pddl_layout.proofs.SectionShapes.{same_value, sections_erased, all_erased, first_part, section_is_first, first_erased, same_there, head_alike, requirement_alike}
+use Rattle.pddl_layout.proofs.SectionHeads.{reordered_clean}
 use Rattle.pddl_layout.proofs.DomainShapes.{type_names_erased, supertypes_erased, types_alike, objects_erased, objects_alike, predicate_heads_erased, predicates_alike, function_heads_erased, functions_alike}
 use Rattle.pddl_layout.proofs.ActionShapes.{schemas_erased, names_erased, actions_alike}
 use Rattle.pddl_layout.proofs.InitialShapes.{initial_atoms_erased, stated_values_erased, initial_alike}
@@ -68,10 +69,6 @@ inside_erased (Some s) = refl
 
 same_inside : (file : PlanningFile) (f g : Forms) (w : List ℕ) → SameSections file f g → IsWordOf file w → SameShape (inside_of f w) (inside_of g w)
 same_inside file f g w same h = sym (inside_erased (part f w)) ∙ ap inside (same_part file f g w same h) ∙ inside_erased (part g w)
-
-there_erased : (o : Option Part) → is_some (option_map erased_part o) ≡ is_some o
-there_erased None = refl
-there_erased (Some s) = refl
 
 -- ---- the declarations of domains
 
@@ -145,8 +142,7 @@ goal_same x objects p q s =
     (goal_literals_erased (scope_over x objects)) (same_inside Problem p q (codes ":goal") s refl)
 
 metric_same : (p q : Forms) → SameSections Problem p q → has_metric p ≡ has_metric q
-metric_same p q s =
-    sym (there_erased (part p (codes ":metric"))) ∙ ap is_some (same_part Problem p q (codes ":metric") s refl) ∙ there_erased (part q (codes ":metric"))
+metric_same p q s = same_there (codes ":metric") (sections p) (sections q) (s (codes ":metric") refl)
 
 abbrev task_over : Declarations → List Schema → List (List ℕ) → Objects → List Atom → List Literal → List FunctionValue → Bool → PlanningTask
 task_over x schemas names objects atoms goal values metric = record {
@@ -332,12 +328,12 @@ first_clean p ps h = none_kept p.faults (kept_clean p ps h).0
 
 pub sections_free : (domain problem other_domain other_problem : List ℕ) (d p c q : Forms) (t : PlanningTask)
     → IsTree domain d → IsTree problem p → IsTree other_domain c → IsTree other_problem q
-    → SameSections Domain d c → SameSections Problem p q → head_faults Domain c ≡ [] → head_faults Problem q ≡ []
+    → SameSections Domain d c → SameSections Problem p q → HasSections Domain c → HasSections Problem q
     → SpellTask domain problem t → SpellTask other_domain other_problem t
 sections_free domain problem other_domain other_problem d p c q t tree below other under s r h k =
     spelled_again domain problem other_domain other_problem d p c q t tree below other under (record {
       domains = s;
       problems = r;
-      domain_heads = λ e. equal_lists _ _ (first_clean _ _ e ∙ sym h);
-      problem_heads = λ e. equal_lists _ _ (first_clean _ _ e ∙ sym k);
+      domain_heads = λ e. let x = first_clean _ _ e in equal_lists _ _ (x ∙ sym (reordered_clean Domain d c tree.0 x s h));
+      problem_heads = λ e. let x = first_clean _ _ e in equal_lists _ _ (x ∙ sym (reordered_clean Problem p q below.0 x r k));
     })

@@ -5,12 +5,11 @@ ghost use Rattle.sexp.specs.Forms.{Forms};
 ghost use Rattle.sexp.specs.Limits.{max_bytes};
 ghost use Rattle.pddl_task.specs.Planning.{PlanningTask};
 ghost use Rattle.pddl_syntax.specs.declared.fault.PlanningFile.TheVariants.{Domain, Problem};
-ghost use Rattle.pddl_syntax.specs.Sections.{head_faults};
 ghost use Rattle.pddl.specs.declared.fault.PddlFault.TheVariants.{Section};
 ghost use Rattle.pddl.specs.Passes.{Pass, FileFault, first_pass};
 ghost use Rattle.pddl.specs.Texts.{IsTree, SpellTask, IsTaskRefusal, declaring_passes, domain_passes};
 ghost use Rattle.pddl_layout.specs.Shapes.{SameShape};
-ghost use Rattle.pddl_layout.specs.Sections.{SameSections};
+ghost use Rattle.pddl_layout.specs.Sections.{SameSections, HasSections};
 ghost use Rattle.pddl_layout.specs.Tokens.{tokens};
 ghost use Rattle.pddl_layout.specs.Agreements.{AgreeInDeclarations, AgreeInObjects, object_passes};
 
@@ -35,12 +34,12 @@ pub fn same_tokens_spell_one_task()
         SpellTask domain problem t → SpellTask other_domain other_problem t }
 {}
 
-/// The order between sections of different names does not matter: texts with the same sections of each name, up to places,
-/// and heads without fault spell the same task.
+/// The order between sections of different names does not matter: texts that are made of the same sections of each name, up
+/// to places, spell the same task.
 pub fn sections_commute()
     ensures { (domain problem other_domain other_problem : List ℕ) (d p c q : Forms) (t : PlanningTask) →
         IsTree domain d → IsTree problem p → IsTree other_domain c → IsTree other_problem q →
-        SameSections Domain d c → SameSections Problem p q → head_faults Domain c ≡ [] → head_faults Problem q ≡ [] →
+        SameSections Domain d c → SameSections Problem p q → HasSections Domain c → HasSections Problem q →
         SpellTask domain problem t → SpellTask other_domain other_problem t }
 {}
 
