@@ -11,3 +11,4 @@ pub mod GoalShapes
 pub mod TaskShapes
 pub mod FirstFaults
 pub mod TokenReading
+pub mod SpelledTokens

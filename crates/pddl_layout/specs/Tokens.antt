@@ -1,6 +1,7 @@
 -- The tokens of a text, without its blanks and comments.
 use Rattle.std.specs.Prelude.{ℕ, ◌==◌, if◌then◌else◌, List, [], ◌∷◌, ◌++◌}
 use Rattle.std.specs.Char.{to_ascii_lowercase}
+use Rattle.sexp.specs.Forms.{Forms, none, word, group}
 use Rattle.sexp.specs.declared.byte_kind.ByteKind.{ByteKind}
 use Rattle.sexp.specs.declared.byte_kind.ByteKind.TheVariants.{Blank, Semicolon, Open, Close, Letter, Strange}
 use Rattle.sexp.specs.Bytes.{kind}
@@ -15,12 +16,12 @@ pub data Token : Type 0 where
 -- the tokens from a byte of this kind on, given those that follow it, those that follow it in a comment, and those that
 -- follow it in a word that it begins
 abbrev pub from_byte : ByteKind → List Token → List Token → List Token → List Token
-from_byte Blank later comment word = later
-from_byte Semicolon later comment word = comment
-from_byte Open later comment word = opening ∷ later
-from_byte Close later comment word = closing ∷ later
-from_byte Letter later comment word = word
-from_byte Strange later comment word = strange ∷ later
+from_byte Blank later comment begun = later
+from_byte Semicolon later comment begun = comment
+from_byte Open later comment begun = opening ∷ later
+from_byte Close later comment begun = closing ∷ later
+from_byte Letter later comment begun = begun
+from_byte Strange later comment begun = strange ∷ later
 
 -- the tokens from a byte of this kind on, in or behind a word with this text, given those where the word goes on and
 -- those where it has ended
@@ -42,3 +43,9 @@ abbrev mutual
   tokens_in_word text [] = letters text ∷ []
   tokens_in_word text (b ∷ bs) =
       from_word (kind b) text (tokens_in_word (text ++ to_ascii_lowercase b ∷ []) bs) (from_byte (kind b) (tokens bs) (tokens_in_comment bs) [])
+
+-- the tokens of expressions in their order
+abbrev pub tokens_of : Forms → List Token
+tokens_of none = []
+tokens_of (word s e t f) = letters t ∷ tokens_of f
+tokens_of (group s e i f) = opening ∷ (tokens_of i ++ closing ∷ tokens_of f)

@@ -1,7 +1,9 @@
 //! Laws of the layout of PDDL texts. The contract of each function states one; its body is empty.
 
-ghost use Rattle.std.specs.Prelude.{◌≡◌, ℕ, ◌≤◌, List, [], ◌++◌, Some, None, length};
+ghost use Rattle.std.specs.Prelude.{◌≡◌, ℕ, ◌≤◌, List, [], ◌++◌, Some, None, length, map};
+ghost use Rattle.std.specs.Char.{to_ascii_lowercase};
 ghost use Rattle.sexp.specs.Forms.{Forms};
+ghost use Rattle.sexp.specs.Grammar.{SpellsAll};
 ghost use Rattle.sexp.specs.Limits.{max_bytes};
 ghost use Rattle.pddl_task.specs.Planning.{PlanningTask};
 ghost use Rattle.pddl_syntax.specs.declared.fault.PlanningFile.TheVariants.{Domain, Problem};
@@ -10,7 +12,7 @@ ghost use Rattle.pddl.specs.Passes.{Pass, FileFault, first_pass};
 ghost use Rattle.pddl.specs.Texts.{IsTree, SpellTask, IsTaskRefusal, declaring_passes, domain_passes};
 ghost use Rattle.pddl_layout.specs.Shapes.{SameShape};
 ghost use Rattle.pddl_layout.specs.Sections.{SameSections, HasSections};
-ghost use Rattle.pddl_layout.specs.Tokens.{tokens};
+ghost use Rattle.pddl_layout.specs.Tokens.{tokens, tokens_of};
 ghost use Rattle.pddl_layout.specs.Agreements.{AgreeInDeclarations, AgreeInObjects, object_passes};
 
 /// Where words and lists stand does not matter: texts whose trees have the same shape spell the same task.
@@ -20,10 +22,17 @@ pub fn places_do_not_matter()
         SpellTask domain problem t → SpellTask other_domain other_problem t }
 {}
 
-/// A text, not too long, with the tokens of one that spells a tree spells a tree of the same shape.
+/// The tokens of a text that spells expressions are those of the expressions in their order.
+pub fn texts_have_the_tokens_of_their_trees()
+    ensures { (text : List ℕ) (f : Forms) → SpellsAll text f → tokens text ≡ tokens_of f }
+{}
+
+/// Texts have the same tokens exactly where their trees have the same shape: a text, not too long, with the tokens of one
+/// that spells a tree spells a tree of the same shape, and texts that spell trees of the same shape have the same tokens.
 pub fn same_tokens_have_one_shape()
-    ensures { (text other : List ℕ) (f : Forms) → IsTree text f → tokens text ≡ tokens other → length other ≤ max_bytes →
+    ensures shape { (text other : List ℕ) (f : Forms) → IsTree text f → tokens text ≡ tokens other → length other ≤ max_bytes →
         (g : Forms) × IsTree other g × SameShape f g }
+    ensures tokens { (text other : List ℕ) (f g : Forms) → IsTree text f → IsTree other g → SameShape f g → tokens text ≡ tokens other }
 {}
 
 /// Blanks, comments and the case of letters do not matter: texts, not too long, with the same tokens spell the same task.
@@ -31,6 +40,14 @@ pub fn same_tokens_spell_one_task()
     ensures { (domain problem other_domain other_problem : List ℕ) (t : PlanningTask) →
         tokens domain ≡ tokens other_domain → tokens problem ≡ tokens other_problem →
         length other_domain ≤ max_bytes → length other_problem ≤ max_bytes →
+        SpellTask domain problem t → SpellTask other_domain other_problem t }
+{}
+
+/// The case of letters does not matter: texts that are equal but for the case of letters spell the same task.
+pub fn letters_case_does_not_matter()
+    ensures tokens { (text other : List ℕ) → map to_ascii_lowercase text ≡ map to_ascii_lowercase other → tokens text ≡ tokens other }
+    ensures task { (domain problem other_domain other_problem : List ℕ) (t : PlanningTask) →
+        map to_ascii_lowercase domain ≡ map to_ascii_lowercase other_domain → map to_ascii_lowercase problem ≡ map to_ascii_lowercase other_problem →
         SpellTask domain problem t → SpellTask other_domain other_problem t }
 {}
 
