@@ -42,11 +42,7 @@ use Rattle.pddl_layout.proofs.TermShapes.{terms_erased, lifted_erased, not_empty
 negated_condition_erased : (scope : Scope) (t : List ℕ) (f : Forms) (b : Beginning) → condition.negated_condition scope t (erased f) b ≡ condition.negated_condition scope t f b
 negated_condition_erased scope t f Atom = ap (λ (a : Option Lifted). option_to_list (option_map Negative a)) (lifted_erased scope.predicates scope t f)
 negated_condition_erased scope t f Equality = ap (condition.equality false) (terms_erased scope f)
-negated_condition_erased scope t f Conjunction = refl
-negated_condition_erased scope t f Negation = refl
-negated_condition_erased scope t f Increasing = refl
-negated_condition_erased scope t f Unread = refl
-negated_condition_erased scope t f NoName = refl
+negated_condition_erased scope t f other = refl
 
 negated_conditions_erased : (setting : Setting) (scope : Scope) (f : Forms) → condition.negated_conditions setting scope (erased f) ≡ condition.negated_conditions setting scope f
 negated_conditions_erased setting scope none = refl
@@ -61,9 +57,7 @@ group_conditions_erased scope t f Conjunction parts parts2 e = e
 group_conditions_erased scope t f Equality parts parts2 e = ap (condition.equality true) (terms_erased scope f)
 group_conditions_erased scope t f Negation parts parts2 e = negated_conditions_erased InCondition scope f
 group_conditions_erased scope t f Atom parts parts2 e = ap (λ (a : Option Lifted). option_to_list (option_map Positive a)) (lifted_erased scope.predicates scope t f)
-group_conditions_erased scope t f Increasing parts parts2 e = refl
-group_conditions_erased scope t f Unread parts parts2 e = refl
-group_conditions_erased scope t f NoName parts parts2 e = refl
+group_conditions_erased scope t f other parts parts2 e = refl
 
 pub conditions_erased : (scope : Scope) (f : Forms) → conditions scope (erased f) ≡ conditions scope f
 conditions_erased scope none = refl
@@ -86,11 +80,7 @@ two_terms_alike scope h k (group s e i f) = faulty
 negated_group_alike : (scope : Scope) (m h hs n k ks : ℕ) (t : List ℕ) (f : Forms) (b : Beginning) → Alike (negated_group_faults scope m h hs t f b) (negated_group_faults scope n k ks t (erased f) b)
 negated_group_alike scope m h hs n k ks t f Atom = lifted_alike scope.predicates scope h hs k ks t f
 negated_group_alike scope m h hs n k ks t f Equality = two_terms_alike scope h k f
-negated_group_alike scope m h hs n k ks t f Conjunction = faulty
-negated_group_alike scope m h hs n k ks t f Negation = faulty
-negated_group_alike scope m h hs n k ks t f Increasing = faulty
-negated_group_alike scope m h hs n k ks t f Unread = faulty
-negated_group_alike scope m h hs n k ks t f NoName = faulty
+negated_group_alike scope m h hs n k ks t f other = faulty
 
 first_negated_alike : (setting : Setting) (scope : Scope) (m n : ℕ) (f : Forms) → Alike (first_negated_faults setting scope m f) (first_negated_faults setting scope n (erased f))
 first_negated_alike setting scope m n none = clear
@@ -110,9 +100,7 @@ condition_group_alike scope h hs k ks t f Conjunction p = p
 condition_group_alike scope h hs k ks t f Equality p = two_terms_alike scope h k f
 condition_group_alike scope h hs k ks t f Negation p = negated_alike InCondition scope h hs k ks f
 condition_group_alike scope h hs k ks t f Atom p = lifted_alike scope.predicates scope h hs k ks t f
-condition_group_alike scope h hs k ks t f Increasing p = faulty
-condition_group_alike scope h hs k ks t f Unread p = faulty
-condition_group_alike scope h hs k ks t f NoName p = faulty
+condition_group_alike scope h hs k ks t f other p = faulty
 
 pub conditions_alike : (scope : Scope) (f : Forms) → Alike (conditions_faults scope f) (conditions_faults scope (erased f))
 conditions_alike scope none = clear
@@ -125,12 +113,7 @@ conditions_alike scope (group s e (word hs he t i) f) = both (condition_group_al
 
 negated_effect_erased : (scope : Scope) (t : List ℕ) (f : Forms) (b : Beginning) → effect.negated_effect scope t (erased f) b ≡ effect.negated_effect scope t f b
 negated_effect_erased scope t f Atom = ap (λ (a : Option Lifted). option_to_list (option_map (effect_of false) a)) (lifted_erased scope.predicates scope t f)
-negated_effect_erased scope t f Equality = refl
-negated_effect_erased scope t f Conjunction = refl
-negated_effect_erased scope t f Negation = refl
-negated_effect_erased scope t f Increasing = refl
-negated_effect_erased scope t f Unread = refl
-negated_effect_erased scope t f NoName = refl
+negated_effect_erased scope t f other = refl
 
 negated_effects_erased : (scope : Scope) (f : Forms) → effect.negated_effects scope (erased f) ≡ effect.negated_effects scope f
 negated_effects_erased scope none = refl
@@ -144,10 +127,7 @@ group_effects_erased : (scope : Scope) (t : List ℕ) (f : Forms) (b : Beginning
 group_effects_erased scope t f Conjunction parts parts2 e = e
 group_effects_erased scope t f Negation parts parts2 e = negated_effects_erased scope f
 group_effects_erased scope t f Atom parts parts2 e = ap (λ (a : Option Lifted). option_to_list (option_map (effect_of true) a)) (lifted_erased scope.predicates scope t f)
-group_effects_erased scope t f Equality parts parts2 e = refl
-group_effects_erased scope t f Increasing parts parts2 e = refl
-group_effects_erased scope t f Unread parts parts2 e = refl
-group_effects_erased scope t f NoName parts parts2 e = refl
+group_effects_erased scope t f other parts parts2 e = refl
 
 pub effects_erased : (scope : Scope) (f : Forms) → effects scope (erased f) ≡ effects scope f
 effects_erased scope none = refl
@@ -161,9 +141,7 @@ effects_erased scope (group s e (word hs he t i) f) =
 
 function_erased : (scope : Scope) (t : List ℕ) (f : Forms) (k : WordKind) → function_value scope t (erased f) k ≡ function_value scope t f k
 function_erased scope t f Name = ap (λ (a : Option Lifted). if is_total_cost t then None else option_map Value a) (lifted_erased scope.functions scope t f)
-function_erased scope t f Dash = refl
-function_erased scope t f Variable = refl
-function_erased scope t f Other = refl
+function_erased scope t f other = refl
 
 amount_erased : (scope : Scope) (f : Forms) → amount_of scope (erased f) ≡ amount_of scope f
 amount_erased scope none = refl
@@ -179,11 +157,7 @@ group_increases_erased : (scope : Scope) (f : Forms) (b : Beginning) (parts part
     → effect.group_increases scope (erased f) b parts2 ≡ effect.group_increases scope f b parts
 group_increases_erased scope f Conjunction parts parts2 e = e
 group_increases_erased scope f Increasing parts parts2 e = ap option_to_list (increase_erased scope f)
-group_increases_erased scope f Negation parts parts2 e = refl
-group_increases_erased scope f Atom parts parts2 e = refl
-group_increases_erased scope f Equality parts parts2 e = refl
-group_increases_erased scope f Unread parts parts2 e = refl
-group_increases_erased scope f NoName parts parts2 e = refl
+group_increases_erased scope f other parts parts2 e = refl
 
 pub increases_erased : (scope : Scope) (f : Forms) → increases scope (erased f) ≡ increases scope f
 increases_erased scope none = refl
@@ -197,9 +171,7 @@ increases_erased scope (group s e (word hs he t i) f) =
 
 function_alike : (scope : Scope) (h s k z : ℕ) (t : List ℕ) (f : Forms) (kind : WordKind) → Alike (function_faults scope h s t f kind) (function_faults scope k z t (erased f) kind)
 function_alike scope h s k z t f Name = chosen (is_total_cost t) faulty (lifted_alike scope.functions scope h s k z t f)
-function_alike scope h s k z t f Dash = faulty
-function_alike scope h s k z t f Variable = faulty
-function_alike scope h s k z t f Other = faulty
+function_alike scope h s k z t f other = faulty
 
 amount_word_alike : (scope : Scope) (s z : ℕ) (t : List ℕ) (n : Number) → Alike (amount_word_faults scope s t n) (amount_word_faults scope z t n)
 amount_word_alike scope s z t (Whole n) = clear
@@ -221,9 +193,7 @@ amount_alike scope h k (group s e i f) = both (first_amount_alike scope (group s
 
 increased_word_alike : (m s n z : ℕ) (t : List ℕ) (k : WordKind) → Alike (increased_word_faults m s t k) (increased_word_faults n z t k)
 increased_word_alike m s n z t Name = tested (not (is_total_cost t)) (fault Unsupported m) (fault Unsupported n) clear
-increased_word_alike m s n z t Dash = faulty
-increased_word_alike m s n z t Variable = faulty
-increased_word_alike m s n z t Other = faulty
+increased_word_alike m s n z t other = faulty
 
 increased_inside_alike : (m h n k : ℕ) (f : Forms) → Alike (increased_inside_faults m h f) (increased_inside_faults n k (erased f))
 increased_inside_alike m h n k none = faulty
@@ -248,9 +218,7 @@ effect_group_alike scope h hs k ks t f Conjunction p = p
 effect_group_alike scope h hs k ks t f Negation p = negated_alike InEffect scope h hs k ks f
 effect_group_alike scope h hs k ks t f Increasing p = increase_alike scope h hs k ks f
 effect_group_alike scope h hs k ks t f Atom p = lifted_alike scope.predicates scope h hs k ks t f
-effect_group_alike scope h hs k ks t f Equality p = faulty
-effect_group_alike scope h hs k ks t f Unread p = faulty
-effect_group_alike scope h hs k ks t f NoName p = faulty
+effect_group_alike scope h hs k ks t f other p = faulty
 
 pub effects_alike : (scope : Scope) (f : Forms) → Alike (effects_faults scope f) (effects_faults scope (erased f))
 effects_alike scope none = clear
@@ -266,12 +234,7 @@ zeroed places = map (λ p. 0) places
 
 literal_group_zeroed : (s : ℕ) (b : Beginning) (parts parts2 : List ℕ) → parts2 ≡ zeroed parts → group_literals 0 b parts2 ≡ zeroed (group_literals s b parts)
 literal_group_zeroed s Conjunction parts parts2 e = e
-literal_group_zeroed s Negation parts parts2 e = refl
-literal_group_zeroed s Equality parts parts2 e = refl
-literal_group_zeroed s Atom parts parts2 e = refl
-literal_group_zeroed s Increasing parts parts2 e = refl
-literal_group_zeroed s Unread parts parts2 e = refl
-literal_group_zeroed s NoName parts parts2 e = refl
+literal_group_zeroed s other parts parts2 e = refl
 
 pub literals_zeroed : (setting : Setting) (f : Forms) → literal_places setting (erased f) ≡ zeroed (literal_places setting f)
 literals_zeroed setting none = refl
@@ -285,12 +248,7 @@ literals_zeroed setting (group s e (word hs he t i) f) =
 
 increase_group_zeroed : (s : ℕ) (b : Beginning) (parts parts2 : List ℕ) → parts2 ≡ zeroed parts → group_increases 0 b parts2 ≡ zeroed (group_increases s b parts)
 increase_group_zeroed s Conjunction parts parts2 e = e
-increase_group_zeroed s Increasing parts parts2 e = refl
-increase_group_zeroed s Negation parts parts2 e = refl
-increase_group_zeroed s Equality parts parts2 e = refl
-increase_group_zeroed s Atom parts parts2 e = refl
-increase_group_zeroed s Unread parts parts2 e = refl
-increase_group_zeroed s NoName parts parts2 e = refl
+increase_group_zeroed s other parts parts2 e = refl
 
 pub increases_zeroed : (setting : Setting) (f : Forms) → increase_places setting (erased f) ≡ zeroed (increase_places setting f)
 increases_zeroed setting none = refl

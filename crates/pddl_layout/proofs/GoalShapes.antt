@@ -34,12 +34,7 @@ placed_unplaced s positive (Some p) b e = ap (placed 0 positive) e
 
 negated_erased : (scope : Scope) (t : List ℕ) (i : Forms) (b : Beginning) → negated_goal scope t (erased i) b ≡ negated_goal scope t i b
 negated_erased scope t i PredicateHead = lifted_erased scope.predicates scope t i
-negated_erased scope t i Conjunction = refl
-negated_erased scope t i Negation = refl
-negated_erased scope t i Equality = refl
-negated_erased scope t i Increasing = refl
-negated_erased scope t i Unread = refl
-negated_erased scope t i NoName = refl
+negated_erased scope t i other = refl
 
 first_negated_erased : (scope : Scope) (f : Forms) → first_negated scope (erased f) ≡ first_negated scope f
 first_negated_erased scope none = refl
@@ -53,10 +48,7 @@ group_unplaced : (scope : Scope) (s : ℕ) (t : List ℕ) (i : Forms) (b : Begin
 group_unplaced scope s t i Conjunction parts parts2 e = e
 group_unplaced scope s t i Negation parts parts2 e = placed_unplaced s false (atom_of (first_negated scope i)) (atom_of (first_negated scope (erased i))) (ap atom_of (first_negated_erased scope i))
 group_unplaced scope s t i PredicateHead parts parts2 e = placed_unplaced s true _ _ (ap atom_of (lifted_erased scope.predicates scope t i))
-group_unplaced scope s t i Equality parts parts2 e = refl
-group_unplaced scope s t i Increasing parts parts2 e = refl
-group_unplaced scope s t i Unread parts parts2 e = refl
-group_unplaced scope s t i NoName parts parts2 e = refl
+group_unplaced scope s t i other parts parts2 e = refl
 
 goals_unplaced : (scope : Scope) (f : Forms) → goals scope (erased f) ≡ map unplaced (goals scope f)
 goals_unplaced scope none = refl
@@ -83,12 +75,7 @@ goal_literals_erased scope f = ap (map (λ (l : Placed). l.literal)) (first_lite
 
 negated_goal_alike : (scope : Scope) (m h s n k z : ℕ) (t : List ℕ) (i : Forms) (b : Beginning) → Alike (negated_goal_faults scope m h s t i b) (negated_goal_faults scope n k z t (erased i) b)
 negated_goal_alike scope m h s n k z t i PredicateHead = lifted_alike scope.predicates scope h s k z t i
-negated_goal_alike scope m h s n k z t i Equality = faulty
-negated_goal_alike scope m h s n k z t i Conjunction = faulty
-negated_goal_alike scope m h s n k z t i Negation = faulty
-negated_goal_alike scope m h s n k z t i Increasing = faulty
-negated_goal_alike scope m h s n k z t i Unread = faulty
-negated_goal_alike scope m h s n k z t i NoName = faulty
+negated_goal_alike scope m h s n k z t i other = faulty
 
 first_negated_alike : (scope : Scope) (m n : ℕ) (f : Forms) → Alike (first_negated_faults scope m f) (first_negated_faults scope n (erased f))
 first_negated_alike scope m n none = clear
@@ -107,10 +94,7 @@ group_alike : (scope : Scope) (h s k z : ℕ) (t : List ℕ) (i : Forms) (b : Be
 group_alike scope h s k z t i Conjunction p = p
 group_alike scope h s k z t i Negation p = negated_goals_alike scope h s k z i
 group_alike scope h s k z t i PredicateHead p = lifted_alike scope.predicates scope h s k z t i
-group_alike scope h s k z t i NoName p = faulty
-group_alike scope h s k z t i Equality p = faulty
-group_alike scope h s k z t i Increasing p = faulty
-group_alike scope h s k z t i Unread p = faulty
+group_alike scope h s k z t i other p = faulty
 
 goals_alike : (scope : Scope) (f : Forms) → Alike (goals_faults scope f) (goals_faults scope (erased f))
 goals_alike scope none = clear

@@ -45,9 +45,7 @@ number_alone_erased (group s e i f) = refl
 
 function_erased : (scope : Scope) (t : List ℕ) (i : Forms) (k : WordKind) → function_by_kind scope t (erased i) k ≡ function_by_kind scope t i k
 function_erased scope t i Name = ap (λ (a : Option Lifted). if is_total_cost t then None else atom_of a) (lifted_erased scope.functions scope t i)
-function_erased scope t i Dash = refl
-function_erased scope t i Variable = refl
-function_erased scope t i Other = refl
+function_erased scope t i other = refl
 
 first_function_erased : (scope : Scope) (f : Forms) → first_function scope (erased f) ≡ first_function scope f
 first_function_erased scope none = refl
@@ -66,27 +64,18 @@ kind_by_erased : (t : List ℕ) (i : Forms) (b : Beginning) → item_kind_by t (
 kind_by_erased t i Negation = refl
 kind_by_erased t i Unread = refl
 kind_by_erased t i NoName = refl
-kind_by_erased t i Conjunction = ap (λ (k : ItemKind). if same_text t (codes "=") then Value else k) (by_head_erased t i)
-kind_by_erased t i Equality = ap (λ (k : ItemKind). if same_text t (codes "=") then Value else k) (by_head_erased t i)
-kind_by_erased t i Increasing = ap (λ (k : ItemKind). if same_text t (codes "=") then Value else k) (by_head_erased t i)
-kind_by_erased t i PredicateHead = ap (λ (k : ItemKind). if same_text t (codes "=") then Value else k) (by_head_erased t i)
+kind_by_erased t i other = ap (λ (k : ItemKind). if same_text t (codes "=") then Value else k) (by_head_erased t i)
 
 kind_erased : (t : List ℕ) (i : Forms) → item_kind t (erased i) ≡ item_kind t i
 kind_erased t i = kind_by_erased t i (beginning InInitial t)
 
 item_atom_erased : (scope : Scope) (t : List ℕ) (i : Forms) (k : ItemKind) → item_atom scope t (erased i) k ≡ item_atom scope t i k
 item_atom_erased scope t i TrueAtom = ap atom_of (lifted_erased scope.predicates scope t i)
-item_atom_erased scope t i Value = refl
-item_atom_erased scope t i Negated = refl
-item_atom_erased scope t i NotRead = refl
-item_atom_erased scope t i Nothing = refl
+item_atom_erased scope t i other = refl
 
 item_value_erased : (scope : Scope) (i : Forms) (k : ItemKind) → item_value scope (erased i) k ≡ item_value scope i k
 item_value_erased scope i Value = stated_erased scope i
-item_value_erased scope i TrueAtom = refl
-item_value_erased scope i Negated = refl
-item_value_erased scope i NotRead = refl
-item_value_erased scope i Nothing = refl
+item_value_erased scope i other = refl
 
 atom_inside_erased : (scope : Scope) (f : Forms) → atom_inside scope (erased f) ≡ atom_inside scope f
 atom_inside_erased scope none = refl
@@ -113,9 +102,7 @@ stated_values_erased scope values (group s e i f) =
 
 number_word_alike : (s z : ℕ) (n : Number) → Alike (number_word_faults s n) (number_word_faults z n)
 number_word_alike s z (Whole n) = clear
-number_word_alike s z Fraction = faulty
-number_word_alike s z OutOfRange = faulty
-number_word_alike s z NoNumber = faulty
+number_word_alike s z other = faulty
 
 number_alike : (h k : ℕ) (f : Forms) → Alike (number_faults h f) (number_faults k (erased f))
 number_alike h k none = faulty
@@ -133,9 +120,7 @@ function_alike scope h s k z t i f Name =
     (tested_both (not_empty i) (not_empty (erased i)) (fault Arity h) (fault Arity k) (sym (not_empty_erased i))
     (tested_both (is_positive f) (is_positive (erased f)) (fault Unsupported s) (fault Unsupported z) (sym (positive_erased f)) clear))
     (lifted_alike scope.functions scope h s k z t i)
-function_alike scope h s k z t i f Dash = faulty
-function_alike scope h s k z t i f Variable = faulty
-function_alike scope h s k z t i f Other = faulty
+function_alike scope h s k z t i f other = faulty
 
 function_inside_alike : (scope : Scope) (h k : ℕ) (f i : Forms) → Alike (function_inside_faults scope h f i) (function_inside_faults scope k (erased f) (erased i))
 function_inside_alike scope h k f none = faulty
@@ -154,12 +139,7 @@ value_alike scope h k (group s e i f) = both (first_function_alike scope (group 
 
 negated_atom_alike : (scope : Scope) (m h s n k z : ℕ) (t : List ℕ) (i : Forms) (b : Beginning) → Alike (negated_atom_faults scope m h s t i b) (negated_atom_faults scope n k z t (erased i) b)
 negated_atom_alike scope m h s n k z t i PredicateHead = lifted_alike scope.predicates scope h s k z t i
-negated_atom_alike scope m h s n k z t i Conjunction = faulty
-negated_atom_alike scope m h s n k z t i Negation = faulty
-negated_atom_alike scope m h s n k z t i Equality = faulty
-negated_atom_alike scope m h s n k z t i Increasing = faulty
-negated_atom_alike scope m h s n k z t i Unread = faulty
-negated_atom_alike scope m h s n k z t i NoName = faulty
+negated_atom_alike scope m h s n k z t i other = faulty
 
 first_negated_alike : (scope : Scope) (m n : ℕ) (f : Forms) → Alike (first_negated_faults scope m f) (first_negated_faults scope n (erased f))
 first_negated_alike scope m n none = clear

@@ -12,3 +12,5 @@ pub mod TaskShapes
 pub mod FirstFaults
 pub mod TokenReading
 pub mod SpelledTokens
+pub mod Exchange
+pub mod SmallTexts

@@ -39,7 +39,7 @@ has_head_erased w none = refl
 has_head_erased w (word s e t f) = refl
 has_head_erased w (group s e i f) = refl
 
-pub all_erased : (w : List ℕ) (f : Forms) → all_sections w (erased f) ≡ map erased_part (all_sections w f)
+all_erased : (w : List ℕ) (f : Forms) → all_sections w (erased f) ≡ map erased_part (all_sections w f)
 all_erased w none = refl
 all_erased w (word s e t f) = all_erased w f
 all_erased w (group s e none f) = all_erased w f
@@ -50,6 +50,10 @@ all_erased w (group s e (word hs he t i) f) = by (same_text t w) (all_erased w f
       ≡ map erased_part (option_to_list (if b then Some (record { at = s; inside = i }) else None) ++ all_sections w f)
   by true rest = ap (λ (ps : List Part). record { at = 0; inside = erased i } ∷ ps) rest
   by false rest = rest
+
+-- expressions of one shape have the same sections of each name
+pub all_same : (w : List ℕ) (f g : Forms) → SameShape f g → map erased_part (all_sections w f) ≡ map erased_part (all_sections w g)
+all_same w f g e = sym (all_erased w f) ∙ ap (all_sections w) e ∙ all_erased w g
 
 abbrev pub first_part : List Part → Option Part
 first_part [] = None

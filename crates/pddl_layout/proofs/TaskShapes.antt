@@ -35,7 +35,7 @@ use Rattle.pddl_laws.proofs.Clean.{kept_clean}
 use Rattle.pddl_layout.specs.Shapes.{erased, SameShape}
 use Rattle.pddl_layout.specs.Sections.{erased_part, SameSections, HasSections}
 use Rattle.pddl_layout.proofs.Alike.{Alike, itself, equal_lists, turned, chained, clear, chosen, tested, clean_too}
-use Rattle.pddl_layout.proofs.SectionShapes.{same_value, sections_erased, all_erased, first_part, section_is_first, first_erased, same_there, head_alike, requirement_alike}
+use Rattle.pddl_layout.proofs.SectionShapes.{same_value, sections_erased, all_same, first_part, section_is_first, first_erased, same_there, head_alike, requirement_alike}
 use Rattle.pddl_layout.proofs.SectionHeads.{reordered_clean}
 use Rattle.pddl_layout.proofs.DomainShapes.{type_names_erased, supertypes_erased, types_alike, objects_erased, objects_alike, predicate_heads_erased, predicates_alike, function_heads_erased, functions_alike}
 use Rattle.pddl_layout.proofs.ActionShapes.{schemas_erased, names_erased, actions_alike}
@@ -50,8 +50,7 @@ across x h k f g alike e = chained (alike h 0 f) (chained (equal_lists (x 0 (era
 
 -- trees of one shape have the same sections
 pub same_sections : (file : PlanningFile) (f g : Forms) → SameShape f g → SameSections file f g
-same_sections file f g e = λ w h.
-    sym (all_erased w (sections f)) ∙ ap (all_sections w) (sym (sections_erased f) ∙ ap sections e ∙ sections_erased g) ∙ all_erased w (sections g)
+same_sections file f g e = λ w h. all_same w (sections f) (sections g) (sym (sections_erased f) ∙ ap sections e ∙ sections_erased g)
 
 -- a name of sections
 abbrev IsWordOf : PlanningFile → List ℕ → Type 0

@@ -35,3 +35,7 @@ pub record HasSections (file : PlanningFile) (root : Forms) : Type 0 where
   pub named : is_name name ≡ true
   pub form : erased root ≡ defined file name (erased (sections root))
   pub each : AreSections file (sections root)
+
+-- a section with this name and these expressions behind it, before others, with 0 for its places
+abbrev pub section_before : List ℕ → Forms → Forms → Forms
+section_before name i f = group 0 0 (word 0 0 name i) f

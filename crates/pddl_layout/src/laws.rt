@@ -1,17 +1,19 @@
 //! Laws of the layout of PDDL texts. The contract of each function states one; its body is empty.
 
-ghost use Rattle.std.specs.Prelude.{◌≡◌, ℕ, ◌≤◌, List, [], ◌++◌, Some, None, length, map};
+ghost use Rattle.std.specs.Prelude.{◌≡◌, ◌≢◌, ℕ, ◌≤◌, List, [], ◌++◌, Some, None, length, map};
 ghost use Rattle.std.specs.Char.{to_ascii_lowercase};
-ghost use Rattle.sexp.specs.Forms.{Forms};
+ghost use Rattle.sexp.specs.Forms.{Forms, ◌then◌};
 ghost use Rattle.sexp.specs.Grammar.{SpellsAll};
 ghost use Rattle.sexp.specs.Limits.{max_bytes};
 ghost use Rattle.pddl_task.specs.Planning.{PlanningTask};
+ghost use Rattle.pddl_syntax.specs.declared.fault.PlanningFile.{PlanningFile};
+ghost use Rattle.pddl_syntax.specs.Sections.{sections};
 ghost use Rattle.pddl_syntax.specs.declared.fault.PlanningFile.TheVariants.{Domain, Problem};
 ghost use Rattle.pddl.specs.declared.fault.PddlFault.TheVariants.{Section};
 ghost use Rattle.pddl.specs.Passes.{Pass, FileFault, first_pass};
 ghost use Rattle.pddl.specs.Texts.{IsTree, SpellTask, IsTaskRefusal, declaring_passes, domain_passes};
 ghost use Rattle.pddl_layout.specs.Shapes.{SameShape};
-ghost use Rattle.pddl_layout.specs.Sections.{SameSections, HasSections};
+ghost use Rattle.pddl_layout.specs.Sections.{SameSections, HasSections, section_before};
 ghost use Rattle.pddl_layout.specs.Tokens.{tokens, tokens_of};
 ghost use Rattle.pddl_layout.specs.Agreements.{AgreeInDeclarations, AgreeInObjects, object_passes};
 
@@ -58,6 +60,13 @@ pub fn sections_commute()
         IsTree domain d → IsTree problem p → IsTree other_domain c → IsTree other_problem q →
         SameSections Domain d c → SameSections Problem p q → HasSections Domain c → HasSections Problem q →
         SpellTask domain problem t → SpellTask other_domain other_problem t }
+{}
+
+/// Two neighbouring sections of different names may be exchanged: then the sections of each name are the same.
+pub fn neighbours_may_be_exchanged()
+    ensures { (file : PlanningFile) (d c front i j back : Forms) (name other : List ℕ) → name ≢ other →
+        SameShape (sections d) (front then section_before name i (section_before other j back)) →
+        SameShape (sections c) (front then section_before other j (section_before name i back)) → SameSections file d c }
 {}
 
 /// The first fault of passes stays the first, whatever passes follow.
