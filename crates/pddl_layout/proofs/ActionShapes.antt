@@ -1,14 +1,13 @@
 -- Actions of one shape, and their faults.
-use Rattle.std.proofs.Common.{◌≡◌, ℕ, Bool, true, false, cond, List, [], ◌∷◌, ◌++◌, map, refl, sym, ap, ap₂, ◌∙◌, if◌then◌else◌, slice_get}
-use Rattle.std.specs.Prelude.{Option, Some, None, option_to_list, find}
+use Rattle.std.proofs.Common.{◌≡◌, ℕ, Bool, true, false, cond, List, [], ◌∷◌, ◌++◌, map, refl, sym, ap, ap₂, ◌∙◌, slice_get}
+use Rattle.std.specs.Prelude.{Option, Some, None, find}
 use Rattle.std.specs.Option.{option_map, option_map_or}
 use Rattle.std.proofs.lemmas.List.{map-append}
 use Rattle.std.proofs.lemmas.Option.{slice_get-map}
 use Rattle.sexp.specs.Forms.{Forms, none, word, group}
-use Rattle.pddl_names.specs.Names.{is_there, with_name}
+use Rattle.pddl_names.specs.Names.{is_there}
 use Rattle.pddl_task.specs.Planning.{Schema}
-use Rattle.pddl_syntax.specs.declared.fault.Fault.{Fault}
-use Rattle.pddl_syntax.specs.declared.fault.FaultKind.TheVariants.{Shape, TwiceDeclared}
+use Rattle.pddl_syntax.specs.declared.fault.FaultKind.TheVariants.{TwiceDeclared}
 use Rattle.pddl_syntax.specs.declared.fault.LimitedTable.{LimitedTable}
 use Rattle.pddl_syntax.specs.declared.fault.LimitedTable.TheVariants.{Schemas, Literals, Increases}
 use Rattle.pddl_syntax.specs.Faults.{fault}
@@ -17,18 +16,16 @@ use Rattle.pddl_syntax.specs.Parameters.{parameter_names, parameter_types}
 use Rattle.pddl_syntax.specs.Sections.{Part, behind, root_parts, start_of}
 use Rattle.pddl_terms.specs.declared.beginning.Setting.TheVariants.{InCondition, InEffect}
 use Rattle.pddl_terms.specs.Terms.{Scope}
-use Rattle.pddl_effect.specs.Conditions.{conditions}
-use Rattle.pddl_effect.specs.Effects.{effects, increases}
 use Rattle.pddl_action.specs.declared.keyword.Keyword.{Keyword}
 use Rattle.pddl_action.specs.declared.keyword.Keyword.TheVariants.{Parameters, Precondition, Effect}
 use Rattle.pddl_action.specs.declared.keyword.Seen.{Seen}
 use Rattle.pddl_action.specs.Domains.{Declarations}
 use Rattle.pddl_action.specs.Keywords.{KeywordPart, keyword_of, same_keyword, waiting_after, parts, value_of, is_seen, seen_after, word_faults, list_faults, end_faults, keyword_faults, none_seen}
-use Rattle.pddl_action.specs.Actions.{scope_of, parameters_of, schema_in, value_faults, values_faults, value_literals, all_literals, value_increases, all_increases, past_fault, past_faults, limit_faults, schema_behind, parts_faults, behind_name_faults, named_faults, with_action_name, schema_of, action_faults, names_with, each_faults, actions_faults}
+use Rattle.pddl_action.specs.Actions.{scope_of, parameters_of, schema_in, value_faults, values_faults, value_literals, all_literals, value_increases, all_increases, past_fault, past_faults, limit_faults, schema_behind, behind_name_faults, named_faults, with_action_name, schema_of, action_faults, names_with, each_faults, actions_faults}
 use Rattle.pddl_action.specs.Limits.{max_schemas, max_literals, max_increases}
 use Rattle.pddl_layout.specs.Shapes.{erased}
 use Rattle.pddl_layout.specs.Sections.{erased_part}
-use Rattle.pddl_layout.proofs.Alike.{Alike, itself, faulty, clear, both, chosen, tested}
+use Rattle.pddl_layout.proofs.Alike.{Alike, faulty, clear, both, chosen, tested}
 use Rattle.pddl_layout.proofs.SectionShapes.{behind_erased, root_parts_erased}
 use Rattle.pddl_layout.proofs.TypedShapes.{parameter_names_erased, parameter_types_erased, parameters_alike}
 use Rattle.pddl_layout.proofs.EffectShapes.{zeroed, conditions_erased, conditions_alike, effects_erased, increases_erased, effects_alike, literals_zeroed, increases_zeroed}

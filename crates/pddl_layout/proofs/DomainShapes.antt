@@ -1,13 +1,13 @@
 -- A domain's types, constants, predicates and functions in sections of one shape, and their faults.
-use Rattle.std.proofs.Common.{◌≡◌, ℕ, ◌+◌, ◌==◌, ◌&&◌, not, nat_le, Bool, true, false, cond, List, [], ◌∷◌, ◌++◌, map, length, codes, refl, sym, ap, ap₂, ◌∙◌, if◌then◌else◌}
-use Rattle.std.specs.Prelude.{Option, Some, None, find}
+use Rattle.std.proofs.Common.{◌≡◌, ℕ, ◌+◌, ◌==◌, ◌&&◌, not, nat_le, Bool, true, false, cond, List, [], ◌∷◌, map, length, codes, refl, sym, ap, ap₂, ◌∙◌, if◌then◌else◌}
+use Rattle.std.specs.Prelude.{Option, Some, None}
 use Rattle.std.specs.Option.{option_map}
 use Rattle.std.specs.List.{range_with_len}
 use Rattle.std.proofs.lemmas.List.{length-map}
 use Rattle.sexp.specs.Forms.{Forms, none, word, group}
 use Rattle.pddl_names.specs.Names.{same_text, is_there}
 use Rattle.pddl_syntax.specs.declared.word.WordKind.{WordKind}
-use Rattle.pddl_syntax.specs.declared.word.WordKind.TheVariants.{Dash, Name, Variable, Other}
+use Rattle.pddl_syntax.specs.declared.word.WordKind.TheVariants.{Dash, Name}
 use Rattle.pddl_syntax.specs.declared.fault.Fault.{Fault}
 use Rattle.pddl_syntax.specs.declared.fault.FaultKind.TheVariants.{Shape, Unsupported, TwiceDeclared, TypeCycle, Limit}
 use Rattle.pddl_syntax.specs.declared.fault.LimitedTable.{LimitedTable}
@@ -20,11 +20,11 @@ use Rattle.pddl_domain.specs.declared.types.Subtype.{Subtype}
 use Rattle.pddl_domain.specs.Cycles.{lies_on_cycle}
 use Rattle.pddl_domain.specs.Types.{with_parent, all_types, type_names, numbered, subtypes, first_of_name, first_parent, parent_of, parents, supertypes, is_twice, is_cyclic, subtype_faults, types_faults}
 use Rattle.pddl_domain.specs.Objects.{Objects, with_text, with_object, objects_with, first_type, differs_text, object_faults, objects_faults}
-use Rattle.pddl_domain.specs.DeclaredHeads.{with_item, past_limit, item_faults, is_equals, predicate_heads, predicates_faults, by_hyphen, function_heads, heads_behind, number_faults, word_faults, functions_faults, faults_behind}
+use Rattle.pddl_domain.specs.DeclaredHeads.{with_item, past_limit, item_faults, is_equals, predicate_heads, predicates_faults, by_hyphen, function_heads, heads_behind, word_faults, functions_faults, faults_behind}
 use Rattle.pddl_domain.specs.Limits.{max_heads, max_objects}
 use Rattle.pddl_names.specs.Names.{with_name}
 use Rattle.pddl_layout.specs.Shapes.{erased}
-use Rattle.pddl_layout.proofs.Alike.{Alike, itself, faulty, clear, both, chosen, tested, tested_both}
+use Rattle.pddl_layout.proofs.Alike.{Alike, faulty, clear, both, chosen, tested, tested_both}
 use Rattle.pddl_layout.proofs.TypedShapes.{unplaced, declared_erased, type_group_alike, typed_alike, parameters_alike}
 
 -- ---- types

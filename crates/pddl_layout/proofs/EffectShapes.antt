@@ -1,10 +1,9 @@
 -- Conditions, effects and increases of one shape, and their faults.
-use Rattle.std.proofs.Common.{◌≡◌, ℕ, ◌&&◌, not, Bool, true, false, if◌then◌else◌, List, [], ◌∷◌, ◌++◌, map, refl, sym, ap, ap₂, ◌∙◌}
-use Rattle.std.specs.Prelude.{Option, Some, None, option_to_list}
+use Rattle.std.proofs.Common.{◌≡◌, ℕ, ◌&&◌, not, Bool, true, false, if◌then◌else◌, List, ◌++◌, map, refl, sym, ap, ap₂, ◌∙◌}
+use Rattle.std.specs.Prelude.{Option, None, option_to_list}
 use Rattle.std.specs.Option.{option_map}
 use Rattle.std.proofs.lemmas.List.{map-append}
 use Rattle.sexp.specs.Forms.{Forms, none, word, group}
-use Rattle.pddl_task.specs.declared.schema.Term.{Term}
 use Rattle.pddl_task.specs.declared.schema.Condition.{Condition}
 use Rattle.pddl_task.specs.declared.schema.Condition.TheVariants.{Positive, Negative}
 use Rattle.pddl_task.specs.declared.schema.Increase.{Increase}
@@ -12,7 +11,7 @@ use Rattle.pddl_task.specs.declared.schema.Increase.TheVariants.{Value}
 use Rattle.pddl_task.specs.Lifted.{Lifted}
 use Rattle.pddl_task.specs.Planning.{Effect}
 use Rattle.pddl_syntax.specs.declared.word.WordKind.{WordKind}
-use Rattle.pddl_syntax.specs.declared.word.WordKind.TheVariants.{Dash, Name, Variable, Other}
+use Rattle.pddl_syntax.specs.declared.word.WordKind.TheVariants.{Name}
 use Rattle.pddl_syntax.specs.declared.number.Number.{Number}
 use Rattle.pddl_syntax.specs.declared.number.Number.TheVariants.{Whole, Fraction, OutOfRange, NoNumber}
 use Rattle.pddl_syntax.specs.declared.fault.Fault.{Fault}
@@ -20,13 +19,13 @@ use Rattle.pddl_syntax.specs.declared.fault.FaultKind.TheVariants.{Unsupported, 
 use Rattle.pddl_syntax.specs.Faults.{fault}
 use Rattle.pddl_syntax.specs.Words.{word_kind}
 use Rattle.pddl_syntax.specs.Numbers.{number_of}
-use Rattle.pddl_syntax.specs.Sections.{behind, more_faults}
+use Rattle.pddl_syntax.specs.Sections.{behind}
 use Rattle.pddl_terms.specs.declared.beginning.Beginning.{Beginning}
-use Rattle.pddl_terms.specs.declared.beginning.Beginning.TheVariants.{Conjunction, Negation, Equality, Increasing, Unread, Atom, NoName}
+use Rattle.pddl_terms.specs.declared.beginning.Beginning.TheVariants.{Conjunction, Negation, Equality, Increasing, Atom}
 use Rattle.pddl_terms.specs.declared.beginning.Setting.{Setting}
 use Rattle.pddl_terms.specs.declared.beginning.Setting.TheVariants.{InCondition, InEffect}
 use Rattle.pddl_terms.specs.Beginnings.{beginning}
-use Rattle.pddl_terms.specs.Terms.{Scope, terms, first_term_faults, lifted, lifted_faults, is_total_cost, not_empty}
+use Rattle.pddl_terms.specs.Terms.{Scope, is_total_cost}
 use Rattle.pddl_effect.specs.Conditions as condition
 use Rattle.pddl_effect.specs.Conditions.{conditions, conditions_faults, second_term_faults, two_terms_faults, negated_group_faults, first_negated_faults, negated_faults}
 use Rattle.pddl_effect.specs.Effects as effect

@@ -1,5 +1,5 @@
 -- Neighbouring sections of different names exchanged.
-use Rattle.std.proofs.Common.{◌≡◌, ◌≢◌, ℕ, Bool, true, false, List, [], ◌∷◌, ◌++◌, map, refl, sym, ap, ◌∙◌, if◌then◌else◌, append_assoc}
+use Rattle.std.proofs.Common.{◌≡◌, ◌≢◌, ℕ, Bool, true, false, List, ◌++◌, map, refl, sym, ap, ◌∙◌, if◌then◌else◌, append_assoc}
 use Rattle.std.specs.Prelude.{Some, None, option_to_list}
 use Rattle.sexp.specs.Forms.{Forms, none, word, group, ◌then◌}
 use Rattle.pddl_names.specs.Names.{same_text}
@@ -31,6 +31,6 @@ pub neighbours_exchanged : (file : PlanningFile) (d c front i j back : Forms) (n
 neighbours_exchanged file d c front i j back name other ne e g = λ w h.
     all_same w (sections d) (front then section_before name i (section_before other j back)) e
     ∙ ap (map erased_part)
-      (all_then w front (section_before name i (section_before other j back)) ∙ ap (λ (ps : List Part). all_sections w front ++ ps) (exchanged w name other i j back ne)
-      ∙ sym (all_then w front (section_before other j (section_before name i back))))
+    (all_then w front (section_before name i (section_before other j back)) ∙ ap (λ (ps : List Part). all_sections w front ++ ps) (exchanged w name other i j back ne)
+    ∙ sym (all_then w front (section_before other j (section_before name i back))))
     ∙ sym (all_same w (sections c) (front then section_before other j (section_before name i back)) g)

@@ -1,5 +1,5 @@
 -- The first pass with a fault decides, whatever stands in the parts of later passes.
-use Rattle.std.proofs.Common.{◌≡◌, inl, inr, ℕ, List, [], ◌∷◌, ◌++◌, codes, refl, sym, ap, ◌∙◌}
+use Rattle.std.proofs.Common.{◌≡◌, inl, inr, ℕ, List, [], ◌∷◌, ◌++◌, sym, ap, ◌∙◌}
 use Rattle.std.specs.Prelude.{Option, Some, None}
 use Rattle.sexp.specs.Forms.{Forms}
 use Rattle.pddl_syntax.specs.declared.fault.Fault.{Fault}
@@ -7,7 +7,7 @@ use Rattle.pddl_syntax.specs.declared.fault.PlanningFile.{PlanningFile}
 use Rattle.pddl_syntax.specs.Faults.{first_of}
 use Rattle.pddl.specs.declared.fault.PddlFault.TheVariants.{Section}
 use Rattle.pddl.specs.Passes.{Pass, FileFault, in_file, first_pass}
-use Rattle.pddl.specs.Texts.{IsTree, IsTaskRefusal, declarations_of, constants_of, declaring_passes, actions_pass, domain_passes, problem_passes}
+use Rattle.pddl.specs.Texts.{IsTree, IsTaskRefusal, declaring_passes, actions_pass, domain_passes}
 use Rattle.pddl_layout.specs.Agreements.{AgreeInDeclarations, AgreeInObjects, object_passes}
 
 stays_first : (file : PlanningFile) (o : Option Fault) (later rest : Option FileFault) (e : FileFault) → in_file file o later ≡ Some e → (later ≡ Some e → rest ≡ Some e) → in_file file o rest ≡ Some e

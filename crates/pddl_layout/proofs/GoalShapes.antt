@@ -1,24 +1,22 @@
 -- Goals and metrics of one shape, and their faults.
-use Rattle.std.proofs.Common.{◌≡◌, ℕ, ◌&&◌, not, Bool, true, false, List, [], ◌∷◌, ◌++◌, map, codes, refl, sym, ap, ap₂, ◌∙◌, if◌then◌else◌}
+use Rattle.std.proofs.Common.{◌≡◌, ℕ, ◌&&◌, not, Bool, true, false, List, [], ◌∷◌, ◌++◌, map, codes, refl, sym, ap, ap₂, ◌∙◌}
 use Rattle.std.specs.Prelude.{Option, Some, None}
 use Rattle.std.specs.Option.{option_map_or}
 use Rattle.std.proofs.lemmas.List.{map-append}
 use Rattle.sexp.specs.Forms.{Forms, none, word, group, behind}
 use Rattle.pddl_task.specs.Atoms.{Atom, Literal}
-use Rattle.pddl_task.specs.Lifted.{Lifted}
 use Rattle.pddl_syntax.specs.declared.fault.Fault.{Fault}
 use Rattle.pddl_syntax.specs.declared.fault.FaultKind.TheVariants.{Shape, Unsupported, GoalBothWays}
 use Rattle.pddl_syntax.specs.Faults.{fault}
-use Rattle.pddl_syntax.specs.Sections.{Part, has_head}
 use Rattle.pddl_terms.specs.declared.beginning.Beginning.{Beginning}
-use Rattle.pddl_terms.specs.declared.beginning.Beginning.TheVariants.{Conjunction, Negation, Equality, Increasing, Unread, NoName, Atom as PredicateHead}
+use Rattle.pddl_terms.specs.declared.beginning.Beginning.TheVariants.{Conjunction, Negation, Atom as PredicateHead}
 use Rattle.pddl_terms.specs.declared.beginning.Setting.TheVariants.{InCondition}
 use Rattle.pddl_terms.specs.Beginnings.{beginning}
 use Rattle.pddl_terms.specs.Terms.{Scope, not_empty}
 use Rattle.pddl_problem.specs.Initial.{atom_of}
-use Rattle.pddl_problem.specs.Goals.{Placed, placed, negated_goal, first_negated, group_goals, goals, goal_literals, negated_goal_faults, first_negated_faults, negated_goals_faults, group_goals_faults, goals_faults, has_opposite, opposite_faults, goal_faults, is_cost, is_cost_alone, is_metric, or_else, first_word, metric_faults}
+use Rattle.pddl_problem.specs.Goals.{Placed, placed, negated_goal, first_negated, group_goals, goals, goal_literals, negated_goal_faults, first_negated_faults, negated_goals_faults, group_goals_faults, goals_faults, has_opposite, opposite_faults, goal_faults, is_cost, is_cost_alone, is_metric, first_word, metric_faults}
 use Rattle.pddl_layout.specs.Shapes.{erased}
-use Rattle.pddl_layout.proofs.Alike.{Alike, itself, faulty, clear, both, chosen, tested}
+use Rattle.pddl_layout.proofs.Alike.{Alike, faulty, clear, both, chosen, tested}
 use Rattle.pddl_layout.proofs.SectionShapes.{behind_erased, has_head_erased, more_alike}
 use Rattle.pddl_layout.proofs.TermShapes.{lifted_erased, not_empty_erased, lifted_alike}
 

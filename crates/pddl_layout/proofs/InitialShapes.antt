@@ -1,27 +1,26 @@
 -- Initial states of one shape, and their faults.
-use Rattle.std.proofs.Common.{◌≡◌, ℕ, ◌+◌, ◌==◌, ◌&&◌, not, Bool, true, false, List, [], ◌∷◌, ◌++◌, codes, refl, sym, ap, ap₂, ◌∙◌, if◌then◌else◌}
-use Rattle.std.specs.Prelude.{Option, Some, None, option_to_list}
-use Rattle.std.specs.Option.{option_map}
+use Rattle.std.proofs.Common.{◌≡◌, ℕ, ◌+◌, ◌==◌, ◌&&◌, Bool, true, false, List, ◌++◌, codes, refl, sym, ap, ap₂, ◌∙◌, if◌then◌else◌}
+use Rattle.std.specs.Prelude.{Option, None, option_to_list}
 use Rattle.sexp.specs.Forms.{Forms, none, word, group, behind}
 use Rattle.pddl_names.specs.Names.{same_text}
 use Rattle.pddl_task.specs.Atoms.{Atom}
 use Rattle.pddl_task.specs.Lifted.{Lifted}
 use Rattle.pddl_task.specs.Planning.{FunctionValue}
 use Rattle.pddl_syntax.specs.declared.word.WordKind.{WordKind}
-use Rattle.pddl_syntax.specs.declared.word.WordKind.TheVariants.{Dash, Name, Variable, Other}
+use Rattle.pddl_syntax.specs.declared.word.WordKind.TheVariants.{Name}
 use Rattle.pddl_syntax.specs.declared.number.Number.{Number}
-use Rattle.pddl_syntax.specs.declared.number.Number.TheVariants.{Whole, Fraction, OutOfRange, NoNumber}
+use Rattle.pddl_syntax.specs.declared.number.Number.TheVariants.{Whole}
 use Rattle.pddl_syntax.specs.declared.fault.Fault.{Fault}
-use Rattle.pddl_syntax.specs.declared.fault.FaultKind.TheVariants.{Shape, Unsupported, Arity, TwiceDeclared, Limit}
+use Rattle.pddl_syntax.specs.declared.fault.FaultKind.TheVariants.{Unsupported, Arity, TwiceDeclared, Limit}
 use Rattle.pddl_syntax.specs.declared.fault.LimitedTable.TheVariants.{Init}
 use Rattle.pddl_syntax.specs.Faults.{fault}
 use Rattle.pddl_syntax.specs.Words.{word_kind}
 use Rattle.pddl_syntax.specs.Numbers.{number_of}
 use Rattle.pddl_terms.specs.declared.beginning.Beginning.{Beginning}
-use Rattle.pddl_terms.specs.declared.beginning.Beginning.TheVariants.{Conjunction, Negation, Equality, Increasing, Unread, NoName, Atom as PredicateHead}
+use Rattle.pddl_terms.specs.declared.beginning.Beginning.TheVariants.{Negation, Unread, NoName, Atom as PredicateHead}
 use Rattle.pddl_terms.specs.declared.beginning.Setting.TheVariants.{InInitial}
 use Rattle.pddl_terms.specs.Beginnings.{beginning}
-use Rattle.pddl_terms.specs.Terms.{Scope, lifted, is_total_cost, not_empty}
+use Rattle.pddl_terms.specs.Terms.{Scope, is_total_cost, not_empty}
 use Rattle.pddl_problem.specs.declared.initial.ItemKind.{ItemKind}
 use Rattle.pddl_problem.specs.declared.initial.ItemKind.TheVariants.{TrueAtom, Value, Negated, NotRead, Nothing}
 use Rattle.pddl_problem.specs.Initial.{atom_of, ends_in_list, first_number, number_alone, value_by, function_by_kind, first_function, stated, item_kind_by, item_kind, item_atom, item_value, atom_inside, value_inside, initial_atoms, with_value, stated_values, number_word_faults, number_faults, is_positive, function_faults, function_inside_faults, first_function_faults, value_faults, negated_atom_faults, first_negated_faults, negated_item_faults, item_faults, inside_faults, is_restated, past_limit, initial_faults}

@@ -8,7 +8,10 @@ pub mod EffectShapes
 pub mod ActionShapes
 pub mod InitialShapes
 pub mod GoalShapes
+pub mod PartShapes
 pub mod TaskShapes
+pub mod PassShapes
+pub mod Layouts
 pub mod FirstFaults
 pub mod TokenReading
 pub mod SpelledTokens

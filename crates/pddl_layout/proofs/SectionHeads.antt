@@ -1,6 +1,6 @@
 -- The heads of sections in another order have no fault where they had none.
-use Rattle.std.proofs.Common.{◌≡◌, ℕ, ◌+◌, ◌≤◌, ◌&&◌, ◌||◌, Bool, true, false, not, List, [], ◌∷◌, ◌++◌, map, length, codes, is_some, refl, sym, ap, subst, ◌∙◌, arith, if◌then◌else◌}
-use Rattle.std.specs.Prelude.{Option, Some, None, option_to_list}
+use Rattle.std.proofs.Common.{◌≡◌, ℕ, ◌+◌, ◌≤◌, ◌&&◌, ◌||◌, Bool, true, false, not, List, [], ◌∷◌, ◌++◌, length, codes, is_some, refl, sym, ap, subst, ◌∙◌, arith, if◌then◌else◌}
+use Rattle.std.specs.Prelude.{Some, None, option_to_list}
 use Rattle.std.proofs.lemmas.List.{length-map}
 use Rattle.sexp.specs.Forms.{Forms, none, word, group, behind, IsOne}
 use Rattle.pddl_names.specs.Names.{same_text, is_there, with_name}
@@ -11,11 +11,11 @@ use Rattle.pddl_syntax.specs.declared.fault.PlanningFile.{PlanningFile}
 use Rattle.pddl_syntax.specs.declared.fault.PlanningFile.TheVariants.{Domain, Problem}
 use Rattle.pddl_syntax.specs.Faults.{fault, faults_if}
 use Rattle.pddl_syntax.specs.Words.{is_name, is_one_of}
-use Rattle.pddl_syntax.specs.Sections.{Part, sections, section, all_sections, section_words, may_come_again, section_head_faults, with_head, section_faults, goal_missing_faults, second_faults, behind_define_faults, root_faults, head_faults}
+use Rattle.pddl_syntax.specs.Sections.{sections, section, all_sections, section_words, may_come_again, section_head_faults, with_head, section_faults, goal_missing_faults, second_faults, behind_define_faults, head_faults}
 use Rattle.pddl_laws.proofs.Clean.{empty_parts}
 use Rattle.pddl_layout.specs.Shapes.{erased}
 use Rattle.pddl_layout.specs.Sections.{erased_part, SameSections, AreSections, defined, HasSections}
-use Rattle.pddl_layout.proofs.Alike.{Alike, turned, clean_too}
+use Rattle.pddl_layout.proofs.Alike.{turned, clean_too}
 use Rattle.pddl_layout.proofs.SectionShapes.{section_there, same_there, section_alike, head_alike}
 
 abbrev weight : Bool → ℕ
@@ -114,12 +114,12 @@ heads_free file before (group s e none f) are h = absurd are
 heads_free file before (group s e (group hs he x i) f) are h = absurd are
 heads_free file before (group s e (word hs he t i) f) (known, are) h =
     let own : length (all_sections t (group s e (word hs he t i) f)) ≡ 1 + length (all_sections t f) =
-      more_sections t s e hs he t i f ∙ ap (λ (b : Bool). weight b + length (all_sections t f)) (same_text-itself t) in
+    more_sections t s e hs he t i f ∙ ap (λ (b : Bool). weight b + length (all_sections t f)) (same_text-itself t) in
     let head = head_free file before hs t known (not_twice (is_there before t) (may_come_again t) (λ once.
-      no_weight (is_there before t) (length (all_sections t f)) (subst (λ (n : ℕ). n + weight (is_there before t) ≤ 1) own (h t (record { known = known; once = once }))))) in
+    no_weight (is_there before t) (length (all_sections t f)) (subst (λ (n : ℕ). n + weight (is_there before t) ≤ 1) own (h t (record { known = known; once = once }))))) in
     let rest = heads_free file (with_name before t) f are (λ w once.
-      subst (λ (n : ℕ). length (all_sections w f) + n ≤ 1) (sym (weight_there before t w))
-      (one_fewer (same_text t w) (is_there before w) (length (all_sections w f)) (length (all_sections w (group s e (word hs he t i) f))) (more_sections w s e hs he t i f) (h w once))) in
+    subst (λ (n : ℕ). length (all_sections w f) + n ≤ 1) (sym (weight_there before t w))
+    (one_fewer (same_text t w) (is_there before w) (length (all_sections w f)) (length (all_sections w (group s e (word hs he t i) f))) (more_sections w s e hs he t i f) (h w once))) in
     ap (λ (fs : List Fault). fs ++ section_faults file (with_head file before t) f) head ∙ ap (λ (b : List (List ℕ)). section_faults file b f) (with_known file before t known) ∙ rest
 
 -- ---- the heads of a text
@@ -173,7 +173,7 @@ pub reordered_clean : (file : PlanningFile) (d c : Forms) → IsOne d → head_f
 reordered_clean file d c one e same text =
     let clean = sections_clean file d one e in
     let heads = heads_free file [] (sections c) text.each (λ w once.
-      subst (λ (n : ℕ). n + 0 ≤ 1) (sym (as_many file d c w same once.known)) (single file [] (sections d) clean.heads w once)) in
+    subst (λ (n : ℕ). n + 0 ≤ 1) (sym (as_many file d c w same once.known)) (single file [] (sections d) clean.heads w once)) in
     let erased_heads = clean_too _ _ (section_alike file [] (sections c)) heads in
     let whole = defined_clean file text.name (erased (sections c)) text.named erased_heads (goal_same file d c same clean.home clean.goal) in
     clean_too _ _ (turned (head_alike file c)) (ap (head_faults file) text.form ∙ whole)

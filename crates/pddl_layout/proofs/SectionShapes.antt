@@ -4,16 +4,15 @@ use Rattle.std.specs.Prelude.{Option, Some, None, option_to_list}
 use Rattle.std.specs.Option.{option_map}
 use Rattle.sexp.specs.Forms.{Forms, none, word, group, behind}
 use Rattle.pddl_names.specs.Names.{same_text, is_there}
-use Rattle.pddl_syntax.specs.declared.fault.Fault.{Fault}
-use Rattle.pddl_syntax.specs.declared.fault.FaultKind.TheVariants.{Shape, Unsupported, TwiceDeclared}
+use Rattle.pddl_syntax.specs.declared.fault.FaultKind.TheVariants.{Shape, TwiceDeclared}
 use Rattle.pddl_syntax.specs.declared.fault.PlanningFile.{PlanningFile}
 use Rattle.pddl_syntax.specs.declared.fault.PlanningFile.TheVariants.{Domain, Problem}
-use Rattle.pddl_syntax.specs.Faults.{fault, faults_if}
+use Rattle.pddl_syntax.specs.Faults.{fault}
 use Rattle.pddl_syntax.specs.Words.{is_name, is_one_of, starts_with_colon}
 use Rattle.pddl_syntax.specs.Sections.{Part, root_parts, sections, has_head, one_section, or_else, section, all_sections, more_faults, name_faults, title_word, title_faults, second_faults, section_words, may_come_again, section_head_faults, with_head, section_faults, goal_missing_faults, behind_define_faults, root_faults, head_faults, requirement_faults}
 use Rattle.pddl_layout.specs.Shapes.{erased, SameShape}
 use Rattle.pddl_layout.specs.Sections.{erased_part}
-use Rattle.pddl_layout.proofs.Alike.{Alike, itself, faulty, clear, both, chosen, tested, tested_both}
+use Rattle.pddl_layout.proofs.Alike.{Alike, faulty, clear, both, chosen, tested, tested_both}
 
 -- a function that ignores places has one value at trees of one shape
 pub same_value : {A : Type 0} (x : Forms → A) (f g : Forms) → ((h : Forms) → x (erased h) ≡ x h) → SameShape f g → x f ≡ x g

@@ -1,6 +1,6 @@
 -- The tokens of small texts.
-use Rattle.std.proofs.Common.{◌≡◌, List, [], ◌∷◌, codes, refl}
-use Rattle.pddl_layout.specs.Tokens.{Token, opening, closing, letters, strange, tokens}
+use Rattle.std.proofs.Common.{◌≡◌, [], ◌∷◌, codes, refl}
+use Rattle.pddl_layout.specs.Tokens.{opening, closing, letters, strange, tokens}
 
 -- in capitals, with a comment and without blanks
 with_comment : tokens (codes "(GOAL;all of (them\n(on b1)) ; end") ≡ tokens (codes "( goal (On  B1 ) )")

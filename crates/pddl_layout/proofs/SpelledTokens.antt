@@ -1,5 +1,5 @@
 -- The tokens of a text that spells expressions are those of the expressions, and the case of letters changes no token.
-use Rattle.std.proofs.Common.{◌≡◌, ◌≢◌, ℕ, ◌+◌, ◌==◌, ◌<◌, ◌≤◌, nat_lt, nat_le, ◌||◌, ◌&&◌, Bool, true, false, cond, eqb, inl, inr, List, [], ◌∷◌, ◌++◌, map, length, refl, sym, ap, ap₂, subst, ◌∙◌, arith, if◌then◌else◌, append_assoc, append-nil}
+use Rattle.std.proofs.Common.{◌≡◌, ◌≢◌, ℕ, ◌+◌, ◌==◌, Bool, true, false, inl, inr, List, [], ◌∷◌, ◌++◌, map, length, refl, sym, ap, ap₂, subst, ◌∙◌, arith, if◌then◌else◌, append_assoc, append-nil}
 use Rattle.std.specs.List.{AllByRecursion}
 use Rattle.std.specs.Char.{to_ascii_lowercase}
 use Rattle.std.proofs.lemmas.Bool.{ne_eqb, eq-eqb}
@@ -9,7 +9,6 @@ use Rattle.sexp.specs.declared.byte_kind.ByteKind.{ByteKind}
 use Rattle.sexp.specs.declared.byte_kind.ByteKind.TheVariants.{Blank, Semicolon, Open, Close, Letter, Strange}
 use Rattle.sexp.specs.Forms.{Forms, none, word, group}
 use Rattle.sexp.specs.Bytes.{kind}
-use Rattle.sexp.specs.Limits.{max_bytes}
 use Rattle.sexp.specs.Grammar.{IsGap, IsComment, IsApart, Spells, SpellsAll}
 use Rattle.pddl_task.specs.Planning.{PlanningTask}
 use Rattle.pddl.specs.Texts.{IsTree, SpellTask}

@@ -1,12 +1,10 @@
 -- Terms, and predicates and functions with their terms, of one shape.
-use Rattle.std.proofs.Common.{◌≡◌, ℕ, ◌+◌, ◌==◌, not, Bool, List, [], ◌∷◌, ◌++◌, refl, sym, ap}
+use Rattle.std.proofs.Common.{◌≡◌, ℕ, ◌+◌, ◌==◌, not, List, refl, sym, ap}
 use Rattle.std.specs.Prelude.{Option, Some, None}
 use Rattle.sexp.specs.Forms.{Forms, none, word, group}
 use Rattle.pddl_names.specs.Names.{place_of, is_there}
-use Rattle.pddl_task.specs.declared.schema.Term.{Term}
-use Rattle.pddl_task.specs.Lifted.{Lifted}
 use Rattle.pddl_syntax.specs.declared.word.WordKind.{WordKind}
-use Rattle.pddl_syntax.specs.declared.word.WordKind.TheVariants.{Dash, Name, Variable, Other}
+use Rattle.pddl_syntax.specs.declared.word.WordKind.TheVariants.{Name, Variable}
 use Rattle.pddl_syntax.specs.declared.fault.FaultKind.TheVariants.{UnknownName, Arity}
 use Rattle.pddl_syntax.specs.Faults.{fault}
 use Rattle.pddl_syntax.specs.Words.{word_kind}

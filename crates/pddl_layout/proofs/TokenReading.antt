@@ -1,5 +1,5 @@
 -- Texts with the same tokens spell trees of one shape: reading bytes gives, up to places, what reading their tokens gives.
-use Rattle.std.proofs.Common.{◌≡◌, ℕ, ◌+◌, ◌==◌, ◌≤◌, Bool, true, false, cond, eqb, ltb, List, [], ◌∷◌, ◌++◌, map, length, refl, sym, ap, ap₂, subst, ◌∙◌, arith, if◌then◌else◌, Result, Ok, Err}
+use Rattle.std.proofs.Common.{◌≡◌, ℕ, ◌+◌, ◌==◌, ◌≤◌, Bool, true, false, List, [], ◌∷◌, ◌++◌, map, length, refl, sym, ap, subst, ◌∙◌, if◌then◌else◌, Result, Ok, Err}
 use Rattle.std.specs.Prelude.{Option, Some, None}
 use Rattle.std.specs.Char.{to_ascii_lowercase}
 use Rattle.std.proofs.lemmas.List.{length-map}
@@ -10,7 +10,6 @@ use Rattle.sexp.specs.declared.byte_kind.ByteKind.TheVariants.{Blank, Semicolon,
 use Rattle.sexp.specs.Forms.{Forms, none, word, group, ◌then◌, IsOne}
 use Rattle.sexp.specs.Bytes.{kind}
 use Rattle.sexp.specs.Limits.{max_bytes, max_levels}
-use Rattle.sexp.specs.Grammar.{SpellsAll}
 use Rattle.sexp.specs.Running.{◌>>=◌, Around, State, gap, comment, letters as in_letters, marked, after_letters, step, run, ended, finished, items}
 use Rattle.sexp.proofs.Steps.{bind_assoc, items_is}
 use Rattle.sexp.proofs.Sound.{items_sound}
@@ -19,7 +18,7 @@ use Rattle.pddl_task.specs.Planning.{PlanningTask}
 use Rattle.pddl.specs.Texts.{IsTree, SpellTask}
 use Rattle.pddl_layout.specs.Shapes.{erased, SameShape}
 use Rattle.pddl_layout.specs.Tokens.{Token, opening, closing, letters, strange, from_byte, from_word, tokens, tokens_in_comment, tokens_in_word}
-use Rattle.pddl_layout.proofs.TaskShapes.{places_free}
+use Rattle.pddl_layout.proofs.Layouts.{places_free}
 
 erased_then : (f g : Forms) → erased (f then g) ≡ erased f then erased g
 erased_then none g = refl

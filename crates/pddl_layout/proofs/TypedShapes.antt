@@ -1,10 +1,10 @@
 -- Typed lists of one shape: what they declare, and their faults.
-use Rattle.std.proofs.Common.{◌≡◌, ℕ, ◌+◌, Bool, true, false, List, [], ◌∷◌, ◌++◌, map, refl, sym, ap, ap₂, ◌∙◌, nat_le}
+use Rattle.std.proofs.Common.{◌≡◌, ℕ, ◌+◌, Bool, true, false, List, [], ◌∷◌, map, refl, ap, ap₂, ◌∙◌, nat_le}
 use Rattle.std.specs.Prelude.{Option, Some, None}
 use Rattle.sexp.specs.Forms.{Forms, none, word, group}
 use Rattle.pddl_names.specs.Names.{is_there, with_name}
 use Rattle.pddl_syntax.specs.declared.word.WordKind.{WordKind}
-use Rattle.pddl_syntax.specs.declared.word.WordKind.TheVariants.{Dash, Name, Variable, Other}
+use Rattle.pddl_syntax.specs.declared.word.WordKind.TheVariants.{Name}
 use Rattle.pddl_syntax.specs.declared.typed.Item.{Item}
 use Rattle.pddl_syntax.specs.declared.typed.Item.TheVariants.{Entry, Hyphen, Wrong}
 use Rattle.pddl_syntax.specs.declared.fault.Fault.{Fault}

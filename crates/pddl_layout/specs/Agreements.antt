@@ -1,5 +1,5 @@
 -- Texts that agree in the parts of earlier passes.
-use Rattle.std.specs.Prelude.{◌≡◌, ℕ, List, [], ◌∷◌, codes}
+use Rattle.std.specs.Prelude.{◌≡◌, List, [], ◌∷◌, codes}
 use Rattle.sexp.specs.Forms.{Forms}
 use Rattle.pddl_syntax.specs.declared.fault.PlanningFile.TheVariants.{Domain, Problem}
 use Rattle.pddl_syntax.specs.Sections.{head_faults}

@@ -1,4 +1,4 @@
-use Rattle.pddl_layout.proofs.TaskShapes.{places_free}
+use Rattle.pddl_layout.proofs.Layouts.{places_free}
 use Rattle.pddl_layout.proofs.laws.places_do_not_matter.Goals as goal
 
 pub returns : goal.returns

@@ -1,4 +1,4 @@
-use Rattle.pddl_layout.proofs.TaskShapes.{sections_free}
+use Rattle.pddl_layout.proofs.Layouts.{sections_free}
 use Rattle.pddl_layout.proofs.laws.sections_commute.Goals as goal
 
 pub returns : goal.returns
