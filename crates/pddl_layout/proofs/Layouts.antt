@@ -15,20 +15,19 @@ use Rattle.pddl_layout.specs.Sections.{SameSections, HasSections}
 use Rattle.pddl_layout.proofs.Alike.{Alike, equal_lists}
 use Rattle.pddl_layout.proofs.SectionShapes.{head_alike}
 use Rattle.pddl_layout.proofs.SectionHeads.{reordered_clean}
-use Rattle.pddl_layout.proofs.PartShapes.{across}
+use Rattle.pddl_layout.proofs.PartShapes.{across, same_sections}
 use Rattle.pddl_layout.proofs.TaskShapes.{task_same}
 use Rattle.pddl_layout.proofs.PassShapes.{passes_clean, domain_alike, problem_alike}
-use Rattle.pddl_layout.proofs.PartShapes.{same_sections}
 
 one_tree : (bytes : List ℕ) (f g : Forms) → IsTree bytes f → IsTree bytes g → f ≡ g
 one_tree bytes f g h k = one_reading_is bytes f g h.1 k.1
 
 -- trees with the same sections
-pub record SameTexts (d p c q : Forms) : Type 0 where
-  pub domains : SameSections Domain d c
-  pub problems : SameSections Problem p q
-  pub domain_heads : first_pass (domain_passes d) ≡ None → Alike (head_faults Domain d) (head_faults Domain c)
-  pub problem_heads : first_pass (problem_passes d p) ≡ None → Alike (head_faults Problem p) (head_faults Problem q)
+record SameTexts (d p c q : Forms) : Type 0 where
+  domains : SameSections Domain d c
+  problems : SameSections Problem p q
+  domain_heads : first_pass (domain_passes d) ≡ None → Alike (head_faults Domain d) (head_faults Domain c)
+  problem_heads : first_pass (problem_passes d p) ≡ None → Alike (head_faults Problem p) (head_faults Problem q)
 
 moved : (domain problem : List ℕ) (d p c q : Forms) (t : PlanningTask) → IsTree domain c → IsTree problem q → SameTexts d p c q
     → first_pass (domain_passes d) ≡ None → first_pass (problem_passes d p) ≡ None → t ≡ task_of d p → SpellTask domain problem t
@@ -43,7 +42,7 @@ moved domain problem d p c q t tree below same clean free e = record {
 }
 
 -- texts whose trees have the same sections spell the same task
-pub spelled_again : (domain problem other_domain other_problem : List ℕ) (d p c q : Forms) (t : PlanningTask)
+spelled_again : (domain problem other_domain other_problem : List ℕ) (d p c q : Forms) (t : PlanningTask)
     → IsTree domain d → IsTree problem p → IsTree other_domain c → IsTree other_problem q → SameTexts d p c q → SpellTask domain problem t → SpellTask other_domain other_problem t
 spelled_again domain problem other_domain other_problem d p c q t tree below other under same s =
     let ds : s.d ≡ d = one_tree domain s.d d s.domain_tree tree in
@@ -65,7 +64,7 @@ places_free domain problem other_domain other_problem d p c q t tree below other
     })
 
 -- a first pass that has no fault
-pub first_clean : (p : Pass) (ps : List Pass) → first_pass (p ∷ ps) ≡ None → p.faults ≡ []
+first_clean : (p : Pass) (ps : List Pass) → first_pass (p ∷ ps) ≡ None → p.faults ≡ []
 first_clean p ps h = none_kept p.faults (kept_clean p ps h).0
 
 pub sections_free : (domain problem other_domain other_problem : List ℕ) (d p c q : Forms) (t : PlanningTask)

@@ -22,7 +22,7 @@ pub same_sections : (file : PlanningFile) (f g : Forms) → SameShape f g → Sa
 same_sections file f g e = λ w h. all_same w (sections f) (sections g) (sym (sections_erased f) ∙ ap sections e ∙ sections_erased g)
 
 -- a name of sections
-abbrev pub IsWordOf : PlanningFile → List ℕ → Type 0
+abbrev IsWordOf : PlanningFile → List ℕ → Type 0
 IsWordOf file w = is_one_of (section_words file) w ≡ true
 
 part_erased : (f : Forms) (w : List ℕ) → option_map erased_part (part f w) ≡ first_part (map erased_part (all_sections w (sections f)))

@@ -58,6 +58,15 @@ passes_clean (p ∷ ps) (q ∷ qs) h e =
     let kept = kept_clean p ps e in
     clean_later q qs (pass_clean p.faults q.faults h.0 kept.0) (passes_clean ps qs h.1 kept.1)
 
+requirements_alike : (d c : Forms) → SameSections Domain d c → Alike (requirement_faults (inside_of d (codes ":requirements"))) (requirement_faults (inside_of c (codes ":requirements")))
+requirements_alike d c s =
+    across (λ (n : ℕ) (f : Forms). requirement_faults f) 0 0 (inside_of d (codes ":requirements")) (inside_of c (codes ":requirements"))
+    (λ m n. requirement_alike) (same_inside Domain d c (codes ":requirements") s refl)
+
+types_pass_alike : (d c : Forms) → SameSections Domain d c → Alike (types_faults (place_in d (codes ":types")) (inside_of d (codes ":types"))) (types_faults (place_in c (codes ":types")) (inside_of c (codes ":types")))
+types_pass_alike d c s =
+    across types_faults (place_in d (codes ":types")) (place_in c (codes ":types")) (inside_of d (codes ":types")) (inside_of c (codes ":types")) types_alike (same_inside Domain d c (codes ":types") s refl)
+
 constants_alike : (d c : Forms) → SameSections Domain d c
     → Alike (objects_faults (types_of d) no_objects (place_in d (codes ":constants")) (inside_of d (codes ":constants"))) (objects_faults (types_of c) no_objects (place_in c (codes ":constants")) (inside_of c (codes ":constants")))
 constants_alike d c s =
@@ -86,25 +95,8 @@ actions_pass_alike d c s =
     (chained (equal_lists _ _ (ap₂ actions_faults (declarations_same d c s) (actions_same d c s))) (turned (actions_alike (declarations_of c) (actions_of c))))
 
 pub domain_alike : (d c : Forms) → SameSections Domain d c → Alike (head_faults Domain d) (head_faults Domain c) → AlikePasses (domain_passes d) (domain_passes c)
-domain_alike d c s h = (
-  h,
-  (
-    across (λ (n : ℕ) (f : Forms). requirement_faults f) 0 0 (inside_of d (codes ":requirements")) (inside_of c (codes ":requirements")) (λ m n. requirement_alike) (same_inside Domain d c (codes ":requirements") s refl),
-    (
-      across types_faults (place_in d (codes ":types")) (place_in c (codes ":types")) (inside_of d (codes ":types")) (inside_of c (codes ":types")) types_alike (same_inside Domain d c (codes ":types") s refl),
-      (
-        constants_alike d c s,
-        (
-          predicates_pass_alike d c s,
-          (
-            functions_pass_alike d c s,
-            (actions_pass_alike d c s, tt),
-          ),
-        ),
-      ),
-    ),
-  ),
-)
+domain_alike d c s h =
+    assumption (h, requirements_alike d c s, types_pass_alike d c s, constants_alike d c s, predicates_pass_alike d c s, functions_pass_alike d c s, actions_pass_alike d c s)
 
 sum_alike : (most : Increase → ℕ) (schemas : List Schema) (places places2 : List ℕ) → length places ≡ length places2 → Alike (sum_faults most schemas places) (sum_faults most schemas places2)
 sum_alike most [] places places2 e = clear
@@ -130,25 +122,15 @@ with_alike : (x : Declarations) (constants : Objects) (schemas : List Schema) (p
     → SameSections Problem p q → Alike (head_faults Problem p) (head_faults Problem q) → AlikePasses (passes_with x constants schemas places p) (passes_with x constants schemas places2 q)
 with_alike x constants schemas places places2 p q e s h =
     let o = objects_of x constants q in
-    rw (objects_same x constants p q s, metric_same p q s, values_same x o p q s) (
-      h,
-      (
-        across (objects_faults x.types constants) (place_in p (codes ":objects")) (place_in q (codes ":objects")) (inside_of p (codes ":objects")) (inside_of q (codes ":objects"))
-            (objects_alike x.types constants) (same_inside Problem p q (codes ":objects") s refl),
-        (
-          across (λ (n : ℕ) (f : Forms). initial_faults (scope_over x o) 0 [] f) 0 0 (inside_of p (codes ":init")) (inside_of q (codes ":init"))
-              (λ m n. initial_alike (scope_over x o) 0 []) (same_inside Problem p q (codes ":init") s refl),
-          (
-            across (goal_faults (scope_over x o)) (place_in p (codes ":goal")) (place_in q (codes ":goal")) (inside_of p (codes ":goal")) (inside_of q (codes ":goal"))
-                (goal_alike (scope_over x o)) (same_inside Problem p q (codes ":goal") s refl),
-            (
-              metric_pass_alike (part p (codes ":metric")) (part q (codes ":metric")) (same_part Problem p q (codes ":metric") s refl),
-              (sums_alike (has_metric q) (stated_values (scope_over x o) [] (inside_of q (codes ":init"))) schemas places places2 e, tt),
-            ),
-          ),
-        ),
-      ),
-    )
+    let objects = across (objects_faults x.types constants) (place_in p (codes ":objects")) (place_in q (codes ":objects")) (inside_of p (codes ":objects")) (inside_of q (codes ":objects"))
+    (objects_alike x.types constants) (same_inside Problem p q (codes ":objects") s refl) in
+    let initial = across (λ (n : ℕ) (f : Forms). initial_faults (scope_over x o) 0 [] f) 0 0 (inside_of p (codes ":init")) (inside_of q (codes ":init"))
+    (λ m n. initial_alike (scope_over x o) 0 []) (same_inside Problem p q (codes ":init") s refl) in
+    let goal = across (goal_faults (scope_over x o)) (place_in p (codes ":goal")) (place_in q (codes ":goal")) (inside_of p (codes ":goal")) (inside_of q (codes ":goal"))
+    (goal_alike (scope_over x o)) (same_inside Problem p q (codes ":goal") s refl) in
+    let metric = metric_pass_alike (part p (codes ":metric")) (part q (codes ":metric")) (same_part Problem p q (codes ":metric") s refl) in
+    let sums = sums_alike (has_metric q) (stated_values (scope_over x o) [] (inside_of q (codes ":init"))) schemas places places2 e in
+    rw (objects_same x constants p q s, metric_same p q s, values_same x o p q s) (assumption (h, objects, initial, goal, metric, sums))
 
 pub problem_alike : (d c p q : Forms) → SameSections Domain d c → SameSections Problem p q → Alike (head_faults Problem p) (head_faults Problem q) → AlikePasses (problem_passes d p) (problem_passes c q)
 problem_alike d c p q s r h =
