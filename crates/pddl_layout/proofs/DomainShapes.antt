@@ -126,7 +126,7 @@ length_erased v f = ap length (declared_erased v f) ∙ length-map (declared v f
 
 item_erased : (k : WordKind) (heads : Heads) (t : List ℕ) (f : Forms) → with_item k heads t (erased f) ≡ with_item k heads t f
 item_erased Name heads t f = ap (with_head heads t) (length_erased true f)
-item_erased other heads t f = refl
+item_erased kind heads t f = refl
 
 past_alike : (table : LimitedTable) (n s z : ℕ) {a b : List Fault} → Alike a b → Alike (past_limit table n s a) (past_limit table n z b)
 past_alike table n s z h = tested (nat_le max_heads n) (fault (Limit table) s) (fault (Limit table) z) h
@@ -134,7 +134,7 @@ past_alike table n s z h = tested (nat_le max_heads n) (fault (Limit table) s) (
 item_alike : (known : List ℕ → Bool) (table : LimitedTable) (heads : Heads) (n s hs z hz : ℕ) (k : WordKind) (t : List ℕ) (f : Forms)
     → Alike (item_faults known table heads n s hs k t f) (item_faults known table heads n z hz k t (erased f))
 item_alike known table heads n s hs z hz Name t f = past_alike table n s z (tested (is_there heads.names t) (fault TwiceDeclared hs) (fault TwiceDeclared hz) (parameters_alike known s z f))
-item_alike known table heads n s hs z hz other t f = past_alike table n s z faulty
+item_alike known table heads n s hs z hz kind t f = past_alike table n s z faulty
 
 -- ---- predicates
 
@@ -175,7 +175,7 @@ mutual
 
 word_alike : (s z : ℕ) (k : WordKind) (empty : Bool) {a b c d : List Fault} → Alike a c → Alike b d → Alike (word_faults s k empty a b) (word_faults z k empty c d)
 word_alike s z Dash empty h k = tested empty (fault Shape s) (fault Shape z) h
-word_alike s z other empty h k = faulty
+word_alike s z kind empty h k = faulty
 
 mutual
   pub functions_alike : (known : List ℕ → Bool) (h k : ℕ) (empty : Bool) (heads : Heads) (n : ℕ) (f : Forms)

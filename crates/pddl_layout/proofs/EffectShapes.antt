@@ -140,7 +140,7 @@ effects_erased scope (group s e (word hs he t i) f) =
 
 function_erased : (scope : Scope) (t : List ℕ) (f : Forms) (k : WordKind) → function_value scope t (erased f) k ≡ function_value scope t f k
 function_erased scope t f Name = ap (λ (a : Option Lifted). if is_total_cost t then None else option_map Value a) (lifted_erased scope.functions scope t f)
-function_erased scope t f other = refl
+function_erased scope t f kind = refl
 
 amount_erased : (scope : Scope) (f : Forms) → amount_of scope (erased f) ≡ amount_of scope f
 amount_erased scope none = refl
@@ -170,7 +170,7 @@ increases_erased scope (group s e (word hs he t i) f) =
 
 function_alike : (scope : Scope) (h s k z : ℕ) (t : List ℕ) (f : Forms) (kind : WordKind) → Alike (function_faults scope h s t f kind) (function_faults scope k z t (erased f) kind)
 function_alike scope h s k z t f Name = chosen (is_total_cost t) faulty (lifted_alike scope.functions scope h s k z t f)
-function_alike scope h s k z t f other = faulty
+function_alike scope h s k z t f kind = faulty
 
 amount_word_alike : (scope : Scope) (s z : ℕ) (t : List ℕ) (n : Number) → Alike (amount_word_faults scope s t n) (amount_word_faults scope z t n)
 amount_word_alike scope s z t (Whole n) = clear
@@ -192,7 +192,7 @@ amount_alike scope h k (group s e i f) = both (first_amount_alike scope (group s
 
 increased_word_alike : (m s n z : ℕ) (t : List ℕ) (k : WordKind) → Alike (increased_word_faults m s t k) (increased_word_faults n z t k)
 increased_word_alike m s n z t Name = tested (not (is_total_cost t)) (fault Unsupported m) (fault Unsupported n) clear
-increased_word_alike m s n z t other = faulty
+increased_word_alike m s n z t kind = faulty
 
 increased_inside_alike : (m h n k : ℕ) (f : Forms) → Alike (increased_inside_faults m h f) (increased_inside_faults n k (erased f))
 increased_inside_alike m h n k none = faulty

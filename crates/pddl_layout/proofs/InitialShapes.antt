@@ -44,7 +44,7 @@ number_alone_erased (group s e i f) = refl
 
 function_erased : (scope : Scope) (t : List ℕ) (i : Forms) (k : WordKind) → function_by_kind scope t (erased i) k ≡ function_by_kind scope t i k
 function_erased scope t i Name = ap (λ (a : Option Lifted). if is_total_cost t then None else atom_of a) (lifted_erased scope.functions scope t i)
-function_erased scope t i other = refl
+function_erased scope t i kind = refl
 
 first_function_erased : (scope : Scope) (f : Forms) → first_function scope (erased f) ≡ first_function scope f
 first_function_erased scope none = refl
@@ -119,7 +119,7 @@ function_alike scope h s k z t i f Name =
     (tested_both (not_empty i) (not_empty (erased i)) (fault Arity h) (fault Arity k) (sym (not_empty_erased i))
     (tested_both (is_positive f) (is_positive (erased f)) (fault Unsupported s) (fault Unsupported z) (sym (positive_erased f)) clear))
     (lifted_alike scope.functions scope h s k z t i)
-function_alike scope h s k z t i f other = faulty
+function_alike scope h s k z t i f kind = faulty
 
 function_inside_alike : (scope : Scope) (h k : ℕ) (f i : Forms) → Alike (function_inside_faults scope h f i) (function_inside_faults scope k (erased f) (erased i))
 function_inside_alike scope h k f none = faulty

@@ -36,7 +36,7 @@ not_empty_erased (group s e i f) = refl
 by_kind_alike : (scope : Scope) (s z : ℕ) (t : List ℕ) (k : WordKind) → Alike (term_faults_by_kind scope s t k) (term_faults_by_kind scope z t k)
 by_kind_alike scope s z t Name = tested (not (is_there scope.objects t)) (fault UnknownName s) (fault UnknownName z) clear
 by_kind_alike scope s z t Variable = tested (not (is_there scope.variables t)) (fault UnknownName s) (fault UnknownName z) clear
-by_kind_alike scope s z t other = faulty
+by_kind_alike scope s z t kind = faulty
 
 term_alike : (scope : Scope) (s z : ℕ) (t : List ℕ) → Alike (term_faults scope s t) (term_faults scope z t)
 term_alike scope s z t = by_kind_alike scope s z t (word_kind t)

@@ -57,7 +57,7 @@ mutual
 
 type_word_alike : (known : List ℕ → Bool) (t : List ℕ) (s z : ℕ) (k : WordKind) → Alike (type_word_faults known t s k) (type_word_faults known t z k)
 type_word_alike known t s z Name = chosen (is_either t) faulty (chosen (known t) clear faulty)
-type_word_alike known t s z other = faulty
+type_word_alike known t s z kind = faulty
 
 either_alike : (s z : ℕ) (o p : Option ℕ) → Alike (either_faults s o) (either_faults z p)
 either_alike s z None None = faulty

@@ -20,16 +20,14 @@ SameSections file f g =
 -- each of the expressions is a list that begins with the name of a section
 abbrev pub AreSections : PlanningFile → Forms → Type 0
 AreSections file none = Unit {0}
-AreSections file (word s e t f) = ⊥
-AreSections file (group s e none f) = ⊥
-AreSections file (group s e (group hs he h i) f) = ⊥
 AreSections file (group s e (word hs he t i) f) = (is_one_of (section_words file) t ≡ true) × AreSections file f
+AreSections file f = ⊥
 
 -- the list `(define (domain NAME) SECTION ..)`, or that with `problem`, with 0 for each place outside the sections
 abbrev pub defined : PlanningFile → List ℕ → Forms → Forms
 defined file name f = group 0 0 (word 0 0 (codes "define") (group 0 0 (word 0 0 (title_word file) (word 0 0 name none)) f)) none
 
--- the tree is such a list with a name, in any order of the sections, and with any number of each
+-- the tree is such a list, with a name and any sections in any order
 pub record HasSections (file : PlanningFile) (root : Forms) : Type 0 where
   pub name : List ℕ
   pub named : is_name name ≡ true
