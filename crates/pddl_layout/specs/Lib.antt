@@ -1,0 +1,4 @@
+pub mod Shapes
+pub mod Sections
+pub mod Tokens
+pub mod Agreements
