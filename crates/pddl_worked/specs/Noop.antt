@@ -1,0 +1,39 @@
+-- The example `noop`: one action, of cost 5. The domain is in capital letters, and a comment ends the problem.
+use Rattle.std.specs.Prelude.{ℕ, true, List, [], ◌∷◌, codes}
+use Rattle.pddl_task.specs.declared.schema.Increase.TheVariants.{Amount}
+use Rattle.pddl_task.specs.Planning.{PlanningTask, Schema}
+use Rattle.pddl_task.specs.Examples.{atom, goal_atom, at_parameters, adding}
+
+unfoldable pub noop_domain : List ℕ
+noop_domain = codes "(DEFINE (DOMAIN N) (:PREDICATES (P)) (:FUNCTIONS (TOTAL-COST)) (:ACTION NOOP :PARAMETERS () :EFFECT (AND (P) (INCREASE (TOTAL-COST) 5.0))))\n"
+
+unfoldable pub noop_problem : List ℕ
+noop_problem = codes "(define (problem n1) (:domain other) (:init) (:goal (P)) (:metric minimize (total-cost))) ; end"
+
+-- p becomes true, for 5
+abbrev pub noop_schema : Schema
+noop_schema = record {
+  parameters = [];
+  precondition = [];
+  effect = adding (at_parameters 0 []) ∷ [];
+  increases = Amount 5 ∷ [];
+}
+
+-- Type 0 is object, predicate 0 p, function 0 total-cost, and schema 0 noop.
+unfoldable pub noop_task : PlanningTask
+noop_task = record {
+  supertypes = 0 ∷ [];
+  object_types = [];
+  arities = 0 ∷ [];
+  schemas = noop_schema ∷ [];
+  initial = [];
+  goal = goal_atom (atom 0 []) ∷ [];
+  values = [];
+  metric = true;
+  vocabulary = record {
+    objects = [];
+    predicates = codes "p" ∷ [];
+    functions = codes "total-cost" ∷ [];
+    schemas = codes "noop" ∷ [];
+  };
+}
