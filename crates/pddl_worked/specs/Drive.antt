@@ -1,4 +1,4 @@
--- The example `drive`: roads with lengths, of which a drive costs that of its road; and a length that is not whole.
+-- The example `drive`: as `road`, with a road from a to c too, and the length of a road as the cost of going by it.
 use Rattle.std.specs.Prelude.{ℕ, true, List, [], ◌∷◌, ◌++◌, codes}
 use Rattle.pddl_task.specs.declared.schema.Condition.TheVariants.{Positive}
 use Rattle.pddl_task.specs.declared.schema.Increase.TheVariants.{Value}
@@ -31,30 +31,38 @@ drive_problem = problem_with_length (codes "8")
 unfoldable pub drive_problem_with_fraction : List ℕ
 drive_problem_with_fraction = problem_with_length (codes "5.5")
 
--- from the first place, by a road, to the second, for the length between them
 abbrev pub drive_schema : Schema
 drive_schema = record {
+  -- the types of ?x and ?y
   parameters = 1 ∷ 1 ∷ [];
+  -- (at ?x) (road ?x ?y)
   precondition = Positive (at_parameters 0 (0 ∷ [])) ∷ Positive (at_parameters 1 (0 ∷ 1 ∷ [])) ∷ [];
+  -- (not (at ?x)) (at ?y)
   effect = deleting (at_parameters 0 (0 ∷ [])) ∷ adding (at_parameters 0 (1 ∷ [])) ∷ [];
+  -- (len ?x ?y)
   increases = Value (at_parameters 1 (0 ∷ 1 ∷ [])) ∷ [];
 }
 
--- Type 0 is object, and 1 loc; the objects 0, 1, 2 are a, b, c; predicate 0 is at, and 1 road; function 0 is
--- total-cost, and 1 len; schema 0 is go.
 unfoldable pub drive_task : PlanningTask
 drive_task = record {
+  -- of object and of loc: object
   supertypes = 0 ∷ 0 ∷ [];
+  -- of a, b and c: loc
   object_types = 1 ∷ 1 ∷ 1 ∷ [];
+  -- of at and of road
   arities = 1 ∷ 2 ∷ [];
   schemas = drive_schema ∷ [];
+  -- (at a) (road a b) (road b c) (road a c)
   initial = atom 0 (0 ∷ []) ∷ atom 1 (0 ∷ 1 ∷ []) ∷ atom 1 (1 ∷ 2 ∷ []) ∷ atom 1 (0 ∷ 2 ∷ []) ∷ [];
+  -- (at c)
   goal = goal_atom (atom 0 (2 ∷ [])) ∷ [];
+  -- of (len a b), (len b c) and (len a c)
   values = record { function = atom 1 (0 ∷ 1 ∷ []); value = 3 }
     ∷ record { function = atom 1 (1 ∷ 2 ∷ []); value = 4 }
     ∷ record { function = atom 1 (0 ∷ 2 ∷ []); value = 8 }
     ∷ [];
   metric = true;
+  -- function 0 is total-cost, and 1 len
   vocabulary = record {
     objects = codes "a" ∷ codes "b" ∷ codes "c" ∷ [];
     predicates = codes "at" ∷ codes "road" ∷ [];

@@ -25,54 +25,62 @@ grip_problem =
     ++ codes " (:init (room p) (room q) (ball x) (ball y) (here p) (in x p) (in y p) (free))\n"
     ++ codes " (:goal (and (in x q) (in y q))))\n"
 
--- from the first room to the second, which is another one
 abbrev pub move_schema : Schema
 move_schema = record {
+  -- the types of ?f and ?t
   parameters = 0 ∷ 0 ∷ [];
+  -- (room ?f) (room ?t) (here ?f) (not (= ?f ?t))
   precondition = Positive (at_parameters 0 (0 ∷ []))
     ∷ Positive (at_parameters 0 (1 ∷ []))
     ∷ Positive (at_parameters 2 (0 ∷ []))
     ∷ Different (Parameter 0) (Parameter 1)
     ∷ [];
+  -- (here ?t) (not (here ?f))
   effect = adding (at_parameters 2 (1 ∷ [])) ∷ deleting (at_parameters 2 (0 ∷ [])) ∷ [];
   increases = [];
 }
 
--- the ball, in the room, with the free gripper
 abbrev pub pick_schema : Schema
 pick_schema = record {
+  -- the types of ?b and ?r
   parameters = 0 ∷ 0 ∷ [];
+  -- (ball ?b) (room ?r) (here ?r) (in ?b ?r) (free)
   precondition = Positive (at_parameters 1 (0 ∷ []))
     ∷ Positive (at_parameters 0 (1 ∷ []))
     ∷ Positive (at_parameters 2 (1 ∷ []))
     ∷ Positive (at_parameters 3 (0 ∷ 1 ∷ []))
     ∷ Positive (at_parameters 4 [])
     ∷ [];
+  -- (held ?b) (not (in ?b ?r)) (not (free))
   effect = adding (at_parameters 5 (0 ∷ [])) ∷ deleting (at_parameters 3 (0 ∷ 1 ∷ [])) ∷ deleting (at_parameters 4 []) ∷ [];
   increases = [];
 }
 
--- the ball, in the room, from the gripper
 abbrev pub drop_schema : Schema
 drop_schema = record {
+  -- the types of ?b and ?r
   parameters = 0 ∷ 0 ∷ [];
+  -- (ball ?b) (room ?r) (here ?r) (held ?b)
   precondition = Positive (at_parameters 1 (0 ∷ []))
     ∷ Positive (at_parameters 0 (1 ∷ []))
     ∷ Positive (at_parameters 2 (1 ∷ []))
     ∷ Positive (at_parameters 5 (0 ∷ []))
     ∷ [];
+  -- (in ?b ?r) (free) (not (held ?b))
   effect = adding (at_parameters 3 (0 ∷ 1 ∷ [])) ∷ adding (at_parameters 4 []) ∷ deleting (at_parameters 5 (0 ∷ [])) ∷ [];
   increases = [];
 }
 
--- Type 0 is object; the objects 0, 1, 2, 3 are p, q, x, y; the predicates 0 to 5 are room, ball, here, in, free and
--- held; the schemas 0, 1, 2 are move, pick and drop.
 unfoldable pub grip_task : PlanningTask
 grip_task = record {
+  -- of object
   supertypes = 0 ∷ [];
+  -- of p, q, x and y: object
   object_types = 0 ∷ 0 ∷ 0 ∷ 0 ∷ [];
+  -- of room, ball, here, in, free and held
   arities = 1 ∷ 1 ∷ 1 ∷ 2 ∷ 0 ∷ 1 ∷ [];
   schemas = move_schema ∷ pick_schema ∷ drop_schema ∷ [];
+  -- (room p) (room q) (ball x) (ball y) (here p) (in x p) (in y p) (free)
   initial = atom 0 (0 ∷ [])
     ∷ atom 0 (1 ∷ [])
     ∷ atom 1 (2 ∷ [])
@@ -82,6 +90,7 @@ grip_task = record {
     ∷ atom 3 (3 ∷ 0 ∷ [])
     ∷ atom 4 []
     ∷ [];
+  -- (in x q) (in y q)
   goal = goal_atom (atom 3 (2 ∷ 1 ∷ [])) ∷ goal_atom (atom 3 (3 ∷ 1 ∷ [])) ∷ [];
   values = [];
   metric = false;

@@ -10,26 +10,30 @@ noop_domain = codes "(DEFINE (DOMAIN N) (:PREDICATES (P)) (:FUNCTIONS (TOTAL-COS
 unfoldable pub noop_problem : List ℕ
 noop_problem = codes "(define (problem n1) (:domain other) (:init) (:goal (P)) (:metric minimize (total-cost))) ; end"
 
--- p becomes true, for 5
 abbrev pub noop_schema : Schema
 noop_schema = record {
   parameters = [];
   precondition = [];
+  -- (p)
   effect = adding (at_parameters 0 []) ∷ [];
+  -- 5.0
   increases = Amount 5 ∷ [];
 }
 
--- Type 0 is object, predicate 0 p, function 0 total-cost, and schema 0 noop.
 unfoldable pub noop_task : PlanningTask
 noop_task = record {
+  -- of object
   supertypes = 0 ∷ [];
   object_types = [];
+  -- of p
   arities = 0 ∷ [];
   schemas = noop_schema ∷ [];
   initial = [];
+  -- (p)
   goal = goal_atom (atom 0 []) ∷ [];
   values = [];
   metric = true;
+  -- in lower case, each list in the order of the numbers
   vocabulary = record {
     objects = [];
     predicates = codes "p" ∷ [];

@@ -1,4 +1,4 @@
--- The example `road`: two roads from a by b to c, without costs.
+-- The example `road`: roads from a to b and from b to c, and an action that goes by a road; without costs.
 use Rattle.std.specs.Prelude.{ℕ, false, List, [], ◌∷◌, ◌++◌, codes}
 use Rattle.pddl_task.specs.declared.schema.Condition.TheVariants.{Positive}
 use Rattle.pddl_task.specs.Planning.{PlanningTask, Schema}
@@ -21,23 +21,29 @@ road_problem =
     ++ codes " (:init (at a) (road a b) (road b c))\n"
     ++ codes " (:goal (at c)))\n"
 
--- from the first place, by a road, to the second
 abbrev pub road_schema : Schema
 road_schema = record {
+  -- the types of ?x and ?y
   parameters = 1 ∷ 1 ∷ [];
+  -- (at ?x) (road ?x ?y)
   precondition = Positive (at_parameters 0 (0 ∷ [])) ∷ Positive (at_parameters 1 (0 ∷ 1 ∷ [])) ∷ [];
+  -- (not (at ?x)) (at ?y)
   effect = deleting (at_parameters 0 (0 ∷ [])) ∷ adding (at_parameters 0 (1 ∷ [])) ∷ [];
   increases = [];
 }
 
--- Type 0 is object, and 1 loc; the objects 0, 1, 2 are a, b, c; predicate 0 is at, and 1 road; schema 0 is go.
 unfoldable pub road_task : PlanningTask
 road_task = record {
+  -- of object and of loc: object
   supertypes = 0 ∷ 0 ∷ [];
+  -- of a, b and c: loc
   object_types = 1 ∷ 1 ∷ 1 ∷ [];
+  -- of at and of road
   arities = 1 ∷ 2 ∷ [];
   schemas = road_schema ∷ [];
+  -- (at a) (road a b) (road b c)
   initial = atom 0 (0 ∷ []) ∷ atom 1 (0 ∷ 1 ∷ []) ∷ atom 1 (1 ∷ 2 ∷ []) ∷ [];
+  -- (at c)
   goal = goal_atom (atom 0 (2 ∷ [])) ∷ [];
   values = [];
   metric = false;
