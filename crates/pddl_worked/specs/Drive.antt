@@ -1,4 +1,5 @@
--- The example `drive`: as `road`, with a road from a to c too, and the length of a road as the cost of going by it.
+-- The texts of `examples/drive`, and their task: roads from a to b, from b to c and from a to c, and an action that goes
+-- by a road, at the cost of its length.
 use Rattle.std.specs.Prelude.{ℕ, true, List, [], ◌∷◌, ◌++◌, codes}
 use Rattle.pddl_task.specs.declared.schema.Condition.TheVariants.{Positive}
 use Rattle.pddl_task.specs.declared.schema.Increase.TheVariants.{Value}
@@ -58,9 +59,9 @@ drive_task = record {
   goal = goal_atom (atom 0 (2 ∷ [])) ∷ [];
   -- of (len a b), (len b c) and (len a c)
   values = record { function = atom 1 (0 ∷ 1 ∷ []); value = 3 }
-    ∷ record { function = atom 1 (1 ∷ 2 ∷ []); value = 4 }
-    ∷ record { function = atom 1 (0 ∷ 2 ∷ []); value = 8 }
-    ∷ [];
+      ∷ record { function = atom 1 (1 ∷ 2 ∷ []); value = 4 }
+      ∷ record { function = atom 1 (0 ∷ 2 ∷ []); value = 8 }
+      ∷ [];
   metric = true;
   -- function 0 is total-cost, and 1 len
   vocabulary = record {

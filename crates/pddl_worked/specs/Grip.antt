@@ -1,4 +1,4 @@
--- The example `grip`: a robot with one gripper takes two balls to another room, without types or costs.
+-- The texts of `examples/grip`, and their task: two rooms, two balls and a gripper for one of them.
 use Rattle.std.specs.Prelude.{ℕ, false, List, [], ◌∷◌, ◌++◌, codes}
 use Rattle.pddl_task.specs.declared.schema.Term.TheVariants.{Parameter}
 use Rattle.pddl_task.specs.declared.schema.Condition.TheVariants.{Positive, Different}
@@ -31,10 +31,10 @@ move_schema = record {
   parameters = 0 ∷ 0 ∷ [];
   -- (room ?f) (room ?t) (here ?f) (not (= ?f ?t))
   precondition = Positive (at_parameters 0 (0 ∷ []))
-    ∷ Positive (at_parameters 0 (1 ∷ []))
-    ∷ Positive (at_parameters 2 (0 ∷ []))
-    ∷ Different (Parameter 0) (Parameter 1)
-    ∷ [];
+      ∷ Positive (at_parameters 0 (1 ∷ []))
+      ∷ Positive (at_parameters 2 (0 ∷ []))
+      ∷ Different (Parameter 0) (Parameter 1)
+      ∷ [];
   -- (here ?t) (not (here ?f))
   effect = adding (at_parameters 2 (1 ∷ [])) ∷ deleting (at_parameters 2 (0 ∷ [])) ∷ [];
   increases = [];
@@ -46,11 +46,11 @@ pick_schema = record {
   parameters = 0 ∷ 0 ∷ [];
   -- (ball ?b) (room ?r) (here ?r) (in ?b ?r) (free)
   precondition = Positive (at_parameters 1 (0 ∷ []))
-    ∷ Positive (at_parameters 0 (1 ∷ []))
-    ∷ Positive (at_parameters 2 (1 ∷ []))
-    ∷ Positive (at_parameters 3 (0 ∷ 1 ∷ []))
-    ∷ Positive (at_parameters 4 [])
-    ∷ [];
+      ∷ Positive (at_parameters 0 (1 ∷ []))
+      ∷ Positive (at_parameters 2 (1 ∷ []))
+      ∷ Positive (at_parameters 3 (0 ∷ 1 ∷ []))
+      ∷ Positive (at_parameters 4 [])
+      ∷ [];
   -- (held ?b) (not (in ?b ?r)) (not (free))
   effect = adding (at_parameters 5 (0 ∷ [])) ∷ deleting (at_parameters 3 (0 ∷ 1 ∷ [])) ∷ deleting (at_parameters 4 []) ∷ [];
   increases = [];
@@ -62,10 +62,10 @@ drop_schema = record {
   parameters = 0 ∷ 0 ∷ [];
   -- (ball ?b) (room ?r) (here ?r) (held ?b)
   precondition = Positive (at_parameters 1 (0 ∷ []))
-    ∷ Positive (at_parameters 0 (1 ∷ []))
-    ∷ Positive (at_parameters 2 (1 ∷ []))
-    ∷ Positive (at_parameters 5 (0 ∷ []))
-    ∷ [];
+      ∷ Positive (at_parameters 0 (1 ∷ []))
+      ∷ Positive (at_parameters 2 (1 ∷ []))
+      ∷ Positive (at_parameters 5 (0 ∷ []))
+      ∷ [];
   -- (in ?b ?r) (free) (not (held ?b))
   effect = adding (at_parameters 3 (0 ∷ 1 ∷ [])) ∷ adding (at_parameters 4 []) ∷ deleting (at_parameters 5 (0 ∷ [])) ∷ [];
   increases = [];
@@ -73,7 +73,7 @@ drop_schema = record {
 
 unfoldable pub grip_task : PlanningTask
 grip_task = record {
-  -- of object
+  -- of object: object
   supertypes = 0 ∷ [];
   -- of p, q, x and y: object
   object_types = 0 ∷ 0 ∷ 0 ∷ 0 ∷ [];
@@ -82,14 +82,14 @@ grip_task = record {
   schemas = move_schema ∷ pick_schema ∷ drop_schema ∷ [];
   -- (room p) (room q) (ball x) (ball y) (here p) (in x p) (in y p) (free)
   initial = atom 0 (0 ∷ [])
-    ∷ atom 0 (1 ∷ [])
-    ∷ atom 1 (2 ∷ [])
-    ∷ atom 1 (3 ∷ [])
-    ∷ atom 2 (0 ∷ [])
-    ∷ atom 3 (2 ∷ 0 ∷ [])
-    ∷ atom 3 (3 ∷ 0 ∷ [])
-    ∷ atom 4 []
-    ∷ [];
+      ∷ atom 0 (1 ∷ [])
+      ∷ atom 1 (2 ∷ [])
+      ∷ atom 1 (3 ∷ [])
+      ∷ atom 2 (0 ∷ [])
+      ∷ atom 3 (2 ∷ 0 ∷ [])
+      ∷ atom 3 (3 ∷ 0 ∷ [])
+      ∷ atom 4 []
+      ∷ [];
   -- (in x q) (in y q)
   goal = goal_atom (atom 3 (2 ∷ 1 ∷ [])) ∷ goal_atom (atom 3 (3 ∷ 1 ∷ [])) ∷ [];
   values = [];

@@ -1,4 +1,5 @@
--- The example `noop`: one action, of cost 5. The domain is in capital letters, and a comment ends the problem.
+-- The texts of `examples/noop`, and their task: one action, of cost 5. The domain is in capital letters, and a comment
+-- ends the problem.
 use Rattle.std.specs.Prelude.{ℕ, true, List, [], ◌∷◌, codes}
 use Rattle.pddl_task.specs.declared.schema.Increase.TheVariants.{Amount}
 use Rattle.pddl_task.specs.Planning.{PlanningTask, Schema}
@@ -22,7 +23,7 @@ noop_schema = record {
 
 unfoldable pub noop_task : PlanningTask
 noop_task = record {
-  -- of object
+  -- of object: object
   supertypes = 0 ∷ [];
   object_types = [];
   -- of p
@@ -33,7 +34,7 @@ noop_task = record {
   goal = goal_atom (atom 0 []) ∷ [];
   values = [];
   metric = true;
-  -- in lower case, each list in the order of the numbers
+  -- in lower case
   vocabulary = record {
     objects = [];
     predicates = codes "p" ∷ [];

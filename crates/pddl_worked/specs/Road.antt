@@ -1,4 +1,4 @@
--- The example `road`: roads from a to b and from b to c, and an action that goes by a road; without costs.
+-- The texts of `examples/road`, and their task: roads from a to b and from b to c, and an action that goes by a road.
 use Rattle.std.specs.Prelude.{ℕ, false, List, [], ◌∷◌, ◌++◌, codes}
 use Rattle.pddl_task.specs.declared.schema.Condition.TheVariants.{Positive}
 use Rattle.pddl_task.specs.Planning.{PlanningTask, Schema}

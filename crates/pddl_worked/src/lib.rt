@@ -1,4 +1,4 @@
-//! Worked laws: which tasks the texts of examples spell, byte by byte, and the first fault of one that spells none.
+//! Worked laws: the tasks that the texts of examples spell, byte by byte, and the first fault of texts that spell none.
 #![tactic(auto)]
 
 mod laws;
