@@ -15,16 +15,18 @@ use Rattle.pddl.specs.Passes.{FileFault, first_pass}
 use Rattle.pddl.specs.Sums.{stated_sum_faults}
 use Rattle.pddl.specs.Texts.{goal_of, domain_passes, problem_passes, task_of, IsTree, SpellTask, IsTaskRefusal}
 
--- ---- what is computed
+-- ---- what is computed. The lines `unfolding` name all that is computed with, so that answers need not.
 
 abbrev forms_in : Result Forms SexpFault → Forms
 forms_in (Ok f) = f
 forms_in (Err e) = none
 
+-- the tree of a text, as it is read
 unfoldable pub tree_of : List ℕ → Forms
 unfolding step run finished items
 tree_of bytes = forms_in (items true bytes)
 
+-- the first fault of the domain's passes, and below of the passes after the problem's tree was read
 unfoldable pub domain_fault : List ℕ → Option FileFault
 unfolding tree_of value_faults action_faults first_of first_pass
 domain_fault domain = first_pass (domain_passes (tree_of domain))
