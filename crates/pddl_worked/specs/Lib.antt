@@ -1,0 +1,4 @@
+pub mod Noop
+pub mod Road
+pub mod Drive
+pub mod Grip
