@@ -15,6 +15,10 @@ use worker::{Received, Worker};
 /// The most passes over the links between two turns.
 const PASSES: u32 = 1024;
 
+/// How often between two turns a worker lets others run because rings are full. A receiver that does not run at all, or whose table
+/// grows, holds up no sender for longer: its messages wait in their outbox.
+const WAITS: u32 = 2;
+
 /// Sends at most one message over each link. Returns whether one was sent. Allocates nothing.
 fn send_each<'a, S: Spread + Drop, F: StateForm + Drop>(worker: &mut Worker<'a, S, F>) -> bool
     requires { worker.old.uncounted ≡ 0 }
@@ -55,8 +59,8 @@ fn receive_each<'a, S: Spread + Drop, F: StateForm + Drop>(
 
 /// Sends the messages that stand in outboxes and takes those that are in the rings, until there are none, and counts what was taken.
 /// Where a ring is full it lets other threads run, so that the receiver takes the messages before more nodes are expanded; but it
-/// goes on after so many passes over the links. Returns false if a message was set aside, after which nothing more is done.
-/// Fails only if allocation fails, and then the worker holds the message that could not be taken, and nothing more is done.
+/// goes on after a few times, and after so many passes over the links. Returns false if a message was set aside, after which nothing
+/// more is done. Fails only if allocation fails, and then the worker holds the message that could not be taken, and nothing more is done.
 pub(crate) fn relay<'a, S: Spread + Drop, F: StateForm + Drop>(
     board: &Board,
     seat: &mut Seat,
@@ -71,6 +75,7 @@ pub(crate) fn relay<'a, S: Spread + Drop, F: StateForm + Drop>(
     ensures held { IfErr result (λ _. HasRelayedBack S.owner F.values board.now seat.old worker.old seat.new worker.new) }
     ensures none_uncounted { worker.new.uncounted ≡ 0 }
 {
+    let mut waits = 0;
     for _ in 0..PASSES {
         let sent = send_each(worker);
         let received = receive_each(worker)?;
@@ -84,6 +89,10 @@ pub(crate) fn relay<'a, S: Spread + Drop, F: StateForm + Drop>(
         if worker.owner().outboxes_in_use() == 0 {
             break;
         }
+        if waits >= WAITS {
+            break;
+        }
+        waits += 1;
         thread::yield_now();
     }
     Ok(true)
