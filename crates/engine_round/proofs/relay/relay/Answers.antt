@@ -65,3 +65,10 @@ returns-then-outboxes_in_use-eq0 g c =
     (sent_at_work g.F.StateForm.values c.args.board.now c.args.seat.now c.args.worker.now c.loop.seat c.loop.worker c.send_each-sent.new.worker c.loop.invariant c.send_each-sent.ensures)
     c.count_taken.ensures.seat (all_received g.S.Spread.owner g.F.StateForm.values _ _ _ c.in_default.not-SetAside c.in_ok-received.ensures.received) c.count_taken.ensures.counted in
     record { seat = now.seat; relayed = now; held = tt; none_uncounted = now.uncounted }
+
+pub returns-then-waits-ge-WAITS : goal.returns-then-waits-ge-WAITS
+returns-then-waits-ge-WAITS g c =
+    let now = received_at_work g.S.Spread.owner g.F.StateForm.values c.args.board.now c.args.seat.now c.args.worker.now c.loop.seat c.count_taken.new.seat c.send_each-sent.new.worker c.receive_each.new.worker c.count_taken.new.self
+    (sent_at_work g.F.StateForm.values c.args.board.now c.args.seat.now c.args.worker.now c.loop.seat c.loop.worker c.send_each-sent.new.worker c.loop.invariant c.send_each-sent.ensures)
+    c.count_taken.ensures.seat (all_received g.S.Spread.owner g.F.StateForm.values _ _ _ c.in_default.not-SetAside c.in_ok-received.ensures.received) c.count_taken.ensures.counted in
+    record { seat = now.seat; relayed = now; held = tt; none_uncounted = now.uncounted }
