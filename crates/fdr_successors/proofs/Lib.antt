@@ -1,6 +1,5 @@
-pub mod Building
-pub mod Gathering
+pub mod Growing
 pub mod Increasing
-pub mod Listing
 pub mod Numbers
-pub mod Rests
+pub mod Walking
+pub mod Listing

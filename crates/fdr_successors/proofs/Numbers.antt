@@ -10,7 +10,7 @@ use Rattle.std.proofs.lemmas.List.Sums.{sum_by-cons}
 use Rattle.std.proofs.lemmas.List.Sorted.{sum_by-IsPermutation}
 use Rattle.fdr.specs.Tasks.{FiniteDomainTask, Operator, applies, applies_at}
 use Rattle.fdr_successors.specs.Applicable.{applicable_operators}
-use Rattle.fdr_successors.specs.Groups.{SameNumbers}
+use Rattle.fdr_successors.specs.Numbers.{SameNumbers}
 use Rattle.fdr_successors.proofs.Increasing.{climbing_filter, increasing_from_climbing}
 
 -- ---- a filter of lists that have the same numbers

@@ -1,5 +1,5 @@
 pub mod Applicable
-pub mod Entries
 pub mod Examples
-pub mod Groups
-pub mod Starts
+pub mod Listings
+pub mod Numbers
+pub mod Trees

@@ -1,68 +1,67 @@
 //! The successor generator of a task.
 
-ghost use Rattle.std.specs.Prelude.{◌≡◌, ◌++◌, [], ◌<◌, All, length, IfOk, OnOk, OnErr, filter};
+ghost use Rattle.std.specs.Prelude.{◌≡◌, ◌++◌, [], ◌+◌, ◌<◌, ◌≤◌, All, length, IfOk, OnOk, OnErr, filter, slice_range};
 ghost use Rattle.std.specs.List.{list_all};
 ghost use Rattle.fdr.specs.Tasks.{holds};
 ghost use Rattle.fdr_successors.specs.Applicable.{applicable_operators};
-ghost use Rattle.fdr_successors.specs.Groups.{IsPlaced, IsReady, IsTestable, chosen, passes, numbers_of, found_outside, found_in_groups, SameNumbers};
+ghost use Rattle.fdr_successors.specs.Listings.{IsPlaced, passes, facts_of, numbers_of};
+ghost use Rattle.fdr_successors.specs.Numbers.{SameNumbers};
+ghost use Rattle.fdr_successors.specs.Trees.{SharesTests, following};
 
-use crate::candidate::Candidate;
-use crate::order::{listing_of, ordered_entries};
-use crate::tables::{Switch, tables_of};
+use crate::candidate::{Candidate, Part};
+use crate::node::{Node, Tree};
+use crate::order::ordered_listing;
+use crate::tree::add_part;
 use fdr::{Fact, FdrTask};
 use std::alloc::{AllocError, Global};
 use std::marker::Model;
 
+/// The most facts of a precondition that nodes of the tree test, each with a table of the variable's values. The others
+/// are tested one by one.
+const MOST_LEVELS: usize = 64;
+
 /// A successor generator: finds the applicable operators of states of one task (Helmert 2006). In contracts its value
 /// is the task.
 ///
-/// Each operator is listed under its key, the fact of its precondition that the fewest operators have, together with
-/// its guard, a second fact. A state selects one group for each variable on which there are keys. Guards are tested in
-/// the selected groups, and the remaining facts of an operator whose guard holds. So a state takes a look-up for each
-/// such variable, a guard test for each operator in the selected groups, a test of the remaining facts for each operator
-/// whose guard holds, and the sorting of the result. This is slow if many operators have no rare fact, since the groups
-/// are then long: if all variables have two values, about half of the guards are tested.
+/// It is a decision tree in flat lists. Preconditions are tested fact by fact, those on variables with more values first.
+/// A node has the operators whose remaining facts are tested in turn, or that have none, and a table of children, one for
+/// each value of a variable. A visit goes to the child for the value in the state, and from there on to the node that
+/// follows for any value.
 ///
-/// It takes memory for each operator, for each value of the variables on which there are keys, and for each fact of a
-/// precondition other than the key and the guard.
+/// There is a table where the operators that test the variable next are more than one, and at least a quarter as many as
+/// its values. Otherwise each of them is tested in turn, as is one that has passed `MOST_LEVELS` tables. So the memory is
+/// linear in the lengths of the preconditions. A state takes a step for each node that is visited, a test for each of the
+/// node's operators, and the sorting of the result.
 #[derive(Drop)]
 pub struct SuccessorGenerator<'a> {
     task: &'a FdrTask,
-    switches: Vec<Switch>,
-    starts: Vec<usize>,
+    facts: Vec<Fact>,
     candidates: Vec<Candidate>,
-    rests: Vec<Fact>,
-    grouped: usize,
+    nodes: Vec<Node>,
+    children: Vec<usize>,
+    root: usize,
 }
 
 impl<'a> Model for SuccessorGenerator<'a> {
     ghost use Rattle.fdr.specs.Tasks.{FiniteDomainTask};
-    ghost use Rattle.fdr_successors.specs.Groups.{IsGenerator};
+    ghost use Rattle.fdr_successors.specs.Trees.{IsGenerator};
 
     ghost Value = { FiniteDomainTask };
 
     ghost view = { λ g. g.task.now };
 
-    ghost invariant = { λ g. IsGenerator g.task.now g.switches.items g.starts.items g.candidates.items g.rests.items g.grouped };
+    ghost invariant = { λ g. IsGenerator g.task.now g.facts.items g.candidates.items g.nodes.items g.children.items g.root };
 }
 
-/// The operators under the value that the variable of a switch has in the state.
-fn group<'a>(
-    switch: Switch,
-    starts: &[usize],
-    candidates: &'a [Candidate],
-    state: &[u32],
-) -> &'a [Candidate]
-    requires variable { switch.variable < length state.now }
-    requires placed { IsPlaced (length candidates.now) starts.now switch }
-    ensures { result.now ≡ chosen starts.now candidates.now state.now switch }
+/// The number of the node to which a visit goes from this one.
+fn next_node(node: Node, children: &[usize], state: &[u32]) -> usize
+    requires variable { 0 < node.range → node.variable < length state.now }
+    requires table { node.table + node.range ≤ length children.now }
+    ensures { result ≡ following children.now state.now node }
 {
-    let value = state[switch.variable] as usize;
-    if value < switch.range {
-        let at = switch.first + value;
-        &candidates[starts[at]..starts[at + 1]]
-    } else {
-        &candidates[..0]
+    match state.get(node.variable) {
+        Some(value) if (*value as usize) < node.range => children[node.table + *value as usize],
+        _ => node.next,
     }
 }
 
@@ -74,83 +73,78 @@ fn all_hold(facts: &[Fact], state: &[u32]) -> bool
     facts.iter().all(|fact| state[fact.variable] == fact.value)
 }
 
-/// Appends those operators of a selected group that apply: those whose guard and rest hold. Fails only if allocation
+/// Appends those of the candidates that pass the tests of their facts after the first ones. Fails only if allocation
 /// fails.
-fn add_guarded(
-    rests: &[Fact],
-    group: &[Candidate],
-    state: &[u32],
-    found: &mut Vec<usize>,
-) -> Result<(), AllocError>
-    requires row { All (λ f. f.variable < length state.now) rests.now }
-    requires testable { All (IsTestable (length state.now) (length rests.now)) group.now }
-    ensures { OnOk result (found.new.items ≡ found.old.items ++ numbers_of (filter (passes rests.now state.now) group.now)) }
-{
-    for candidate in group {
-        let guard = candidate.guard;
-        let rest = candidate.rest;
-        if state[guard.variable] == guard.value && all_hold(&rests[rest.first..rest.end], state) {
-            found.push(candidate.operator)?;
-        }
-    }
-    Ok(())
-}
-
-/// Appends those of the candidates outside all groups that apply. Fails only if allocation fails.
-fn add_others(
-    task: &FdrTask,
-    others: &[Candidate],
-    state: &[u32],
-    found: &mut Vec<usize>,
-) -> Result<(), AllocError>
-    requires { length state.now ≡ length task.now.value_names }
-    ensures { OnOk result (found.new.items ≡ found.old.items ++ found_outside task.now state.now others.now) }
-{
-    for candidate in others {
-        if task.applies(candidate.operator, state) {
-            found.push(candidate.operator)?;
-        }
-    }
-    Ok(())
-}
-
-/// Appends those of the grouped candidates that apply, from the groups that the state selects. Fails only if allocation
-/// fails.
-fn add_chosen(
-    switches: &[Switch],
-    starts: &[usize],
+fn add_passing(
+    facts: &[Fact],
     candidates: &[Candidate],
-    rests: &[Fact],
+    tested: usize,
     state: &[u32],
     found: &mut Vec<usize>,
 ) -> Result<(), AllocError>
-    requires row { All (λ f. f.variable < length state.now) rests.now }
-    requires switches { All (IsReady starts.now candidates.now (length rests.now) state.now) switches.now }
-    ensures { OnOk result (found.new.items ≡ found.old.items ++ found_in_groups starts.now candidates.now rests.now state.now switches.now) }
+    requires row { All (λ f. f.variable < length state.now) facts.now }
+    requires placed { All (IsPlaced (length facts.now)) candidates.now }
+    requires long { All (λ c. tested ≤ length (facts_of facts.now c)) candidates.now }
+    ensures { OnOk result (found.new.items ≡ found.old.items ++ numbers_of (filter (passes facts.now tested state.now) candidates.now)) }
 {
-    for switch in switches {
-        let group = group(*switch, starts, candidates, state);
-        add_guarded(rests, group, state, found)?;
+    for candidate in candidates {
+        let precondition = &facts[candidate.first..candidate.end];
+        if all_hold(&precondition[tested..], state) {
+            found.push(candidate.operator)?;
+        }
     }
     Ok(())
+}
+
+/// Appends those of a node's candidates that apply, in a state in which the tests before the node hold. Fails only if
+/// allocation fails.
+fn add_from_node(
+    facts: &[Fact],
+    candidates: &[Candidate],
+    node: Node,
+    state: &[u32],
+    found: &mut Vec<usize>,
+) -> Result<(), AllocError>
+    requires row { All (λ f. f.variable < length state.now) facts.now }
+    requires placed { All (IsPlaced (length facts.now)) candidates.now }
+    requires shares { SharesTests facts.now candidates.now node.tested node.first node.end }
+    ensures { OnOk result (found.new.items ≡ found.old.items ++ numbers_of (filter (passes facts.now node.tested state.now) (slice_range candidates.now node.first node.end))) }
+{
+    let listed = &candidates[node.first..node.end];
+    add_passing(facts, listed, node.tested, state, found)
 }
 
 impl<'a> SuccessorGenerator<'a> {
-    /// Makes the successor generator of the task. It takes time linear in the task's values and preconditions, and the
-    /// time to sort the operators. Fails only if allocation fails.
+    /// Makes the successor generator of the task. It takes time and memory linear in the lengths of the preconditions, and
+    /// the time to sort the operators by them. Fails only if allocation fails.
     pub fn new(alloc: Global, task: &'a FdrTask) -> Result<SuccessorGenerator<'a>, AllocError>
         ensures { IfOk result (λ g. g ≡ task.now) }
     {
-        let entries = ordered_entries(alloc, task)?;
-        let tables = tables_of(alloc, task, &entries)?;
-        let listing = listing_of(alloc, task, &entries)?;
+        let listing = ordered_listing(alloc, task)?;
+        let count = listing.candidates.len();
+        let mut tree = Tree::new(alloc, count)?;
+        let all = Part {
+            first: 0,
+            end: count,
+            tested: 0,
+            next: 0,
+            levels: MOST_LEVELS,
+        };
+        let root = add_part(
+            alloc,
+            task,
+            &listing.facts,
+            &listing.candidates,
+            all,
+            &mut tree,
+        )?;
         Ok(SuccessorGenerator {
             task,
-            switches: tables.switches,
-            starts: tables.starts,
+            facts: listing.facts,
             candidates: listing.candidates,
-            rests: listing.rests,
-            grouped: tables.grouped,
+            nodes: tree.nodes,
+            children: tree.children,
+            root,
         })
     }
 
@@ -183,15 +177,12 @@ impl<'a> SuccessorGenerator<'a> {
         requires none { found.old.items ≡ [] }
         ensures { OnOk result (SameNumbers found.new.items (applicable_operators self.now state.now)) }
     {
-        add_chosen(
-            &self.switches,
-            &self.starts,
-            &self.candidates,
-            &self.rests,
-            state,
-            found,
-        )?;
-        add_others(self.task, &self.candidates[self.grouped..], state, found)?;
+        let mut at = self.root;
+        while at > 0 {
+            let node = self.nodes[at];
+            add_from_node(&self.facts, &self.candidates, node, state, found)?;
+            at = next_node(node, &self.children, state);
+        }
         Ok(())
     }
 }

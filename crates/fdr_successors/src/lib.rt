@@ -4,9 +4,11 @@
 
 mod candidate;
 mod generator;
+mod groups;
 mod laws;
+mod node;
 mod order;
-mod tables;
+mod tree;
 
 pub use generator::SuccessorGenerator;
 pub use laws::{applicable_operators_are_those_that_apply, worked_example};

@@ -46,7 +46,7 @@ fn push(
     operators.push(next).expect(rt, "memory");
 }
 
-/// Two variables, of 2 and 3 values. The groups of the first come before those of the second, and the operators do not.
+/// Two variables, of 2 and 3 values. Operators test one of them, both or none, and are in no order.
 fn crossing(rt: &impl Abort, alloc: Global) -> FdrTask {
     let mut operators = Vec::new(alloc);
     push(rt, &mut operators, alloc, &[fact(1, 1)], &[fact(1, 2)]);
@@ -111,4 +111,98 @@ fn finds_without_operators(rt: HostRuntime) {
         .expect(&rt, "memory")
         .expect(&rt, "a task");
     applies(&rt, rt.alloc(), &none, &[1], &[]);
+}
+
+/// Three variables of 3, 3 and 2 values. Preconditions begin with others, and two of them stand twice.
+fn nested(rt: &impl Abort, alloc: Global) -> FdrTask {
+    let mut operators = Vec::new(alloc);
+    push(
+        rt,
+        &mut operators,
+        alloc,
+        &[fact(2, 0), fact(0, 1), fact(1, 2)],
+        &[],
+    );
+    push(rt, &mut operators, alloc, &[fact(0, 1)], &[]);
+    push(rt, &mut operators, alloc, &[fact(0, 1), fact(1, 2)], &[]);
+    push(rt, &mut operators, alloc, &[fact(0, 1), fact(2, 1)], &[]);
+    push(rt, &mut operators, alloc, &[fact(1, 2), fact(0, 1)], &[]);
+    push(rt, &mut operators, alloc, &[fact(0, 1)], &[]);
+    push(rt, &mut operators, alloc, &[fact(1, 2)], &[]);
+    task(alloc, &[3, 3, 2], &[0, 0, 0], &[], operators)
+        .expect(rt, "memory")
+        .expect(rt, "a task")
+}
+
+#[test]
+fn finds_longer_and_equal_preconditions(rt: HostRuntime) {
+    let task = nested(&rt, rt.alloc());
+    applies(&rt, rt.alloc(), &task, &[1, 2, 0], &[0, 1, 2, 4, 5, 6]);
+    applies(&rt, rt.alloc(), &task, &[1, 2, 1], &[1, 2, 3, 4, 5, 6]);
+    applies(&rt, rt.alloc(), &task, &[1, 0, 1], &[1, 3, 5]);
+    applies(&rt, rt.alloc(), &task, &[2, 2, 0], &[6]);
+    applies(&rt, rt.alloc(), &task, &[0, 1, 1], &[]);
+}
+
+/// Variables of 100 and 60,000 values. Of the first, each third value has an operator, and of the second the first and
+/// the last value.
+fn wide(rt: &impl Abort, alloc: Global) -> FdrTask {
+    let mut operators = Vec::new(alloc);
+    for third in 0..34 {
+        push(rt, &mut operators, alloc, &[fact(0, 3 * third)], &[]);
+    }
+    push(rt, &mut operators, alloc, &[fact(1, 59_999)], &[]);
+    push(rt, &mut operators, alloc, &[fact(1, 0)], &[]);
+    task(alloc, &[100, 60_000], &[0, 0], &[], operators)
+        .expect(rt, "memory")
+        .expect(rt, "a task")
+}
+
+#[test]
+fn finds_under_variables_of_many_values(rt: HostRuntime) {
+    let task = wide(&rt, rt.alloc());
+    applies(&rt, rt.alloc(), &task, &[99, 59_999], &[33, 34]);
+    applies(&rt, rt.alloc(), &task, &[98, 59_999], &[34]);
+    applies(&rt, rt.alloc(), &task, &[0, 0], &[0, 35]);
+    applies(&rt, rt.alloc(), &task, &[3, 1], &[1]);
+    applies(&rt, rt.alloc(), &task, &[100, 60_000], &[]);
+}
+
+/// Operators of the first facts of a row: all of them, and all but the last, both twice.
+fn deep(rt: &impl Abort, alloc: Global, facts: &[Fact]) -> FdrTask {
+    let mut ranges = Vec::new(alloc);
+    let mut initial = Vec::new(alloc);
+    for _ in facts {
+        ranges.push(2).expect(rt, "memory");
+        initial.push(0).expect(rt, "memory");
+    }
+    let mut operators = Vec::new(alloc);
+    let shorter = &facts[..facts.len().saturating_sub(1)];
+    push(rt, &mut operators, alloc, facts, &[]);
+    push(rt, &mut operators, alloc, shorter, &[]);
+    push(rt, &mut operators, alloc, facts, &[]);
+    push(rt, &mut operators, alloc, shorter, &[]);
+    task(alloc, &ranges, &initial, &[], operators)
+        .expect(rt, "memory")
+        .expect(rt, "a task")
+}
+
+#[test]
+fn finds_below_many_levels(rt: HostRuntime) {
+    let mut facts = Vec::new(rt.alloc());
+    let mut state = Vec::new(rt.alloc());
+    for variable in 0..70 {
+        facts.push(fact(variable, 1)).expect(&rt, "memory");
+        state.push(1).expect(&rt, "memory");
+    }
+    let task = deep(&rt, rt.alloc(), &facts);
+    applies(&rt, rt.alloc(), &task, &state, &[0, 1, 2, 3]);
+    let _ = state.pop();
+    state.push(0).expect(&rt, "memory");
+    applies(&rt, rt.alloc(), &task, &state, &[1, 3]);
+    let _ = state.pop();
+    let _ = state.pop();
+    state.push(0).expect(&rt, "memory");
+    state.push(1).expect(&rt, "memory");
+    applies(&rt, rt.alloc(), &task, &state, &[]);
 }
