@@ -1,1 +1,3 @@
+pub mod CandidateLaws
+pub mod InstanceLaws
 pub mod ProposalLaws

@@ -1,1 +1,4 @@
+pub mod Candidates
+pub mod Examples
 pub mod Proposals
+pub mod Steps

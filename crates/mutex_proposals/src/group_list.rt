@@ -1,14 +1,13 @@
 //! Lists of distinct groups.
 
-ghost use Rattle.std.specs.Prelude.{◌≡◌, ◌≢◌, ◌≤◌, ◌<◌, ℕ, ◌&&◌, [], length, slice_get, AllPairs, All, IsTrue, OnOk};
-ghost use Rattle.std.specs.Bool.{OnTrue};
+ghost use Rattle.std.specs.Prelude.{◌≡◌, ◌≢◌, ◌<◌, ◌&&◌, if◌then◌else◌, [], length, slice_get, AllPairs, All, OnOk};
 ghost use Rattle.std.proofs.Common.{rules};
 ghost use Rattle.std.specs.Cmp.Rules.{comparing, hashing};
 ghost use Rattle.std.specs.Hash as fed;
-ghost use Rattle.std.specs.List.{list_all};
 ghost use Rattle.std.specs.List.Sorted.{IsStrictlyIncreasing};
 ghost use Rattle.pddl_task.specs.Atoms.{same_numbers};
-ghost use Rattle.mutex_proposals.specs.Proposals.{is_movable, IsProposal, with_group};
+ghost use Rattle.mutex_proposals.specs.Candidates.{is_proposal};
+ghost use Rattle.mutex_proposals.specs.Proposals.{is_movable, with_group};
 
 use indexmap::IndexSet;
 use mutex::ActionIndex;
@@ -102,15 +101,16 @@ impl Groups {
         Ok(())
     }
 
-    /// Appends the group of these places if it can be proposed and is not in the list.
+    /// Appends the group of these places if it is a proposal and is not in the list.
     pub(crate) fn offer(
         &mut self,
         alloc: Global,
         index: &ActionIndex<'_>,
         places: &[usize],
     ) -> Result<(), AllocError>
-        requires { All (IsProposal index.now) self.old }
-        ensures { OnOk result (All (IsProposal index.now) self.new) }
+        requires rising { IsStrictlyIncreasing places.now }
+        requires within { All (λ p. p < length index.now.atoms) places.now }
+        ensures { OnOk result (self.new ≡ (if is_proposal index.now places.now then with_group self.old places.now else self.old)) }
     {
         if !is_proposal(index, places) {
             return Ok(());
@@ -120,34 +120,13 @@ impl Groups {
     }
 }
 
-/// Whether the places can be proposed: they are two or more, strictly increasing, of atoms that are neither constant
-/// nor excluded, and a usable group.
+/// Whether the places are two or more, and their atoms a usable group.
 fn is_proposal(index: &ActionIndex<'_>, places: &[usize]) -> bool
-    ensures { OnTrue result (IsProposal index.now places.now) }
+    requires rising { IsStrictlyIncreasing places.now }
+    requires within { All (λ p. p < length index.now.atoms) places.now }
+    ensures { result ≡ is_proposal index.now places.now }
 {
-    if places.len() < 2 || !is_rising(places) {
-        return false;
-    }
-    are_movable(index, places) && index.is_usable(places)
-}
-
-/// Whether the places are strictly increasing.
-fn is_rising(places: &[usize]) -> bool
-    ensures { OnTrue result (IsStrictlyIncreasing places.now) }
-{
-    for end in 1..places.len() {
-        if places[end] <= places[end - 1] {
-            return false;
-        }
-    }
-    true
-}
-
-/// Whether no atom at the places is constant or excluded.
-fn are_movable(index: &ActionIndex<'_>, places: &[usize]) -> bool
-    ensures { result ≡ list_all (is_movable index.now) places.now }
-{
-    places.iter().all(|place| is_movable(index, *place))
+    2 <= places.len() && index.is_usable(places)
 }
 
 /// Whether the place has an atom, and this is neither constant nor excluded.

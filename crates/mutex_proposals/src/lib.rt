@@ -3,8 +3,11 @@
 
 mod candidates;
 mod group_list;
+mod instances;
+pub mod laws;
 mod parts;
 mod proposals;
 
+pub use candidates::MAX_CANDIDATES;
 pub use group_list::{Group, Groups};
-pub use proposals::{MAX_CANDIDATES, groups};
+pub use proposals::groups;

@@ -1,52 +1,57 @@
 //! The parts of candidates: fluent predicates with one argument bound to the parameter, or with none.
 
-use crate::group_list::is_movable;
-use mutex::ActionIndex;
+ghost use Rattle.std.specs.Prelude.{◌≡◌, ℕ, ◌++◌, ◌<◌, ◌==◌, ◌||◌, true, false, length, slice_index_or, IfOk, OnOk};
+ghost use Rattle.std.specs.List.{list_any};
+ghost use Rattle.mutex_proposals.specs.Candidates.{bound_object, is_fluent, bound_parts_of, free_parts_of, fluent_parts};
+
 use pddl_task::{GroundAtom, LiftedEffect, Task};
 use std::alloc::{AllocError, Global};
 
-/// An atom by its place, and the object that stands for the parameter in it.
-#[derive(Debug, Clone, Copy, PartialEq, Eq, PartialOrd, Ord)]
-pub(crate) struct Member {
-    pub(crate) object: usize,
-    pub(crate) place: usize,
-}
-
-/// A predicate, with those of its atoms that may be in a group.
-#[derive(Drop)]
+/// A predicate, and the position of its argument that is bound to the parameter, if one is.
+#[derive(Debug, Clone, Copy)]
 pub(crate) struct Part {
     pub(crate) predicate: usize,
-    pub(crate) members: Vec<Member>,
+    pub(crate) position: Option<usize>,
 }
 
-/// The argument of a predicate that is bound to the parameter.
-#[derive(Debug, Clone, Copy)]
-enum Bound {
-    None,
-    At(usize),
-}
-
-impl Bound {
+impl Part {
     /// The object that stands for the parameter in the atom, or 0 if no argument is bound.
-    fn object(self, atom: &GroundAtom) -> usize {
-        match self {
-            Bound::None => 0,
-            Bound::At(position) => atom.objects.get(position).copied().unwrap_or(0),
+    pub(crate) fn object(self, atom: &GroundAtom) -> usize
+        ensures { result ≡ bound_object self atom.now }
+    {
+        match self.position {
+            Some(position) => atom.objects.get(position).copied().unwrap_or(0),
+            None => 0,
         }
     }
 }
 
-fn mark_effects(fluent: &mut [bool], effects: &[LiftedEffect]) {
+/// Sets the flag of the predicate, if it has one.
+fn mark_one(fluent: &mut [bool], predicate: usize)
+    ensures { (q : ℕ) → q < length fluent.old →
+        slice_index_or fluent.new q false ≡ (slice_index_or fluent.old q false || predicate == q) }
+{
+    if predicate < fluent.len() {
+        fluent[predicate] = true;
+    }
+}
+
+/// Sets the flags of the predicates that the effects name.
+fn mark_effects(fluent: &mut [bool], effects: &[LiftedEffect])
+    ensures { (q : ℕ) → q < length fluent.old →
+        slice_index_or fluent.new q false
+        ≡ (slice_index_or fluent.old q false || list_any (λ e. e.atom.predicate == q) effects.now) }
+{
     for effect in effects {
-        let predicate = effect.atom.predicate;
-        if predicate < fluent.len() {
-            fluent[predicate] = true;
-        }
+        mark_one(fluent, effect.atom.predicate);
     }
 }
 
 /// For each predicate whether an effect of a schema names it.
-fn fluent_flags(alloc: Global, task: &Task) -> Result<Vec<bool>, AllocError> {
+pub(crate) fn fluent_flags(alloc: Global, task: &Task) -> Result<Vec<bool>, AllocError>
+    ensures { IfOk result (λ flags. (q : ℕ) → q < length task.now.arities →
+        slice_index_or flags.items q false ≡ is_fluent task.now q) }
+{
     let mut fluent = vec![in alloc; false; task.arities.len()]?;
     for schema in &task.schemas {
         mark_effects(&mut fluent, &schema.effect);
@@ -54,64 +59,76 @@ fn fluent_flags(alloc: Global, task: &Task) -> Result<Vec<bool>, AllocError> {
     Ok(fluent)
 }
 
-/// The atoms of the predicate that may be in a group.
-fn members(
-    alloc: Global,
-    index: &ActionIndex<'_>,
-    predicate: usize,
-    bound: Bound,
-) -> Result<Vec<Member>, AllocError> {
-    let mut members = Vec::new(alloc);
-    for (place, atom) in index.atoms().as_slice().iter().enumerate() {
-        if atom.predicate == predicate && is_movable(index, place) {
-            members.push(Member {
-                object: bound.object(atom),
-                place,
-            })?;
-        }
+/// Appends the parts with a parameter of a predicate with this arity.
+fn push_bound(parts: &mut Vec<Part>, predicate: usize, arity: usize) -> Result<(), AllocError>
+    ensures { OnOk result (parts.new.items ≡ parts.old.items ++ bound_parts_of predicate arity) }
+{
+    if arity == 1 || arity == 2 {
+        parts.push(Part {
+            predicate,
+            position: Some(0),
+        })?;
     }
-    Ok(members)
-}
-
-fn push_part(
-    alloc: Global,
-    index: &ActionIndex<'_>,
-    predicate: usize,
-    bound: Bound,
-    parts: &mut Vec<Part>,
-) -> Result<(), AllocError> {
-    let members = members(alloc, index, predicate, bound)?;
-    parts.push(Part { predicate, members })?;
+    if arity == 2 {
+        parts.push(Part {
+            predicate,
+            position: Some(1),
+        })?;
+    }
     Ok(())
 }
 
-/// The parts with a bound argument, by predicate and then by the position of that argument.
-pub(crate) fn bound_parts(alloc: Global, index: &ActionIndex<'_>) -> Result<Vec<Part>, AllocError> {
-    let task = index.task();
-    let fluent = fluent_flags(alloc, task)?;
+/// Appends the part without a parameter of a predicate with this arity, if there is one.
+fn push_free(parts: &mut Vec<Part>, predicate: usize, arity: usize) -> Result<(), AllocError>
+    ensures { OnOk result (parts.new.items ≡ parts.old.items ++ free_parts_of predicate arity) }
+{
+    if arity <= 1 {
+        parts.push(Part {
+            predicate,
+            position: None,
+        })?;
+    }
+    Ok(())
+}
+
+/// The parts with a parameter, by predicate and then by the position of the argument that is bound.
+pub(crate) fn bound_parts(
+    alloc: Global,
+    task: &Task,
+    fluent: &[bool],
+) -> Result<Vec<Part>, AllocError>
+    requires { (q : ℕ) → q < length task.now.arities → slice_index_or fluent.now q false ≡ is_fluent task.now q }
+    ensures { IfOk result (λ parts. parts.items ≡ fluent_parts bound_parts_of task.now) }
+{
     let mut parts = Vec::new(alloc);
-    for (predicate, is_fluent) in fluent.iter().enumerate() {
-        let arity = task.arities.get(predicate).copied().unwrap_or(0);
-        if *is_fluent && (arity == 1 || arity == 2) {
-            push_part(alloc, index, predicate, Bound::At(0), &mut parts)?;
-        }
-        if *is_fluent && arity == 2 {
-            push_part(alloc, index, predicate, Bound::At(1), &mut parts)?;
+    for (predicate, arity) in task.arities.iter().enumerate() {
+        if is_marked(fluent, predicate) {
+            push_bound(&mut parts, predicate, *arity)?;
         }
     }
     Ok(parts)
 }
 
-/// The parts without a bound argument, by predicate.
-pub(crate) fn free_parts(alloc: Global, index: &ActionIndex<'_>) -> Result<Vec<Part>, AllocError> {
-    let task = index.task();
-    let fluent = fluent_flags(alloc, task)?;
+/// The parts without a parameter, by predicate.
+pub(crate) fn free_parts(
+    alloc: Global,
+    task: &Task,
+    fluent: &[bool],
+) -> Result<Vec<Part>, AllocError>
+    requires { (q : ℕ) → q < length task.now.arities → slice_index_or fluent.now q false ≡ is_fluent task.now q }
+    ensures { IfOk result (λ parts. parts.items ≡ fluent_parts free_parts_of task.now) }
+{
     let mut parts = Vec::new(alloc);
-    for (predicate, is_fluent) in fluent.iter().enumerate() {
-        let arity = task.arities.get(predicate).copied().unwrap_or(0);
-        if *is_fluent && arity <= 1 {
-            push_part(alloc, index, predicate, Bound::None, &mut parts)?;
+    for (predicate, arity) in task.arities.iter().enumerate() {
+        if is_marked(fluent, predicate) {
+            push_free(&mut parts, predicate, *arity)?;
         }
     }
     Ok(parts)
+}
+
+fn is_marked(flags: &[bool], number: usize) -> bool
+    ensures { result ≡ slice_index_or flags.now number false }
+{
+    flags.get(number).copied().unwrap_or(false)
 }

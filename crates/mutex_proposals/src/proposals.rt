@@ -1,78 +1,34 @@
 //! Proposed mutex groups of a task.
 
-ghost use Rattle.std.specs.Prelude.{◌≡◌, All, IfOk, OnOk};
-ghost use Rattle.mutex_proposals.specs.Proposals.{IsProposal};
+ghost use Rattle.std.specs.Prelude.{◌≡◌, ℕ, ◌≤◌, ◌<◌, [], length, filter, max, slice_index_or, All, IfOk, OnOk};
+ghost use Rattle.std.specs.List.{fold};
+ghost use Rattle.mutex_proposals.specs.Candidates.{instance, instances, count_of_instances, is_proposal, proposed_groups};
+ghost use Rattle.mutex_proposals.specs.Proposals.{IsProposal, with_group};
+ghost use Rattle.mutex_proposals.specs.Steps.{AreRows};
 
-use crate::candidates::{extended, members_of};
+use crate::candidates::{Candidate, candidates};
 use crate::group_list::Groups;
-use crate::parts::{Member, Part, bound_parts, free_parts};
+use crate::instances::{Places, collect, empty_lists, rows_by_predicate};
 use mutex::ActionIndex;
 use std::alloc::{AllocError, Global};
 
-/// The largest number of candidates that are tried.
-pub const MAX_CANDIDATES: usize = 4096;
-
-/// Offers the places of the members of each object as a group. The members are ordered by object.
-fn offer_members(
+/// Offers the instances of the candidate, which are the first of the lists.
+fn offer_instances(
     alloc: Global,
     index: &ActionIndex<'_>,
-    members: &[Member],
+    candidate: &Candidate,
+    lists: &[Places],
     groups: &mut Groups,
 ) -> Result<(), AllocError>
-    requires { All (IsProposal index.now) groups.old }
-    ensures { OnOk result (All (IsProposal index.now) groups.new) }
+    requires enough { count_of_instances index.now.task candidate.now ≤ length lists.now }
+    requires instances { (object : ℕ) → object < length lists.now →
+        slice_index_or lists.now object [] ≡ instance index.now candidate.now object }
+    ensures { OnOk result (groups.new ≡ fold with_group groups.old (filter (is_proposal index.now) (instances index.now candidate.now))) }
 {
-    let mut places = Vec::new(alloc);
-    let mut object = 0;
-    for member in members {
-        if member.object != object {
-            groups.offer(alloc, index, &places)?;
-            places.clear();
-            object = member.object;
-        }
-        places.push(member.place)?;
-    }
-    groups.offer(alloc, index, &places)
-}
-
-/// Offers the instances of each candidate.
-fn offer_candidates(
-    alloc: Global,
-    index: &ActionIndex<'_>,
-    parts: &[Part],
-    candidates: &[Vec<usize>],
-    groups: &mut Groups,
-) -> Result<(), AllocError>
-    requires { All (IsProposal index.now) groups.old }
-    ensures { OnOk result (All (IsProposal index.now) groups.new) }
-{
-    for chosen in candidates {
-        let members = members_of(alloc, parts, chosen)?;
-        offer_members(alloc, index, &members, groups)?;
+    for object in 0..candidate.count_of_instances(index.task()) {
+        groups.offer(alloc, index, lists[object].as_slice())?;
     }
     Ok(())
-}
-
-/// Offers the instances of the candidates of one to three of the parts, those of fewer parts first. Returns how many of
-/// the `room` candidates that may be tried are left.
-fn offer_parts(
-    alloc: Global,
-    index: &ActionIndex<'_>,
-    parts: &[Part],
-    room: usize,
-    groups: &mut Groups,
-) -> Result<usize, AllocError>
-    requires { All (IsProposal index.now) groups.old }
-    ensures { OnOk result (All (IsProposal index.now) groups.new) }
-{
-    let mut room = room;
-    let mut candidates = vec![in alloc; Vec::new(alloc)]?;
-    for _count in 0..3 {
-        candidates = extended(alloc, parts, &candidates, room)?;
-        offer_candidates(alloc, index, parts, &candidates, groups)?;
-        room = room.saturating_sub(candidates.len());
-    }
-    Ok(room)
 }
 
 /// Proposed mutex groups of the index's atoms. Each is a usable group of two or more atoms, none of them constant or
@@ -81,15 +37,21 @@ fn offer_parts(
 /// A part is a predicate that an effect names, with one argument bound to the parameter, where it has one or two, or
 /// with none bound, where it has at most one. A candidate is one to three parts of distinct predicates, all of them
 /// with a bound argument or all without. The first 4,096 candidates are tried: those with a bound argument first, then
-/// those of fewer parts, then in the order of the parts. A candidate has one instance for each object: the atoms with
-/// that object for the parameter. Fails only if allocation fails.
+/// those of fewer parts, then in the order of the parts. A candidate has one instance for each object of the task: the
+/// atoms with that object for the parameter, without those that are constant or excluded. A candidate without a bound
+/// argument has one instance. Every instance that is a usable group of two or more atoms is proposed, in order. Fails
+/// only if allocation fails.
 pub fn groups(alloc: Global, index: &ActionIndex<'_>) -> Result<Groups, AllocError>
-    ensures { IfOk result (λ groups. All (IsProposal index.now) groups) }
+    ensures proposals { IfOk result (λ groups. All (IsProposal index.now) groups) }
+    ensures groups { IfOk result (λ groups. groups ≡ proposed_groups index.now) }
 {
+    let rows = rows_by_predicate(alloc, index)?;
+    let candidates = candidates(alloc, index.task())?;
+    let mut lists = empty_lists(alloc, index.task().object_types.len().max(1))?;
     let mut groups = Groups::new(alloc);
-    let bound = bound_parts(alloc, index)?;
-    let room = offer_parts(alloc, index, &bound, MAX_CANDIDATES, &mut groups)?;
-    let free = free_parts(alloc, index)?;
-    offer_parts(alloc, index, &free, room, &mut groups)?;
+    for candidate in &candidates {
+        collect(index, &rows, candidate, &mut lists)?;
+        offer_instances(alloc, index, candidate, &lists, &mut groups)?;
+    }
     Ok(groups)
 }
