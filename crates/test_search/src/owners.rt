@@ -78,6 +78,16 @@ fn has_better_way<S: Spread + Drop, F: StateForm + Drop>(rt: &impl Abort, owner:
     assert!(rt; entry.expanded);
 }
 
+/// Checks that the initial state is all that there is.
+fn has_begun<S: Spread + Drop, F: StateForm + Drop>(rt: &impl Abort, owner: &Owner<'_, S, F>) {
+    assert_eq!(rt; (owner.len(), owner.least_open()), (1, Dist::ZERO));
+}
+
+/// Checks that there is nothing left to expand, and that expansions are not counted, as there is no limit.
+fn is_done<S: Spread + Drop, F: StateForm + Drop>(rt: &impl Abort, owner: &Owner<'_, S, F>) {
+    assert!(rt; owner.is_idle(Dist::inf()) && owner.expansions() == 0);
+}
+
 /// One owner expands all nodes.
 fn expand_alone<'a, S: Spread + Drop>(
     rt: &impl Abort,
@@ -85,7 +95,7 @@ fn expand_alone<'a, S: Spread + Drop>(
     space: &'a Space<'a, S>,
 ) -> Result<(), Fail> {
     let mut owner: Owner<'a, S, Plain> = Owner::start(alloc, space, 0, 1)?;
-    assert_eq!(rt; (owner.len(), owner.least_open()), (1, Dist::ZERO));
+    has_begun(rt, &owner);
     // the state 0: to 1 at cost 1, and to 2 at cost 5
     expands(rt, &mut owner, 3, dist(1));
     // 1: to 2 at cost 2
@@ -96,7 +106,7 @@ fn expand_alone<'a, S: Spread + Drop>(
     has_better_way(rt, &owner);
     // 3 has no successor, and 2 is not expanded again, at the cost 5
     expands(rt, &mut owner, 4, Dist::inf());
-    assert!(rt; owner.is_idle(Dist::inf()) && owner.expansions() == 0);
+    is_done(rt, &owner);
     Ok(())
 }
 
@@ -117,6 +127,27 @@ fn one_owner_alone(rt: HostRuntime) -> Result<(), Fail> {
     expand_alone_of(&rt, rt.alloc(), &task)
 }
 
+/// Expands the next node below the bound 5, and checks that there are then this number of states.
+fn expands_below_5<S: Spread + Drop, F: StateForm + Drop>(
+    rt: &impl Abort,
+    owner: &mut Owner<'_, S, F>,
+    states: usize,
+) {
+    assert_eq!(rt; owner.expand(dist(5)), Ok(Some(0)));
+    assert_eq!(rt; owner.len(), states);
+}
+
+/// Checks that the limit of two expansions is reached, below the bound 5 and not below 2.
+fn has_reached_the_limit<S: Spread + Drop, F: StateForm + Drop>(
+    rt: &impl Abort,
+    owner: &mut Owner<'_, S, F>,
+) {
+    assert_eq!(rt; owner.expansions(), 2);
+    assert_eq!(rt; owner.expand(dist(5)), Err(OwnerFault::LimitReached));
+    assert_eq!(rt; (owner.len(), owner.expansions()), (3, 2));
+    assert_eq!(rt; owner.expand(dist(2)), Ok(None), "nothing is below 2");
+}
+
 /// One owner expands below bounds, two nodes at most.
 fn expand_below<'a, S: Spread + Drop>(
     rt: &impl Abort,
@@ -124,13 +155,10 @@ fn expand_below<'a, S: Spread + Drop>(
     space: &'a Space<'a, S>,
 ) -> Result<(), Fail> {
     let mut owner: Owner<'a, S, Plain> = Owner::start(alloc, space, 0, 1)?;
-    assert_eq!(rt; owner.expand(dist(5)), Ok(Some(0)));
-    assert_eq!(rt; owner.len(), 2, "2 would cost 5");
-    assert_eq!(rt; owner.expand(dist(5)), Ok(Some(0)));
-    assert_eq!(rt; (owner.len(), owner.expansions()), (3, 2));
-    assert_eq!(rt; owner.expand(dist(5)), Err(OwnerFault::LimitReached));
-    assert_eq!(rt; (owner.len(), owner.expansions()), (3, 2));
-    assert_eq!(rt; owner.expand(dist(2)), Ok(None), "nothing is below 2");
+    // 2 would cost 5
+    expands_below_5(rt, &mut owner, 2);
+    expands_below_5(rt, &mut owner, 3);
+    has_reached_the_limit(rt, &mut owner);
     Ok(())
 }
 
@@ -177,6 +205,21 @@ fn has_handed_out<S: Spread + Drop, F: StateForm + Drop>(
     assert!(rt; owner.next_out(1).is_none() && owner.is_idle(Dist::ZERO));
 }
 
+/// Checks that the second of two owners has no state yet.
+fn has_nothing<S: Spread + Drop, F: StateForm + Drop>(rt: &impl Abort, owner: &Owner<'_, S, F>) {
+    assert_eq!(rt; owner.len(), 0);
+    assert!(rt; owner.is_idle(Dist::inf()));
+}
+
+/// Checks that the owner has one state, and its cost.
+fn has_one_state<S: Spread + Drop, F: StateForm + Drop>(
+    rt: &impl Abort,
+    owner: &Owner<'_, S, F>,
+    cost: Dist,
+) {
+    assert_eq!(rt; (owner.len(), owner.least_open()), (1, cost));
+}
+
 /// Two owners, of which the first hands a state to the second.
 fn hand_over<'a, S: Spread + Drop>(
     rt: &impl Abort,
@@ -185,15 +228,15 @@ fn hand_over<'a, S: Spread + Drop>(
 ) -> Result<(), Fail> {
     let mut first: Owner<'a, S, Plain> = Owner::start(alloc, space, 0, 2)?;
     let mut second: Owner<'a, S, Plain> = Owner::start(alloc, space, 1, 2)?;
-    assert_eq!(rt; (first.len(), second.len()), (1, 0));
-    assert!(rt; second.is_idle(Dist::inf()));
+    has_one_state(rt, &first, Dist::ZERO);
+    has_nothing(rt, &second);
     posts(rt, &mut first);
     let Some(message) = first.next_out(1) else {
         panic!(rt; "a message")
     };
     assert_eq!(rt; message.rank, Rank { cost: 1, steps: 1 });
     assert!(rt; second.take(message).is_ok(), "memory");
-    assert_eq!(rt; (second.len(), second.least_open()), (1, dist(1)));
+    has_one_state(rt, &second, dist(1));
     has_handed_out(rt, &mut first);
     Ok(())
 }

@@ -14,7 +14,6 @@ use sasfile::read_sas;
 use scp::make_columns;
 use std::alloc::{AllocError, Global};
 use std::process::Abort;
-use std::test::Fail;
 use std::thread::Threads;
 
 /// One variable of three values, from 0 to 2. Operators 0: 0 to 1 at cost 0; 1: 1 to 0 at cost 0; 2: 1 to 2 at cost 1.
@@ -220,10 +219,21 @@ fn is_settled<S: Spread + Drop, F: StateForm + Drop>(
     alloc: Global,
     world: &World<'_, S, F>,
     cost: u64,
-) -> Result<(), Fail> {
+) {
     assert_eq!(rt; world.count(), 0);
-    assert_eq!(rt; world.answer(alloc)?, Some(SearchAnswer::Solved(cost)));
-    Ok(())
+    let answer = world.answer(alloc).expect(rt, "memory");
+    assert_eq!(rt; answer, Some(SearchAnswer::Solved(cost)));
+}
+
+/// The plan to the best goal node, if there is one.
+fn best_plan<S: Spread + Drop, F: StateForm + Drop>(
+    alloc: Global,
+    joined: &Joined<'_, S, F>,
+) -> Result<Option<Vec<usize>>, AllocError> {
+    match joined.best(alloc)? {
+        Some(goal) => Ok(Some(plan_of(alloc, joined, goal)?)),
+        None => Ok(None),
+    }
 }
 
 /// Checks that the best goal node is reached by this plan.
@@ -232,24 +242,33 @@ fn has_plan<S: Spread + Drop, F: StateForm + Drop>(
     alloc: Global,
     joined: &Joined<'_, S, F>,
     plan: &[usize],
-) -> Result<(), Fail> {
-    let goal = joined.best(alloc)?.ok_or("a goal node")?;
-    let found = plan_of(alloc, joined, goal)?;
+) {
+    let found = best_plan(alloc, joined)
+        .expect(rt, "memory")
+        .expect(rt, "a goal node");
     assert_eq!(rt; found.as_slice(), plan);
-    Ok(())
 }
 
-/// Checks the text of the certificate.
-fn has_certificate<S: Spread + Drop, F: StateForm + Drop>(
+/// The text of the certificate.
+fn certificate_text<S: Spread + Drop, F: StateForm + Drop>(
+    alloc: Global,
+    joined: &Joined<'_, S, F>,
+) -> Result<Vec<u8>, AllocError> {
+    let certificate = cert_of(alloc, joined, CertificateKind::Sas)?;
+    write_cert(alloc, &certificate)
+}
+
+/// Checks the plan to the best goal node, and the text of the certificate.
+fn has_answer<S: Spread + Drop, F: StateForm + Drop>(
     rt: &impl Abort,
     alloc: Global,
     joined: &Joined<'_, S, F>,
+    plan: &[usize],
     text: &str,
-) -> Result<(), Fail> {
-    let certificate = cert_of(alloc, joined, CertificateKind::Sas)?;
-    let written = write_cert(alloc, &certificate)?;
+) {
+    has_plan(rt, alloc, joined, plan);
+    let written = certificate_text(alloc, joined).expect(rt, "memory");
     assert_eq!(rt; written.as_slice(), text.as_bytes());
-    Ok(())
 }
 
 /// The space of the task without columns.
@@ -269,18 +288,41 @@ fn space_for<'t, R: Threads + Sync>(
     )
 }
 
-/// Two owners do the steps, after which no work is left; they are settled at the cost.
+/// Two owners do the steps, after which no work is left; they are settled at the cost. `None` if a step is refused.
 fn run_to_the_end<'a, S: Spread + Drop>(
     rt: &impl Abort,
     alloc: Global,
     space: &'a Space<'a, S>,
     steps: &[WorldStep],
     cost: u64,
-) -> Result<Joined<'a, S, Bits<1>>, Fail> {
+) -> Option<Joined<'a, S, Bits<1>>> {
     assert!(rt; Bits::<1>::fits(space.layout()), "states of one word");
-    let world = World::run(alloc, space, 2, steps).map_err(|_| "a refused step")?;
-    is_settled(rt, alloc, &world, cost)?;
-    Ok(world.joined())
+    match World::run(alloc, space, 2, steps) {
+        Ok(world) => {
+            is_settled(rt, alloc, &world, cost);
+            Some(world.joined())
+        }
+        Err(_) => None,
+    }
+}
+
+/// The same, with this plan and this text of a certificate at the end.
+fn end_so<'a, S: Spread + Drop>(
+    rt: &impl Abort,
+    alloc: Global,
+    space: &'a Space<'a, S>,
+    steps: &[WorldStep],
+    cost: u64,
+    plan: &[usize],
+    text: &str,
+) -> bool {
+    match run_to_the_end(rt, alloc, space, steps, cost) {
+        Some(joined) => {
+            has_answer(rt, alloc, &joined, plan, text);
+            true
+        }
+        None => false,
+    }
 }
 
 /// Two owners of the task's states do the steps, after which no work is left: they are settled at the cost, with this
@@ -293,12 +335,13 @@ fn settle<'t, R: Threads + Sync + Abort>(
     cost: u64,
     plan: &[usize],
     text: &str,
-) -> Result<(), Fail> {
+) {
     // the type is given so that the borrow checker need not infer how long the space is borrowed
-    let space: Space<'t, ByValue<'t>> = space_for(rt, alloc, task)?;
-    let joined = run_to_the_end(rt, alloc, &space, steps, cost)?;
-    has_plan(rt, alloc, &joined, plan)?;
-    has_certificate(rt, alloc, &joined, text)
+    let space: Space<'t, ByValue<'t>> = space_for(rt, alloc, task).expect(rt, "memory");
+    assert!(rt;
+        end_so(rt, alloc, &space, steps, cost, plan, text),
+        "an end of the steps"
+    );
 }
 
 /// The same for the task of a text.
@@ -310,12 +353,12 @@ fn settle_text<R: Threads + Sync + Abort>(
     cost: u64,
     plan: &[usize],
     text: &str,
-) -> Result<(), Fail> {
-    let task = read_sas(alloc, sas.as_bytes()).map_err(|_| "a task")?;
-    settle(rt, alloc, &task, steps, cost, plan, text)
+) {
+    let task = read_sas(alloc, sas.as_bytes()).expect(rt, "a task");
+    settle(rt, alloc, &task, steps, cost, plan, text);
 }
 
-const CYCLE_CERTIFICATE: &str = "optplan-cert 1
+const CYCLE_CERTIFICATE: &str = "optplan-cert 2
 sas
 bound 1
 columns 0
@@ -325,7 +368,7 @@ closed 2
 end
 ";
 
-const DETOUR_CERTIFICATE: &str = "optplan-cert 1
+const DETOUR_CERTIFICATE: &str = "optplan-cert 2
 sas
 bound 3
 columns 0
@@ -335,7 +378,7 @@ closed 2
 end
 ";
 
-const DETOUR_LONG_CERTIFICATE: &str = "optplan-cert 1
+const DETOUR_LONG_CERTIFICATE: &str = "optplan-cert 2
 sas
 bound 3
 columns 0
@@ -346,26 +389,28 @@ closed 3
 end
 ";
 
-#[test]
-fn cycle_of_cost_0(rt: HostRuntime) -> Result<(), Fail> {
-    for steps in [CYCLE_IN_ORDER, CYCLE_TURNED] {
-        settle_text(&rt, rt.alloc(), CYCLE, steps, 1, &[0, 2], CYCLE_CERTIFICATE)?;
-    }
-    Ok(())
+fn settles_the_cycle<R: Threads + Sync + Abort>(rt: &R, alloc: Global, steps: &[WorldStep]) {
+    settle_text(rt, alloc, CYCLE, steps, 1, &[0, 2], CYCLE_CERTIFICATE);
 }
 
 #[test]
-fn detours(rt: HostRuntime) -> Result<(), Fail> {
-    for steps in [DETOUR_IMPROVED, DETOUR_GOAL_FIRST] {
-        settle_text(&rt, rt.alloc(), DETOUR, steps, 3, &[3], DETOUR_CERTIFICATE)?;
-    }
-    settle_text(
-        &rt,
-        rt.alloc(),
-        DETOUR,
-        DETOUR_DROPPED,
-        3,
-        &[3],
-        DETOUR_LONG_CERTIFICATE,
-    )
+fn cycle_of_cost_0(rt: HostRuntime) {
+    settles_the_cycle(&rt, rt.alloc(), CYCLE_IN_ORDER);
+    settles_the_cycle(&rt, rt.alloc(), CYCLE_TURNED);
+}
+
+fn settles_the_detour<R: Threads + Sync + Abort>(
+    rt: &R,
+    alloc: Global,
+    steps: &[WorldStep],
+    text: &str,
+) {
+    settle_text(rt, alloc, DETOUR, steps, 3, &[3], text);
+}
+
+#[test]
+fn detours(rt: HostRuntime) {
+    settles_the_detour(&rt, rt.alloc(), DETOUR_IMPROVED, DETOUR_CERTIFICATE);
+    settles_the_detour(&rt, rt.alloc(), DETOUR_GOAL_FIRST, DETOUR_CERTIFICATE);
+    settles_the_detour(&rt, rt.alloc(), DETOUR_DROPPED, DETOUR_LONG_CERTIFICATE);
 }

@@ -12,7 +12,7 @@ use cost::Dist;
 use fdr::FdrTask;
 use owner::{MAX_TOTAL, Message, Owner, OwnerFault, Parent, Rank, Space, Ties};
 use packed::{Bits, Plain, StateForm};
-use packed_spread::ByValue;
+use packed_spread::{ByValue, Spread};
 use sasfile::read_sas;
 use scp::make_columns;
 use std::alloc::Global;
@@ -46,6 +46,15 @@ fn message_at_most_total<'a, F: StateForm + Drop, R: Abort>(
     })
 }
 
+/// Checks that the one node is not expanded, as its successor would cost too much.
+fn refuses<S: Spread + Drop, F: StateForm + Drop>(rt: &impl Abort, owner: &mut Owner<'_, S, F>) {
+    let open = Dist::fin(MAX_TOTAL).expect(rt, "a distance");
+    assert_eq!(rt; owner.least_open(), open);
+    assert_eq!(rt; owner.expand(Dist::inf()), Err(OwnerFault::TotalTooLarge));
+    assert_eq!(rt; (owner.least_open(), owner.len()), (open, 1));
+    assert!(rt; !owner.entry(0).expanded);
+}
+
 /// Operator 1 leads on at cost 0, and operator 2 at cost 1, above the greatest total: so the state is not expanded.
 fn refuse_total<'a, F: StateForm + Drop, R: Abort>(
     rt: &R,
@@ -57,11 +66,7 @@ fn refuse_total<'a, F: StateForm + Drop, R: Abort>(
     let mut second: Owner<'a, ByValue<'a>, F> = Owner::start(alloc, space, 1, 2)?;
     let message = message_at_most_total(rt, alloc, space)?;
     assert!(rt; second.take(message).is_ok(), "memory");
-    let open = Dist::fin(MAX_TOTAL).ok_or("a distance")?;
-    assert_eq!(rt; second.least_open(), open);
-    assert_eq!(rt; second.expand(Dist::inf()), Err(OwnerFault::TotalTooLarge));
-    assert_eq!(rt; (second.least_open(), second.len()), (open, 1));
-    assert!(rt; !second.entry(0).expanded);
+    refuses(rt, &mut second);
     Ok(())
 }
 

@@ -50,6 +50,16 @@ fn has_two_steps<S: Spread + Drop, F: StateForm + Drop>(rt: &impl Abort, world: 
     assert_eq!(rt; world.possible_step(2), None);
 }
 
+/// Checks that two units are counted, and that there is no answer yet.
+fn has_two_units<S: Spread + Drop, F: StateForm + Drop>(
+    rt: &impl Abort,
+    alloc: Global,
+    world: &World<'_, S, F>,
+) {
+    let answer = world.answer(alloc).expect(rt, "memory");
+    assert_eq!(rt; (world.count(), answer), (2, None));
+}
+
 /// The second owner comes to rest, and one step is left.
 fn second_rests<S: Spread + Drop, F: StateForm + Drop>(
     rt: &impl Abort,
@@ -60,6 +70,19 @@ fn second_rests<S: Spread + Drop, F: StateForm + Drop>(
     assert_eq!(rt; (world.count(), world.possible_count()), (1, 1));
 }
 
+/// Checks which steps would change nothing at the start.
+fn idles_at_first<S: Spread + Drop, F: StateForm + Drop>(
+    rt: &impl Abort,
+    world: &mut World<'_, S, F>,
+) {
+    idles(rt, world, WorldStep::Rest(0));
+    idles(rt, world, WorldStep::Send(0, 1));
+    idles(rt, world, WorldStep::Deliver(1, 5));
+    idles(rt, world, WorldStep::Look(0));
+    idles(rt, world, WorldStep::Expand(9));
+    idles(rt, world, WorldStep::Send(0, 9));
+}
+
 /// Which steps would change something at the start, and which would not.
 fn first_steps<'a, S: Spread + Drop>(
     rt: &impl Abort,
@@ -68,13 +91,8 @@ fn first_steps<'a, S: Spread + Drop>(
 ) -> Result<(), Fail> {
     let mut world: World<'a, S, Plain> = World::start(alloc, space, 2)?;
     has_two_steps(rt, &world);
-    idles(rt, &mut world, WorldStep::Rest(0));
-    idles(rt, &mut world, WorldStep::Send(0, 1));
-    idles(rt, &mut world, WorldStep::Deliver(1, 5));
-    idles(rt, &mut world, WorldStep::Look(0));
-    idles(rt, &mut world, WorldStep::Expand(9));
-    idles(rt, &mut world, WorldStep::Send(0, 9));
-    assert_eq!(rt; (world.count(), world.answer(alloc)?), (2, None));
+    idles_at_first(rt, &mut world);
+    has_two_units(rt, alloc, &world);
     second_rests(rt, &mut world);
     Ok(())
 }
