@@ -11,4 +11,4 @@ pub use abstraction::Abstraction;
 pub use digit::Digit;
 pub use fault::ProjectionFault;
 pub use laws::{heuristic_is_lower_bound, projection_is_abstraction};
-pub use projection::Projection;
+pub use projection::{Projection, is_on_any, projected_index};

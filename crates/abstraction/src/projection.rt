@@ -3,9 +3,9 @@
 ghost use Rattle.std.specs.Prelude.{◌≡◌, ◌^◌, ◌<◌, ◌≤◌, All, length, take, slice_index, IfOk, IfErr, OnOk, IfSome, IfNone};
 ghost use Rattle.std.specs.List.{list_all, list_any};
 ghost use Rattle.std.specs.List.Sorted.{IsStrictlyIncreasing};
-ghost use Rattle.fdr.specs.Tasks.{ranges, IsTask, IsInRange, names_variable};
+ghost use Rattle.fdr.specs.Tasks.{ranges, IsTask, IsState, IsInRange, names_variable};
 ghost use Rattle.abstraction.specs.Digits.{digit_of, with_fact, IsDigitBelow, digits_from};
-ghost use Rattle.abstraction.specs.Projections.{size_of, AllExist, IsFaultOf};
+ghost use Rattle.abstraction.specs.Projections.{size_of, index_of, AllExist, IsFaultOf};
 ghost use Rattle.abstraction.specs.Projections as spec;
 
 use crate::abstraction::Abstraction;
@@ -87,6 +87,15 @@ fn names_variable(facts: &[Fact], variable: usize) -> bool
     facts.iter().any(|fact| fact.variable == variable)
 }
 
+/// Returns whether an effect is on one of these variables, which are places in a state.
+pub fn is_on_any(effect: &[Fact], variables: &[usize]) -> bool
+    ensures { result ≡ list_any (names_variable effect.now) variables.now }
+{
+    variables
+        .iter()
+        .any(|variable| names_variable(effect, *variable))
+}
+
 /// The digits of the pattern's variables, and the number of abstract states.
 fn digits_of(
     alloc: Global,
@@ -117,6 +126,25 @@ fn digits_of(
         size *= range;
     }
     Ok((digits, size))
+}
+
+/// Returns the abstract state of a state in the projection of a task to a pattern of its variables, of which the digits are
+/// given: the sum of the values of these variables, each times the weight of its digit.
+pub fn projected_index(task: &FdrTask, pattern: &[usize], digits: &[Digit], state: &[u32]) -> usize
+    requires task { IsTask task.now }
+    requires exist { AllExist (ranges task.now) pattern.now }
+    requires small { size_of (ranges task.now) pattern.now ≤ 2 ^ 24 }
+    requires digits { digits.now ≡ digits_from (ranges task.now) 1 pattern.now }
+    requires state { IsState (ranges task.now) state.now }
+    ensures value { result ≡ index_of (ranges task.now) pattern.now state.now }
+    ensures below { result < size_of (ranges task.now) pattern.now }
+{
+    let _ = task;
+    let mut index = 0;
+    for place in 0..pattern.len() {
+        index += state[pattern[place]] as usize * digits[place].weight;
+    }
+    index
 }
 
 impl<'a> Projection<'a> {
@@ -193,15 +221,6 @@ impl<'a> Projection<'a> {
         }
     }
 
-    /// Whether the effect is on a variable of the pattern.
-    fn touched_by(&self, effect: &[Fact]) -> bool
-        ensures { result ≡ list_any (names_variable effect.now) self.now.pattern }
-    {
-        self.pattern
-            .iter()
-            .any(|variable| names_variable(effect, *variable))
-    }
-
     /// Whether each fact agrees with the abstract state.
     fn all_agree(&self, abstract_state: usize, facts: &[Fact]) -> bool
         ensures { result ≡ list_all (spec.agrees (ranges self.now.task) self.now.pattern abstract_state) facts.now }
@@ -254,11 +273,7 @@ impl<'a> Abstraction for Projection<'a> {
     }
 
     fn index(&self, state: &[u32]) -> usize {
-        let mut index = 0;
-        for place in 0..self.pattern.len() {
-            index += state[self.pattern[place]] as usize * self.digits[place].weight;
-        }
-        index
+        projected_index(self.task, &self.pattern, &self.digits, state)
     }
 
     fn transition(&self, abstract_state: usize, operator: usize) -> Option<usize> {
@@ -272,7 +287,7 @@ impl<'a> Abstraction for Projection<'a> {
 
     fn touches(&self, operator: usize) -> bool {
         match self.task.operators().get(operator) {
-            Some(operator) => self.touched_by(&operator.effect),
+            Some(operator) => is_on_any(&operator.effect, &self.pattern),
             None => false,
         }
     }

@@ -1,10 +1,10 @@
 -- Classes that are numbered in the order in which they first stand in their row.
-use Rattle.std.proofs.Common.{◌≡◌, ℕ, ◌+◌, ◌<◌, ◌≤◌, max, ◌↔◌, List, [], ◌∷◌, ◌++◌, length, take, refl, inl, inr, ⊎_elim, arith}
+use Rattle.std.proofs.Common.{◌≡◌, ℕ, ◌+◌, ◌<◌, ◌≤◌, max, ◌↔◌, true, List, [], ◌∷◌, ◌++◌, length, take, drop, leb, refl, ap, inl, inr, ⊎_elim, leb-true, le-leb, arith}
 use Rattle.std.specs.Prelude.{slice_index, Contains}
-use Rattle.std.proofs.lemmas.List.{take_more, take_all}
+use Rattle.std.proofs.lemmas.List.{take_more, take_all, drop_more, length-drop}
 use Rattle.std.proofs.lemmas.List.Elements.{Contains-append_left, Contains-push, Contains-push_cases}
-use Rattle.std.proofs.lemmas.Bool.{cases_eq}
-use Rattle.abstraction_domain.specs.Rows.{class_count, IsLeastAbsent, IsNumberedAt, IsFirstMisnumbered}
+use Rattle.std.proofs.lemmas.Bool.{cases_eq, cases_lt, and_parts, and_from}
+use Rattle.abstraction_domain.specs.Rows.{class_count, IsLeastAbsent, IsNumberedAt, AreNumbered, numbered_from, are_numbered, IsFirstMisnumbered}
 
 -- the first k classes are numbered, and are the numbers below n
 pub record AreCounted (classes : List ℕ) (k n : ℕ) : Type 0 where
@@ -83,3 +83,49 @@ module _ (classes : List ℕ) (k n c : ℕ) (so_far : AreCounted classes k n) (l
 
 pub all_counted : (classes : List ℕ) (k n : ℕ) → AreCounted classes k n → length classes ≤ k → n ≡ class_count classes
 all_counted classes k n so_far l = rw (take_all k classes l) at so_far.count
+
+-- the place of the first of the classes that are left
+module _ (classes : List ℕ) (k n c : ℕ) (cs : List ℕ) (rest : drop k classes ≡ c ∷ cs) where
+  within : k < length classes
+  within = let long : length (drop k classes) ≡ length (c ∷ cs) = ap length rest in omega (arith, long, length-drop k classes)
+
+  split : drop k classes ≡ slice_index classes k ∷ drop (k + 1) classes
+  split = drop_more classes k 0 within
+
+  here : c ≡ slice_index classes k
+  here = cc split
+
+  later : drop (k + 1) classes ≡ cs
+  later = cc split
+
+  counted_more : AreCounted classes k n → c ≤ n → AreCounted classes (k + 1) (max n (c + 1))
+  counted_more so_far h =
+      ⊎_elim
+      (λ (l : c < n). let e : max n (c + 1) ≡ n = omega arith in rw e (known classes k n c so_far within here l))
+      (λ (l : n ≤ c). let e : max n (c + 1) ≡ n + 1 = omega arith in rw e (fresh classes k n c so_far within here (omega arith)))
+      (cases_lt c n)
+
+numbered_by_rest : (classes : List ℕ) (k n : ℕ) (rest : List ℕ) → drop k classes ≡ rest → AreCounted classes k n → numbered_from n rest ≡ true → AreNumbered classes
+numbered_by_rest classes k n [] e so_far h =
+    let long : length (drop k classes) ≡ 0 = ap length e in λ j l. so_far.numbered j (omega (arith, long, length-drop k classes))
+numbered_by_rest classes k n (c ∷ cs) e so_far h =
+    let parts = and_parts (leb c n) (numbered_from (max n (c + 1)) cs) h in
+    numbered_by_rest classes (k + 1) (max n (c + 1)) cs (later classes k n c cs e) (counted_more classes k n c cs e so_far (leb-true c n parts.0)) parts.1
+
+rest_by_numbered : (classes : List ℕ) (k n : ℕ) (rest : List ℕ) → drop k classes ≡ rest → AreCounted classes k n → AreNumbered classes → numbered_from n rest ≡ true
+rest_by_numbered classes k n [] e so_far all = refl
+rest_by_numbered classes k n (c ∷ cs) e so_far all =
+    let l : k < length classes = within classes k n c cs e in
+    let least : c ≤ n =
+    ⊎_elim
+    (λ (past : n < c). absurd ((first_misnumbered classes k n c so_far l (here classes k n c cs e) past).misnumbered (all k l)))
+    (λ (low : c ≤ n). low) (cases_lt n c) in
+    and_from (leb c n) (numbered_from (max n (c + 1)) cs) (le-leb c n least)
+    (rest_by_numbered classes (k + 1) (max n (c + 1)) cs (later classes k n c cs e) (counted_more classes k n c cs e so_far least) all)
+
+-- the test tells whether the classes are numbered
+pub numbered_by_test : (classes : List ℕ) → (are_numbered classes ≡ true) ↔ AreNumbered classes
+numbered_by_test classes = (
+  numbered_by_rest classes 0 0 classes refl (none_counted classes),
+  rest_by_numbered classes 0 0 classes refl (none_counted classes),
+)

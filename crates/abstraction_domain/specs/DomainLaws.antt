@@ -110,7 +110,7 @@ module _ (ranges : List ℕ) where
     classes_in_range : (fs : List Fact) → All (IsInRange ranges) fs → All (IsInRange (class_counts rows ranges)) (class_facts rows fs)
     classes_in_range fs all = All-map (IsInRange (class_counts rows ranges)) (class_fact rows) fs (λ k d l. class_in_range (get_or fs k d) (all k d l))
 
-    class_assignment : (fs : List Fact) → IsAssignment ranges fs → IsAssignment (class_counts rows ranges) (class_facts rows fs)
+    pub class_assignment : (fs : List Fact) → IsAssignment ranges fs → IsAssignment (class_counts rows ranges) (class_facts rows fs)
     class_assignment fs ok = record { in_range = classes_in_range fs ok.in_range; distinct = rw (distinct_same rows fs) ok.distinct }
 
     class_is_operator : (op : Operator) → IsOperator ranges op → IsOperator (class_counts rows ranges) (class_operator rows op)

@@ -1,5 +1,5 @@
 -- Classes of the values of a variable (Hernádvölgyi and Holte 2000; Kreft, Büchner, Sievers and Helmert 2023).
-use Rattle.std.specs.Prelude.{ℕ, ◌+◌, ◌<◌, max, ◌⊎◌, List, [], ◌∷◌, length, take, slice_index, Contains}
+use Rattle.std.specs.Prelude.{ℕ, ◌+◌, ◌<◌, max, ◌⊎◌, Bool, true, ◌&&◌, nat_le, List, [], ◌∷◌, length, take, slice_index, Contains}
 
 -- a variable, and the class of each of its values
 pub record Row : Type 0 where
@@ -24,6 +24,14 @@ IsNumberedAt classes k =
 -- the classes are numbered in the order in which they first stand in the row
 abbrev pub AreNumbered : List ℕ → Type 0
 AreNumbered classes = (k : ℕ) → k < length classes → IsNumberedAt classes k
+
+-- the same as a test: each class is at most the number of classes before it, of which there are n
+abbrev pub numbered_from : ℕ → List ℕ → Bool
+numbered_from n [] = true
+numbered_from n (c ∷ cs) = nat_le c n && numbered_from (max n (c + 1)) cs
+
+abbrev pub are_numbered : List ℕ → Bool
+are_numbered classes = numbered_from 0 classes
 
 -- the first place whose class is not numbered so
 pub record IsFirstMisnumbered (classes : List ℕ) (k : ℕ) : Type 0 where

@@ -1,9 +1,9 @@
 //! Domain abstractions.
 
 ghost use Rattle.std.specs.Prelude.{◌≡◌, ◌^◌, ◌<◌, ◌≤◌, ◌↔◌, IsTrue, All, length, slice_index, option_map, IfOk, IfErr, OnOk, IfSome, IfNone};
-ghost use Rattle.std.specs.List.{list_all, list_any};
+ghost use Rattle.std.specs.List.{list_all};
 ghost use Rattle.std.specs.List.Sorted.{IsStrictlyIncreasing};
-ghost use Rattle.fdr.specs.Tasks.{ranges, IsTask, IsInRange, names_variable};
+ghost use Rattle.fdr.specs.Tasks.{ranges, IsTask, IsState, IsInRange};
 ghost use Rattle.abstraction.specs.Digits.{digits_from, digit_of, with_value, with_fact, IsDigitBelow};
 ghost use Rattle.abstraction.specs.Projections.{size_of};
 ghost use Rattle.abstraction.specs.Projections as projections;
@@ -12,7 +12,7 @@ ghost use Rattle.abstraction_domain.specs.Domains.{variables, class_counts, coun
 
 use crate::fault::DomainFault;
 use crate::row::ClassRow;
-use abstraction::{Abstraction, Digit};
+use abstraction::{Abstraction, Digit, is_on_any};
 use fdr::{Fact, FdrTask};
 use std::alloc::{AllocError, Global};
 use std::marker::Model;
@@ -149,13 +149,6 @@ fn place_of(variables: &[usize], variable: usize) -> Option<usize>
     }
 }
 
-/// Whether one of the facts is on the variable.
-fn names_variable(facts: &[Fact], variable: usize) -> bool
-    ensures { result ≡ names_variable facts.now variable }
-{
-    facts.iter().any(|fact| fact.variable == variable)
-}
-
 /// The abstract state in which the variable of the digit has another class, and all others keep theirs.
 fn with_class(digit: Digit, abstract_state: usize, class: usize) -> usize
     requires digit { IsDigitBelow (2 ^ 24) digit }
@@ -164,6 +157,27 @@ fn with_class(digit: Digit, abstract_state: usize, class: usize) -> usize
     ensures { result ≡ with_value digit abstract_state class }
 {
     abstract_state - digit.value(abstract_state) * digit.weight + class * digit.weight
+}
+
+/// Returns the abstract state of a state in the domain abstraction of a task by rows, of which the digits are given: the sum
+/// of the classes of the values of their variables, each times the weight of its digit.
+pub fn class_index(task: &FdrTask, rows: &[ClassRow], digits: &[Digit], state: &[u32]) -> usize
+    requires task { IsTask task.now }
+    requires increasing { IsStrictlyIncreasing (variables rows.now) }
+    requires fit { All (IsFit (ranges task.now)) rows.now }
+    requires small { (spec.domain task.now rows.now).size ≤ 2 ^ 24 }
+    requires digits { digits.now ≡ digits_from (class_counts rows.now (ranges task.now)) 1 (variables rows.now) }
+    requires state { IsState (ranges task.now) state.now }
+    ensures value { result ≡ (spec.domain task.now rows.now).index state.now }
+    ensures below { result < (spec.domain task.now rows.now).size }
+{
+    let _ = task;
+    let mut index = 0;
+    for place in 0..rows.len() {
+        let row = &rows[place];
+        index += row.class(state[row.variable()]) * digits[place].weight;
+    }
+    index
 }
 
 /// A class of a variable, and the position of the variable's class in an abstract state.
@@ -293,15 +307,6 @@ impl<'a> DomainAbstraction<'a> {
         true
     }
 
-    /// Whether the effect is on a variable that has a row.
-    fn touched_by(&self, effect: &[Fact]) -> bool
-        ensures { result ≡ list_any (names_variable effect.now) (variables self.now.rows) }
-    {
-        self.variables
-            .iter()
-            .any(|variable| names_variable(effect, *variable))
-    }
-
     /// The abstract state with the class of the fact, if its variable has a row, and else the same.
     fn with_fact(&self, abstract_state: usize, fact: Fact) -> usize
         requires state { abstract_state < size_of (counts_in self.now) (variables self.now.rows) }
@@ -348,12 +353,7 @@ impl<'a> Abstraction for DomainAbstraction<'a> {
     }
 
     fn index(&self, state: &[u32]) -> usize {
-        let mut index = 0;
-        for place in 0..self.rows.len() {
-            let row = &self.rows[place];
-            index += row.class(state[row.variable()]) * self.digits[place].weight;
-        }
-        index
+        class_index(self.task, &self.rows, &self.digits, state)
     }
 
     fn transition(&self, abstract_state: usize, operator: usize) -> Option<usize> {
@@ -367,7 +367,7 @@ impl<'a> Abstraction for DomainAbstraction<'a> {
 
     fn touches(&self, operator: usize) -> bool {
         match self.task.operators().get(operator) {
-            Some(operator) => self.touched_by(&operator.effect),
+            Some(operator) => is_on_any(&operator.effect, &self.variables),
             None => false,
         }
     }

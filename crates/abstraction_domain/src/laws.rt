@@ -1,11 +1,11 @@
 //! Laws of domain abstractions, for every task. Each function states one in its contract; its body is empty.
 
-ghost use Rattle.std.specs.Prelude.{◌≡◌, ℕ, List, All};
+ghost use Rattle.std.specs.Prelude.{◌≡◌, ◌↔◌, ℕ, true, List, All};
 ghost use Rattle.std.specs.List.Sorted.{IsStrictlyIncreasing};
 ghost use Rattle.fdr.specs.Tasks.{FiniteDomainTask, ranges, IsTask, IsState};
 ghost use Rattle.abstraction.specs.Abstractions.{IsAbstractionOf};
 ghost use Rattle.abstraction.specs.Projections.{projection, AllExist};
-ghost use Rattle.abstraction_domain.specs.Rows.{Row};
+ghost use Rattle.abstraction_domain.specs.Rows.{Row, AreNumbered, are_numbered};
 ghost use Rattle.abstraction_domain.specs.Domains.{variables, domain, IsFit, weighted_classes, identity_rows, AreSame};
 
 /// Proves that a domain abstraction by rows that fit the task is an abstraction of the task, and, where the variables of the
@@ -23,4 +23,9 @@ pub fn domain_is_abstraction()
 pub fn identity_rows_give_projection()
     ensures { (task : FiniteDomainTask) (pattern : List ℕ) → IsTask task → AllExist (ranges task) pattern →
         AreSame (ranges task) (domain task (identity_rows (ranges task) pattern)) (projection task pattern) }
+{}
+
+/// Proves that the test tells whether classes are numbered in the order in which they first stand in their row.
+pub fn numbered_by_test()
+    ensures { (classes : List ℕ) → (are_numbered classes ≡ true) ↔ AreNumbered classes }
 {}

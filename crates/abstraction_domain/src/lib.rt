@@ -6,7 +6,7 @@ mod fault;
 mod laws;
 mod row;
 
-pub use domain::{ClassDigit, DomainAbstraction, are_increasing};
+pub use domain::{ClassDigit, DomainAbstraction, are_increasing, class_index};
 pub use fault::DomainFault;
-pub use laws::{domain_is_abstraction, identity_rows_give_projection};
+pub use laws::{domain_is_abstraction, identity_rows_give_projection, numbered_by_test};
 pub use row::{ClassFault, ClassRow};

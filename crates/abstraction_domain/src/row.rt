@@ -108,7 +108,7 @@ impl ClassRow {
     }
 
     /// Returns a second row with the same variable and classes. Fails only if allocation fails.
-    pub(crate) fn copied(&self, alloc: Global) -> Result<ClassRow, AllocError>
+    pub fn copied(&self, alloc: Global) -> Result<ClassRow, AllocError>
         ensures { IfOk result (λ r. r ≡ self.now) }
     {
         let classes = Vec::from_slice(alloc, &self.classes)?;

@@ -13,15 +13,15 @@ use Rattle.cost.proofs.DistanceLaws.{is_at_most-from}
 use Rattle.fdr.specs.Tasks.{FiniteDomainTask, ranges, IsState, step, is_goal_state, cost_of}
 use Rattle.abstraction.specs.Abstractions as abstraction
 use Rattle.abstraction.specs.Columns.{IsColumn, IsTableOf}
-use Rattle.abstraction.specs.Projections.{projection, size_of}
 use Rattle.abstraction.specs.Steps.{found}
+use Rattle.cert_value.specs.declared.certificate.Version.TheVariants.{Two}
 use Rattle.cert_value.specs.Certificates.{Kind, Table, Entry, CertificateValue}
 use Rattle.checker_clauses.specs.declared.violation.Violation.TheVariants.{Shares, TableForm, GoalValue, Fall, ClosedState, Start, ClosedGoal, Successor}
-use Rattle.checker_clauses.specs.Clauses.{share_of, value_of, table_of, heuristic_of, is_within_cost, has_form, is_zero, is_goal_at_zero, falls_within_share, is_state, is_behind, is_listed, reaches_bound, is_covered, is_dear_if_goal, covers_successor}
+use Rattle.checker_clauses.specs.Clauses.{abstraction_of, share_of, value_of, table_of, heuristic_of, is_within_cost, has_form, is_zero, is_goal_at_zero, falls_within_share, is_state, is_behind, is_listed, reaches_bound, is_covered, is_dear_if_goal, covers_successor}
 use Rattle.checker_clauses.specs.ClosedLists.{IsListed, IsCovered, CoversSuccessors, IsFinished}
 use Rattle.checker_clauses.specs.Violations.{table_at, IsHeld}
 use Rattle.scp.specs.Partitions.{AreCostPartitioned}
-use Rattle.scp.proofs.ChosenPatterns.{from_map}
+use Rattle.scp.proofs.ChosenMappings.{from_map}
 use Rattle.cert.specs.Orders.{IsRising}
 
 -- that a certificate fails nowhere is a proposition
@@ -62,16 +62,16 @@ module _ (task : FiniteDomainTask) where
   within_cost : (column : List Table) → IsColumn task (map (table_of task) column) → (o : ℕ) → is_within_cost task column o ≡ true
   within_cost column is o = le-leb _ _ (subst (λ n. n ≤ cost_of task o) (column_shares column o) (is.costs o))
 
-  goal_at_zero : (t : Table) → IsTableOf task (table_of task t) → (a : ℕ) → a < size_of (ranges task) t.pattern → is_goal_at_zero task t a ≡ true
+  goal_at_zero : (t : Table) → IsTableOf task (table_of task t) → (a : ℕ) → a < (abstraction_of task t).size → is_goal_at_zero task t a ≡ true
   goal_at_zero t is a low =
-      cond_both ((projection task t.pattern).is_goal a) (is_zero (value_of t a)) true (λ b. b ≡ true) (λ goal. ap is_zero (is.consistent.goals a low goal)) (λ _. refl)
+      cond_both ((abstraction_of task t).is_goal a) (is_zero (value_of t a)) true (λ b. b ≡ true) (λ goal. ap is_zero (is.consistent.goals a low goal)) (λ _. refl)
 
   at_most_each : (d : Distance) (value : ℕ → Distance) (n : ℕ) (r : Option ℕ) → IfSome r (λ b. d ≤ᵈ Finite n +ᵈ value b) → option_map_or (λ b. is_at_most d (Finite n +ᵈ value b)) r true ≡ true
   at_most_each d value n None all = refl
   at_most_each d value n (Some b) all = is_at_most-from d (Finite n +ᵈ value b) all
 
-  within_share : (t : Table) → IsTableOf task (table_of task t) → (a o : ℕ) → a < size_of (ranges task) t.pattern → falls_within_share task t a o ≡ true
-  within_share t is a o low = at_most_each (value_of t a) (value_of t) (share_of t.shares o) ((projection task t.pattern).transition a o) (is.consistent.steps a o low)
+  within_share : (t : Table) → IsTableOf task (table_of task t) → (a o : ℕ) → a < (abstraction_of task t).size → falls_within_share task t a o ≡ true
+  within_share t is a o low = at_most_each (value_of t a) (value_of t) (share_of t.shares o) ((abstraction_of task t).transition a o) (is.consistent.steps a o low)
 
   module _ (columns : List (List Table)) (divided : AreCostPartitioned task columns) where
     abbrev IsOfTask : Table → Type 0
@@ -92,7 +92,7 @@ module _ (task : FiniteDomainTask) where
 
     module _ (kind : Kind) (bound : Distance) (closed : List Entry) (finished : IsFinished task (heuristic_of task columns) bound closed) (rising : IsRising closed) where
       abbrev made : CertificateValue
-      made = record { kind = kind; bound = bound; columns = columns; closed = closed }
+      made = record { version = Two; kind = kind; bound = bound; columns = columns; closed = closed }
 
       -- ---- closed states
 
@@ -124,10 +124,10 @@ module _ (task : FiniteDomainTask) where
           (found (λ column. IsColumn task (map (table_of task) column)) columns i divided.each) (λ column is. not_both _ (within_cost column is o)) bad
       held (TableForm i j) bad = none_found HasForm (λ t. has_form task t ≡ false) (table_at columns i j) (formed_at i j) (λ t. not_both _) bad
       held (GoalValue i j a) bad =
-          none_found IsOfTask (λ t. (a < size_of (ranges task) t.pattern) × (is_goal_at_zero task t a ≡ false)) (table_at columns i j) (of_task_at i j)
+          none_found IsOfTask (λ t. (a < (abstraction_of task t).size) × (is_goal_at_zero task t a ≡ false)) (table_at columns i j) (of_task_at i j)
           (λ t is fails. not_both _ (goal_at_zero t is a fails.0) fails.1) bad
       held (Fall i j a o) bad =
-          none_found IsOfTask (λ t. (a < size_of (ranges task) t.pattern) × (falls_within_share task t a o ≡ false)) (table_at columns i j) (of_task_at i j)
+          none_found IsOfTask (λ t. (a < (abstraction_of task t).size) × (falls_within_share task t a o ≡ false)) (table_at columns i j) (of_task_at i j)
           (λ t is fails. not_both _ (within_share t is a o fails.0) fails.1) bad
       held (ClosedState i) bad = state_at i (slice_get closed i) refl (found (λ e. IsState (ranges task) e.state) closed i finished.states) bad
       held Start bad = not_both _ (covered_test task.initial 0 finished.start) bad
@@ -141,6 +141,6 @@ module _ (task : FiniteDomainTask) where
 
 -- the same where it is only known that the columns are a cost partitioning
 pub merely_held : (task : FiniteDomainTask) (kind : Kind) (bound : Distance) (columns : List (List Table)) (closed : List Entry) → ∥ AreCostPartitioned task columns ∥₁
-    → IsFinished task (heuristic_of task columns) bound closed → IsRising closed → IsHeld task (record { kind = kind; bound = bound; columns = columns; closed = closed })
+    → IsFinished task (heuristic_of task columns) bound closed → IsRising closed → IsHeld task (record { version = Two; kind = kind; bound = bound; columns = columns; closed = closed })
 merely_held task kind bound columns closed divided finished rising =
-    ∥∥₁_elim divided (held_prop task (record { kind = kind; bound = bound; columns = columns; closed = closed })) (λ known. held task columns known kind bound closed finished rising)
+    ∥∥₁_elim divided (held_prop task (record { version = Two; kind = kind; bound = bound; columns = columns; closed = closed })) (λ known. held task columns known kind bound closed finished rising)

@@ -8,11 +8,12 @@ use Rattle.std.proofs.lemmas.Grind.{get_or_default_zero}
 use Rattle.std.proofs.lemmas.List.Elements.{All-head, All-tail}
 use Rattle.cost.specs.Distances.{Distance, IsWithin}
 use Rattle.fdr.specs.Tasks.{FiniteDomainTask, ranges, IsState, IsWithinLimits, has_long_range}
+use Rattle.cert_value.specs.declared.certificate.Version.TheVariants.{Two}
 use Rattle.cert_value.specs.Certificates.{Kind, Table, Entry}
-use Rattle.cert_text.specs.Lawful.{IsShort, IsLawfulKind, IsEntry, IsLawful}
+use Rattle.cert_value.specs.Lawful.{IsShort, IsLawfulKind, IsEntry, IsLawful}
 use Rattle.scp.specs.Partitions.{AreCostPartitioned}
-use Rattle.scp.specs.TableProps.{columns_prop}
-use Rattle.scp.proofs.Forms.{by_recursion}
+use Rattle.scp_columns.specs.TableProps.{columns_prop}
+use Rattle.scp_columns.proofs.Lawful.{by_recursion}
 
 -- no range is longer than the limits say
 range_small : (names : List (List (List ℕ))) (v : ℕ) → has_long_range names ≡ false → slice_index (map length names) v ≤ 65536
@@ -46,10 +47,10 @@ module _ (task : FiniteDomainTask) (limits : IsWithinLimits task) where
   )
 
   pub has_text : (kind : Kind) (bound : Distance) (columns : List (List Table)) (closed : List Entry) → ∥ AreCostPartitioned task columns ∥₁ → IsLawfulKind kind
-      → IsWithin (2 ^ 62) bound → All IsStateOf closed → All IsCheap closed → length closed < 2 ^ 32 → IsLawful (record { kind = kind; bound = bound; columns = columns; closed = closed })
+      → IsWithin (2 ^ 62) bound → All IsStateOf closed → All IsCheap closed → length closed < 2 ^ 32 → IsLawful (record { version = Two; kind = kind; bound = bound; columns = columns; closed = closed })
   has_text kind bound columns closed divided lawful small states cheap few = record {
     kind = lawful;
     bound = small;
-    columns = ∥∥₁_elim divided (columns_prop columns) (λ known. known.lawful);
+    columns = ∥∥₁_elim divided (columns_prop Two columns) (λ known. known.lawful);
     closed = record { few = few; width = length (ranges task); each = entries_lawful closed states cheap };
   }

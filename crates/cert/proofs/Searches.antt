@@ -11,8 +11,9 @@ use native.Mathlib.Bridge.{le_prop}
 use Rattle.cost.specs.Distances.{Distance, Finite, Infinite, ◌≤ᵈ◌, IsWithin, lesser}
 use Rattle.cost.proofs.DistanceLaws.{at_most_through, at_most_both, at_most-prop, lesser_left, lesser_at_most_left, lesser_at_most_right}
 use Rattle.fdr.specs.Tasks.{FiniteDomainTask, ranges, IsState, IsWithinLimits}
+use Rattle.cert_value.specs.declared.certificate.Version.TheVariants.{Two}
 use Rattle.cert_value.specs.Certificates.{Kind, Entry, CertificateValue}
-use Rattle.cert_text.specs.Lawful.{IsLawfulKind, IsLawful}
+use Rattle.cert_value.specs.Lawful.{IsLawfulKind, IsLawful}
 use Rattle.checker_clauses.specs.ClosedLists.{IsFinished}
 use Rattle.checker_clauses.specs.Violations.{IsHeld}
 use Rattle.owner_theory.specs.Owners.{At, SearchSpace, Node, Log}
@@ -175,7 +176,7 @@ module _ {S : Type 0} (owner : S → List ℕ → ℕ → ℕ) (e : EndOf S) whe
 
       -- the certificate is made of the columns, the lower bound and the closed states in order
       pub record IsMade (kind : Kind) (closed : List Entry) (made : CertificateValue) : Type 0 where
-        pub is : made ≡ record { kind = kind; bound = lower_bound owner e; columns = e.space.columns; closed = closed }
+        pub is : made ≡ record { version = Two; kind = kind; bound = lower_bound owner e; columns = e.space.columns; closed = closed }
         pub moved : IsPermutation (closed_in e.owners) closed
         pub order : IsInOrder closed
 
@@ -191,7 +192,7 @@ module _ {S : Type 0} (owner : S → List ℕ → ℕ → ℕ) (e : EndOf S) whe
           bound = lower_bound owner e
 
           abbrev whole : CertificateValue
-          whole = record { kind = kind; bound = bound; columns = e.space.columns; closed = closed }
+          whole = record { version = Two; kind = kind; bound = bound; columns = e.space.columns; closed = closed }
 
           below_best : bound ≤ᵈ least_best e
           below_best =

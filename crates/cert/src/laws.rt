@@ -5,8 +5,9 @@ ghost use Rattle.std.specs.Prelude.{◌≡◌, ℕ, ◌<◌, ◌≤◌, ◌^◌,
 ghost use Rattle.std.specs.List.Sorted.{IsPermutation};
 ghost use Rattle.cost.specs.Distances.{Distance, IsWithin};
 ghost use Rattle.fdr.specs.Tasks.{FiniteDomainTask, ranges, IsState, IsWithinLimits};
+ghost use Rattle.cert_value.specs.declared.certificate.Version.TheVariants.{Two};
 ghost use Rattle.cert_value.specs.Certificates.{Kind, Table, Entry, CertificateValue};
-ghost use Rattle.cert_text.specs.Lawful.{IsLawfulKind, IsLawful};
+ghost use Rattle.cert_value.specs.Lawful.{IsLawfulKind, IsLawful};
 ghost use Rattle.checker_clauses.specs.Clauses.{heuristic_of};
 ghost use Rattle.checker_clauses.specs.ClosedLists.{IsFinished};
 ghost use Rattle.checker_clauses.specs.Violations.{IsHeld};
@@ -20,7 +21,7 @@ ghost use Rattle.cert.specs.Orders.{IsInOrder, IsRising};
 pub fn finished_list_is_held()
     ensures held { (task : FiniteDomainTask) (kind : Kind) (bound : Distance) (columns : List (List Table)) (closed : List Entry) →
         ∥ AreCostPartitioned task columns ∥₁ → IsFinished task (heuristic_of task columns) bound closed → IsRising closed →
-        IsHeld task (record { kind = kind; bound = bound; columns = columns; closed = closed }) }
+        IsHeld task (record { version = Two; kind = kind; bound = bound; columns = columns; closed = closed }) }
     ensures proposition { (task : FiniteDomainTask) (c : CertificateValue) → IsProp (IsHeld task c) }
 {}
 
@@ -30,7 +31,7 @@ pub fn finished_list_has_text()
     ensures { (task : FiniteDomainTask) (kind : Kind) (bound : Distance) (columns : List (List Table)) (closed : List Entry) →
         IsWithinLimits task → ∥ AreCostPartitioned task columns ∥₁ → IsLawfulKind kind → IsWithin (2 ^ 62) bound →
         All (λ e. IsState (ranges task) e.state) closed → All (λ e. e.cost ≤ 2 ^ 62) closed → length closed < 2 ^ 32 →
-        IsLawful (record { kind = kind; bound = bound; columns = columns; closed = closed }) }
+        IsLawful (record { version = Two; kind = kind; bound = bound; columns = columns; closed = closed }) }
 {}
 
 /// In any order, a finished closed list stays finished, and a closed list that has no state twice has none twice.

@@ -4,7 +4,7 @@ ghost use Rattle.std.specs.Prelude.{◌≡◌, ◌<◌, ◌^◌, length, IfOk};
 ghost use Rattle.std.specs.List.Sorted.{IsPermutation};
 ghost use Rattle.cost.specs.Distances.{Distance};
 ghost use Rattle.cert_value.specs.Views.{kind_of};
-ghost use Rattle.cert_text.specs.Lawful.{IsLawfulKind, IsLawful};
+ghost use Rattle.cert_value.specs.Lawful.{IsLawfulKind, IsLawful};
 ghost use Rattle.checker_clauses.specs.Violations.{IsHeld};
 ghost use Rattle.extract.specs.Bounds.{lower_bound};
 ghost use Rattle.extract.specs.Ends.{IsSettledAt, space_at};
@@ -14,13 +14,13 @@ ghost use Rattle.cert.specs.Orders.{IsRising};
 use crate::sorting::sorted_list;
 use crate::states::expanded_states;
 use crate::tables::copied_columns;
-use cert_value::{Certificate, CertificateKind};
+use cert_value::{Certificate, CertificateKind, Version};
 use extract::Joined;
 use packed::StateForm;
 use packed_spread::Spread;
 use std::alloc::{AllocError, Global};
 
-/// The certificate of a search, settled or not. Its bound is the lower bound, which is the best cost where the search is settled; its
+/// The certificate of a search, settled or not, of version 2. Its bound is the lower bound, which is the best cost where the search is settled; its
 /// columns are those of the heuristic; its closed states are those that the owners expanded at their present ranks, in the lexicographic
 /// order of their values.
 ///
@@ -31,6 +31,7 @@ pub fn cert_of<'a, S: Spread + Drop, F: StateForm + Drop>(
     joined: &Joined<'a, S, F>,
     kind: CertificateKind,
 ) -> Result<Certificate, AllocError>
+    ensures version { IfOk result (λ c. c.version ≡ Version.Two) }
     ensures kind { IfOk result (λ c. c.kind ≡ kind_of kind) }
     ensures columns { IfOk result (λ c. c.columns ≡ joined.now.space.columns) }
     ensures closed { IfOk result (λ c. IsPermutation (closed_in joined.now.owners) c.closed) }
@@ -50,5 +51,5 @@ pub fn cert_of<'a, S: Spread + Drop, F: StateForm + Drop>(
     let closed = sorted_list(alloc, width, &states.costs, &states.values)?;
     let columns = copied_columns(alloc, space.columns().tables())?;
     let bound = joined.lower_bound(alloc)?;
-    Ok(Certificate::new(kind, bound, columns, closed))
+    Ok(Certificate::new(Version::Two, kind, bound, columns, closed))
 }

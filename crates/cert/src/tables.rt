@@ -2,10 +2,10 @@
 
 ghost use Rattle.std.specs.Prelude.{◌≡◌, map, IfOk};
 ghost use Rattle.cert_value.specs.Views as kept;
-ghost use Rattle.scp.specs.ColumnTables as columns;
-ghost use Rattle.scp.specs.ColumnTables.{tables_of};
+ghost use Rattle.scp_columns.specs.ColumnTables as columns;
+ghost use Rattle.scp_columns.specs.ColumnTables.{tables_of};
 
-use cert_value::{PatternTable, Values};
+use cert_value::{AbstractionTable, Values};
 use scp::ColumnTable;
 use std::alloc::{AllocError, Global};
 
@@ -21,18 +21,21 @@ fn copied_values(alloc: Global, values: &Values) -> Result<Values, AllocError>
 }
 
 /// A copy of the table. Fails only if allocation fails.
-fn copied_table(alloc: Global, table: &PatternTable) -> Result<PatternTable, AllocError>
+fn copied_table(alloc: Global, table: &AbstractionTable) -> Result<AbstractionTable, AllocError>
     ensures { IfOk result (λ copy. kept.table_of copy ≡ kept.table_of table.now) }
 {
-    Ok(PatternTable {
-        pattern: Vec::from_slice(alloc, &table.pattern)?,
+    Ok(AbstractionTable {
+        mapping: table.mapping.copied(alloc)?,
         shares: Vec::from_slice(alloc, &table.shares)?,
         values: copied_values(alloc, &table.values)?,
     })
 }
 
 /// Copies of a column's tables. Fails only if allocation fails.
-fn copied_column(alloc: Global, column: &[ColumnTable<'_>]) -> Result<Vec<PatternTable>, AllocError>
+fn copied_column(
+    alloc: Global,
+    column: &[ColumnTable<'_>],
+) -> Result<Vec<AbstractionTable>, AllocError>
     ensures { IfOk result (λ copy. kept.column_of copy ≡ map (λ t. t.table) column.now) }
 {
     let mut copy = Vec::with_capacity(alloc, column.len())?;
@@ -46,7 +49,7 @@ fn copied_column(alloc: Global, column: &[ColumnTable<'_>]) -> Result<Vec<Patter
 pub(crate) fn copied_columns(
     alloc: Global,
     columns: &[Vec<ColumnTable<'_>>],
-) -> Result<Vec<Vec<PatternTable>>, AllocError>
+) -> Result<Vec<Vec<AbstractionTable>>, AllocError>
     ensures { IfOk result (λ copy. kept.columns_of copy.items ≡ map tables_of columns.now) }
 {
     let mut copy = Vec::with_capacity(alloc, columns.len())?;

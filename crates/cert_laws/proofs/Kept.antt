@@ -67,6 +67,7 @@ beyond n m (fault.Number k) lt on within = omega arith
 beyond n m fault.Truncated lt on within = on
 beyond n m (fault.Trailing k) lt on within = on
 beyond n m (fault.Order k) lt on within = omega arith
+beyond n m (fault.Classes k) lt on within = omega arith
 beyond n m fault.TooLong lt on within = on
 
 shares_step : (n : ℕ) (r q : Remaining) (ls : List (List ℕ)) (h : List ℕ) (hs : List (List ℕ)) (k : List ℕ) (ks : List (List ℕ)) → r.number ≡ q.number → r.lines ≡ ls ++ h ∷ hs → q.lines ≡ ls ++ k ∷ ks → r.number + length ls ≡ n + 1
@@ -133,6 +134,7 @@ Told c (fault.Number n) = IsThere c n
 Told c fault.Truncated = Unit {0}
 Told c (fault.Trailing n) = IsThere c n
 Told c (fault.Order n) = IsThere c n
+Told c (fault.Classes n) = IsThere c n
 Told c fault.TooLong = ⊥
 
 told_on : (c m : ℕ) (e : CertFault) → IsThere c m → IsOn m e → Told c e
@@ -143,6 +145,7 @@ told_on c m (fault.Number n) h on = subst (IsThere c) (sym on) h
 told_on c m fault.Truncated h on = tt
 told_on c m (fault.Trailing n) h on = absurd on
 told_on c m (fault.Order n) h on = subst (IsThere c) (sym on) h
+told_on c m (fault.Classes n) h on = subst (IsThere c) (sym on) h
 told_on c m fault.TooLong h on = on
 
 more_lines : (l : List ℕ) (ls : List (List ℕ)) (m : List ℕ) (ms : List (List ℕ)) → ls ≡ m ∷ ms → line_count_of (l ∷ ls) ≡ 1 + line_count_of ls
@@ -204,6 +207,7 @@ named_there c (fault.Number n) m told is = there_by c n m told is
 named_there c fault.Truncated m told is = absurd cc
 named_there c (fault.Trailing n) m told is = there_by c n m told is
 named_there c (fault.Order n) m told is = there_by c n m told is
+named_there c (fault.Classes n) m told is = there_by c n m told is
 named_there c fault.TooLong m told is = absurd told
 
 -- a fault that names no line says that there are too few
@@ -215,4 +219,5 @@ told_within c (fault.Number n) told other = told.most
 told_within c fault.Truncated told other = absurd (other refl)
 told_within c (fault.Trailing n) told other = told.most
 told_within c (fault.Order n) told other = told.most
+told_within c (fault.Classes n) told other = told.most
 told_within c fault.TooLong told other = absurd told

@@ -5,7 +5,7 @@ use Rattle.cert_value.specs.Certificates.{CertificateValue}
 use Rattle.cert_text.specs.declared.fault.CertFault.{CertFault}
 use Rattle.cert_text.specs.declared.fault.CertFault.TheVariants as fault
 use Rattle.cert_text.specs.Spelling.{spelling}
-use Rattle.cert_text.specs.Lawful.{IsLawful}
+use Rattle.cert_value.specs.Lawful.{IsLawful}
 use Rattle.cert_text.specs.Pieces.{pieces}
 use Rattle.cert_text.specs.Reading.{certificate_at, certificate_of}
 use Rattle.cert_text.proofs.PieceLaws.{some_piece}
@@ -84,6 +84,7 @@ truncated_by (fault.Number n) h = absurd (h (λ z. cc))
 truncated_by fault.Truncated h = refl
 truncated_by (fault.Trailing n) h = absurd (h (λ z. cc))
 truncated_by (fault.Order n) h = absurd (h (λ z. cc))
+truncated_by (fault.Classes n) h = absurd (h (λ z. cc))
 truncated_by fault.TooLong h = absurd (h (λ z. cc))
 
 pub lines_before_is : (front rest : List ℕ) (e d : CertFault) (m : ℕ) → certificate_of (front ++ 10 ∷ rest) ≡ Err e → line_of e ≡ Some m → line_count (front ++ 10 ∷ []) < m → certificate_of (front ++ 10 ∷ []) ≡ Err d → d ≡ fault.Truncated

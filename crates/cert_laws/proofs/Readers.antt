@@ -1,19 +1,22 @@
 -- Each reader of a part of the text keeps every frame.
-use Rattle.std.proofs.Common.{◌≡◌, ℕ, ◌+◌, ◌^◌, Bool, true, false, cond, List, [], ◌∷◌, ◌++◌, length, map, Option, refl, sym, Result, Ok}
-use Rattle.std.specs.Prelude.{codes, ◌&&◌, ◌==◌, not}
+use Rattle.std.proofs.Common.{◌≡◌, ℕ, ◌+◌, ◌^◌, ◌⊎◌, inl, inr, Bool, true, false, cond, List, [], ◌∷◌, ◌++◌, length, map, Option, Some, None, refl, sym, Result, Ok, Err}
+use Rattle.std.specs.Prelude.{codes, ◌&&◌, ◌==◌, not, nat_le}
 use Rattle.std.specs.Str.{bytes_eq}
 use Rattle.std.specs.List.{list_all}
 use Rattle.cost.specs.Distances.{Distance}
 use Rattle.cert_text.specs.declared.fault.CertFault.{CertFault}
+use Rattle.abstraction_domain.specs.Rows.{Row, are_numbered}
+use Rattle.abstraction_mapping.specs.Mappings.{Mapping, Pattern, Domains}
+use Rattle.cert_value.specs.declared.certificate.Version.{Version}
 use Rattle.cert_value.specs.declared.table.Share.{Share}
 use Rattle.cert_value.specs.Certificates.{FiniteDomain, Planning, Table, Entry, width_of}
 use Rattle.cert_text.specs.Pieces.{pieces}
-use Rattle.cert_text.specs.Reading.{◌>>=◌, Remaining, line_at, repeated, number, number_in, numbers_in, distance_in, distances_in, shares_in, is_increasing, filled, formed, numbered, fixed_at, second_of, count_at, agrees, counted_of, headed_of, kind_at, bound_of, bound_at, is_atom_word, atom_of, atom_at, behind, atoms_at, variable_of, variable_at, variables_at, parts_at, pattern_of, shares_of, values_of, table_at, column_at, columns_at, has_width, entry_numbers, entry_of, entry_at, entry_step, closed_at}
+use Rattle.cert_text.specs.Reading.{◌>>=◌, Remaining, line_at, repeated, number, number_in, numbers_in, distance_in, distances_in, shares_in, is_increasing, filled, formed, numbered, ordered, fixed_at, second_of, count_at, agrees, counted_of, headed_of, kind_at, bound_of, bound_at, is_atom_word, atom_of, atom_at, behind, atoms_at, variable_of, variable_at, variables_at, parts_at, pattern_of, next_variable, row_of, row_at, row_step, is_domain, mapping_behind, mapping_at, rows_at, shares_of, values_of, table_at, column_at, columns_at, has_width, entry_numbers, entry_of, entry_at, entry_step, closed_at}
 use Rattle.line_theory.proofs.Readings.{given, then_then}
 use Rattle.line_theory.proofs.Frames.{Frame, Pairs, Rests, pure_pair, pure_rest, then_pair, OnLine, on_then}
 use Rattle.line_theory.proofs.Lines.{Single, single_line, single_tested, reads_single, reads_tested}
 use Rattle.cert_laws.proofs.Reading.{Cert, repeated_reads}
-use Rattle.cert_laws.proofs.Tests.{formed_is, on_formed, on_numbered, on_ordered}
+use Rattle.cert_laws.proofs.Tests.{formed_is, on_formed, on_numbered, on_ordered, on_classified}
 
 -- ---- faults of one line
 
@@ -54,6 +57,15 @@ on_pattern m ws = on_then Cert m (headed_of m (codes "table") false ws) _ (on_he
     on_then Cert m (numbered m (number_in 1 (2 ^ 32) form.count)) _ (on_numbered m (number_in 1 (2 ^ 32) form.count)) (λ count.
     on_then Cert m (numbered m (numbers_in (2 ^ 32) form.words)) _ (on_numbered m (numbers_in (2 ^ 32) form.words)) (λ pattern.
     on_ordered m (is_increasing pattern) pattern)))
+
+on_row : (least m : ℕ) (ws : List (List ℕ)) → OnLine Cert m (row_of least m ws)
+unfolding row_of
+on_row least m ws = on_then Cert m (counted_of m false ws) _ (on_counted m false ws) (λ form.
+    on_then Cert m (numbered m (number_in 0 (2 ^ 32) form.first)) _ (on_numbered m (number_in 0 (2 ^ 32) form.first)) (λ variable.
+    on_then Cert m (numbered m (number_in 1 (2 ^ 32) form.count)) _ (on_numbered m (number_in 1 (2 ^ 32) form.count)) (λ count.
+    on_then Cert m (numbered m (numbers_in (2 ^ 32) form.words)) _ (on_numbered m (numbers_in (2 ^ 32) form.words)) (λ classes.
+    on_then {A = Row} Cert m (ordered m (nat_le least variable) (record { variable = variable; classes = classes })) _ (on_ordered m (nat_le least variable) (record { variable = variable; classes = classes })) (λ row.
+    on_classified m (are_numbered classes) row)))))
 
 on_shares : (m : ℕ) (ws : List (List ℕ)) → OnLine Cert m (shares_of m ws)
 unfolding shares_of
@@ -153,30 +165,93 @@ unfolding parts_at
 parts F false = pure_pair F FiniteDomain
 parts F true = then_pair F (atoms F) (λ xs. then_pair F (variables F (length xs)) (λ vs. pure_pair F (Planning xs vs)))
 
-table : (F : Frame Cert) → Pairs F table_at
+row : (F : Frame Cert) (least : ℕ) → Pairs F (row_at least)
+unfolding row_at
+row F least = reads_single F (row_at least) (of_words (row_of least) (on_row least))
+
+one_row : (F : Frame Cert) (rows : List Row) → Pairs F (row_step rows)
+unfolding row_step
+one_row F rows = then_pair F (row F (next_variable rows)) (λ r. pure_pair F (rows ++ r ∷ []))
+
+-- the first line of a mapping: a pattern, or a number of rows
+abbrev of_pattern : List ℕ → Result (List ℕ ⊎ ℕ) CertFault
+of_pattern pattern = Ok (inl pattern)
+
+abbrev of_rows : ℕ → Result (List ℕ ⊎ ℕ) CertFault
+of_rows n = Ok (inr n)
+
+first_of_mapping : Bool → ℕ → List (List ℕ) → Result (List ℕ ⊎ ℕ) CertFault
+first_of_mapping true m ws = second_of m (codes "domain") ws >>= λ word. numbered m (number_in 1 (2 ^ 32) word) >>= of_rows
+first_of_mapping false m ws = pattern_of m ws >>= of_pattern
+
+-- and what is read behind it
+abbrev made_of : List Row × Remaining → Result (Mapping × Remaining) CertFault
+made_of rows = Ok (Domains rows.0, rows.1)
+
+behind_first : List ℕ ⊎ ℕ → Remaining → Result (Mapping × Remaining) CertFault
+behind_first (inl pattern) q = Ok (Pattern pattern, q)
+behind_first (inr n) q = repeated row_step n [] q >>= made_of
+
+on_first : (domain : Bool) (m : ℕ) (ws : List (List ℕ)) → OnLine Cert m (first_of_mapping domain m ws)
+unfolding first_of_mapping
+on_first true m ws = on_then Cert m (second_of m (codes "domain") ws) _ (on_second m (codes "domain") ws) (λ word. on_then Cert m (numbered m (number_in 1 (2 ^ 32) word)) of_rows (on_numbered m (number_in 1 (2 ^ 32) word)) (λ n. tt))
+on_first false m ws = on_then Cert m (pattern_of m ws) of_pattern (on_pattern m ws) (λ pattern. tt)
+
+by_number : (m : ℕ) (o : Option ℕ) (q : Remaining) → ((numbered m o >>= λ n. repeated row_step n [] q) >>= made_of) ≡ ((numbered m o >>= of_rows) >>= λ first. behind_first first q)
+unfolding behind_first
+by_number m (Some n) q = refl
+by_number m None q = refl
+
+by_word : (m : ℕ) (p : Result (List ℕ) CertFault) (q : Remaining) → ((p >>= λ word. numbered m (number_in 1 (2 ^ 32) word) >>= λ n. repeated row_step n [] q) >>= made_of)
+    ≡ ((p >>= λ word. numbered m (number_in 1 (2 ^ 32) word) >>= of_rows) >>= λ first. behind_first first q)
+by_word m (Ok word) q = by_number m (number_in 1 (2 ^ 32) word) q
+by_word m (Err e) q = refl
+
+abbrev made_pattern : Remaining → List ℕ → Result (Mapping × Remaining) CertFault
+made_pattern q pattern = Ok (Pattern pattern, q)
+
+by_pattern : (p : Result (List ℕ) CertFault) (q : Remaining) → (p >>= made_pattern q) ≡ ((p >>= of_pattern) >>= λ first. behind_first first q)
+unfolding behind_first
+by_pattern (Ok pattern) q = refl
+by_pattern (Err e) q = refl
+
+mapping_is : (domain : Bool) (m : ℕ) (ws : List (List ℕ)) (q : Remaining) → mapping_behind domain m ws q ≡ (first_of_mapping domain m ws >>= λ first. behind_first first q)
+unfolding mapping_behind rows_at first_of_mapping
+mapping_is true m ws q = by_word m (second_of m (codes "domain") ws) q
+mapping_is false m ws q = by_pattern (pattern_of m ws) q
+
+behind_mapping : (F : Frame Cert) (first : List ℕ ⊎ ℕ) → Pairs F (behind_first first)
+unfolding behind_first
+behind_mapping F (inl pattern) = pure_pair F (Pattern pattern)
+behind_mapping F (inr n) = then_pair F (repeated_reads F row_step (one_row F) n []) (λ rows. pure_pair F (Domains rows))
+
+mapping : (F : Frame Cert) (version : Version) → Pairs F (mapping_at version)
+unfolding mapping_at
+mapping F version =
+    reads_tested F (λ x. x.0) (λ x. x.1) line_at (single_line Cert) (λ m a. first_of_mapping (is_domain version (pieces 32 a)) m (pieces 32 a)) (λ m a. on_first (is_domain version (pieces 32 a)) m (pieces 32 a))
+    (λ m a q. mapping_behind (is_domain version (pieces 32 a)) m (pieces 32 a) q) behind_first (λ m a q. mapping_is (is_domain version (pieces 32 a)) m (pieces 32 a) q) (behind_mapping F)
+
+table : (F : Frame Cert) (version : Version) → Pairs F (table_at version)
 unfolding table_at
-table F =
-    reads_tested F (λ x. x.0) (λ x. x.1) line_at (single_line Cert) (λ m a. pattern_of m (pieces 32 a)) (λ m a. on_pattern m (pieces 32 a)) (λ m a q. pattern_of m (pieces 32 a) >>= λ pattern. shares_from pattern q) shares_from (λ m a q. refl) (λ pattern.
-    reads_tested F (λ x. x.0) (λ x. x.1) line_at (single_line Cert) (λ m a. shares_of m (pieces 32 a)) (λ m a. on_shares m (pieces 32 a)) (λ m a q. shares_of m (pieces 32 a) >>= λ shares. values_from pattern shares q) (values_from pattern) (λ m a q. refl) (λ shares.
-    reads_tested F (λ x. x.0) (λ x. x.1) line_at (single_line Cert) (λ m a. values_of m (pieces 32 a)) (λ m a. on_values m (pieces 32 a)) (λ m a q. values_of m (pieces 32 a) >>= λ values. made pattern shares values q) (made pattern shares) (λ m a q. refl) (λ values.
-    pure_pair F (record { pattern = pattern; shares = shares; values = values }))))
+table F version =
+    then_pair F (mapping F version) (λ m.
+    reads_tested F (λ x. x.0) (λ x. x.1) line_at (single_line Cert) (λ n a. shares_of n (pieces 32 a)) (λ n a. on_shares n (pieces 32 a)) (λ n a q. shares_of n (pieces 32 a) >>= λ shares. values_from m shares q) (values_from m) (λ n a q. refl) (λ shares.
+    reads_tested F (λ x. x.0) (λ x. x.1) line_at (single_line Cert) (λ n a. values_of n (pieces 32 a)) (λ n a. on_values n (pieces 32 a)) (λ n a q. values_of n (pieces 32 a) >>= λ values. made m shares values q) (made m shares) (λ n a q. refl) (λ values.
+    pure_pair F (record { mapping = m; shares = shares; values = values }))))
   where
-    made : List ℕ → List Share → List Distance → Remaining → Result (Table × Remaining) CertFault
-    made pattern shares values q = Ok (record { pattern = pattern; shares = shares; values = values }, q)
+    made : Mapping → List Share → List Distance → Remaining → Result (Table × Remaining) CertFault
+    made m shares values q = Ok (record { mapping = m; shares = shares; values = values }, q)
 
-    values_from : List ℕ → List Share → Remaining → Result (Table × Remaining) CertFault
-    values_from pattern shares q = line_at q >>= λ third. values_of q.number (pieces 32 third.0) >>= λ values. made pattern shares values third.1
+    values_from : Mapping → List Share → Remaining → Result (Table × Remaining) CertFault
+    values_from m shares q = line_at q >>= λ third. values_of q.number (pieces 32 third.0) >>= λ values. made m shares values third.1
 
-    shares_from : List ℕ → Remaining → Result (Table × Remaining) CertFault
-    shares_from pattern q = line_at q >>= λ second. shares_of q.number (pieces 32 second.0) >>= λ shares. values_from pattern shares second.1
-
-column : (F : Frame Cert) → Pairs F column_at
+column : (F : Frame Cert) (version : Version) → Pairs F (column_at version)
 unfolding column_at
-column F = counted F (codes "column") 1 65 (behind table_at) [] (one_more F table_at (table F))
+column F version = counted F (codes "column") 1 65 (behind (table_at version)) [] (one_more F (table_at version) (table F version))
 
-pub columns : (F : Frame Cert) → Pairs F columns_at
+pub columns : (F : Frame Cert) (version : Version) → Pairs F (columns_at version)
 unfolding columns_at
-columns F = counted F (codes "columns") 0 65 (behind column_at) [] (one_more F column_at (column F))
+columns F version = counted F (codes "columns") 0 65 (behind (column_at version)) [] (one_more F (column_at version) (column F version))
 
 entry : (F : Frame Cert) (width : Option ℕ) → Pairs F (entry_at width)
 unfolding entry_at

@@ -15,6 +15,7 @@ IsOn m (fault.Number n) = n ≡ m
 IsOn m fault.Truncated = ⊥
 IsOn m (fault.Trailing n) = ⊥
 IsOn m (fault.Order n) = n ≡ m
+IsOn m (fault.Classes n) = n ≡ m
 IsOn m fault.TooLong = ⊥
 
 abbrev pub Cert : Reading

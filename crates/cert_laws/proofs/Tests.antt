@@ -1,6 +1,6 @@
 -- What a reader tests of one line.
 use Rattle.std.proofs.Common.{◌≡◌, ℕ, Bool, true, false, Option, Some, None, refl, Ok}
-use Rattle.cert_text.specs.Reading.{◌>>=◌, Remaining, formed, numbered, ordered}
+use Rattle.cert_text.specs.Reading.{◌>>=◌, Remaining, formed, numbered, ordered, classified}
 use Rattle.line_theory.proofs.Frames.{OnLine}
 use Rattle.cert_laws.proofs.Reading.{Cert}
 
@@ -19,3 +19,7 @@ on_numbered m None = refl
 pub on_ordered : {A : Type 0} (m : ℕ) (b : Bool) (x : A) → OnLine Cert m (ordered m b x)
 on_ordered m true x = tt
 on_ordered m false x = refl
+
+pub on_classified : {A : Type 0} (m : ℕ) (b : Bool) (x : A) → OnLine Cert m (classified m b x)
+on_classified m true x = tt
+on_classified m false x = refl

@@ -1,7 +1,9 @@
 -- The reader of a whole text keeps every frame, from the first line on.
-use Rattle.std.proofs.Common.{◌⊎◌, inl, inr, ◌≡◌, ℕ, Bool, true, false, cond, List, [], ◌∷◌, refl, sym, ap, Result, Ok, Err}
+use Rattle.std.proofs.Common.{◌⊎◌, inl, inr, ◌≡◌, ℕ, Bool, true, false, cond, List, [], ◌∷◌, refl, sym, ap, subst, Result, Ok, Err}
 use Rattle.std.specs.Prelude.{codes}
 use Rattle.std.specs.Str.{bytes_eq}
+use Rattle.cert_value.specs.declared.certificate.Version.{Version}
+use Rattle.cert_value.specs.declared.certificate.Version.TheVariants.{One, Two}
 use Rattle.cert_value.specs.Certificates.{CertificateValue}
 use Rattle.cert_text.specs.declared.fault.CertFault.{CertFault}
 use Rattle.cert_text.specs.declared.fault.CertFault.TheVariants as fault
@@ -52,58 +54,70 @@ end_of_text G = finishes_then G.frame (λ q. tt) (λ q. q) (fixed_at (codes "end
 
 -- ---- the first line
 
-header_made : ℕ → List ℕ → Result (Unit {0}) CertFault
-header_made m l = cond (bytes_eq l (codes "optplan-cert 1")) (Ok tt) (Err fault.Header)
+-- the version, by whether the line is the first of each
+abbrev version_by : Bool → Bool → Result Version CertFault
+version_by one two = cond one (Ok One) (cond two (Ok Two) (Err fault.Header))
 
-header_if : (b : Bool) (q : Remaining) → cond b (Ok q) (Err fault.Header) ≡ ((cond b (Ok tt) (Err fault.Header) >>= λ (u : Unit {0}). Ok (u, q)) >>= λ (x : Unit {0} × Remaining). Ok x.1)
-header_if true q = refl
-header_if false q = refl
+header_made : ℕ → List ℕ → Result Version CertFault
+header_made m l = version_by (bytes_eq l (codes "optplan-cert 1")) (bytes_eq l (codes "optplan-cert 2"))
 
-header_by : (p : Result (List ℕ × Remaining) CertFault) → (p >>= λ l. cond (bytes_eq l.0 (codes "optplan-cert 1")) (Ok l.1) (Err fault.Header))
-    ≡ ((p >>= λ l. cond (bytes_eq l.0 (codes "optplan-cert 1")) (Ok tt) (Err fault.Header) >>= λ (u : Unit {0}). Ok (u, l.1)) >>= λ (x : Unit {0} × Remaining). Ok x.1)
-header_by (Ok l) = header_if (bytes_eq l.0 (codes "optplan-cert 1")) l.1
+abbrev with_version : Remaining → Version → Result (Version × Remaining) CertFault
+with_version q version = Ok (version, q)
+
+header_if : (a b : Bool) (q : Remaining) → cond a (with_version q One) (cond b (with_version q Two) (Err fault.Header)) ≡ (version_by a b >>= with_version q)
+header_if true b q = refl
+header_if false true q = refl
+header_if false false q = refl
+
+header_by : (p : Result (List ℕ × Remaining) CertFault) → (p >>= λ l. cond (bytes_eq l.0 (codes "optplan-cert 1")) (with_version l.1 One) (cond (bytes_eq l.0 (codes "optplan-cert 2")) (with_version l.1 Two) (Err fault.Header)))
+    ≡ (p >>= λ l. version_by (bytes_eq l.0 (codes "optplan-cert 1")) (bytes_eq l.0 (codes "optplan-cert 2")) >>= with_version l.1)
+header_by (Ok l) = header_if (bytes_eq l.0 (codes "optplan-cert 1")) (bytes_eq l.0 (codes "optplan-cert 2")) l.1
 header_by (Err e) = refl
 
-header_is : (r : Remaining) → header_at r ≡ (one Cert header_made r >>= λ x. Ok x.1)
+header_is : (r : Remaining) → header_at r ≡ one Cert header_made r
 unfolding header_at header_made
 header_is r = header_by (line_at r)
 
-on_header : (m : ℕ) (b : Bool) → m ≡ 1 → OnLine {A = Unit {0}} Cert m (cond b (Ok tt) (Err fault.Header))
-on_header m true first = tt
-on_header m false first = sym first
+on_header : (m : ℕ) (a b : Bool) → m ≡ 1 → OnLine Cert m (version_by a b)
+on_header m true b first = tt
+on_header m false true first = tt
+on_header m false false first = sym first
 
 header_on : (m : ℕ) (l : List ℕ) → m ≡ 1 → OnLine Cert m (header_made m l)
 unfolding header_made
-header_on m l first = on_header m (bytes_eq l (codes "optplan-cert 1")) first
+header_on m l first = on_header m (bytes_eq l (codes "optplan-cert 1")) (bytes_eq l (codes "optplan-cert 2")) first
 
-header_ends : (F : Frame Cert) (r : Remaining) → r.number ≡ 1 → F.Past r → Ends F F.Past (header_at r)
-header_ends F r first p = rw (header_is r) (ends_then F (λ (x : Unit {0} × Remaining). F.Past x.1) F.Past (one Cert header_made r) (λ x. Ok x.1)
-    (one_past F header_made r (λ l. header_on r.number l first) p) (λ x h. h))
+header_ends : (F : Frame Cert) (r : Remaining) → r.number ≡ 1 → F.Past r → Ends F (λ (x : Version × Remaining). F.Past x.1) (header_at r)
+header_ends F r first p = rw (header_is r) (one_past F header_made r (λ l. header_on r.number l first) p)
 
-header_like : (F : Frame Cert) (r q : Remaining) → r.number ≡ 1 → F.Together r q → Like F F.Past F.Together (header_at r) (header_at q)
-header_like F r q first h = rw (header_is r, header_is q) (like_then F (λ (x : Unit {0} × Remaining). F.Past x.1) (λ x y. (x.0 ≡ y.0) × F.Together x.1 y.1) F.Past F.Together
-    (one Cert header_made r) (one Cert header_made q) (λ x. Ok x.1) (λ x. Ok x.1) (one_like F header_made r q (λ l. header_on r.number l first) h) (λ x k. k) (λ x y s. inr (y.1, refl, s.1)))
+header_like : (F : Frame Cert) (r q : Remaining) → r.number ≡ 1 → F.Together r q
+    → Like F (λ (x : Version × Remaining). F.Past x.1) (λ x y. (x.0 ≡ y.0) × F.Together x.1 y.1) (header_at r) (header_at q)
+header_like F r q first h = rw (header_is r, header_is q) (one_like F header_made r q (λ l. header_on r.number l first) h)
 
 -- ---- the whole text
 
-abbrev behind_header : Remaining → Result CertificateValue CertFault
-behind_header header = kind_at header >>= λ planning. bound_at planning.1 >>= λ bound. parts_at planning.0 bound.1 >>= λ kind. columns_at kind.1 >>= λ columns. closed_at columns.1 >>= λ closed.
-    end_at closed.1 >>= λ end. Ok (record { kind = kind.0; bound = bound.0; columns = columns.0; closed = closed.0 })
+abbrev behind_header : Version → Remaining → Result CertificateValue CertFault
+behind_header version header = kind_at header >>= λ planning. bound_at planning.1 >>= λ bound. parts_at planning.0 bound.1 >>= λ kind. columns_at version kind.1 >>= λ columns. closed_at columns.1 >>= λ closed.
+    end_at closed.1 >>= λ end. Ok (record { version = version; kind = kind.0; bound = bound.0; columns = columns.0; closed = closed.0 })
 
-body : (G : EndFrame) → Finishes G.frame behind_header
-body G =
+body : (G : EndFrame) (version : Version) → Finishes G.frame (behind_header version)
+body G version =
     finishes_then G.frame (λ x. x.0) (λ x. x.1) _ _ (kind G.frame) (λ planning.
     finishes_then G.frame (λ x. x.0) (λ x. x.1) _ _ (bound G.frame) (λ b.
     finishes_then G.frame (λ x. x.0) (λ x. x.1) _ _ (parts G.frame planning) (λ k.
-    finishes_then G.frame (λ x. x.0) (λ x. x.1) _ _ (columns G.frame) (λ cs.
+    finishes_then G.frame (λ x. x.0) (λ x. x.1) _ _ (columns G.frame version) (λ cs.
     finishes_then G.frame (λ x. x.0) (λ x. x.1) _ _ (closed G.frame) (λ es.
-    finishes_map G.frame end_at (λ end. record { kind = k; bound = b; columns = cs; closed = es }) (end_of_text G))))))
+    finishes_map G.frame end_at (λ end. record { version = version; kind = k; bound = b; columns = cs; closed = es }) (end_of_text G))))))
 
 pub certificate_ends : (G : EndFrame) (r : Remaining) → r.number ≡ 1 → G.frame.Past r → Ends G.frame (λ (c : CertificateValue). Unit {0}) (certificate_at r)
 unfolding certificate_at
-certificate_ends G r first p = ends_then G.frame G.frame.Past (λ c. Unit {0}) (header_at r) behind_header (header_ends G.frame r first p) (λ q h. (body G).ends q h)
+certificate_ends G r first p =
+    ends_then G.frame (λ (x : Version × Remaining). G.frame.Past x.1) (λ c. Unit {0}) (header_at r) (λ x. behind_header x.0 x.1) (header_ends G.frame r first p) (λ x h. (body G x.0).ends x.1 h)
 
 pub certificate_like : (G : EndFrame) (r q : Remaining) → r.number ≡ 1 → G.frame.Together r q → Like G.frame (λ (c : CertificateValue). Unit {0}) (λ c d. c ≡ d) (certificate_at r) (certificate_at q)
 unfolding certificate_at
-certificate_like G r q first h = like_then G.frame G.frame.Past G.frame.Together (λ c. Unit {0}) (λ c d. c ≡ d) (header_at r) (header_at q) behind_header behind_header (header_like G.frame r q first h)
-    (λ s k. (body G).ends s k) (λ s t k. (body G).like s t k)
+certificate_like G r q first h =
+    like_then G.frame (λ (x : Version × Remaining). G.frame.Past x.1) (λ x y. (x.0 ≡ y.0) × G.frame.Together x.1 y.1) (λ c. Unit {0}) (λ c d. c ≡ d) (header_at r) (header_at q)
+    (λ x. behind_header x.0 x.1) (λ x. behind_header x.0 x.1) (header_like G.frame r q first h)
+    (λ x k. (body G x.0).ends x.1 k)
+    (λ x y k. subst (λ v. Like G.frame (λ (c : CertificateValue). Unit {0}) (λ c d. c ≡ d) (behind_header x.0 x.1) (behind_header v y.1)) k.0 ((body G x.0).like x.1 y.1 k.1))

@@ -28,6 +28,7 @@ line_of (fault.Number n) = Some n
 line_of fault.Truncated = None
 line_of (fault.Trailing n) = Some n
 line_of (fault.Order n) = Some n
+line_of (fault.Classes n) = Some n
 line_of fault.TooLong = None
 
 -- the fault names one of the first n lines

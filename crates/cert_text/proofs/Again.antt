@@ -12,7 +12,7 @@ use Rattle.cert_value.specs.declared.table.Share.{Share}
 use Rattle.cert_value.specs.Certificates.{Variable, Entry}
 use Rattle.cert_text.specs.Pieces.{pieces, joined}
 use Rattle.cert_text.specs.Spelling.{counted, flag_text, variable_line, share_words, entry_line}
-use Rattle.cert_text.specs.Lawful.{IsIncreasing, IsPrinted, IsAtomWord, IsAtom, IsVariable, IsShare, IsPattern, AreShares, AreValues, IsEntry}
+use Rattle.cert_value.specs.Lawful.{IsIncreasing, IsPrinted, IsAtomWord, IsAtom, IsVariable, IsShare, IsPattern, AreShares, AreValues, IsEntry}
 use Rattle.cert_text.specs.Reading.{◌>>?◌, Remaining, line_at, digits_after, number, number_in, between, numbers_behind, distance_in, distances_behind, share_in, shares_behind, increases_from, is_increasing, filled_behind, filled, second_of, count_at, counted_of, headed_of, bound_of, is_printed, is_atom_word, atom_of, variable_of, pattern_of, shares_of, values_of, has_width, entry_of}
 use Rattle.cert_text.proofs.Steps.{some_is}
 use Rattle.cert_text.proofs.Decimals.{number_again, decimal_plain}
@@ -152,7 +152,7 @@ pub headed_again : (line : ℕ) (pairs : Bool) (k : List ℕ) (n : ℕ) (ws : Li
 unfolding headed_of
 headed_again line pairs k n ws small word all count = rw (counted_again line pairs k n ws small word all count, same_again k) refl
 
-some_items : {X : Type 0} (xs : List X) → xs ≢ [] → 1 ≤ length xs
+pub some_items : {X : Type 0} (xs : List X) → xs ≢ [] → 1 ≤ length xs
 some_items [] h = absurd (h refl)
 some_items (x ∷ xs) h = omega arith
 

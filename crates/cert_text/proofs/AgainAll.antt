@@ -1,61 +1,27 @@
 -- What is spelled is read again, all of it.
-use Rattle.std.proofs.Common.{◌≡◌, ◌≢◌, ℕ, suc, ◌+◌, ◌^◌, ◌<◌, ◌≤◌, Bool, true, false, List, [], ◌∷◌, ◌++◌, length, map, Option, Some, None, cond, eqb, Result, Ok, Err, refl, sym, ap, subst, ◌∙◌, arith, append_assoc, ◌⊎◌, inl, inr}
+use Rattle.std.proofs.Common.{◌≡◌, ℕ, ◌+◌, ◌^◌, ◌<◌, ◌≤◌, Bool, true, false, List, [], ◌∷◌, ◌++◌, length, map, Option, Some, None, cond, eqb, Result, Ok, Err, refl, sym, ap, subst, ◌∙◌, arith, append_assoc, ◌⊎◌, inl, inr}
 use Rattle.std.specs.Prelude.{nat_lt, codes}
 use Rattle.std.specs.List.{flat_map, AllByRecursion}
 use Rattle.std.proofs.lemmas.Bool.Decides.{nat_tests}
-use Rattle.std.proofs.lemmas.List.{append-nil, map-append, length-append}
+use Rattle.std.proofs.lemmas.List.{append-nil}
 use Rattle.cost.specs.Distances.{Distance, IsWithin, distance_text}
 use Rattle.cert_text.specs.declared.fault.CertFault.{CertFault}
 use Rattle.cert_text.specs.declared.fault.CertFault.TheVariants as fault
 use Rattle.std.proofs.lemmas.Bool.{false≢true}
 use Rattle.cert_value.specs.Certificates.{Kind, FiniteDomain, Planning, Variable, Table, Entry, CertificateValue, width_of}
 use Rattle.cert_text.specs.Pieces.{joined, pieces, into_first}
-use Rattle.cert_text.specs.Spelling.{counted, variable_line, kind_line, kind_lines, pattern_line, shares_line, values_line, table_lines, column_lines, columns_lines, entry_line, closed_lines, lines, spelling}
-use Rattle.cert_text.specs.Lawful.{IsAtom, IsVariable, IsLawfulKind, IsTable, IsColumn, AreColumns, IsEntry, AreEntries, IsLawful}
-use Rattle.cert_text.specs.Reading.{◌>>=◌, Remaining, line_at, repeated, behind, count_at, fixed_at, header_at, kind_at, bound_at, atom_at, atoms_at, variable_at, variables_at, parts_at, table_at, column_at, columns_at, entry_at, entry_step, closed_at, is_nothing, end_at, certificate_at, certificate_of}
+use Rattle.cert_text.specs.Spelling.{counted, variable_line, kind_line, kind_lines, row_line, mapping_lines, shares_line, values_line, table_lines, column_lines, columns_lines, entry_line, closed_lines, version_text, lines, spelling}
+use Rattle.abstraction_domain.specs.Rows.{Row}
+use Rattle.abstraction_mapping.specs.Mappings.{Mapping, Pattern, Domains}
+use Rattle.cert_value.specs.declared.certificate.Version.{Version}
+use Rattle.cert_value.specs.declared.certificate.Version.TheVariants.{One, Two}
+use Rattle.cert_value.specs.Lawful.{IsAtom, IsVariable, IsLawfulKind, IsRow, IsLawfulMapping, AreShares, AreValues, IsTable, IsColumn, AreColumns, IsEntry, AreEntries, IsLawful}
+use Rattle.cert_text.specs.Reading.{◌>>=◌, Remaining, line_at, repeated, fixed_at, header_at, kind_at, bound_at, atom_at, atoms_at, variable_at, variables_at, parts_at, table_at, column_at, columns_at, entry_at, entry_step, closed_at, is_nothing, end_at, certificate_at, certificate_of}
 use Rattle.cert_text.proofs.Joining.{IsPlain, lines_of_text, lines_behind}
 use Rattle.cert_text.proofs.PieceLaws.{some_piece}
-use Rattle.cert_text.proofs.Again.{lines_from, line_again, IsWord, plain_words, words_again, decimal_word, decimal_words, distance_word, distance_words, shares_words, count_again, bound_again, pattern_again, shares_line_again, values_again, variable_words, variable_again, atom_words, atom_again, entry_words, entry_again}
-
--- the lines before what is left
-abbrev pub before : List (List (List ℕ)) → List (List ℕ) → List (List ℕ)
-before ls tail = map (joined 32) ls ++ tail
-
-abbrev pub IsReadAgain : {X : Type 0} → (Remaining → Result (X × Remaining) CertFault) → X → List (List (List ℕ)) → Type 0
-IsReadAgain step x ls = (n : ℕ) (tail : List (List ℕ)) → 0 < length tail → (m : ℕ) × (step (lines_from n (before ls tail)) ≡ Ok (x, lines_from m tail))
-
-before_append : (a b : List (List (List ℕ))) (tail : List (List ℕ)) → before (a ++ b) tail ≡ before a (before b tail)
-before_append a b tail = ap (λ (xs : List (List ℕ)). xs ++ tail) (map-append (joined 32) a b) ∙ append_assoc (map (joined 32) a) (map (joined 32) b) tail
-
-some_left : (ls : List (List (List ℕ))) (tail : List (List ℕ)) → 0 < length tail → 0 < length (before ls tail)
-some_left ls tail some = let l = length-append (map (joined 32) ls) tail in omega arith
-
-abbrev pushed : {X : Type 0} → List X → Result (X × Remaining) CertFault → Result (List X × Remaining) CertFault
-pushed front r = r >>= λ y. Ok (front ++ y.0 ∷ [], y.1)
-
-items_again : {X : Type 0} (spell : X → List (List (List ℕ))) (P : X → Type 0) (step : Remaining → Result (X × Remaining) CertFault) → ((x : X) → P x → IsReadAgain step x (spell x))
-    → (xs front : List X) → AllByRecursion P xs → (n : ℕ) (tail : List (List ℕ)) → 0 < length tail
-    → (m : ℕ) × (repeated (behind step) (length xs) front (lines_from n (before (flat_map spell xs) tail)) ≡ Ok (front ++ xs, lines_from m tail))
-unfolding repeated
-items_again {X} spell P step again [] front all n tail some = (n, ap (λ (ys : List X). Ok (ys, lines_from n tail)) (sym (append-nil front)))
-items_again {X} spell P step again (x ∷ xs) front all n tail some =
-    let rest = before (flat_map spell xs) tail in
-    let one = again x all.0 n rest (some_left (flat_map spell xs) tail some) in
-    let more = items_again spell P step again xs (front ++ x ∷ []) all.1 one.0 tail some in (
-      more.0,
-      ap (λ (ls : List (List ℕ)). repeated (behind step) (suc (length xs)) front (lines_from n ls)) (before_append (spell x) (flat_map spell xs) tail)
-          ∙ ap (λ (r : Result (X × Remaining) CertFault). pushed front r >>= λ y. repeated (behind step) (length xs) y.0 y.1) one.1
-          ∙ more.1 ∙ ap (λ (ys : List X). Ok (ys, lines_from more.0 tail)) (append_assoc front (x ∷ []) xs),
-    )
-
-section_again : {X : Type 0} (spell : X → List (List (List ℕ))) (P : X → Type 0) (step : Remaining → Result (X × Remaining) CertFault) → ((x : X) → P x → IsReadAgain step x (spell x))
-    → (keyword : List ℕ) (least end : ℕ) (xs : List X) → end ≤ 2 ^ 64 → least ≤ length xs → length xs < end → IsWord keyword → AllByRecursion P xs
-    → IsReadAgain (λ r. count_at keyword least end r >>= λ count. repeated (behind step) count.0 [] count.1) xs (counted keyword (length xs) [] ∷ flat_map spell xs)
-section_again spell P step again keyword least end xs small low high word all n tail some =
-    let rest = before (flat_map spell xs) tail in
-    let c = count_again keyword least end n (length xs) rest small low high word (some_left (flat_map spell xs) tail some) in
-    let m = items_again spell P step again xs [] all (n + 1) tail some in
-    (m.0, ap (λ r. r >>= λ count. repeated (behind step) count.0 [] count.1) c ∙ m.1)
+use Rattle.cert_text.proofs.Again.{lines_from, line_again, IsWord, plain_words, words_again, decimal_word, distance_word, distance_words, shares_words, count_again, bound_again, some_items, shares_line_again, values_again, variable_words, variable_again, atom_words, atom_again, entry_words, entry_again}
+use Rattle.cert_text.proofs.AgainItems.{before, IsReadAgain, before_append, some_left, pushed, section_again}
+use Rattle.cert_text.proofs.AgainRows.{pattern_words, row_words, mapping_read}
 
 -- ---- atoms and variables
 
@@ -110,46 +76,38 @@ parts_read (Planning atoms vs) ok n tail some =
 
 -- ---- tables
 
-pattern_words : (t : Table) → IsTable t → AllByRecursion IsWord (pattern_line t)
-pattern_words t ok = (record { plain = refl; filled = omega arith }, (decimal_word (length t.pattern) (omega (arith, ok.pattern.few)), decimal_words (2 ^ 32) t.pattern (omega arith) ok.pattern.variables))
+share_line_words : (t : Table) → AreShares t.shares → AllByRecursion IsWord (shares_line t)
+share_line_words t ok = (record { plain = refl; filled = omega arith }, (decimal_word (length t.shares) (omega (arith, ok.few)), shares_words t.shares ok.each))
 
-share_line_words : (t : Table) → IsTable t → AllByRecursion IsWord (shares_line t)
-share_line_words t ok = (record { plain = refl; filled = omega arith }, (decimal_word (length t.shares) (omega (arith, ok.shares.few)), shares_words t.shares ok.shares.each))
+value_words : (t : Table) → AreValues t.values → AllByRecursion IsWord (values_line t)
+value_words t ok = (record { plain = refl; filled = omega arith }, (decimal_word (length t.values) (omega (arith, ok.few)), distance_words (2 ^ 55) t.values (omega arith) ok.each))
 
-value_words : (t : Table) → IsTable t → AllByRecursion IsWord (values_line t)
-value_words t ok = (record { plain = refl; filled = omega arith }, (decimal_word (length t.values) (omega (arith, ok.values.few)), distance_words (2 ^ 55) t.values (omega arith) ok.values.each))
-
-table_read : (t : Table) → IsTable t → IsReadAgain table_at t (table_lines t)
+table_read : (version : Version) (t : Table) → IsTable version t → IsReadAgain (table_at version) t (table_lines t)
 unfolding table_at
-table_read t ok n tail some =
-    let p = pattern_words t ok in let s = share_line_words t ok in let v = value_words t ok in
+table_read version t ok n tail some =
     let three = joined 32 (values_line t) ∷ tail in
-    let two = joined 32 (shares_line t) ∷ three in (
-      n + 1 + 1 + 1,
+    let two = joined 32 (shares_line t) ∷ three in
+    let m = mapping_read version t.mapping ok.mapping n two (omega arith) in (
+      m.0 + 1 + 1,
       rw (
-        line_again n (joined 32 (pattern_line t)) two (omega arith),
-        words_again _ _ p,
-        pattern_again n t.pattern ok.pattern,
-        line_again (n + 1) (joined 32 (shares_line t)) three (omega arith),
-        words_again _ _ s,
-        shares_line_again (n + 1) t.shares ok.shares,
-        line_again (n + 1 + 1) (joined 32 (values_line t)) tail some,
-        words_again _ _ v,
-        values_again (n + 1 + 1) t.values ok.values,
+        before_append (mapping_lines t.mapping) (shares_line t ∷ values_line t ∷ []) tail,
+        m.1,
+        line_again m.0 (joined 32 (shares_line t)) three (omega arith),
+        words_again _ _ (share_line_words t ok.shares),
+        shares_line_again m.0 t.shares ok.shares,
+        line_again (m.0 + 1) (joined 32 (values_line t)) tail some,
+        words_again _ _ (value_words t ok.values),
+        values_again (m.0 + 1) t.values ok.values,
       ) refl,
     )
 
-some_items : {X : Type 0} (xs : List X) → xs ≢ [] → 1 ≤ length xs
-some_items [] h = absurd (h refl)
-some_items (x ∷ xs) h = omega arith
-
-column_read : (column : List Table) → IsColumn column → IsReadAgain column_at column (column_lines column)
+column_read : (version : Version) (column : List Table) → IsColumn version column → IsReadAgain (column_at version) column (column_lines column)
 unfolding column_at
-column_read column ok = section_again table_lines IsTable table_at table_read (codes "column") 1 65 column (omega arith) (some_items column ok.some) (omega (arith, ok.few)) (record { plain = refl; filled = omega arith }) ok.tables
+column_read version column ok = section_again table_lines (IsTable version) (table_at version) (table_read version) (codes "column") 1 65 column (omega arith) (some_items column ok.some) (omega (arith, ok.few)) (record { plain = refl; filled = omega arith }) ok.tables
 
-columns_read : (columns : List (List Table)) → AreColumns columns → IsReadAgain columns_at columns (columns_lines columns)
+columns_read : (version : Version) (columns : List (List Table)) → AreColumns version columns → IsReadAgain (columns_at version) columns (columns_lines columns)
 unfolding columns_at
-columns_read columns ok = section_again column_lines IsColumn column_at column_read (codes "columns") 0 65 columns (omega arith) (omega arith) (omega (arith, ok.few)) (record { plain = refl; filled = omega arith }) ok.each
+columns_read version columns ok = section_again column_lines (IsColumn version) (column_at version) (column_read version) (codes "columns") 0 65 columns (omega arith) (omega arith) (omega (arith, ok.few)) (record { plain = refl; filled = omega arith }) ok.each
 
 -- ---- states
 
@@ -189,9 +147,10 @@ closed_read es ok n tail some =
 
 -- ---- all
 
-header_read : (n : ℕ) (tail : List (List ℕ)) → 0 < length tail → header_at (lines_from n (joined 32 (codes "optplan-cert" ∷ codes "1" ∷ []) ∷ tail)) ≡ Ok (lines_from (n + 1) tail)
+header_read : (version : Version) (n : ℕ) (tail : List (List ℕ)) → 0 < length tail → header_at (lines_from n (joined 32 (codes "optplan-cert" ∷ version_text version ∷ []) ∷ tail)) ≡ Ok (version, lines_from (n + 1) tail)
 unfolding header_at
-header_read n tail some = rw (line_again n (codes "optplan-cert 1") tail some) refl
+header_read One n tail some = rw (line_again n (codes "optplan-cert 1") tail some) refl
+header_read Two n tail some = rw (line_again n (codes "optplan-cert 2") tail some) refl
 
 kind_read : (k : Kind) (n : ℕ) (tail : List (List ℕ)) → 0 < length tail → kind_at (lines_from n (joined 32 (kind_line k) ∷ tail)) ≡ Ok (is_planning k, lines_from (n + 1) tail)
 unfolding kind_at is_planning
@@ -248,17 +207,29 @@ words_kind (Planning atoms vs) ok =
     (counted_words (codes "atoms") (length atoms) (omega (arith, ok.few_atoms)) (record { plain = refl; filled = omega arith }), words_atoms atoms ok.each_atom)
     (counted_words (codes "vars") (length vs) (omega (arith, ok.few_variables)) (record { plain = refl; filled = omega arith }), words_variables (length atoms) vs ok.few_atoms ok.each_variable)
 
-words_table : (t : Table) → IsTable t → AreWords (table_lines t)
+words_rows : (rows : List Row) → AllByRecursion IsRow rows → AreWords (map row_line rows)
 unfolding AreWords
-words_table t ok = (pattern_words t ok, (share_line_words t ok, (value_words t ok, tt)))
+words_rows [] all = tt
+words_rows (r ∷ rows) all = (row_words r all.0, words_rows rows all.1)
 
-words_column : (column : List Table) → IsColumn column → AreWords (column_lines column)
+words_mapping : (version : Version) (m : Mapping) → IsLawfulMapping version m → AreWords (mapping_lines m)
 unfolding AreWords
-words_column column ok = (counted_words (codes "column") (length column) (omega (arith, ok.few)) (record { plain = refl; filled = omega arith }), words_flat table_lines IsTable words_table column ok.tables)
+words_mapping version (Pattern p) ok = (pattern_words p ok, tt)
+words_mapping One (Domains rows) ok = absurd ok
+words_mapping Two (Domains rows) ok = (counted_words (codes "domain") (length rows) (omega (arith, ok.few)) (record { plain = refl; filled = omega arith }), words_rows rows ok.each)
 
-words_columns : (columns : List (List Table)) → AreColumns columns → AreWords (columns_lines columns)
+words_table : (version : Version) (t : Table) → IsTable version t → AreWords (table_lines t)
 unfolding AreWords
-words_columns columns ok = (counted_words (codes "columns") (length columns) (omega (arith, ok.few)) (record { plain = refl; filled = omega arith }), words_flat column_lines IsColumn words_column columns ok.each)
+words_table version t ok =
+    words_append (mapping_lines t.mapping) (shares_line t ∷ values_line t ∷ []) (words_mapping version t.mapping ok.mapping) (share_line_words t ok.shares, (value_words t ok.values, tt))
+
+words_column : (version : Version) (column : List Table) → IsColumn version column → AreWords (column_lines column)
+unfolding AreWords
+words_column version column ok = (counted_words (codes "column") (length column) (omega (arith, ok.few)) (record { plain = refl; filled = omega arith }), words_flat table_lines (IsTable version) (words_table version) column ok.tables)
+
+words_columns : (version : Version) (columns : List (List Table)) → AreColumns version columns → AreWords (columns_lines columns)
+unfolding AreWords
+words_columns version columns ok = (counted_words (codes "columns") (length columns) (omega (arith, ok.few)) (record { plain = refl; filled = omega arith }), words_flat column_lines (IsColumn version) (words_column version) columns ok.each)
 
 words_closed : (es : List Entry) → AreEntries es → AreWords (closed_lines es)
 unfolding AreWords
@@ -268,14 +239,18 @@ kind_word : (k : Kind) → AllByRecursion IsWord (kind_line k)
 kind_word FiniteDomain = (record { plain = refl; filled = omega arith }, tt)
 kind_word (Planning atoms vs) = (record { plain = refl; filled = omega arith }, tt)
 
+version_word : (version : Version) → IsWord (version_text version)
+version_word One = record { plain = refl; filled = omega arith }
+version_word Two = record { plain = refl; filled = omega arith }
+
 words_lines : (c : CertificateValue) → IsLawful c → AreWords (lines c)
 unfolding AreWords
 words_lines c ok =
     let k = words_kind c.kind ok.kind in
-    let top = (codes "optplan-cert" ∷ codes "1" ∷ []) ∷ kind_line c.kind ∷ (codes "bound" ∷ distance_text c.bound ∷ []) ∷ kind_lines c.kind in
-    let head : AreWords ((codes "optplan-cert" ∷ codes "1" ∷ []) ∷ kind_line c.kind ∷ (codes "bound" ∷ distance_text c.bound ∷ []) ∷ kind_lines c.kind) =
-    ((record { plain = refl; filled = omega arith }, (record { plain = refl; filled = omega arith }, tt)), (kind_word c.kind, ((record { plain = refl; filled = omega arith }, (distance_word (2 ^ 62) c.bound (omega arith) ok.bound, tt)), k))) in
-    words_append ((top ++ columns_lines c.columns) ++ closed_lines c.closed) ((codes "end" ∷ []) ∷ []) (words_append (top ++ columns_lines c.columns) (closed_lines c.closed) (words_append top (columns_lines c.columns) head (words_columns c.columns ok.columns)) (words_closed c.closed ok.closed))
+    let top = (codes "optplan-cert" ∷ version_text c.version ∷ []) ∷ kind_line c.kind ∷ (codes "bound" ∷ distance_text c.bound ∷ []) ∷ kind_lines c.kind in
+    let head : AreWords ((codes "optplan-cert" ∷ version_text c.version ∷ []) ∷ kind_line c.kind ∷ (codes "bound" ∷ distance_text c.bound ∷ []) ∷ kind_lines c.kind) =
+    ((record { plain = refl; filled = omega arith }, (version_word c.version, tt)), (kind_word c.kind, ((record { plain = refl; filled = omega arith }, (distance_word (2 ^ 62) c.bound (omega arith) ok.bound, tt)), k))) in
+    words_append ((top ++ columns_lines c.columns) ++ closed_lines c.closed) ((codes "end" ∷ []) ∷ []) (words_append (top ++ columns_lines c.columns) (closed_lines c.closed) (words_append top (columns_lines c.columns) head (words_columns c.version c.columns ok.columns)) (words_closed c.closed ok.closed))
     ((record { plain = refl; filled = omega arith }, tt), tt)
 
 plain_lines : (ls : List (List (List ℕ))) → AreWords ls → AllByRecursion (AllByRecursion IsPlain) ls
@@ -290,7 +265,7 @@ all_behind : (c : CertificateValue) → IsLawful c → (tail : List (List ℕ)) 
     → (m : ℕ) × (certificate_at (lines_from 1 (before (lines c) tail)) ≡ (end_at (lines_from m (before ((codes "end" ∷ []) ∷ []) tail)) >>= λ end. Ok c))
 unfolding certificate_at
 all_behind c ok tail some =
-    let one = codes "optplan-cert" ∷ codes "1" ∷ [] in
+    let one = codes "optplan-cert" ∷ version_text c.version ∷ [] in
     let two = kind_line c.kind in
     let three = codes "bound" ∷ distance_text c.bound ∷ [] in
     let head = one ∷ two ∷ three ∷ kind_lines c.kind in
@@ -305,11 +280,11 @@ all_behind c ok tail some =
     let regroup : before (lines c) tail ≡ joined 32 one ∷ joined 32 two ∷ joined 32 three ∷ kinds =
     before_append ((head ++ columns_lines c.columns) ++ closed_lines c.closed) ((codes "end" ∷ []) ∷ []) tail
     ∙ before_append (head ++ columns_lines c.columns) (closed_lines c.closed) last ∙ before_append head (columns_lines c.columns) closing in
-    let r1 = header_read 1 (joined 32 two ∷ joined 32 three ∷ kinds) (omega arith) in
+    let r1 = header_read c.version 1 (joined 32 two ∷ joined 32 three ∷ kinds) (omega arith) in
     let r2 = kind_read c.kind 2 (joined 32 three ∷ kinds) (omega arith) in
     let r3 = bound_read c.bound ok.bound 3 kinds some3 in
     let r4 = parts_read c.kind ok.kind 4 middle some4 in
-    let r5 = columns_read c.columns ok.columns r4.0 closing some5 in
+    let r5 = columns_read c.version c.columns ok.columns r4.0 closing some5 in
     let r6 = closed_read c.closed ok.closed r5.0 last some6 in
     (r6.0, rw (regroup, r1, r2, r3, r4.1, r5.1, r6.1) refl)
 

@@ -5,8 +5,9 @@ use Rattle.std.specs.List.{flat_map}
 use Rattle.std.proofs.lemmas.List.{map-append, append-nil}
 use Rattle.std.proofs.lemmas.Grind.{flat_map-append}
 use Rattle.cost.specs.Distances.{Distance, distance_text}
+use Rattle.cert_value.specs.declared.certificate.Version.{Version}
 use Rattle.cert_value.specs.Certificates.{Kind, Table, Entry, CertificateValue}
-use Rattle.cert_text.specs.Spelling.{line_text, text_of, kind_line, kind_lines, columns_lines, closed_lines, spelling}
+use Rattle.cert_text.specs.Spelling.{line_text, text_of, kind_line, kind_lines, columns_lines, closed_lines, version_text, spelling}
 use Rattle.cert_text.proofs.Steps.{some_is}
 
 pub ruleset appending = (append_assoc, map-append, flat_map-append)
@@ -46,23 +47,18 @@ whole_text a b d e ks cs es =
     ap (λ (xs : List ℕ). line_text a ++ (line_text b ++ (line_text d ++ xs))) rest
     ∙ regrouped (line_text a) (line_text b) (line_text d) (flat_map line_text ks) (flat_map line_text cs) (flat_map line_text es) (line_text e)
 
-same_parts : (v : CertificateValue) (k l : Kind) (bound : Distance) (columns : List (List Table)) (closed : List Entry) → k ≡ v.kind → l ≡ v.kind → bound ≡ v.bound → columns ≡ v.columns → closed ≡ v.closed
-    → text_of ((codes "optplan-cert" ∷ codes "1" ∷ []) ∷ kind_line k ∷ (codes "bound" ∷ distance_text bound ∷ []) ∷ kind_lines l ++ columns_lines columns ++ closed_lines closed ++ (codes "end" ∷ []) ∷ []) ≡ spelling v
-same_parts v k l bound columns closed e f g h i =
-    ap (λ (x : Kind). text_of ((codes "optplan-cert" ∷ codes "1" ∷ []) ∷ kind_line x ∷ (codes "bound" ∷ distance_text bound ∷ []) ∷ kind_lines l ++ columns_lines columns ++ closed_lines closed ++ (codes "end" ∷ []) ∷ [])) e
-    ∙ ap (λ (x : Kind). text_of ((codes "optplan-cert" ∷ codes "1" ∷ []) ∷ kind_line v.kind ∷ (codes "bound" ∷ distance_text bound ∷ []) ∷ kind_lines x ++ columns_lines columns ++ closed_lines closed ++ (codes "end" ∷ []) ∷ [])) f
-    ∙ ap (λ (x : Distance). text_of ((codes "optplan-cert" ∷ codes "1" ∷ []) ∷ kind_line v.kind ∷ (codes "bound" ∷ distance_text x ∷ []) ∷ kind_lines v.kind ++ columns_lines columns ++ closed_lines closed ++ (codes "end" ∷ []) ∷ [])) g
-    ∙ ap (λ (x : List (List Table)). text_of ((codes "optplan-cert" ∷ codes "1" ∷ []) ∷ kind_line v.kind ∷ (codes "bound" ∷ distance_text v.bound ∷ []) ∷ kind_lines v.kind ++ columns_lines x ++ closed_lines closed ++ (codes "end" ∷ []) ∷ [])) h
-    ∙ ap (λ (x : List Entry). text_of ((codes "optplan-cert" ∷ codes "1" ∷ []) ∷ kind_line v.kind ∷ (codes "bound" ∷ distance_text v.bound ∷ []) ∷ kind_lines v.kind ++ columns_lines v.columns ++ closed_lines x ++ (codes "end" ∷ []) ∷ [])) i
+same_parts : (v : CertificateValue) (version : Version) (k l : Kind) (bound : Distance) (columns : List (List Table)) (closed : List Entry) → version ≡ v.version → k ≡ v.kind → l ≡ v.kind → bound ≡ v.bound → columns ≡ v.columns → closed ≡ v.closed
+    → text_of ((codes "optplan-cert" ∷ version_text version ∷ []) ∷ kind_line k ∷ (codes "bound" ∷ distance_text bound ∷ []) ∷ kind_lines l ++ columns_lines columns ++ closed_lines closed ++ (codes "end" ∷ []) ∷ []) ≡ spelling v
+same_parts v version k l bound columns closed d e f g h i = rw (d, e, f, g, h, i) refl
 
 -- the text of a certificate, written part by part
-pub written : (v : CertificateValue) (k l : Kind) (bound : Distance) (columns : List (List Table)) (closed : List Entry) (o1 o2 o3 o4 o5 o6 o7 : List ℕ)
-    → k ≡ v.kind → l ≡ v.kind → bound ≡ v.bound → columns ≡ v.columns → closed ≡ v.closed
-    → o1 ≡ line_text (codes "optplan-cert" ∷ codes "1" ∷ []) → o2 ≡ o1 ++ line_text (kind_line k) → o3 ≡ o2 ++ line_text (codes "bound" ∷ distance_text bound ∷ []) → o4 ≡ o3 ++ text_of (kind_lines l)
+pub written : (v : CertificateValue) (version : Version) (k l : Kind) (bound : Distance) (columns : List (List Table)) (closed : List Entry) (o1 o2 o3 o4 o5 o6 o7 : List ℕ)
+    → version ≡ v.version → k ≡ v.kind → l ≡ v.kind → bound ≡ v.bound → columns ≡ v.columns → closed ≡ v.closed
+    → o1 ≡ line_text (codes "optplan-cert" ∷ version_text version ∷ []) → o2 ≡ o1 ++ line_text (kind_line k) → o3 ≡ o2 ++ line_text (codes "bound" ∷ distance_text bound ∷ []) → o4 ≡ o3 ++ text_of (kind_lines l)
     → o5 ≡ o4 ++ text_of (columns_lines columns) → o6 ≡ o5 ++ text_of (closed_lines closed) → o7 ≡ o6 ++ line_text (codes "end" ∷ []) → o7 ≡ spelling v
-written v k l bound columns closed o1 o2 o3 o4 o5 o6 o7 a b d e f h1 h2 h3 h4 h5 h6 h7 =
-    let w = whole_text (codes "optplan-cert" ∷ codes "1" ∷ []) (kind_line k) (codes "bound" ∷ distance_text bound ∷ []) (codes "end" ∷ []) (kind_lines l) (columns_lines columns) (closed_lines closed) in
-    let s = same_parts v k l bound columns closed a b d e f in
+written v version k l bound columns closed o1 o2 o3 o4 o5 o6 o7 t a b d e f h1 h2 h3 h4 h5 h6 h7 =
+    let w = whole_text (codes "optplan-cert" ∷ version_text version ∷ []) (kind_line k) (codes "bound" ∷ distance_text bound ∷ []) (codes "end" ∷ []) (kind_lines l) (columns_lines columns) (closed_lines closed) in
+    let s = same_parts v version k l bound columns closed t a b d e f in
     let two = h2 ∙ ap (λ (xs : List ℕ). xs ++ line_text (kind_line k)) h1 in
     let three = h3 ∙ ap (λ (xs : List ℕ). xs ++ line_text (codes "bound" ∷ distance_text bound ∷ [])) two in
     let four = h4 ∙ ap (λ (xs : List ℕ). xs ++ text_of (kind_lines l)) three in

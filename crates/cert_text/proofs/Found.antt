@@ -9,7 +9,7 @@ use Rattle.cost.specs.Distances.{Distance, Finite, Infinite, IsWithin, distance_
 use Rattle.cert_value.specs.declared.table.Share.{Share}
 use Rattle.cert_text.specs.Pieces.{pieces, joined}
 use Rattle.cert_text.specs.Spelling.{counted, share_words}
-use Rattle.cert_text.specs.Lawful.{IsIncreasing, IsShare}
+use Rattle.cert_value.specs.Lawful.{IsIncreasing, IsShare}
 use Rattle.cert_text.specs.Reading.{◌>>=◌, ◌>>?◌, Remaining, first_of, line_at, number, number_in, numbers_behind, distance_in, distances_behind, share_in, shares_behind, increases_from, filled, formed, numbered, fixed_at, second_of, count_at, agrees, Counted, counted_of, headed_of}
 use Rattle.cert_text.proofs.Steps.{bind_ok, formed_ok, numbered_ok, ok_is, some_is, then_some, and_parts, le_is, eq_is, between_ok, filled_length}
 use Rattle.cert_text.proofs.Decimals.{number_is}
@@ -24,6 +24,9 @@ Takes-then r q s a b p o = record {
   parts = p.parts ∙ ap (λ (xs : List (List ℕ)). map (joined 32) a ++ xs) o.parts ∙ sym (append_assoc (map (joined 32) a) (map (joined 32) b) s.lines)
       ∙ ap (λ (xs : List (List ℕ)). xs ++ s.lines) (sym (map-append (joined 32) a b));
 }
+
+pub nothing_taken : (r q : Remaining) → r ≡ q → Takes r [] q
+nothing_taken r q e = record { parts = ap (λ (x : Remaining). x.lines) e }
 
 first_takes : (n : ℕ) (ls : List (List ℕ)) (l : List ℕ) (q : Remaining) → first_of n ls ≡ Ok (l, q) → ls ≡ l ∷ q.lines
 first_takes n [] l q e = absurd cc

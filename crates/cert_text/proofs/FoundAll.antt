@@ -1,5 +1,5 @@
 -- What is read was spelled so, all of it.
-use Rattle.std.proofs.Common.{◌≡◌, ◌≢◌, ℕ, zero, suc, ◌^◌, ◌<◌, ◌≤◌, Bool, true, false, cond, List, [], ◌∷◌, ◌++◌, length, map, Option, Some, Result, Ok, Err, refl, sym, ap, subst, ◌∙◌, arith, append_assoc}
+use Rattle.std.proofs.Common.{◌≡◌, ℕ, zero, suc, ◌^◌, ◌<◌, ◌≤◌, Bool, true, false, cond, List, [], ◌∷◌, ◌++◌, length, map, Option, Some, Result, Ok, Err, refl, sym, ap, subst, ◌∙◌, arith, append_assoc}
 use Rattle.std.specs.Prelude.{nat_lt, codes}
 use Rattle.std.specs.Str.{bytes_eq}
 use Rattle.std.specs.List.{flat_map, AllByRecursion}
@@ -10,14 +10,17 @@ use Rattle.cert_text.specs.declared.fault.CertFault.{CertFault}
 use Rattle.cert_text.specs.declared.fault.CertFault.TheVariants as fault
 use Rattle.cert_value.specs.Certificates.{Kind, FiniteDomain, Planning, Variable, Table, Entry, CertificateValue, width_of}
 use Rattle.cert_text.specs.Pieces.{pieces, joined}
-use Rattle.cert_text.specs.Spelling.{counted, variable_line, kind_line, kind_lines, pattern_line, shares_line, values_line, table_lines, column_lines, columns_lines, entry_line, closed_lines, lines, spelling}
-use Rattle.cert_text.specs.Lawful.{IsAtom, IsVariable, IsLawfulKind, IsTable, IsColumn, AreColumns, IsEntry, AreEntries, IsLawful}
-use Rattle.cert_text.specs.Reading.{◌>>=◌, Remaining, line_at, repeated, behind, formed, count_at, fixed_at, header_at, kind_at, bound_of, bound_at, atom_of, atom_at, atoms_at, variable_of, variable_at, variables_at, parts_at, pattern_of, shares_of, values_of, table_at, column_at, columns_at, entry_of, entry_at, entry_step, closed_at, is_nothing, end_at, certificate_at, certificate_of}
+use Rattle.cert_text.specs.Spelling.{counted, variable_line, kind_line, kind_lines, mapping_lines, shares_line, values_line, table_lines, column_lines, columns_lines, entry_line, closed_lines, version_text, lines, spelling}
+use Rattle.cert_value.specs.declared.certificate.Version.{Version}
+use Rattle.cert_value.specs.declared.certificate.Version.TheVariants.{One, Two}
+use Rattle.cert_value.specs.Lawful.{IsAtom, IsVariable, IsLawfulKind, IsTable, IsColumn, AreColumns, IsEntry, AreEntries, IsLawful}
+use Rattle.cert_text.specs.Reading.{◌>>=◌, Remaining, line_at, repeated, behind, formed, count_at, fixed_at, header_at, kind_at, bound_of, bound_at, atom_of, atom_at, atoms_at, variable_of, variable_at, variables_at, parts_at, mapping_at, shares_of, values_of, table_at, column_at, columns_at, entry_of, entry_at, entry_step, closed_at, is_nothing, end_at, certificate_at, certificate_of}
 use Rattle.cert_text.proofs.Steps.{bind_ok, formed_ok, ok_is, some_is}
 use Rattle.cert_text.proofs.Joining.{joined_pieces, text_of_lines}
 use Rattle.cert_text.proofs.Widths.{AreAsWide, next_fits, wide_push}
-use Rattle.cert_text.proofs.Found.{Takes, Takes-then, one_text, one_line, same_bytes, fixed_found, count_found}
-use Rattle.cert_text.proofs.FoundLines.{bound_found, pattern_found, shares_line_found, values_found, variable_found, atom_found, entry_found}
+use Rattle.cert_text.proofs.Found.{Takes, Takes-then, nothing_taken, one_text, one_line, same_bytes, fixed_found, count_found}
+use Rattle.cert_text.proofs.FoundLines.{not_empty, bound_found, shares_line_found, values_found, variable_found, atom_found, entry_found}
+use Rattle.cert_text.proofs.FoundRows.{mapping_found}
 
 -- what a step that is done so many times reads
 pub record ItemsRead {X : Type 0} (spell : X → List (List (List ℕ))) (P : X → Type 0) (n : ℕ) (r q : Remaining) (front back : List X) : Type 0 where
@@ -29,9 +32,6 @@ pub record ItemsRead {X : Type 0} (spell : X → List (List (List ℕ))) (P : X 
 
 abbrev pub StepReads : {X : Type 0} → (X → List (List (List ℕ))) → (X → Type 0) → (Remaining → Result (X × Remaining) CertFault) → Type 0
 StepReads {X} spell P step = (r q : Remaining) (x : X) → step r ≡ Ok (x, q) → Takes r (spell x) q × P x
-
-nothing_taken : (r q : Remaining) → r ≡ q → Takes r [] q
-nothing_taken r q e = record { parts = ap (λ (x : Remaining). x.lines) e }
 
 pub items_read : {X : Type 0} (spell : X → List (List (List ℕ))) (P : X → Type 0) (step : Remaining → Result (X × Remaining) CertFault) → StepReads spell P step
     → (n : ℕ) (front : List X) (r : Remaining) (back : List X) (q : Remaining) → repeated (behind step) n front r ≡ Ok (back, q) → ItemsRead spell P n r q front back
@@ -120,39 +120,34 @@ parts_read true r q k e =
 
 -- ---- tables
 
-table_read : StepReads table_lines IsTable table_at
+table_read : (version : Version) → StepReads table_lines (IsTable version) (table_at version)
 unfolding table_at
-table_read r q x e =
-    let a = bind_ok (line_at r) (λ first. pattern_of r.number (pieces 32 first.0) >>= λ pattern. line_at first.1 >>= λ second. shares_of first.1.number (pieces 32 second.0) >>= λ shares. line_at second.1 >>= λ third. values_of second.1.number (pieces 32 third.0) >>= λ values. Ok (record { pattern = pattern; shares = shares; values = values }, third.1)) (x, q) e in
-    let b = bind_ok (pattern_of r.number (pieces 32 a.0.0)) (λ pattern. line_at a.0.1 >>= λ second. shares_of a.0.1.number (pieces 32 second.0) >>= λ shares. line_at second.1 >>= λ third. values_of second.1.number (pieces 32 third.0) >>= λ values. Ok (record { pattern = pattern; shares = shares; values = values }, third.1)) (x, q) a.2 in
-    let c = bind_ok (line_at a.0.1) (λ second. shares_of a.0.1.number (pieces 32 second.0) >>= λ shares. line_at second.1 >>= λ third. values_of second.1.number (pieces 32 third.0) >>= λ values. Ok (record { pattern = b.0; shares = shares; values = values }, third.1)) (x, q) b.2 in
-    let d = bind_ok (shares_of a.0.1.number (pieces 32 c.0.0)) (λ shares. line_at c.0.1 >>= λ third. values_of c.0.1.number (pieces 32 third.0) >>= λ values. Ok (record { pattern = b.0; shares = shares; values = values }, third.1)) (x, q) c.2 in
-    let f = bind_ok (line_at c.0.1) (λ third. values_of c.0.1.number (pieces 32 third.0) >>= λ values. Ok (record { pattern = b.0; shares = d.0; values = values }, third.1)) (x, q) d.2 in
-    let g = bind_ok (values_of c.0.1.number (pieces 32 f.0.0)) (λ values. Ok (record { pattern = b.0; shares = d.0; values = values }, f.0.1)) (x, q) f.2 in
-    let t : Table = record { pattern = b.0; shares = d.0; values = g.0 } in
+table_read version r q x e =
+    let a = bind_ok (mapping_at version r) (λ mapping. line_at mapping.1 >>= λ second. shares_of mapping.1.number (pieces 32 second.0) >>= λ shares. line_at second.1 >>= λ third. values_of second.1.number (pieces 32 third.0) >>= λ values. Ok (record { mapping = mapping.0; shares = shares; values = values }, third.1)) (x, q) e in
+    let c = bind_ok (line_at a.0.1) (λ second. shares_of a.0.1.number (pieces 32 second.0) >>= λ shares. line_at second.1 >>= λ third. values_of second.1.number (pieces 32 third.0) >>= λ values. Ok (record { mapping = a.0.0; shares = shares; values = values }, third.1)) (x, q) a.2 in
+    let d = bind_ok (shares_of a.0.1.number (pieces 32 c.0.0)) (λ shares. line_at c.0.1 >>= λ third. values_of c.0.1.number (pieces 32 third.0) >>= λ values. Ok (record { mapping = a.0.0; shares = shares; values = values }, third.1)) (x, q) c.2 in
+    let f = bind_ok (line_at c.0.1) (λ third. values_of c.0.1.number (pieces 32 third.0) >>= λ values. Ok (record { mapping = a.0.0; shares = d.0; values = values }, third.1)) (x, q) d.2 in
+    let g = bind_ok (values_of c.0.1.number (pieces 32 f.0.0)) (λ values. Ok (record { mapping = a.0.0; shares = d.0; values = values }, f.0.1)) (x, q) f.2 in
+    let t : Table = record { mapping = a.0.0; shares = d.0; values = g.0 } in
     let made : Table × Remaining = (t, f.0.1) in
-    let p = pattern_found r.number (pieces 32 a.0.0) b.0 b.1 in
+    let m = mapping_found version r a.0.1 a.0.0 a.1 in
     let s = shares_line_found a.0.1.number (pieces 32 c.0.0) d.0 d.1 in
     let v = values_found c.0.1.number (pieces 32 f.0.0) g.0 g.1 in
-    let one = one_line r a.0.1 a.0.0 (pattern_line t) a.1 p.0 in
     let two = one_line a.0.1 c.0.1 c.0.0 (shares_line t) c.1 s.0 in
     let three = one_line c.0.1 f.0.1 f.0.0 (values_line t) f.1 v.0 in
-    let whole = Takes-then r c.0.1 f.0.1 (pattern_line t ∷ shares_line t ∷ []) (values_line t ∷ []) (Takes-then r a.0.1 c.0.1 (pattern_line t ∷ []) (shares_line t ∷ []) one two) three in
-    subst (λ (y : Table × Remaining). Takes r (table_lines y.0) y.1 × IsTable y.0) (ok_is made (x, q) g.2) (whole, record { pattern = p.1; shares = s.1; values = v.1 })
+    let whole = Takes-then r a.0.1 f.0.1 (mapping_lines t.mapping) (shares_line t ∷ values_line t ∷ []) m.0 (Takes-then a.0.1 c.0.1 f.0.1 (shares_line t ∷ []) (values_line t ∷ []) two three) in
+    subst (λ (y : Table × Remaining). Takes r (table_lines y.0) y.1 × IsTable version y.0) (ok_is made (x, q) g.2) (whole, record { mapping = m.1; shares = s.1; values = v.1 })
 
-not_empty : {X : Type 0} (xs : List X) → 1 ≤ length xs → xs ≢ []
-not_empty xs le e = let l = ap (λ ys. length ys) e in absurd (omega arith)
-
-column_read : StepReads column_lines IsColumn column_at
+column_read : (version : Version) → StepReads column_lines (IsColumn version) (column_at version)
 unfolding column_at
-column_read r q x e =
-    let s = section_read table_lines IsTable table_at table_read (codes "column") 1 65 r x q (omega arith) e in
+column_read version r q x e =
+    let s = section_read table_lines (IsTable version) (table_at version) (table_read version) (codes "column") 1 65 r x q (omega arith) e in
     (s.0, record { some = not_empty x s.2; few = omega (arith, s.3); tables = s.1 })
 
-columns_read : (r q : Remaining) (x : List (List Table)) → columns_at r ≡ Ok (x, q) → Takes r (columns_lines x) q × AreColumns x
+columns_read : (version : Version) (r q : Remaining) (x : List (List Table)) → columns_at version r ≡ Ok (x, q) → Takes r (columns_lines x) q × AreColumns version x
 unfolding columns_at
-columns_read r q x e =
-    let s = section_read column_lines IsColumn column_at column_read (codes "columns") 0 65 r x q (omega arith) e in
+columns_read version r q x e =
+    let s = section_read column_lines (IsColumn version) (column_at version) (column_read version) (codes "columns") 0 65 r x q (omega arith) e in
     (s.0, record { few = omega (arith, s.3); each = s.1 })
 
 -- ---- states
@@ -230,16 +225,28 @@ closed_read r q es e =
 
 -- ---- all
 
-header_by : (b : Bool) (x q : Remaining) → cond b (Ok x) (Err fault.Header) ≡ Ok q → (b ≡ true) × (x ≡ q)
-header_by true x q e = (refl, ok_is x q e)
-header_by false x q e = absurd cc
+abbrev header_words : Version → List (List ℕ)
+header_words version = codes "optplan-cert" ∷ version_text version ∷ []
 
-header_read : (r q : Remaining) → header_at r ≡ Ok q → Takes r ((codes "optplan-cert" ∷ codes "1" ∷ []) ∷ []) q
+abbrev header_result : Bool → Bool → Remaining → Result (Version × Remaining) CertFault
+header_result a b x = cond a (Ok (One, x)) (cond b (Ok (Two, x)) (Err fault.Header))
+
+header_by : (l : List ℕ) (a b : Bool) (x : Remaining) (read : Version × Remaining) → a ≡ bytes_eq l (codes "optplan-cert 1") → b ≡ bytes_eq l (codes "optplan-cert 2") → header_result a b x ≡ Ok read
+    → (l ≡ joined 32 (header_words read.0)) × (x ≡ read.1)
+header_by l true b x read is so e =
+    let made : Version × Remaining = (One, x) in
+    subst (λ (p : Version × Remaining). (l ≡ joined 32 (header_words p.0)) × (x ≡ p.1)) (ok_is made read e) (same_bytes l (codes "optplan-cert 1") (sym is), refl)
+header_by l false true x read is so e =
+    let made : Version × Remaining = (Two, x) in
+    subst (λ (p : Version × Remaining). (l ≡ joined 32 (header_words p.0)) × (x ≡ p.1)) (ok_is made read e) (same_bytes l (codes "optplan-cert 2") (sym so), refl)
+header_by l false false x read is so e = absurd cc
+
+header_read : (r q : Remaining) (version : Version) → header_at r ≡ Ok (version, q) → Takes r (header_words version ∷ []) q
 unfolding header_at
-header_read r q e =
-    let a = bind_ok (line_at r) (λ l. cond (bytes_eq l.0 (codes "optplan-cert 1")) (Ok l.1) (Err fault.Header)) q e in
-    let h = header_by (bytes_eq a.0.0 (codes "optplan-cert 1")) a.0.1 q a.2 in
-    subst (Takes r ((codes "optplan-cert" ∷ codes "1" ∷ []) ∷ [])) h.1 (one_text r a.0.1 a.0.0 (codes "optplan-cert" ∷ codes "1" ∷ []) a.1 (same_bytes a.0.0 (codes "optplan-cert 1") h.0))
+header_read r q version e =
+    let a = bind_ok (line_at r) (λ l. header_result (bytes_eq l.0 (codes "optplan-cert 1")) (bytes_eq l.0 (codes "optplan-cert 2")) l.1) (version, q) e in
+    let h = header_by a.0.0 (bytes_eq a.0.0 (codes "optplan-cert 1")) (bytes_eq a.0.0 (codes "optplan-cert 2")) a.0.1 (version, q) refl refl a.2 in
+    subst (Takes r (header_words version ∷ [])) h.1 (one_text r a.0.1 a.0.0 (header_words version) a.1 h.0)
 
 abbrev kind_result : ℕ → Bool → Bool → Remaining → Result (Bool × Remaining) CertFault
 kind_result line a b x = cond a (Ok (true, x)) (formed line b (false, x))
@@ -301,26 +308,26 @@ long_by false x c e = e
 all_read : (r : Remaining) (c : CertificateValue) → certificate_at r ≡ Ok c → (r.lines ≡ map (joined 32) (lines c) ++ [] ∷ []) × IsLawful c
 unfolding certificate_at
 all_read r c e =
-    let a = bind_ok (header_at r) (λ header. kind_at header >>= λ planning. bound_at planning.1 >>= λ bound. parts_at planning.0 bound.1 >>= λ kind. columns_at kind.1 >>= λ columns. closed_at columns.1 >>= λ closed. end_at closed.1 >>= λ end. Ok (record { kind = kind.0; bound = bound.0; columns = columns.0; closed = closed.0 })) c e in
-    let b = bind_ok (kind_at a.0) (λ planning. bound_at planning.1 >>= λ bound. parts_at planning.0 bound.1 >>= λ kind. columns_at kind.1 >>= λ columns. closed_at columns.1 >>= λ closed. end_at closed.1 >>= λ end. Ok (record { kind = kind.0; bound = bound.0; columns = columns.0; closed = closed.0 })) c a.2 in
-    let d = bind_ok (bound_at b.0.1) (λ bound. parts_at b.0.0 bound.1 >>= λ kind. columns_at kind.1 >>= λ columns. closed_at columns.1 >>= λ closed. end_at closed.1 >>= λ end. Ok (record { kind = kind.0; bound = bound.0; columns = columns.0; closed = closed.0 })) c b.2 in
-    let k = bind_ok (parts_at b.0.0 d.0.1) (λ kind. columns_at kind.1 >>= λ columns. closed_at columns.1 >>= λ closed. end_at closed.1 >>= λ end. Ok (record { kind = kind.0; bound = d.0.0; columns = columns.0; closed = closed.0 })) c d.2 in
-    let l = bind_ok (columns_at k.0.1) (λ columns. closed_at columns.1 >>= λ closed. end_at closed.1 >>= λ end. Ok (record { kind = k.0.0; bound = d.0.0; columns = columns.0; closed = closed.0 })) c k.2 in
-    let m = bind_ok (closed_at l.0.1) (λ closed. end_at closed.1 >>= λ end. Ok (record { kind = k.0.0; bound = d.0.0; columns = l.0.0; closed = closed.0 })) c l.2 in
-    let n = bind_ok (end_at m.0.1) (λ end. Ok (record { kind = k.0.0; bound = d.0.0; columns = l.0.0; closed = m.0.0 })) c m.2 in
-    let made : CertificateValue = record { kind = k.0.0; bound = d.0.0; columns = l.0.0; closed = m.0.0 } in
-    let t1 = header_read r a.0 a.1 in
-    let t2 = kind_read a.0 b.0.1 b.0.0 b.1 in
+    let a = bind_ok (header_at r) (λ header. kind_at header.1 >>= λ planning. bound_at planning.1 >>= λ bound. parts_at planning.0 bound.1 >>= λ kind. columns_at header.0 kind.1 >>= λ columns. closed_at columns.1 >>= λ closed. end_at closed.1 >>= λ end. Ok (record { version = header.0; kind = kind.0; bound = bound.0; columns = columns.0; closed = closed.0 })) c e in
+    let b = bind_ok (kind_at a.0.1) (λ planning. bound_at planning.1 >>= λ bound. parts_at planning.0 bound.1 >>= λ kind. columns_at a.0.0 kind.1 >>= λ columns. closed_at columns.1 >>= λ closed. end_at closed.1 >>= λ end. Ok (record { version = a.0.0; kind = kind.0; bound = bound.0; columns = columns.0; closed = closed.0 })) c a.2 in
+    let d = bind_ok (bound_at b.0.1) (λ bound. parts_at b.0.0 bound.1 >>= λ kind. columns_at a.0.0 kind.1 >>= λ columns. closed_at columns.1 >>= λ closed. end_at closed.1 >>= λ end. Ok (record { version = a.0.0; kind = kind.0; bound = bound.0; columns = columns.0; closed = closed.0 })) c b.2 in
+    let k = bind_ok (parts_at b.0.0 d.0.1) (λ kind. columns_at a.0.0 kind.1 >>= λ columns. closed_at columns.1 >>= λ closed. end_at closed.1 >>= λ end. Ok (record { version = a.0.0; kind = kind.0; bound = d.0.0; columns = columns.0; closed = closed.0 })) c d.2 in
+    let l = bind_ok (columns_at a.0.0 k.0.1) (λ columns. closed_at columns.1 >>= λ closed. end_at closed.1 >>= λ end. Ok (record { version = a.0.0; kind = k.0.0; bound = d.0.0; columns = columns.0; closed = closed.0 })) c k.2 in
+    let m = bind_ok (closed_at l.0.1) (λ closed. end_at closed.1 >>= λ end. Ok (record { version = a.0.0; kind = k.0.0; bound = d.0.0; columns = l.0.0; closed = closed.0 })) c l.2 in
+    let n = bind_ok (end_at m.0.1) (λ end. Ok (record { version = a.0.0; kind = k.0.0; bound = d.0.0; columns = l.0.0; closed = m.0.0 })) c m.2 in
+    let made : CertificateValue = record { version = a.0.0; kind = k.0.0; bound = d.0.0; columns = l.0.0; closed = m.0.0 } in
+    let t1 = header_read r a.0.1 a.0.0 a.1 in
+    let t2 = kind_read a.0.1 b.0.1 b.0.0 b.1 in
     let t3 = bound_read b.0.1 d.0.1 d.0.0 d.1 in
     let t4 = parts_read b.0.0 d.0.1 k.0.1 k.0.0 k.1 in
-    let t5 = columns_read k.0.1 l.0.1 l.0.0 l.1 in
+    let t5 = columns_read a.0.0 k.0.1 l.0.1 l.0.0 l.1 in
     let t6 = closed_read l.0.1 m.0.1 m.0.0 m.1 in
     let t7 = end_read m.0.1 n.0 n.1 in
-    let second = subst (λ (w : List (List ℕ)). Takes a.0 (w ∷ []) b.0.1) (sym t4.2) t2 in
-    let one = codes "optplan-cert" ∷ codes "1" ∷ [] in
+    let second = subst (λ (w : List (List ℕ)). Takes a.0.1 (w ∷ []) b.0.1) (sym t4.2) t2 in
+    let one = header_words a.0.0 in
     let two = kind_line k.0.0 in
     let three = codes "bound" ∷ distance_text d.0.0 ∷ [] in
-    let s2 = Takes-then r a.0 b.0.1 (one ∷ []) (two ∷ []) t1 second in
+    let s2 = Takes-then r a.0.1 b.0.1 (one ∷ []) (two ∷ []) t1 second in
     let s3 = Takes-then r b.0.1 d.0.1 (one ∷ two ∷ []) (three ∷ []) s2 t3.0 in
     let s4 = Takes-then r d.0.1 k.0.1 (one ∷ two ∷ three ∷ []) (kind_lines k.0.0) s3 t4.0 in
     let s5 = Takes-then r k.0.1 l.0.1 (one ∷ two ∷ three ∷ kind_lines k.0.0) (columns_lines l.0.0) s4 t5.0 in

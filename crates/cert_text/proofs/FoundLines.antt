@@ -9,7 +9,7 @@ use Rattle.cert_value.specs.declared.table.Share.{Share}
 use Rattle.cert_value.specs.Certificates.{Variable, Entry}
 use Rattle.cert_text.specs.Pieces.{pieces}
 use Rattle.cert_text.specs.Spelling.{counted, flag_text, variable_line, share_words, entry_line}
-use Rattle.cert_text.specs.Lawful.{IsPrinted, IsAtomWord, IsAtom, IsVariable, IsShare, IsPattern, AreShares, AreValues, IsEntry}
+use Rattle.cert_value.specs.Lawful.{IsPrinted, IsAtomWord, IsAtom, IsVariable, IsShare, IsPattern, AreShares, AreValues, IsEntry}
 use Rattle.cert_text.specs.Reading.{◌>>=◌, number_in, numbers_in, distance_in, distances_in, shares_in, is_increasing, filled, formed, numbered, ordered, second_of, counted_of, headed_of, bound_of, is_printed, is_atom_word, atom_of, variable_of, pattern_of, shares_of, values_of, has_width, entry_numbers, entry_of}
 use Rattle.cert_text.proofs.Steps.{bind_ok, formed_ok, ordered_ok, numbered_ok, ok_is, and_parts, le_is, lt_is}
 use Rattle.cert_text.proofs.PieceLaws.{some_piece}
@@ -22,11 +22,11 @@ bound_found line ws d e =
     let f = distance_found (2 ^ 62) a.0 d (omega arith) (numbered_ok line (distance_in (2 ^ 62 + 1) a.0) d a.2) in
     (second_found line (codes "bound") ws a.0 a.1 ∙ ap (λ (w : List ℕ). codes "bound" ∷ w ∷ []) f.0, f.1)
 
-not_empty : {X : Type 0} (xs : List X) → 1 ≤ length xs → xs ≢ []
+pub not_empty : {X : Type 0} (xs : List X) → 1 ≤ length xs → xs ≢ []
 not_empty xs le e = let l = ap (λ ys. length ys) e in absurd (omega arith)
 
 -- a count and numbers
-same_words : (k c : List ℕ) (ws : List (List ℕ)) (n : ℕ) (ns : List ℕ) → c ≡ decimal n → ws ≡ map decimal ns → n ≡ length ns → k ∷ c ∷ ws ≡ counted k (length ns) (map decimal ns)
+pub same_words : (k c : List ℕ) (ws : List (List ℕ)) (n : ℕ) (ns : List ℕ) → c ≡ decimal n → ws ≡ map decimal ns → n ≡ length ns → k ∷ c ∷ ws ≡ counted k (length ns) (map decimal ns)
 same_words k c ws n ns is words count =
     ap (λ (w : List ℕ). k ∷ w ∷ ws) (is ∙ ap decimal count) ∙ ap (λ (vs : List (List ℕ)). k ∷ decimal (length ns) ∷ vs) words
 

@@ -1,6 +1,7 @@
 pub mod PieceLaws
 pub mod NumberLaws
 pub mod AtomLaws
+pub mod RowLaws
 pub mod Repeating
 pub mod Steps
 pub mod Widths
@@ -9,7 +10,10 @@ pub mod Decimals
 pub mod Joining
 pub mod Found
 pub mod FoundLines
+pub mod FoundRows
 pub mod FoundAll
 pub mod Again
+pub mod AgainItems
+pub mod AgainRows
 pub mod AgainAll
 pub mod Promises

@@ -6,7 +6,7 @@ use Rattle.cert_text.specs.declared.fault.CertFault.{CertFault}
 use Rattle.cert_text.specs.declared.fault.CertFault.TheVariants as fault
 use Rattle.cert_value.specs.Certificates.{CertificateValue}
 use Rattle.cert_text.specs.Spelling.{spelling}
-use Rattle.cert_text.specs.Lawful.{IsLawful}
+use Rattle.cert_value.specs.Lawful.{IsLawful}
 use Rattle.cert_text.specs.Pieces.{pieces}
 use Rattle.cert_text.specs.Reading.{Gives, certificate_at, certificate_of}
 use Rattle.cert_text.proofs.FoundAll.{certificate_found}

@@ -13,6 +13,7 @@ fails_first (fault.Number n) first f h = ap (λ x. x >>= f) h
 fails_first fault.Truncated first f h = ap (λ x. x >>= f) h
 fails_first (fault.Trailing n) first f h = ap (λ x. x >>= f) h
 fails_first (fault.Order n) first f h = ap (λ x. x >>= f) h
+fails_first (fault.Classes n) first f h = ap (λ x. x >>= f) h
 fails_first fault.TooLong first f h = ap (λ x. x >>= f) h
 
 pub fails_is : {A : Type 0} (e : CertFault) (read total : Result A CertFault) → read ≡ total → Fails e read → Fails e total
@@ -23,6 +24,7 @@ fails_is (fault.Number n) read total same h = sym same ∙ h
 fails_is fault.Truncated read total same h = sym same ∙ h
 fails_is (fault.Trailing n) read total same h = sym same ∙ h
 fails_is (fault.Order n) read total same h = sym same ∙ h
+fails_is (fault.Classes n) read total same h = sym same ∙ h
 fails_is fault.TooLong read total same h = sym same ∙ h
 
 pub then_is : {A B : Type 0} (first : Result A CertFault) (f : A → Result B CertFault) (x : A) → first ≡ Ok x → (first >>= f) ≡ f x

@@ -5,7 +5,7 @@ use Rattle.std.proofs.lemmas.Bool.Decides.{nat_tests}
 use Rattle.std.proofs.lemmas.List.{length-append}
 use Rattle.cert_text.specs.declared.fault.CertFault.{CertFault}
 use Rattle.cert_value.specs.Certificates.{Entry}
-use Rattle.cert_text.specs.Reading.{◌>>=◌, ◌>>?◌, between, number_in, numbers_behind, numbers_in, filled_behind, filled, formed, numbered, ordered, has_width, entry_numbers, entry_of}
+use Rattle.cert_text.specs.Reading.{◌>>=◌, ◌>>?◌, between, number_in, numbers_behind, numbers_in, filled_behind, filled, formed, numbered, ordered, classified, has_width, entry_numbers, entry_of}
 
 pub bind_ok : {A B : Type 0} (r : Result A CertFault) (f : A → Result B CertFault) (y : B) → (r >>= f) ≡ Ok y → (x : A) × (r ≡ Ok x) × (f x ≡ Ok y)
 bind_ok (Ok x) f y e = (x, refl, e)
@@ -18,6 +18,10 @@ formed_ok line false x y e = absurd cc
 pub ordered_ok : {A : Type 0} (line : ℕ) (b : Bool) (x y : A) → ordered line b x ≡ Ok y → (b ≡ true) × (x ≡ y)
 ordered_ok line true x y e = (refl, cc)
 ordered_ok line false x y e = absurd cc
+
+pub classified_ok : {A : Type 0} (line : ℕ) (b : Bool) (x y : A) → classified line b x ≡ Ok y → (b ≡ true) × (x ≡ y)
+classified_ok line true x y e = (refl, cc)
+classified_ok line false x y e = absurd cc
 
 pub numbered_ok : {A : Type 0} (line : ℕ) (o : Option A) (y : A) → numbered line o ≡ Ok y → o ≡ Some y
 numbered_ok line (Some x) y e = let same : x ≡ y = cc in ap Some same

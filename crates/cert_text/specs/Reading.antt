@@ -1,11 +1,16 @@
 -- Reading line by line, as a function on lists, with the first fault that is found. On one line a missing line feed
--- comes before all other faults, a wrong form before a wrong number, and a wrong number before a wrong order.
+-- comes before all other faults, a wrong form before a wrong number, a wrong number before a wrong order, and that before
+-- wrong classes.
 use Rattle.std.specs.Prelude.{◌≡◌, ℕ, zero, suc, ◌+◌, ◌*◌, ◌-◌, ◌^◌, Bool, true, false, not, ◌==◌, ◌&&◌, nat_le, nat_lt, if◌then◌else◌, List, [], ◌∷◌, ◌++◌, length, map, Option, Some, None, option_map, Result, Ok, Err, codes}
 use Rattle.std.specs.Str.{bytes_eq}
 use Rattle.std.specs.List.{list_all}
 use Rattle.cost.specs.Distances.{Distance, Finite, Infinite}
 use Rattle.cert_text.specs.declared.fault.CertFault.{CertFault}
 use Rattle.cert_text.specs.declared.fault.CertFault.TheVariants as fault
+use Rattle.abstraction_domain.specs.Rows.{Row, are_numbered}
+use Rattle.abstraction_mapping.specs.Mappings.{Mapping, Pattern, Domains}
+use Rattle.cert_value.specs.declared.certificate.Version.{Version}
+use Rattle.cert_value.specs.declared.certificate.Version.TheVariants.{One, Two}
 use Rattle.cert_value.specs.declared.table.Share.{Share}
 use Rattle.cert_value.specs.Certificates.{Kind, FiniteDomain, Planning, Variable, Table, Entry, CertificateValue, width_of}
 use Rattle.cert_text.specs.Pieces.{pieces}
@@ -142,6 +147,10 @@ abbrev pub ordered : {X : Type 0} → ℕ → Bool → X → Result X CertFault
 ordered line true x = Ok x
 ordered line false x = Err (fault.Order line)
 
+abbrev pub classified : {X : Type 0} → ℕ → Bool → X → Result X CertFault
+classified line true x = Ok x
+classified line false x = Err (fault.Classes line)
+
 -- a line that is exactly this text
 unfoldable pub fixed_at : List ℕ → Remaining → Result Remaining CertFault
 fixed_at text r = do
@@ -189,10 +198,11 @@ headed_of line keyword pairs words = do
 
 -- ---- the parts
 
-unfoldable pub header_at : Remaining → Result Remaining CertFault
+unfoldable pub header_at : Remaining → Result (Version × Remaining) CertFault
 header_at r = do
   l ← line_at r
-  if bytes_eq l.0 (codes "optplan-cert 1") then Ok l.1 else Err fault.Header
+  if bytes_eq l.0 (codes "optplan-cert 1") then Ok (One, l.1)
+      else (if bytes_eq l.0 (codes "optplan-cert 2") then Ok (Two, l.1) else Err fault.Header)
 
 -- whether the certificate is for a planning task
 unfoldable pub kind_at : Remaining → Result (Bool × Remaining) CertFault
@@ -269,6 +279,57 @@ pattern_of line words = do
   pattern ← numbered line (numbers_in (2 ^ 32) form.words)
   ordered line (is_increasing pattern) pattern
 
+-- the least variable that a row behind these may have
+abbrev pub next_variable : List Row → ℕ
+next_variable [] = 0
+next_variable (r ∷ []) = r.variable + 1
+next_variable (r ∷ s ∷ rows) = next_variable (s ∷ rows)
+
+-- a row of a variable that is at least `least`
+unfoldable pub row_of : ℕ → ℕ → List (List ℕ) → Result Row CertFault
+row_of least line words = do
+  form ← counted_of line false words
+  variable ← numbered line (number_in 0 (2 ^ 32) form.first)
+  count ← numbered line (number_in 1 (2 ^ 32) form.count)
+  classes ← numbered line (numbers_in (2 ^ 32) form.words)
+  row ← ordered line (nat_le least variable) (record { variable = variable; classes = classes })
+  classified line (are_numbered classes) row
+
+unfoldable pub row_at : ℕ → Remaining → Result (Row × Remaining) CertFault
+row_at least r = do
+  l ← line_at r
+  row ← row_of least r.number (pieces 32 l.0)
+  Ok (row, l.1)
+
+unfoldable pub row_step : List Row → Remaining → Result (List Row × Remaining) CertFault
+row_step rows r = row_at (next_variable rows) r >>= λ x. Ok (rows ++ x.0 ∷ [], x.1)
+
+-- as many rows as the line of these words states
+unfoldable pub rows_at : ℕ → List (List ℕ) → Remaining → Result (List Row × Remaining) CertFault
+rows_at line words r = do
+  word ← second_of line (codes "domain") words
+  count ← numbered line (number_in 1 (2 ^ 32) word)
+  repeated row_step count [] r
+
+-- whether the words are the first line of a domain abstraction, which version 1 does not have
+abbrev pub is_domain : Version → List (List ℕ) → Bool
+is_domain One words = false
+is_domain Two [] = false
+is_domain Two (w ∷ ws) = bytes_eq w (codes "domain")
+
+unfoldable pub mapping_behind : Bool → ℕ → List (List ℕ) → Remaining → Result (Mapping × Remaining) CertFault
+mapping_behind true line words r = do
+  rows ← rows_at line words r
+  Ok (Domains rows.0, rows.1)
+mapping_behind false line words r = do
+  pattern ← pattern_of line words
+  Ok (Pattern pattern, r)
+
+unfoldable pub mapping_at : Version → Remaining → Result (Mapping × Remaining) CertFault
+mapping_at version r = do
+  first ← line_at r
+  mapping_behind (is_domain version (pieces 32 first.0)) r.number (pieces 32 first.0) first.1
+
 unfoldable pub shares_of : ℕ → List (List ℕ) → Result (List Share) CertFault
 shares_of line words = do
   form ← headed_of line (codes "shares") true words
@@ -282,25 +343,24 @@ values_of line words = do
   count ← numbered line (number_in 0 (2 ^ 24 + 1) form.count)
   numbered line (distances_in (2 ^ 55 + 1) form.words)
 
-unfoldable pub table_at : Remaining → Result (Table × Remaining) CertFault
-table_at r = do
-  first ← line_at r
-  pattern ← pattern_of r.number (pieces 32 first.0)
-  second ← line_at first.1
-  shares ← shares_of first.1.number (pieces 32 second.0)
+unfoldable pub table_at : Version → Remaining → Result (Table × Remaining) CertFault
+table_at version r = do
+  mapping ← mapping_at version r
+  second ← line_at mapping.1
+  shares ← shares_of mapping.1.number (pieces 32 second.0)
   third ← line_at second.1
   values ← values_of second.1.number (pieces 32 third.0)
-  Ok (record { pattern = pattern; shares = shares; values = values }, third.1)
+  Ok (record { mapping = mapping.0; shares = shares; values = values }, third.1)
 
-unfoldable pub column_at : Remaining → Result (List Table × Remaining) CertFault
-column_at r = do
+unfoldable pub column_at : Version → Remaining → Result (List Table × Remaining) CertFault
+column_at version r = do
   count ← count_at (codes "column") 1 65 r
-  repeated (behind table_at) count.0 [] count.1
+  repeated (behind (table_at version)) count.0 [] count.1
 
-unfoldable pub columns_at : Remaining → Result (List (List Table) × Remaining) CertFault
-columns_at r = do
+unfoldable pub columns_at : Version → Remaining → Result (List (List Table) × Remaining) CertFault
+columns_at version r = do
   count ← count_at (codes "columns") 0 65 r
-  repeated (behind column_at) count.0 [] count.1
+  repeated (behind (column_at version)) count.0 [] count.1
 
 -- the words are a cost and as many values as the states before have
 abbrev pub has_width : Option ℕ → Option ℕ → Bool
@@ -351,13 +411,13 @@ end_at r = do
 unfoldable pub certificate_at : Remaining → Result CertificateValue CertFault
 certificate_at r = do
   header ← header_at r
-  planning ← kind_at header
+  planning ← kind_at header.1
   bound ← bound_at planning.1
   kind ← parts_at planning.0 bound.1
-  columns ← columns_at kind.1
+  columns ← columns_at header.0 kind.1
   closed ← closed_at columns.1
   end ← end_at closed.1
-  Ok (record { kind = kind.0; bound = bound.0; columns = columns.0; closed = closed.0 })
+  Ok (record { version = header.0; kind = kind.0; bound = bound.0; columns = columns.0; closed = closed.0 })
 
 -- the certificate of a text, or its first fault
 unfoldable pub certificate_of : List ℕ → Result CertificateValue CertFault

@@ -2,6 +2,10 @@
 use Rattle.std.specs.Prelude.{ℕ, Bool, true, false, List, [], ◌∷◌, ◌++◌, length, map, codes, decimal}
 use Rattle.std.specs.List.{flat_map}
 use Rattle.cost.specs.Distances.{distance_text}
+use Rattle.abstraction_domain.specs.Rows.{Row}
+use Rattle.abstraction_mapping.specs.Mappings.{Mapping, Pattern, Domains}
+use Rattle.cert_value.specs.declared.certificate.Version.{Version}
+use Rattle.cert_value.specs.declared.certificate.Version.TheVariants.{One, Two}
 use Rattle.cert_value.specs.declared.table.Share.{Share}
 use Rattle.cert_value.specs.Certificates.{Kind, FiniteDomain, Planning, Variable, Table, Entry, CertificateValue}
 use Rattle.cert_text.specs.Pieces.{joined}
@@ -31,8 +35,16 @@ kind_lines (Planning atoms variables) =
 abbrev pub share_words : Share → List (List ℕ)
 share_words s = decimal s.operator ∷ decimal s.amount ∷ []
 
-abbrev pub pattern_line : Table → List (List ℕ)
-pattern_line t = counted (codes "table") (length t.pattern) (map decimal t.pattern)
+abbrev pub pattern_line : List ℕ → List (List ℕ)
+pattern_line pattern = counted (codes "table") (length pattern) (map decimal pattern)
+
+-- a variable, the number of its values, and the class of each of them
+abbrev pub row_line : Row → List (List ℕ)
+row_line r = counted (decimal r.variable) (length r.classes) (map decimal r.classes)
+
+abbrev pub mapping_lines : Mapping → List (List (List ℕ))
+mapping_lines (Pattern pattern) = pattern_line pattern ∷ []
+mapping_lines (Domains rows) = counted (codes "domain") (length rows) [] ∷ map row_line rows
 
 abbrev pub shares_line : Table → List (List ℕ)
 shares_line t = counted (codes "shares") (length t.shares) (flat_map share_words t.shares)
@@ -41,7 +53,7 @@ abbrev pub values_line : Table → List (List ℕ)
 values_line t = counted (codes "values") (length t.values) (map distance_text t.values)
 
 abbrev pub table_lines : Table → List (List (List ℕ))
-table_lines t = pattern_line t ∷ shares_line t ∷ values_line t ∷ []
+table_lines t = mapping_lines t.mapping ++ shares_line t ∷ values_line t ∷ []
 
 abbrev pub column_lines : List Table → List (List (List ℕ))
 column_lines column = counted (codes "column") (length column) [] ∷ flat_map table_lines column
@@ -55,10 +67,14 @@ entry_line e = decimal e.cost ∷ map decimal e.state
 abbrev pub closed_lines : List Entry → List (List (List ℕ))
 closed_lines entries = counted (codes "closed") (length entries) [] ∷ map entry_line entries
 
+abbrev pub version_text : Version → List ℕ
+version_text One = codes "1"
+version_text Two = codes "2"
+
 -- the lines of a certificate, each a list of words
 abbrev pub lines : CertificateValue → List (List (List ℕ))
 lines c =
-    (codes "optplan-cert" ∷ codes "1" ∷ [])
+    (codes "optplan-cert" ∷ version_text c.version ∷ [])
     ∷ kind_line c.kind
     ∷ (codes "bound" ∷ distance_text c.bound ∷ [])
     ∷ kind_lines c.kind

@@ -9,14 +9,14 @@ use thiserror::Error;
 /// The first fault of a text, or a failed allocation. Lines are counted from 1.
 ///
 /// The first fault is the one on the earliest line. On the same line `Truncated` comes first, `Expected` before
-/// `Number`, and `Number` before `Order`. `TooLong` comes before the faults of all lines. The codes are those of
-/// `docs/FAULTS.md`.
+/// `Number`, `Number` before `Order`, and `Order` before `Classes`. `TooLong` comes before the faults of all lines. The
+/// codes are those of `docs/FAULTS.md`.
 #[derive(Clone, Copy, Debug, PartialEq, Eq, Error)]
 pub enum CertFault {
     /// Memory ran out. This does not depend on the text.
     #[error("out of memory")]
     OutOfMemory,
-    /// F50: the first line is not `optplan-cert 1`.
+    /// F50: the first line is neither `optplan-cert 1` nor `optplan-cert 2`.
     #[error("F50 Header cert")]
     Header,
     /// F51: a line with another keyword than required, with a separator too many or too few, with a byte that no word
@@ -35,6 +35,10 @@ pub enum CertFault {
     /// F55: numbers that are not strictly increasing where they must be.
     #[error("F55 Order cert {0}")]
     Order(usize),
+    /// F57: classes that are not numbered in the order in which they first stand in their line: one is neither a class
+    /// that stood earlier there nor the least number that did not.
+    #[error("F57 Classes cert {0}")]
+    Classes(usize),
     /// F56: more than 1,073,741,824 bytes.
     #[error("F56 TooLong cert")]
     TooLong,

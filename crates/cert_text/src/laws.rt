@@ -3,7 +3,7 @@
 ghost use Rattle.std.specs.Prelude.{◌≡◌, ◌≤◌, ◌^◌, ◌++◌, [], ℕ, List, length};
 ghost use Rattle.cert_value.specs.Certificates.{CertificateValue};
 ghost use Rattle.cert_text.specs.Spelling.{spelling};
-ghost use Rattle.cert_text.specs.Lawful.{IsLawful};
+ghost use Rattle.cert_value.specs.Lawful.{IsLawful};
 ghost use Rattle.cert_text.specs.declared.fault.CertFault.{CertFault};
 ghost use Rattle.cert_text.specs.Reading.{certificate_of};
 ghost use Rattle.std.specs.Prelude.{Ok, Err, ◌⊎◌};

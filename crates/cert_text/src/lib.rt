@@ -1,4 +1,5 @@
-//! The texts of certificates of a lower bound on the cost of every plan.
+//! The texts of certificates of a lower bound on the cost of every plan, in versions 1 and 2: version 2 may have tables of
+//! domain abstractions too.
 //!
 //! A text consists of lines of words separated by single blanks, and each value has exactly one text: numbers are
 //! decimal without leading zeros, and every line ends with a line feed. A text is read exactly if it spells a

@@ -1,9 +1,9 @@
 //! The lines of atoms, variables, tables and states.
 
-ghost use Rattle.std.specs.Prelude.{◌≡◌, ◌<◌, ◌^◌, map};
+ghost use Rattle.std.specs.Prelude.{◌≡◌, ◌<◌, ◌^◌, map, IfOk};
 ghost use Rattle.std.specs.List.{list_all};
 ghost use Rattle.cert_text.specs.Pieces.{pieces};
-ghost use Rattle.cert_text.specs.Reading.{Gives, is_printed, is_atom_word, atom_of, variable_of, pattern_of, shares_of, values_of, entry_of, has_width};
+ghost use Rattle.cert_text.specs.Reading.{Gives, is_printed, is_atom_word, atom_of, variable_of, pattern_of, row_of, is_domain, shares_of, values_of, entry_of, has_width};
 ghost use Rattle.cert_text.specs.Cursors.{left, remaining};
 ghost use Rattle.cert_value.specs.Views as view;
 ghost use Rattle.std.specs.String.{string_bytes};
@@ -15,7 +15,8 @@ use crate::numbers::{
     distances, increases, number_within, operators_increase, read_numbers, shares,
 };
 use crate::words::Words;
-use cert_value::{AtomVariable, Share, Values};
+use abstraction_domain::ClassRow;
+use cert_value::{AtomVariable, Share, Values, Version};
 use std::alloc::Global;
 
 /// The end of the numbers of variables, operators and values, and of most counts: 2^32.
@@ -102,6 +103,48 @@ pub(crate) fn pattern_line(alloc: Global, line: &[u8], number: usize) -> Result<
         Ok(pattern)
     } else {
         Err(CertFault::Order(number))
+    }
+}
+
+/// Whether the line is the first of a domain abstraction, which version 1 does not have.
+pub(crate) fn is_domain(version: Version, line: &[u8]) -> bool
+    ensures { result ≡ is_domain version (pieces 32 line.now) }
+{
+    match version {
+        Version::One => false,
+        Version::Two => match Words::new(line).first() {
+            Some((word, _)) => word == b"domain".as_slice(),
+            None => false,
+        },
+    }
+}
+
+/// The row of a variable that is at least `least`. `number` is the number of the line.
+#[tactic(auto, using(crate::proofs::RowLaws::numbered_test, crate::proofs::RowLaws::misnumbered_test), unfolding(crate::specs::Reading::row_of))]
+pub(crate) fn row_line(
+    alloc: Global,
+    line: &[u8],
+    least: u64,
+    number: usize,
+) -> Result<ClassRow, CertFault>
+    ensures row { Gives (λ r. r) result (row_of least number (pieces 32 line.now)) }
+    ensures short { IfOk result (λ r. r.variable < 2 ^ 32) }
+{
+    let form = counted_line(line, false, number)?;
+    let Some(variable) = number_within(form.first, 0, SHORT) else {
+        return Err(CertFault::Number(number));
+    };
+    if number_within(form.count, 1, SHORT).is_none() {
+        return Err(CertFault::Number(number));
+    }
+    let mut classes = Vec::new(alloc);
+    read_numbers(&mut classes, form.words, SHORT, number)?;
+    if variable < least {
+        return Err(CertFault::Order(number));
+    }
+    match ClassRow::new(variable as usize, classes) {
+        Ok(row) => Ok(row),
+        Err(_) => Err(CertFault::Classes(number)),
     }
 }
 

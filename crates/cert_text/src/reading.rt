@@ -3,20 +3,26 @@
 ghost use Rattle.std.specs.Prelude.{◌≡◌, ◌<◌, ◌≤◌, ◌^◌, IfOk, Ok, length, map};
 ghost use Rattle.cert_value.specs.Certificates.{CertificateValue};
 ghost use Rattle.cert_text.specs.Spelling.{spelling};
-ghost use Rattle.cert_text.specs.Lawful.{IsLawful};
-ghost use Rattle.cert_text.specs.Reading.{Gives, header_at, kind_at, bound_of, atoms_at, variables_at, parts_at, table_at, column_at, columns_at, closed_at, end_at, certificate_at, certificate_of};
+ghost use Rattle.cert_value.specs.Lawful.{IsLawful};
+ghost use Rattle.cert_text.specs.Reading.{Gives, header_at, kind_at, bound_of, atoms_at, variables_at, parts_at, rows_at, mapping_at, table_at, column_at, columns_at, closed_at, end_at, certificate_at, certificate_of};
 ghost use Rattle.cert_text.specs.Pieces.{pieces};
 ghost use Rattle.cert_text.specs.Cursors.{remaining};
+ghost use Rattle.abstraction_mapping.specs.Views.{mapping_of};
 ghost use Rattle.cert_value.specs.Views as view;
 
 use crate::fault::CertFault;
 use crate::forms::{count_line, fixed_line, second_word};
 use crate::lines::Lines;
-use crate::numbers::distance_within;
+use crate::numbers::{distance_within, number_within};
 use crate::parts::{
-    SHORT, atom_words, entry_line, pattern_line, shares_line, values_line, variable_line,
+    SHORT, atom_words, entry_line, is_domain, pattern_line, row_line, shares_line, values_line,
+    variable_line,
 };
-use cert_value::{AtomParts, AtomVariable, Certificate, CertificateKind, ClosedList, PatternTable};
+use abstraction_domain::ClassRow;
+use abstraction_mapping::Mapping;
+use cert_value::{
+    AbstractionTable, AtomParts, AtomVariable, Certificate, CertificateKind, ClosedList, Version,
+};
 use cost::Dist;
 use std::alloc::Global;
 
@@ -24,12 +30,14 @@ use std::alloc::Global;
 pub const MAX_LENGTH: usize = 1_073_741_824;
 
 #[tactic(auto, unfolding(crate::specs::Reading::header_at))]
-fn header(lines: Lines<'_>) -> Result<Lines<'_>, CertFault>
-    ensures { Gives remaining result (header_at (remaining lines.entry)) }
+fn header(lines: Lines<'_>) -> Result<(Version, Lines<'_>), CertFault>
+    ensures { Gives (λ x. (x.0, remaining x.1)) result (header_at (remaining lines.entry)) }
 {
     let (line, rest) = lines.first()?;
     if line == b"optplan-cert 1".as_slice() {
-        Ok(rest)
+        Ok((Version::One, rest))
+    } else if line == b"optplan-cert 2".as_slice() {
+        Ok((Version::Two, rest))
     } else {
         Err(CertFault::Header)
     }
@@ -113,19 +121,69 @@ fn parts(
     Ok((CertificateKind::Pddl(AtomParts { atoms, variables }), lines))
 }
 
-#[tactic(auto, unfolding(crate::specs::Reading::table_at))]
-fn table(alloc: Global, lines: Lines<'_>) -> Result<(PatternTable, Lines<'_>), CertFault>
-    ensures { Gives (λ x. (view.table_of x.0, remaining x.1)) result (table_at (remaining lines.entry)) }
+/// Reads the rows of a domain abstraction, as many as its first line states. `number` is the number of that line, and
+/// `lines` are those behind it.
+#[tactic(auto, using(crate::proofs::Repeating::looping), unfolding(crate::specs::Reading::rows_at, crate::specs::Reading::row_step, crate::specs::Reading::row_at))]
+fn rows<'a>(
+    alloc: Global,
+    line: &[u8],
+    number: usize,
+    lines: Lines<'a>,
+) -> Result<(Vec<ClassRow>, Lines<'a>), CertFault>
+    ensures { Gives (λ x. (x.0.items, remaining x.1)) result (rows_at number (pieces 32 line.now) (remaining lines.entry)) }
 {
-    let (line, second) = lines.first()?;
-    let pattern = pattern_line(alloc, line, lines.number)?;
+    let word = second_word(line, b"domain", number)?;
+    let Some(count) = number_within(word, 1, SHORT) else {
+        return Err(CertFault::Number(number));
+    };
+    let mut next = lines;
+    let mut rows = Vec::new(alloc);
+    let mut least = 0u64;
+    for _ in 0..count {
+        let (line, rest) = next.first()?;
+        let row = row_line(alloc, line, least, next.number)?;
+        least = row.variable() as u64 + 1;
+        rows.push(row)?;
+        next = rest;
+    }
+    Ok((rows, next))
+}
+
+/// Reads what a table keeps of a state.
+#[tactic(auto, unfolding(crate::specs::Reading::mapping_at, crate::specs::Reading::mapping_behind))]
+fn mapping(
+    alloc: Global,
+    version: Version,
+    lines: Lines<'_>,
+) -> Result<(Mapping, Lines<'_>), CertFault>
+    ensures { Gives (λ x. (mapping_of x.0, remaining x.1)) result (mapping_at version (remaining lines.entry)) }
+{
+    let (line, rest) = lines.first()?;
+    if is_domain(version, line) {
+        let (rows, rest) = rows(alloc, line, lines.number, rest)?;
+        Ok((Mapping::Domains(rows), rest))
+    } else {
+        let pattern = pattern_line(alloc, line, lines.number)?;
+        Ok((Mapping::Pattern(pattern), rest))
+    }
+}
+
+#[tactic(auto, unfolding(crate::specs::Reading::table_at))]
+fn table(
+    alloc: Global,
+    version: Version,
+    lines: Lines<'_>,
+) -> Result<(AbstractionTable, Lines<'_>), CertFault>
+    ensures { Gives (λ x. (view.table_of x.0, remaining x.1)) result (table_at version (remaining lines.entry)) }
+{
+    let (mapping, second) = mapping(alloc, version, lines)?;
     let (line, third) = second.first()?;
     let shares = shares_line(alloc, line, second.number)?;
     let (line, rest) = third.first()?;
     let values = values_line(alloc, line, third.number)?;
     Ok((
-        PatternTable {
-            pattern,
+        AbstractionTable {
+            mapping,
             shares,
             values,
         },
@@ -134,14 +192,18 @@ fn table(alloc: Global, lines: Lines<'_>) -> Result<(PatternTable, Lines<'_>), C
 }
 
 #[tactic(auto, using(crate::proofs::Repeating::looping), unfolding(crate::specs::Reading::column_at))]
-fn column(alloc: Global, lines: Lines<'_>) -> Result<(Vec<PatternTable>, Lines<'_>), CertFault>
-    ensures { Gives (λ x. (view.column_of x.0, remaining x.1)) result (column_at (remaining lines.entry)) }
+fn column(
+    alloc: Global,
+    version: Version,
+    lines: Lines<'_>,
+) -> Result<(Vec<AbstractionTable>, Lines<'_>), CertFault>
+    ensures { Gives (λ x. (view.column_of x.0, remaining x.1)) result (column_at version (remaining lines.entry)) }
 {
     let (count, first) = count_line(lines, b"column", 1, 65)?;
     let mut next = first;
     let mut tables = Vec::new(alloc);
     for _ in 0..count {
-        let (table, rest) = table(alloc, next)?;
+        let (table, rest) = table(alloc, version, next)?;
         tables.push(table)?;
         next = rest;
     }
@@ -151,15 +213,16 @@ fn column(alloc: Global, lines: Lines<'_>) -> Result<(Vec<PatternTable>, Lines<'
 #[tactic(auto, using(crate::proofs::Repeating::looping), unfolding(crate::specs::Reading::columns_at))]
 fn columns(
     alloc: Global,
+    version: Version,
     lines: Lines<'_>,
-) -> Result<(Vec<Vec<PatternTable>>, Lines<'_>), CertFault>
-    ensures { Gives (λ x. (view.columns_of x.0.items, remaining x.1)) result (columns_at (remaining lines.entry)) }
+) -> Result<(Vec<Vec<AbstractionTable>>, Lines<'_>), CertFault>
+    ensures { Gives (λ x. (view.columns_of x.0.items, remaining x.1)) result (columns_at version (remaining lines.entry)) }
 {
     let (count, first) = count_line(lines, b"columns", 0, 65)?;
     let mut next = first;
     let mut columns = Vec::new(alloc);
     for _ in 0..count {
-        let (column, rest) = column(alloc, next)?;
+        let (column, rest) = column(alloc, version, next)?;
         columns.push(column)?;
         next = rest;
     }
@@ -199,15 +262,15 @@ fn end(lines: Lines<'_>) -> Result<(), CertFault>
 fn certificate(alloc: Global, lines: Lines<'_>) -> Result<Certificate, CertFault>
     ensures { Gives (λ c. c) result (certificate_at (remaining lines.entry)) }
 {
-    let lines = header(lines)?;
+    let (version, lines) = header(lines)?;
     let (planning, lines) = kind(lines)?;
     let (line, rest) = lines.first()?;
     let bound = bound_line(line, lines.number)?;
     let (kind, lines) = parts(alloc, planning, rest)?;
-    let (columns, lines) = columns(alloc, lines)?;
+    let (columns, lines) = columns(alloc, version, lines)?;
     let (closed, lines) = closed(alloc, lines)?;
     end(lines)?;
-    Ok(Certificate::new(kind, bound, columns, closed))
+    Ok(Certificate::new(version, kind, bound, columns, closed))
 }
 
 /// Reads the certificate that the text spells. Fails with the first fault of the text, as `CertFault` orders them, or

@@ -8,10 +8,14 @@ ghost use Rattle.std.specs.String.{string_bytes};
 ghost use Rattle.cost.specs.Distances.{distance_text};
 ghost use Rattle.cert_text.specs.Spelling as text;
 ghost use Rattle.cert_text.specs.Pieces.{joined};
+ghost use Rattle.abstraction_mapping.specs.Views.{mapping_of};
 ghost use Rattle.cert_value.specs.Views as view;
 
+use abstraction_domain::ClassRow;
+use abstraction_mapping::Mapping;
 use cert_value::{
-    AtomVariable, Certificate, CertificateKind, ClosedList, PatternTable, Share, Values,
+    AbstractionTable, AtomVariable, Certificate, CertificateKind, ClosedList, Share, Values,
+    Version,
 };
 use cost::Dist;
 use itoa::Buffer;
@@ -125,6 +129,49 @@ fn push_variables(out: &mut Vec<u8>, variables: &[AtomVariable]) -> Result<(), A
     Ok(())
 }
 
+fn push_row(out: &mut Vec<u8>, row: &ClassRow) -> Result<(), AllocError>
+    ensures { OnOk result (out.new.items ≡ out.old.items ++ text.line_text (text.row_line row.now)) }
+{
+    let classes = row.classes();
+    push_number(out, row.variable() as u64)?;
+    out.push(b' ')?;
+    push_number(out, classes.len() as u64)?;
+    push_numbers(out, classes)?;
+    out.push(b'\n')?;
+    Ok(())
+}
+
+fn push_rows(out: &mut Vec<u8>, rows: &[ClassRow]) -> Result<(), AllocError>
+    ensures { OnOk result (out.new.items ≡ out.old.items ++ text.text_of (map text.row_line rows.now)) }
+{
+    for row in rows {
+        push_row(out, row)?;
+    }
+    Ok(())
+}
+
+fn push_pattern(out: &mut Vec<u8>, pattern: &[u32]) -> Result<(), AllocError>
+    ensures { OnOk result (out.new.items ≡ out.old.items ++ text.line_text (text.pattern_line pattern.now)) }
+{
+    push_count(out, b"table", pattern.len())?;
+    push_numbers(out, pattern)?;
+    out.push(b'\n')?;
+    Ok(())
+}
+
+/// Appends the lines that state what a table keeps of a state.
+fn push_mapping(out: &mut Vec<u8>, mapping: &Mapping) -> Result<(), AllocError>
+    ensures { OnOk result (out.new.items ≡ out.old.items ++ text.text_of (text.mapping_lines (mapping_of mapping.now))) }
+{
+    match mapping {
+        Mapping::Pattern(pattern) => push_pattern(out, pattern),
+        Mapping::Domains(rows) => {
+            push_count_line(out, b"domain", rows.len())?;
+            push_rows(out, rows)
+        }
+    }
+}
+
 fn push_shares(out: &mut Vec<u8>, shares: &[Share]) -> Result<(), AllocError>
     ensures { OnOk result (out.new.items ≡ out.old.items ++ flat_map (λ q. 32 ∷ q) (flat_map text.share_words shares.now)) }
 {
@@ -147,12 +194,10 @@ fn push_values(out: &mut Vec<u8>, values: &Values) -> Result<(), AllocError>
     Ok(())
 }
 
-fn push_table(out: &mut Vec<u8>, table: &PatternTable) -> Result<(), AllocError>
+fn push_table(out: &mut Vec<u8>, table: &AbstractionTable) -> Result<(), AllocError>
     ensures { OnOk result (out.new.items ≡ out.old.items ++ text.text_of (text.table_lines (view.table_of table.now))) }
 {
-    push_count(out, b"table", table.pattern.len())?;
-    push_numbers(out, &table.pattern)?;
-    out.push(b'\n')?;
+    push_mapping(out, &table.mapping)?;
     push_count(out, b"shares", table.shares.len())?;
     push_shares(out, &table.shares)?;
     out.push(b'\n')?;
@@ -162,7 +207,7 @@ fn push_table(out: &mut Vec<u8>, table: &PatternTable) -> Result<(), AllocError>
     Ok(())
 }
 
-fn push_tables(out: &mut Vec<u8>, tables: &[PatternTable]) -> Result<(), AllocError>
+fn push_tables(out: &mut Vec<u8>, tables: &[AbstractionTable]) -> Result<(), AllocError>
     ensures { OnOk result (out.new.items ≡ out.old.items ++ text.text_of (flat_map text.table_lines (map view.table_of tables.now))) }
 {
     for table in tables {
@@ -171,7 +216,7 @@ fn push_tables(out: &mut Vec<u8>, tables: &[PatternTable]) -> Result<(), AllocEr
     Ok(())
 }
 
-fn push_column(out: &mut Vec<u8>, column: &[PatternTable]) -> Result<(), AllocError>
+fn push_column(out: &mut Vec<u8>, column: &[AbstractionTable]) -> Result<(), AllocError>
     ensures { OnOk result (out.new.items ≡ out.old.items ++ text.text_of (text.column_lines (map view.table_of column.now))) }
 {
     push_count_line(out, b"column", column.len())?;
@@ -179,7 +224,7 @@ fn push_column(out: &mut Vec<u8>, column: &[PatternTable]) -> Result<(), AllocEr
     Ok(())
 }
 
-fn push_columns(out: &mut Vec<u8>, columns: &[Vec<PatternTable>]) -> Result<(), AllocError>
+fn push_columns(out: &mut Vec<u8>, columns: &[Vec<AbstractionTable>]) -> Result<(), AllocError>
     ensures { OnOk result (out.new.items ≡ out.old.items ++ text.text_of (flat_map text.column_lines (view.columns_of columns.now))) }
 {
     for column in columns {
@@ -189,7 +234,7 @@ fn push_columns(out: &mut Vec<u8>, columns: &[Vec<PatternTable>]) -> Result<(), 
 }
 
 /// Appends the lines of all columns.
-fn push_all_columns(out: &mut Vec<u8>, columns: &[Vec<PatternTable>]) -> Result<(), AllocError>
+fn push_all_columns(out: &mut Vec<u8>, columns: &[Vec<AbstractionTable>]) -> Result<(), AllocError>
     ensures { OnOk result (out.new.items ≡ out.old.items ++ text.text_of (text.columns_lines (view.columns_of columns.now))) }
 {
     push_count_line(out, b"columns", columns.len())?;
@@ -236,6 +281,16 @@ fn push_parts(out: &mut Vec<u8>, kind: &CertificateKind) -> Result<(), AllocErro
     Ok(())
 }
 
+/// Appends the first line, which states the version.
+fn push_version(out: &mut Vec<u8>, version: Version) -> Result<(), AllocError>
+    ensures { OnOk result (out.new.items ≡ out.old.items ++ text.line_text (codes "optplan-cert" ∷ text.version_text version ∷ [])) }
+{
+    match version {
+        Version::One => out.extend_from_slice(b"optplan-cert 1\n"),
+        Version::Two => out.extend_from_slice(b"optplan-cert 2\n"),
+    }
+}
+
 /// Appends the second line, which states the kind of task.
 fn push_kind(out: &mut Vec<u8>, kind: &CertificateKind) -> Result<(), AllocError>
     ensures { OnOk result (out.new.items ≡ out.old.items ++ text.line_text (text.kind_line (view.kind_of kind.now))) }
@@ -262,7 +317,8 @@ fn push_bound(out: &mut Vec<u8>, bound: Dist) -> Result<(), AllocError>
 pub fn write_cert(alloc: Global, certificate: &Certificate) -> Result<Vec<u8>, AllocError>
     ensures { IfOk result (λ bytes. bytes.items ≡ text.spelling certificate.now) }
 {
-    let mut out = Vec::from_slice(alloc, b"optplan-cert 1\n")?;
+    let mut out = Vec::new(alloc);
+    push_version(&mut out, certificate.version())?;
     push_kind(&mut out, certificate.kind())?;
     push_bound(&mut out, certificate.bound())?;
     push_parts(&mut out, certificate.kind())?;

@@ -1,7 +1,9 @@
 -- Certificates of a lower bound on the cost of every plan, as values.
 use Rattle.std.specs.Prelude.{ℕ, Bool, List, [], ◌∷◌, length, Option, Some, None}
 use Rattle.cost.specs.Distances.{Distance}
+use Rattle.abstraction_mapping.specs.Mappings.{Mapping}
 use Rattle.cert_value.specs.declared.table.Share.{Share}
+use Rattle.cert_value.specs.declared.certificate.Version.{Version}
 
 -- Atoms of a planning task that make up one variable, by their places in the list of atoms. If the variable has the
 -- none value, there may be states in which none of them is true.
@@ -15,9 +17,9 @@ pub data Kind : Type 0 where
   FiniteDomain : Kind
   Planning : List (List (List ℕ)) → List Variable → Kind
 
--- a table of the projection to a pattern: a share for each operator, and a value for each abstract state
+-- a table of the abstraction by a mapping: a share for each operator, and a value for each abstract state
 pub record Table : Type 0 where
-  pub pattern : List ℕ
+  pub mapping : Mapping
   pub shares : List Share
   pub values : List Distance
 
@@ -27,6 +29,7 @@ pub record Entry : Type 0 where
   pub state : List ℕ
 
 pub record CertificateValue : Type 0 where
+  pub version : Version
   pub kind : Kind
   pub bound : Distance
   pub columns : List (List Table)

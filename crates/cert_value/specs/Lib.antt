@@ -1,3 +1,4 @@
 pub mod Certificates
 pub mod Kept
 pub mod Views
+pub mod Lawful

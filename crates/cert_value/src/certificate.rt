@@ -3,7 +3,7 @@
 ghost use Rattle.std.specs.Prelude.{◌≡◌};
 
 use crate::closed::ClosedList;
-use crate::table::PatternTable;
+use crate::table::AbstractionTable;
 use cost::Dist;
 use std::marker::Model;
 
@@ -35,14 +35,24 @@ pub enum CertificateKind {
     Pddl(AtomParts),
 }
 
+/// The version of a certificate's text.
+#[derive(Clone, Copy, Debug, PartialEq, Eq)]
+pub enum Version {
+    /// Each table is a pattern database.
+    One,
+    /// A table may be one of a domain abstraction.
+    Two,
+}
+
 /// A certificate of a lower bound on the cost of every plan. Its columns are cost-partitioned tables (Seipp, Keller and
 /// Helmert 2020). The type does not say that the certificate is correct. In contracts its value is a
 /// `CertificateValue`.
 #[derive(Drop)]
 pub struct Certificate {
+    version: Version,
     kind: CertificateKind,
     bound: Dist,
-    columns: Vec<Vec<PatternTable>>,
+    columns: Vec<Vec<AbstractionTable>>,
     closed: ClosedList,
 }
 
@@ -53,7 +63,7 @@ impl Model for Certificate {
 
     ghost Value = { CertificateValue };
 
-    ghost view = { λ c. record { kind = kind_of c.kind; bound = c.bound; columns = columns_of c.columns.items; closed = c.closed } };
+    ghost view = { λ c. record { version = c.version; kind = kind_of c.kind; bound = c.bound; columns = columns_of c.columns.items; closed = c.closed } };
 }
 
 impl Certificate {
@@ -61,19 +71,35 @@ impl Certificate {
 
     /// Makes a certificate of its parts.
     pub fn new(
+        version: Version,
         kind: CertificateKind,
         bound: Dist,
-        columns: Vec<Vec<PatternTable>>,
+        columns: Vec<Vec<AbstractionTable>>,
         closed: ClosedList,
     ) -> Certificate
-        ensures { result ≡ record { kind = kind_of kind; bound = bound; columns = columns_of columns.items; closed = closed } }
+        ensures { result ≡ record { version = version; kind = kind_of kind; bound = bound; columns = columns_of columns.items; closed = closed } }
     {
         Certificate {
+            version,
             kind,
             bound,
             columns,
             closed,
         }
+    }
+
+    /// Returns the version.
+    pub fn version(&self) -> Version
+        ensures { result ≡ self.now.version }
+    {
+        self.version
+    }
+
+    /// Returns the same certificate with another version.
+    pub fn with_version(self, version: Version) -> Certificate
+        ensures { result ≡ record self { version = version } }
+    {
+        Certificate { version, ..self }
     }
 
     /// Returns the kind of task that the certificate is for.
@@ -92,7 +118,7 @@ impl Certificate {
     }
 
     /// Returns the columns of tables.
-    pub fn columns(&self) -> &[Vec<PatternTable>]
+    pub fn columns(&self) -> &[Vec<AbstractionTable>]
         ensures { columns_of result.now ≡ self.now.columns }
     {
         &self.columns

@@ -7,7 +7,7 @@ mod closed;
 mod numbers;
 mod table;
 
-pub use certificate::{AtomParts, AtomVariable, Certificate, CertificateKind};
+pub use certificate::{AtomParts, AtomVariable, Certificate, CertificateKind, Version};
 pub use closed::ClosedList;
 pub use numbers::short_numbers;
-pub use table::{PatternTable, Share, Values};
+pub use table::{AbstractionTable, Share, Values};

@@ -1,7 +1,8 @@
-//! Tables of projections.
+//! Tables of abstractions.
 
 ghost use Rattle.std.specs.Prelude.{◌≡◌, ◌<◌, ◌==◌, ◌++◌, [], ◌∷◌, length, slice_get, Some, OnOk, OnErr};
 
+use abstraction_mapping::Mapping;
 use cost::Dist;
 use std::alloc::{AllocError, Global};
 use std::marker::Model;
@@ -78,11 +79,11 @@ impl Values {
     }
 }
 
-/// A pattern database: a table of a projection.
+/// A table of an abstraction: a pattern database, or a table of a domain abstraction.
 #[derive(Drop)]
-pub struct PatternTable {
-    /// The variables of the pattern, by their numbers, strictly increasing in a lawful certificate.
-    pub pattern: Vec<u32>,
+pub struct AbstractionTable {
+    /// What it keeps of a state. The variables are strictly increasing in a lawful certificate.
+    pub mapping: Mapping,
     /// The shares, whose operators are strictly increasing in a lawful certificate.
     pub shares: Vec<Share>,
     /// The value of each abstract state, in order.

@@ -5,7 +5,7 @@ use Rattle.sasfile.specs.SasTexts.{SpellsTask}
 use Rattle.sasfile.specs.Reading.{task_in}
 use Rattle.sasfile.specs.declared.fault.SasFault.TheVariants as sas_fault
 use Rattle.cert_value.specs.Certificates.{Kind, FiniteDomain, Planning, CertificateValue}
-use Rattle.cert_text.specs.Lawful.{IsLawful}
+use Rattle.cert_value.specs.Lawful.{IsLawful}
 use Rattle.cert_text.specs.Spelling.{spelling}
 use Rattle.cert_text.specs.Reading.{certificate_of}
 use Rattle.cert_text.specs.declared.fault.CertFault.{CertFault}

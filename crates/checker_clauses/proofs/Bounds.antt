@@ -1,9 +1,8 @@
 -- The clauses imply the bound.
-use Rattle.std.proofs.Common.{◌≡◌, ℕ, ◌+◌, ◌<◌, Bool, true, false, ◌&&◌, ◌||◌, List, [], ◌∷◌, length, Option, Some, None, refl, inl, inr, leb-true}
+use Rattle.std.proofs.Common.{◌≡◌, ℕ, ◌+◌, ◌<◌, Bool, true, false, ◌&&◌, ◌||◌, List, [], ◌∷◌, Option, Some, None, refl, inl, inr, leb-true}
 use Rattle.std.specs.Prelude.{slice_get, map, sum_by, IfSome, All, nat_eq, nat_le}
 use Rattle.std.specs.Option.{option_map_or}
 use Rattle.std.specs.Cmp.Lexicographic.{pointwise}
-use Rattle.std.proofs.lemmas.List.{length-map}
 use Rattle.std.proofs.lemmas.List.Elements.{All-map}
 use Rattle.std.proofs.lemmas.List.Sums.{sum_by-cons}
 use Rattle.std.proofs.lemmas.List.Folds.{Any-from_list_any}
@@ -13,15 +12,15 @@ use Rattle.cost.proofs.DistanceLaws.{is_at_most-true}
 use Rattle.fdr.specs.Tasks.{FiniteDomainTask, ranges, IsTask, EveryPlanCostsAtLeast, step, is_goal_state, cost_of}
 use Rattle.abstraction.specs.Abstractions as abstraction
 use Rattle.abstraction.specs.Abstractions.{IsConsistent}
-use Rattle.abstraction.specs.Projections.{projection, AllExist}
-use Rattle.abstraction.specs.ProjectionLaws.{projection_abstracts}
+use Rattle.abstraction_mapping.specs.Mappings.{is_mapping}
 use Rattle.abstraction.specs.Columns.{IsTableOf, IsColumn}
 use Rattle.cert_value.specs.Certificates.{Table, Entry, CertificateValue}
 use Rattle.checker_clauses.specs.declared.violation.Violation.TheVariants.{Shares, TableForm, GoalValue, Fall, ClosedState, Start, ClosedGoal, Successor}
-use Rattle.checker_clauses.specs.Clauses.{share_of, value_of, table_of, columns_of, heuristic_of, is_within_cost, has_form, is_increasing, is_goal_at_zero, falls_within_share, is_state, is_behind, is_listed, reaches_bound, is_covered, is_dear_if_goal, covers_successor}
+use Rattle.checker_clauses.specs.Clauses.{share_of, value_of, table_of, abstraction_of, columns_of, heuristic_of, is_within_cost, has_form, is_goal_at_zero, falls_within_share, is_state, is_behind, is_listed, reaches_bound, is_covered, is_dear_if_goal, covers_successor}
 use Rattle.checker_clauses.specs.ClosedLists.{IsListed, IsCovered, CoversSuccessors, IsFinished}
 use Rattle.checker_clauses.specs.Violations.{IsHeld, table_at}
-use Rattle.checker_clauses.proofs.ClauseLaws.{not_false, each, passes_at, all_below, zero_distance, is_state_tells, same_values}
+use Rattle.checker_clauses.proofs.ClauseLaws.{not_false, each, passes_at, zero_distance, is_state_tells, same_values}
+use Rattle.abstraction_mapping.specs.TestedMappings.{abstracts}
 use Rattle.checker_clauses.proofs.Following.{bound_holds}
 use Rattle.abstraction.proofs.Bounds.{heuristic_lower}
 
@@ -36,7 +35,7 @@ module _ (task : FiniteDomainTask) (well : IsTask task) (c : CertificateValue) (
   table_found : (i j : ℕ) (column : List Table) (t : Table) → slice_get c.columns i ≡ Some column → slice_get column j ≡ Some t → table_at c.columns i j ≡ Some t
   table_found i j column t e f = rw (e, f) refl
 
-  goal_at_zero : (t : Table) (a : ℕ) → is_goal_at_zero task t a ≡ true → (projection task t.pattern).is_goal a ≡ true → value_of t a ≡ Finite 0
+  goal_at_zero : (t : Table) (a : ℕ) → is_goal_at_zero task t a ≡ true → (abstraction_of task t).is_goal a ≡ true → value_of t a ≡ Finite 0
   goal_at_zero t a e g = zero_distance (value_of t a) (rw g at e)
 
   falls : (t : Table) (a o : ℕ) (r : Option ℕ) → option_map_or (λ b. is_at_most (value_of t a) (Finite (share_of t.shares o) +ᵈ value_of t b)) r true ≡ true
@@ -47,23 +46,18 @@ module _ (task : FiniteDomainTask) (well : IsTask task) (c : CertificateValue) (
   table_is : (i j : ℕ) (t : Table) → table_at c.columns i j ≡ Some t → IsTableOf task (table_of task t)
   table_is i j t e =
       record {
-        abstraction = projection_abstracts task well t.pattern exist;
+        abstraction = abstracts task well t.mapping (and_parts (is_mapping task t.mapping) _ form).0;
         consistent = record { goals = goals; steps = steps };
       }
     where
       form : has_form task t ≡ true
       form = passes_at (has_form task) (table_at c.columns i j) t e (held (TableForm i j))
 
-      exist : AllExist (ranges task) t.pattern
-      exist =
-          let front = (and_parts _ _ (and_parts _ _ form).0).0 in
-          rw (length-map task.value_names length) (all_below (length task.value_names) t.pattern (and_parts (is_increasing t.pattern) _ front).1)
-
-      goals : (a : ℕ) → a < (projection task t.pattern).size → (projection task t.pattern).is_goal a ≡ true → value_of t a ≡ Finite 0
+      goals : (a : ℕ) → a < (abstraction_of task t).size → (abstraction_of task t).is_goal a ≡ true → value_of t a ≡ Finite 0
       goals a l g = goal_at_zero t a (not_false (is_goal_at_zero task t a) (λ f. held (GoalValue i j a) (rw e (l, f)))) g
 
-      steps : (a o : ℕ) → a < (projection task t.pattern).size → IfSome ((projection task t.pattern).transition a o) (λ b. value_of t a ≤ᵈ Finite (share_of t.shares o) +ᵈ value_of t b)
-      steps a o l = falls t a o ((projection task t.pattern).transition a o) (not_false (falls_within_share task t a o) (λ f. held (Fall i j a o) (rw e (l, f))))
+      steps : (a o : ℕ) → a < (abstraction_of task t).size → IfSome ((abstraction_of task t).transition a o) (λ b. value_of t a ≤ᵈ Finite (share_of t.shares o) +ᵈ value_of t b)
+      steps a o l = falls t a o ((abstraction_of task t).transition a o) (not_false (falls_within_share task t a o) (λ f. held (Fall i j a o) (rw e (l, f))))
 
   column_is : (i : ℕ) (column : List Table) → slice_get c.columns i ≡ Some column → IsColumn task (map (table_of task) column)
   column_is i column e =

@@ -1,9 +1,7 @@
 -- What each clause, as a test that does not fail, tells.
 use Rattle.std.proofs.Common.{◌≡◌, ℕ, zero, suc, ◌<◌, Bool, true, false, List, [], ◌∷◌, length, get_or, Option, Some, refl, arith, ltb-true}
 use Rattle.std.specs.Prelude.{nat_lt, nat_eq, slice_get, slice_index, IsSomeAnd, All}
-use Rattle.std.specs.List.{list_all}
 use Rattle.std.specs.Cmp.Lexicographic.{pointwise}
-use Rattle.std.proofs.lemmas.List.Elements.{All-cons, All-nil}
 use Rattle.std.proofs.lemmas.Bool.{and_parts, eqb-true}
 use Rattle.std.proofs.lemmas.Option.{slice_get-get_or}
 use Rattle.cost.specs.Distances.{Distance, Finite, Infinite}
@@ -22,12 +20,6 @@ each P xs h i d l = h i (get_or xs i d) (slice_get-get_or xs i d l)
 -- a fact that no element has, as far as a test tells, has its test for each
 pub passes_at : {X : Type 0} (test : X → Bool) (r : Option X) (x : X) → r ≡ Some x → (IsSomeAnd r (λ y. test y ≡ false) → ⊥) → test x ≡ true
 passes_at test r x e h = not_false (test x) (λ f. h (rw e f))
-
-pub all_below : (n : ℕ) (xs : List ℕ) → list_all (λ v. nat_lt v n) xs ≡ true → All (λ v. v < n) xs
-all_below n [] e = All-nil (λ v. v < n)
-all_below n (x ∷ xs) e =
-    let parts = and_parts (nat_lt x n) (list_all (λ v. nat_lt v n) xs) e in
-    All-cons (λ v. v < n) x xs (ltb-true x n parts.0) (all_below n xs parts.1)
 
 pub zero_distance : (d : Distance) → is_zero d ≡ true → d ≡ Finite 0
 zero_distance (Finite n) e = rw (eqb-true n 0 e) refl

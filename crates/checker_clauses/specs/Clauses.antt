@@ -1,14 +1,14 @@
 -- The clauses of a certificate for a finite-domain task, each as a test. They allow anyone to check a lower bound on
 -- the cost of every plan: cost-partitioned tables (Seipp, Keller and Helmert 2020), and a closed list whose successors
 -- are in it or have a heuristic value that reaches the bound.
-use Rattle.std.specs.Prelude.{ℕ, ◌+◌, ◌-◌, ◌^◌, Bool, true, false, ◌==◌, ◌&&◌, ◌||◌, nat_le, nat_lt, nat_eq, if◌then◌else◌, List, [], ◌∷◌, length, map, sum_by, slice_get, slice_index_or}
-use Rattle.std.specs.List.{list_all, list_any}
+use Rattle.std.specs.Prelude.{ℕ, ◌+◌, ◌-◌, Bool, true, false, ◌==◌, ◌&&◌, ◌||◌, nat_le, nat_lt, nat_eq, if◌then◌else◌, List, [], ◌∷◌, length, map, sum_by, slice_get, slice_index_or}
+use Rattle.std.specs.List.{list_any}
 use Rattle.std.specs.Option.{option_map_or}
 use Rattle.std.specs.Cmp.Lexicographic.{pointwise}
 use Rattle.cost.specs.Distances.{Distance, Finite, Infinite, is_at_most, ◌+ᵈ◌}
-use Rattle.fdr.specs.Tasks.{FiniteDomainTask, ranges, step, is_goal_state, cost_of}
+use Rattle.fdr.specs.Tasks.{FiniteDomainTask, step, is_goal_state, cost_of}
 use Rattle.abstraction.specs.Abstractions as abstraction
-use Rattle.abstraction.specs.Projections.{projection, size_of}
+use Rattle.abstraction_mapping.specs.Mappings.{abstraction_by, is_mapping}
 use Rattle.abstraction.specs.Columns.{heuristic}
 use Rattle.cert_value.specs.declared.table.Share.{Share}
 use Rattle.cert_value.specs.Certificates.{Table, Entry, CertificateValue}
@@ -24,9 +24,13 @@ share_of (s ∷ shares) o = if s.operator == o then s.amount else share_of share
 abbrev pub value_of : Table → ℕ → Distance
 value_of t a = slice_index_or t.values a Infinite
 
--- the table on the projection of the task to its pattern
+-- the abstraction of the task by the mapping of the table
+abbrev pub abstraction_of : FiniteDomainTask → Table → abstraction.Abstraction
+abstraction_of task t = abstraction_by task t.mapping
+
+-- the table on this abstraction
 abbrev pub table_of : FiniteDomainTask → Table → abstraction.Table
-table_of task t = record { abstraction = projection task t.pattern; share = share_of t.shares; value = value_of t }
+table_of task t = record { abstraction = abstraction_of task t; share = share_of t.shares; value = value_of t }
 
 abbrev pub columns_of : FiniteDomainTask → List (List Table) → List (List abstraction.Table)
 columns_of task columns = map (map (table_of task)) columns
@@ -39,18 +43,9 @@ heuristic_of task columns = heuristic (columns_of task columns)
 abbrev pub is_within_cost : FiniteDomainTask → List Table → ℕ → Bool
 is_within_cost task column o = nat_le (sum_by (λ t. share_of t.shares o) column) (cost_of task o)
 
--- the numbers are strictly increasing
-abbrev pub is_increasing : List ℕ → Bool
-is_increasing [] = true
-is_increasing (x ∷ []) = true
-is_increasing (x ∷ y ∷ ys) = nat_lt x y && is_increasing (y ∷ ys)
-
--- the variables are strictly increasing and exist, and there is a value for each abstract state, of which there are at
--- most 2^24
+-- the mapping is one of the task, and there is a value for each abstract state, of which there are at most 2^24
 abbrev pub has_form : FiniteDomainTask → Table → Bool
-has_form task t =
-    is_increasing t.pattern && list_all (λ v. nat_lt v (length task.value_names)) t.pattern
-    && nat_le (size_of (ranges task) t.pattern) (2 ^ 24) && (length t.values == size_of (ranges task) t.pattern)
+has_form task t = is_mapping task t.mapping && (length t.values == (abstraction_of task t).size)
 
 abbrev pub is_zero : Distance → Bool
 is_zero (Finite n) = n == 0
@@ -58,13 +53,13 @@ is_zero Infinite = false
 
 -- an abstract goal has the value 0
 abbrev pub is_goal_at_zero : FiniteDomainTask → Table → ℕ → Bool
-is_goal_at_zero task t a = if (projection task t.pattern).is_goal a then is_zero (value_of t a) else true
+is_goal_at_zero task t a = if (abstraction_of task t).is_goal a then is_zero (value_of t a) else true
 
 -- the operator lowers the value by at most its share
 abbrev pub falls_within_share : FiniteDomainTask → Table → ℕ → ℕ → Bool
 falls_within_share task t a o =
     option_map_or (λ b. is_at_most (value_of t a) (Finite (share_of t.shares o) +ᵈ value_of t b))
-    ((projection task t.pattern).transition a o) true
+    ((abstraction_of task t).transition a o) true
 
 -- ---- closed states
 

@@ -3,6 +3,8 @@ use Rattle.std.specs.Prelude.{ℕ, false, List, [], ◌∷◌}
 use Rattle.cost.specs.Distances.{Distance, Finite}
 use Rattle.fdr.specs.declared.fact.Fact.{Fact}
 use Rattle.fdr.specs.Tasks.{FiniteDomainTask, Operator}
+use Rattle.abstraction_mapping.specs.Mappings.{Pattern}
+use Rattle.cert_value.specs.declared.certificate.Version.TheVariants.{One}
 use Rattle.cert_value.specs.Certificates.{FiniteDomain, Table, Entry, CertificateValue}
 
 -- the location is this town
@@ -29,7 +31,7 @@ reached cost value = record { cost = cost; state = value ∷ [] }
 
 -- a certificate with closed states and no table
 abbrev pub with_closed : Distance → List Entry → CertificateValue
-with_closed bound closed = record { kind = FiniteDomain; bound = bound; columns = []; closed = closed }
+with_closed bound closed = record { version = One; kind = FiniteDomain; bound = bound; columns = []; closed = closed }
 
 -- a certificate in which the first two towns are closed
 abbrev pub two_closed : Distance → CertificateValue
@@ -39,11 +41,11 @@ two_closed bound = with_closed bound (reached 0 0 ∷ reached 1 1 ∷ [])
 abbrev pub table : ℕ → ℕ → Table
 table second first =
     record {
-      pattern = 0 ∷ [];
+      mapping = Pattern (0 ∷ []);
       shares = record { operator = 0; amount = 1 } ∷ record { operator = 1; amount = second } ∷ [];
       values = Finite first ∷ Finite 1 ∷ Finite 0 ∷ [];
     }
 
 -- a certificate with one column and no closed state
 abbrev pub with_column : Distance → List Table → CertificateValue
-with_column bound column = record { kind = FiniteDomain; bound = bound; columns = column ∷ []; closed = [] }
+with_column bound column = record { version = One; kind = FiniteDomain; bound = bound; columns = column ∷ []; closed = [] }

@@ -1,11 +1,10 @@
 -- Violations of a certificate, and which of them is the first.
 use Rattle.std.specs.Prelude.{◌≡◌, ℕ, ◌<◌, false, ◌&&◌, List, [], ◌∷◌, ◌++◌, Option, Some, None, option_and_then, slice_get, IsSomeAnd, codes, decimal}
 use Rattle.fdr.specs.Tasks.{FiniteDomainTask, ranges}
-use Rattle.abstraction.specs.Projections.{size_of}
 use Rattle.cert_value.specs.Certificates.{Table, CertificateValue}
 use Rattle.checker_clauses.specs.declared.violation.Violation.{Violation}
 use Rattle.checker_clauses.specs.declared.violation.Violation.TheVariants.{Shares, TableForm, GoalValue, Fall, ClosedState, Start, ClosedGoal, Successor}
-use Rattle.checker_clauses.specs.Clauses.{is_within_cost, has_form, is_goal_at_zero, falls_within_share, is_state, is_behind, is_covered, is_dear_if_goal, covers_successor, comes_before}
+use Rattle.checker_clauses.specs.Clauses.{abstraction_of, is_within_cost, has_form, is_goal_at_zero, falls_within_share, is_state, is_behind, is_covered, is_dear_if_goal, covers_successor, comes_before}
 
 -- the table with the number j in the column with the number i
 abbrev pub table_at : List (List Table) → ℕ → ℕ → Option Table
@@ -16,9 +15,9 @@ abbrev pub Violates : FiniteDomainTask → CertificateValue → Violation → Ty
 Violates task c (Shares i o) = IsSomeAnd (slice_get c.columns i) (λ column. is_within_cost task column o ≡ false)
 Violates task c (TableForm i j) = IsSomeAnd (table_at c.columns i j) (λ t. has_form task t ≡ false)
 Violates task c (GoalValue i j a) =
-    IsSomeAnd (table_at c.columns i j) (λ t. (a < size_of (ranges task) t.pattern) × (is_goal_at_zero task t a ≡ false))
+    IsSomeAnd (table_at c.columns i j) (λ t. (a < (abstraction_of task t).size) × (is_goal_at_zero task t a ≡ false))
 Violates task c (Fall i j a o) =
-    IsSomeAnd (table_at c.columns i j) (λ t. (a < size_of (ranges task) t.pattern) × (falls_within_share task t a o ≡ false))
+    IsSomeAnd (table_at c.columns i j) (λ t. (a < (abstraction_of task t).size) × (falls_within_share task t a o ≡ false))
 Violates task c (ClosedState i) =
     IsSomeAnd (slice_get c.closed i) (λ e. (is_state (ranges task) e.state && is_behind c.closed i e.state) ≡ false)
 Violates task c Start = is_covered task c task.initial 0 ≡ false

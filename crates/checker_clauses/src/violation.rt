@@ -9,8 +9,9 @@ pub enum Violation {
     /// C3: in a column the shares of an operator, which need not exist, sum to more than its cost. The numbers are
     /// those of the column and the operator.
     Shares(usize, usize),
-    /// C4: a table has a pattern that is not strictly increasing or names a variable that does not exist, too many
-    /// abstract states, or another number of values. The numbers are those of the column and of the table in it.
+    /// C4: the variables of a table are not strictly increasing, one of them does not exist, a row does not have a class
+    /// for each value of its variable and no more, there are too many abstract states, or another number of values. The
+    /// numbers are those of the column and of the table in it.
     TableForm(usize, usize),
     /// C4: an abstract goal has a value other than 0. The numbers are those of the column, the table and the abstract
     /// state.

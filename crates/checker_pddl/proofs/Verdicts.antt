@@ -5,7 +5,7 @@ use Rattle.std.specs.List.{AllByRecursion}
 use Rattle.std.specs.List.Sorted.{IsStrictlyIncreasing}
 use Rattle.std.proofs.lemmas.List.Elements.{All-nil, All-cons}
 use Rattle.std.proofs.lemmas.List.{length-map}
-use Rattle.cert_text.specs.Lawful.{IsLawful, IsIncreasing, IsVariable, ArePlanningParts}
+use Rattle.cert_value.specs.Lawful.{IsLawful, IsIncreasing, IsVariable, ArePlanningParts}
 use Rattle.cert_value.specs.Certificates.{Planning, Variable, CertificateValue}
 use Rattle.translate_theory.specs.Variables.{PlacedVariable, IsPlaced, variables_at}
 use Rattle.cost.specs.Distances.{Distance, Infinite}

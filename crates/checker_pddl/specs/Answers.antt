@@ -4,7 +4,7 @@ use Rattle.pddl_task.specs.Planning.{PlanningTask}
 use Rattle.pddl.specs.Texts.{SpellTask, IsTaskRefusal}
 use Rattle.pddl.specs.declared.fault.PddlFault.TheVariants as pddl_fault
 use Rattle.cert_value.specs.Certificates.{FiniteDomain, Planning, CertificateValue, Variable}
-use Rattle.cert_text.specs.Lawful.{IsLawful}
+use Rattle.cert_value.specs.Lawful.{IsLawful}
 use Rattle.cert_text.specs.Spelling.{spelling}
 use Rattle.cert_text.specs.Reading.{certificate_of}
 use Rattle.cert_text.specs.declared.fault.CertFault.{CertFault}

@@ -6,7 +6,7 @@ ghost use Rattle.pddl_task.specs.Planning.{PlanningTask, IsPlanningTask, IsActio
 ghost use Rattle.pddl_task.specs.Plans.{HasNoValidPlan};
 ghost use Rattle.translate_theory.specs.Bounds.{ValidPlansCostAtLeast};
 ghost use Rattle.cert_value.specs.Certificates.{Planning, Variable};
-ghost use Rattle.cert_text.specs.Lawful.{IsLawful};
+ghost use Rattle.cert_value.specs.Lawful.{IsLawful};
 ghost use Rattle.cert_text.specs.Spelling.{spelling};
 ghost use Rattle.pddl.specs.Texts.{SpellTask};
 ghost use Rattle.checker_pddl.specs.declared.verdict.PlanningVerdict.TheVariants.{Accepted};

@@ -7,7 +7,7 @@ ghost use Rattle.pddl_task.specs.Planning.{IsPlanningTask, IsActionOf, has_small
 ghost use Rattle.translate_theory.specs.Bounds.{ValidPlansCostAtLeast};
 ghost use Rattle.translate_vars.specs.Faults.{IsFirstFault};
 ghost use Rattle.cert_value.specs.Views.{atom_of, variable_of};
-ghost use Rattle.cert_text.specs.Lawful.{ArePlanningParts};
+ghost use Rattle.cert_value.specs.Lawful.{ArePlanningParts};
 ghost use Rattle.checker_pddl.specs.declared.verdict.PlanningVerdict.TheVariants.{Accepted};
 ghost use Rattle.checker_pddl.specs.Judgements.{IsPlanningVerdict, IsFiniteDomainVerdict, IsPlaceOf, IsListedText, judged_of, atoms_of, placed_of};
 ghost use Rattle.checker_pddl.specs.Answers.{IsUnjudged};

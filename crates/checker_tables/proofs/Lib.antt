@@ -1,7 +1,6 @@
 pub mod ReachLaws
 pub mod MoveLaws
-pub mod PatternMoves
-pub mod FormLaws
+pub mod MappedMoves
 pub mod BoundLaws
 pub mod ColumnLaws
 pub mod TallyLaws

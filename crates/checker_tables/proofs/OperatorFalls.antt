@@ -1,6 +1,6 @@
 -- What the moves of an operator, or of the goal, tell of a table.
-use Rattle.std.proofs.Common.{◌≡◌, ℕ, zero, suc, ◌+◌, ◌*◌, ◌<◌, ◌≤◌, Bool, true, false, List, [], ◌∷◌, length, get_or, Option, Some, None, refl, sym, ap, ◌∙◌, arith, cond, subst, Result, Ok, Err}
-use Rattle.std.specs.Prelude.{option_and_then, slice_get, IfOk}
+use Rattle.std.proofs.Common.{◌≡◌, ℕ, zero, suc, ◌+◌, ◌*◌, ◌<◌, ◌≤◌, Bool, true, false, List, [], ◌∷◌, length, get_or, Some, None, refl, sym, ap, ◌∙◌, arith, cond, subst, Result, Ok, Err}
+use Rattle.std.specs.Prelude.{slice_get, IfOk}
 use Rattle.std.specs.List.{list_all}
 use Rattle.std.proofs.lemmas.Bool.{cond_both, lt-leb, ne_eqb}
 use Rattle.cost.specs.Distances.{Distance, Finite, Infinite, ◌+ᵈ◌, is_at_most}
@@ -8,8 +8,13 @@ use Rattle.fdr.specs.declared.fact.Fact.{Fact}
 use Rattle.fdr.specs.Tasks.{FiniteDomainTask, Operator, ranges, IsAssignment, IsOperator}
 use Rattle.abstraction.specs.Abstractions.{Abstraction}
 use Rattle.abstraction.specs.Steps.{found, at_some}
-use Rattle.abstraction.specs.Projections.{Projection, size_of, agrees, index_after, transition_of, projection}
+use Rattle.abstraction.specs.Projections.{size_of, agrees, index_after}
 use Rattle.abstraction.specs.ProjectionLaws.{index_after_below}
+use Rattle.abstraction_mapping.specs.declared.table.TableAbstraction.{TableAbstraction}
+use Rattle.abstraction_mapping.specs.Mappings.{Mapping, variables_of, abstraction_by, counts_by, facts_by}
+use Rattle.abstraction_mapping.specs.Views.{task_in, mapping_in, abstraction_in, counts_in}
+use Rattle.abstraction_mapping.specs.MappingLaws.{mapping_abstracts}
+use Rattle.abstraction_mapping.specs.ClassLaws.{size_by, goal_by, transition_by, is_task_in, classes_assigned}
 use Rattle.checker_clauses.specs.Clauses.{is_zero}
 use Rattle.checker_tables.specs.declared.moves.Moves.{Moves}
 use Rattle.checker_tables.specs.Moves.{Leads, AreMoves, IsGathered, AreGoals, StaysBelow, IsLeast, IsLeastFailing}
@@ -32,62 +37,66 @@ moves_stay rs ps precondition effect m effects made =
           (omega (arith, f.1, f.3), omega (arith, f.4, next));
     }
 
--- an operator of a projection's task sets values in range
-pub effect_in_range : (p : Projection) (o : ℕ) (op : Operator) → slice_get p.task.operators o ≡ Some op → IsAssignment (ranges p.task) op.effect
-effect_in_range p o op is =
-    let well : IsOperator (ranges p.task) op =
-    at_some (IsOperator (ranges p.task)) (slice_get p.task.operators o) op is (found (IsOperator (ranges p.task)) p.task.operators o p.is_task.operators) in
-    well.effect
+-- an operator of the task sets values in range, and so it does with classes for values
+pub effect_in_range : (a : TableAbstraction) (o : ℕ) (op : Operator) → slice_get (task_in a).operators o ≡ Some op → IsAssignment (counts_in a) (facts_by (mapping_in a) op.effect)
+effect_in_range a o op is =
+    let well : IsOperator (ranges (task_in a)) op =
+    at_some (IsOperator (ranges (task_in a))) (slice_get (task_in a).operators o) op is (found (IsOperator (ranges (task_in a))) (task_in a).operators o (is_task_in a).operators) in
+    classes_assigned a op.effect well.effect
+
+-- an operator that does not exist has no transition
+pub no_operator : (a : TableAbstraction) (values : List Distance) (o share limit : ℕ) → length (task_in a).operators ≤ o → IsLeastFailing (λ i. falls_within (abstraction_in a) values i o share) limit limit
+no_operator a values o share limit e =
+    record {
+      within = omega arith;
+      before = λ i l. falls_nowhere (abstraction_in a) values i o share ((mapping_abstracts a).operators i o e);
+      there = λ l. absurd (omega arith);
+    }
 
 -- the transitions of an operator
-module _ (task : FiniteDomainTask) (ps : List ℕ) (values : List Distance) (o share limit : ℕ) (fits : limit ≤ size_of (ranges task) ps) where
-  -- one that does not exist has none
-  pub no_operator : slice_get task.operators o ≡ None → IsLeastFailing (λ a. falls_within (projection task ps) values a o share) limit limit
-  no_operator e =
-      record {
-        within = omega arith;
-        before = λ a l. falls_nowhere (projection task ps) values a o share (ap (λ (r : Option Operator). option_and_then (transition_of (ranges task) ps a) r) e);
-        there = λ l. absurd (omega arith);
-      }
+module _ (task : FiniteDomainTask) (mapping : Mapping) (values : List Distance) (o share limit : ℕ) (fits : limit ≤ (abstraction_by task mapping).size)
+    (op : Operator) (is : slice_get task.operators o ≡ Some op) (m : Moves)
+    (made : AreMoves (counts_by mapping (ranges task)) (variables_of mapping) 1 (facts_by mapping op.precondition) (facts_by mapping op.effect) m) where
+  abbrev abs : Abstraction
+  abs = abstraction_by task mapping
 
-  module _ (op : Operator) (is : slice_get task.operators o ≡ Some op) (m : Moves) (made : AreMoves (ranges task) ps 1 op.precondition op.effect m) where
-    leads_to : (a : ℕ) → list_all (agrees (ranges task) ps a) op.precondition ≡ true → (projection task ps).transition a o ≡ Some (index_after (ranges task) ps a op.effect)
-    leads_to a e =
-        ap (λ (r : Option Operator). option_and_then (transition_of (ranges task) ps a) r) is
-        ∙ ap (λ (b : Bool). cond b (Some (index_after (ranges task) ps a op.effect)) None) e
+  abbrev agree : ℕ → Bool
+  agree a = list_all (agrees (counts_by mapping (ranges task)) (variables_of mapping) a) (facts_by mapping op.precondition)
 
-    leads_nowhere : (a : ℕ) → list_all (agrees (ranges task) ps a) op.precondition ≡ false → (projection task ps).transition a o ≡ None
-    leads_nowhere a e =
-        ap (λ (r : Option Operator). option_and_then (transition_of (ranges task) ps a) r) is
-        ∙ ap (λ (b : Bool). cond b (Some (index_after (ranges task) ps a op.effect)) None) e
+  abbrev after : ℕ → ℕ
+  after a = index_after (counts_by mapping (ranges task)) (variables_of mapping) a (facts_by mapping op.effect)
 
-    pub operator_falls : (least : ℕ) → IsLeast (is_fall_within values values share) m.free.items m.source m.target limit least
-        → IsLeastFailing (λ a. falls_within (projection task ps) values a o share) limit least
-    operator_falls least found =
-        record { within = found.within; before = before; there = there }
-      where
-        before : (a : ℕ) → a < least → falls_within (projection task ps) values a o share ≡ true
-        before a l = go (list_all (agrees (ranges task) ps a) op.precondition) refl
-          where
-            go : (b : Bool) → list_all (agrees (ranges task) ps a) op.precondition ≡ b → falls_within (projection task ps) values a o share ≡ true
-            go true e =
-                falls_by (projection task ps) values a o share (index_after (ranges task) ps a op.effect) (leads_to a e)
-                ∙ found.before a (index_after (ranges task) ps a op.effect)
-                (moved m.free.items m.source m.target m.source m.target (a * 1) (index_after (ranges task) ps a op.effect * 1) a (index_after (ranges task) ps a op.effect)
-                refl refl (times_one a) (times_one (index_after (ranges task) ps a op.effect)) (made.to a (omega (arith, found.within, fits, l)) e)) l
-            go false e = falls_nowhere (projection task ps) values a o share (leads_nowhere a e)
+  leads_to : (a : ℕ) → agree a ≡ true → abs.transition a o ≡ Some (after a)
+  leads_to a e = transition_by task mapping a o op is ∙ ap (λ (b : Bool). cond b (Some (after a)) None) e
 
-        there : least < limit → falls_within (projection task ps) values least o share ≡ false
-        there l =
-            let t = found.there l in
-            let f = made.from least t.0 t.1 in
-            let same : f.0 ≡ least = sym (times_one f.0) ∙ sym f.3 in
-            let agree : list_all (agrees (ranges task) ps least) op.precondition ≡ true =
-            subst (λ (a : ℕ). list_all (agrees (ranges task) ps a) op.precondition ≡ true) same f.2 in
-            let next : index_after (ranges task) ps least op.effect ≡ t.0 =
-            ap (λ (a : ℕ). index_after (ranges task) ps a op.effect) (sym same) ∙ sym (times_one (index_after (ranges task) ps f.0 op.effect)) ∙ sym f.4 in
-            falls_by (projection task ps) values least o share (index_after (ranges task) ps least op.effect) (leads_to least agree)
-            ∙ ap (λ (b : ℕ). is_fall_within values values share least b) next ∙ t.2
+  leads_nowhere : (a : ℕ) → agree a ≡ false → abs.transition a o ≡ None
+  leads_nowhere a e = transition_by task mapping a o op is ∙ ap (λ (b : Bool). cond b (Some (after a)) None) e
+
+  pub operator_falls : (least : ℕ) → IsLeast (is_fall_within values values share) m.free.items m.source m.target limit least
+      → IsLeastFailing (λ a. falls_within abs values a o share) limit least
+  operator_falls least found =
+      record { within = found.within; before = before; there = there }
+    where
+      before : (a : ℕ) → a < least → falls_within abs values a o share ≡ true
+      before a l = go (agree a) refl
+        where
+          go : (b : Bool) → agree a ≡ b → falls_within abs values a o share ≡ true
+          go true e =
+              falls_by abs values a o share (after a) (leads_to a e)
+              ∙ found.before a (after a)
+              (moved m.free.items m.source m.target m.source m.target (a * 1) (after a * 1) a (after a)
+              refl refl (times_one a) (times_one (after a)) (made.to a (omega (arith, found.within, fits, l, size_by task mapping)) e)) l
+          go false e = falls_nowhere abs values a o share (leads_nowhere a e)
+
+      there : least < limit → falls_within abs values least o share ≡ false
+      there l =
+          let t = found.there l in
+          let f = made.from least t.0 t.1 in
+          let same : f.0 ≡ least = sym (times_one f.0) ∙ sym f.3 in
+          let meets : agree least ≡ true = subst (λ (a : ℕ). agree a ≡ true) same f.2 in
+          let next : after least ≡ t.0 = ap after (sym same) ∙ sym (times_one (after f.0)) ∙ sym f.4 in
+          falls_by abs values least o share (after least) (leads_to least meets)
+          ∙ ap (λ (b : ℕ). is_fall_within values values share least b) next ∙ t.2
 
 -- ---- goals
 
@@ -101,24 +110,30 @@ pub ok_through : {X E : Type 0} (P Q : X → Type 0) (r : Result X E) → ((x : 
 ok_through P Q (Ok x) f h = f x h
 ok_through P Q (Err e) f h = h
 
-pub goals_are : (task : FiniteDomainTask) (ps : List ℕ) (goals m : Moves) → AreMoves (ranges task) ps 1 task.goal [] goals → IsGathered goals m → AreGoals (projection task ps) m
-goals_are task ps goals m made gathered =
+pub goals_are : (task : FiniteDomainTask) (mapping : Mapping) (effect : List Fact) (goals m : Moves)
+    → AreMoves (counts_by mapping (ranges task)) (variables_of mapping) 1 (facts_by mapping task.goal) effect goals → IsGathered goals m → AreGoals (abstraction_by task mapping) m
+goals_are task mapping effect goals m made gathered =
     record { leads = λ a b. (to a b, from a b); positive = gathered.positive made.positive }
   where
-    to : (a b : ℕ) → Leads m a b → (a < size_of (ranges task) ps) × (list_all (agrees (ranges task) ps a) task.goal ≡ true) × (b ≡ 0)
+    to : (a b : ℕ) → Leads m a b → (a < (abstraction_by task mapping).size) × ((abstraction_by task mapping).is_goal a ≡ true) × (b ≡ 0)
     to a b h =
         let old = (gathered.leads a b).0 h in
         let f = made.from a old.1 old.2 in
-        let same : f.0 ≡ a = sym (times_one f.0) ∙ sym f.3 in
-        (omega (arith, f.1, f.3), subst (λ (x : ℕ). list_all (agrees (ranges task) ps x) task.goal ≡ true) same f.2, old.0)
+        let same : f.0 ≡ a = sym (times_one f.0) ∙ sym f.3 in (
+          omega (arith, f.1, f.3, size_by task mapping),
+          goal_by task mapping a
+              ∙ subst (λ (x : ℕ). list_all (agrees (counts_by mapping (ranges task)) (variables_of mapping) x) (facts_by mapping task.goal) ≡ true) same f.2,
+          old.0,
+        )
 
-    from : (a b : ℕ) → (a < size_of (ranges task) ps) × (list_all (agrees (ranges task) ps a) task.goal ≡ true) × (b ≡ 0) → Leads m a b
+    from : (a b : ℕ) → (a < (abstraction_by task mapping).size) × ((abstraction_by task mapping).is_goal a ≡ true) × (b ≡ 0) → Leads m a b
     from a b h =
+        let next : ℕ = index_after (counts_by mapping (ranges task)) (variables_of mapping) a effect * 1 in
         (gathered.leads a b).1 (
           h.2,
-          index_after (ranges task) ps a [] * 1,
-          moved goals.free.items goals.source goals.target goals.source goals.target (a * 1) (index_after (ranges task) ps a [] * 1) a (index_after (ranges task) ps a [] * 1)
-              refl refl (times_one a) refl (made.to a h.0 h.1),
+          next,
+          moved goals.free.items goals.source goals.target goals.source goals.target (a * 1) next a next
+              refl refl (times_one a) refl (made.to a (omega (arith, h.0, size_by task mapping)) (sym (goal_by task mapping a) ∙ h.1)),
         )
 
 module _ (abs : Abstraction) (values zeros : List Distance) (one : zeros ≡ Finite 0 ∷ []) (m : Moves) (goals : AreGoals abs m) where

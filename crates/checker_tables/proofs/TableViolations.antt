@@ -4,15 +4,17 @@ use Rattle.std.specs.Prelude.{IsSomeAnd, IfSome, slice_get, slice_index}
 use Rattle.std.specs.Option.{option_map_or}
 use Rattle.std.proofs.lemmas.Bool.{both_ways, cases_lt}
 use Rattle.std.proofs.lemmas.Option.{slice_get_within}
-use Rattle.fdr.specs.Tasks.{FiniteDomainTask, ranges}
+use Rattle.fdr.specs.Tasks.{FiniteDomainTask}
 use Rattle.abstraction.specs.Abstractions as abstraction
 use Rattle.abstraction.specs.Abstractions.{IsAbstractionOf}
-use Rattle.abstraction.specs.Projections.{Projection, projection, size_of}
-use Rattle.abstraction.specs.ProjectionLaws.{projection_abstracts}
+use Rattle.abstraction_mapping.specs.declared.table.TableAbstraction.{TableAbstraction}
+use Rattle.abstraction_mapping.specs.Mappings.{Mapping, abstraction_by}
+use Rattle.abstraction_mapping.specs.Views.{task_in, mapping_in, abstraction_in}
+use Rattle.abstraction_mapping.specs.MappingLaws.{mapping_abstracts}
 use Rattle.cert_value.specs.Certificates.{Table, CertificateValue}
 use Rattle.checker_clauses.specs.declared.violation.Violation.{Violation}
 use Rattle.checker_clauses.specs.declared.violation.Violation.TheVariants as violation
-use Rattle.checker_clauses.specs.Clauses.{has_form, share_of, is_goal_at_zero, falls_within_share, comes_before}
+use Rattle.checker_clauses.specs.Clauses.{abstraction_of, has_form, share_of, is_goal_at_zero, falls_within_share, comes_before}
 use Rattle.checker_clauses.specs.Violations as violations
 use Rattle.checker_clauses.specs.Violations.{Violates, IsMet, IsFirstOfClause, IsFoundIn, clause_of, table_at}
 use Rattle.checker_pieces.specs.Pieces.{IsFirstIn}
@@ -36,7 +38,7 @@ module _ (task : FiniteDomainTask) (t : Table) where
       first (Fall a o) fails = refl
 
   module _ (formed : has_form task t ≡ true) where
-    pub first_goal_fault : (a : ℕ) → a < size_of (ranges task) t.pattern → is_goal_at_zero task t a ≡ false → ((b : ℕ) → b < a → is_goal_at_zero task t b ≡ true)
+    pub first_goal_fault : (a : ℕ) → a < (abstraction_of task t).size → is_goal_at_zero task t a ≡ false → ((b : ℕ) → b < a → is_goal_at_zero task t b ≡ true)
         → IsFirstFault task t (Some (Goal a))
     first_goal_fault a l fails before = ((l, fails), first)
       where
@@ -45,8 +47,8 @@ module _ (task : FiniteDomainTask) (t : Table) where
         first (Goal b) f = no_earlier b a [] [] (λ h. both_ways (is_goal_at_zero task t b) f.1 (before b h)) (λ _. refl)
         first (Fall b o) f = refl
 
-    module _ (goals : (b : ℕ) → b < size_of (ranges task) t.pattern → is_goal_at_zero task t b ≡ true) where
-      pub first_fall_fault : (a o : ℕ) → a < size_of (ranges task) t.pattern → IsFirstFailure (falls_within_share task t a) (Some o)
+    module _ (goals : (b : ℕ) → b < (abstraction_of task t).size → is_goal_at_zero task t b ≡ true) where
+      pub first_fall_fault : (a o : ℕ) → a < (abstraction_of task t).size → IsFirstFailure (falls_within_share task t a) (Some o)
           → ((b : ℕ) → b < a → IsFirstFailure (falls_within_share task t b) None) → IsFirstFault task t (Some (Fall a o))
       first_fall_fault a o l row before = ((l, row.0), first)
         where
@@ -59,58 +61,58 @@ module _ (task : FiniteDomainTask) (t : Table) where
               (λ h. both_ways (falls_within_share task t b p) f.1 (subst (λ (x : ℕ). falls_within_share task t x p ≡ true) (sym q) (row.1 p h)))
               (λ _. refl))
 
-      pub no_fault : ((a : ℕ) → a < size_of (ranges task) t.pattern → IsFirstFailure (falls_within_share task t a) None) → IsFirstFault task t None
+      pub no_fault : ((a : ℕ) → a < (abstraction_of task t).size → IsFirstFailure (falls_within_share task t a) None) → IsFirstFault task t None
       no_fault rows Form f = both_ways (has_form task t) f formed
       no_fault rows (Goal b) f = both_ways (is_goal_at_zero task t b) f.1 (goals b f.0)
       no_fault rows (Fall a o) f = both_ways (falls_within_share task t a o) f.1 (rows a f.0 o)
 
--- the projection that the code has of a table
-module _ (p : Projection) (task : FiniteDomainTask) (t : Table) (of_task : p.task ≡ task) (same : p.pattern ≡ t.pattern) where
-  pub projection_is : projection p.task p.pattern ≡ projection task t.pattern
-  projection_is = ap (λ (u : FiniteDomainTask). projection u p.pattern) of_task ∙ ap (λ (ps : List ℕ). projection task ps) same
+-- the abstraction that the code has of a table
+module _ (over : TableAbstraction) (task : FiniteDomainTask) (t : Table) (of_task : task_in over ≡ task) (same : mapping_in over ≡ t.mapping) where
+  pub abstraction_is : abstraction_in over ≡ abstraction_of task t
+  abstraction_is = ap (λ (u : FiniteDomainTask). abstraction_by u (mapping_in over)) of_task ∙ ap (abstraction_by task) same
 
-  abstracts : IsAbstractionOf task (projection task t.pattern)
+  abstracts : IsAbstractionOf task (abstraction_of task t)
   abstracts =
-      subst (λ (ps : List ℕ). IsAbstractionOf task (projection task ps)) same
-      (subst (λ (u : FiniteDomainTask). IsAbstractionOf u (projection u p.pattern)) of_task (projection_abstracts p.task p.is_task p.pattern p.exist))
+      subst (λ (mapping : Mapping). IsAbstractionOf task (abstraction_by task mapping)) same
+      (subst (λ (u : FiniteDomainTask). IsAbstractionOf u (abstraction_by u (mapping_in over))) of_task (mapping_abstracts over))
 
   -- what is found among the operators that touch the abstract states is the first of all
-  pub row_first : (sums : List ℕ) → ((o : ℕ) → o < length task.operators → slice_index sums o ≡ share_of t.shares o) → (a : ℕ) → a < size_of (ranges task) t.pattern
+  pub row_first : (sums : List ℕ) → ((o : ℕ) → o < length task.operators → slice_index sums o ≡ share_of t.shares o) → (a : ℕ) → a < (abstraction_of task t).size
       → IsFirstFailure (falls_within_share task t a)
-      (first_fall_at (projection task t.pattern) t.values (map (spender_of (slice_index sums)) (touching_from (projection task t.pattern).touches 0 (length task.operators))) a)
+      (first_fall_at (abstraction_of task t) t.values (map (spender_of (slice_index sums)) (touching_from (abstraction_of task t).touches 0 (length task.operators))) a)
   row_first sums shares a l =
-      first_of_touching (falls_within_share task t a) (λ (s : Spender). falls_within (projection task t.pattern) t.values a s.operator s.share)
-      (slice_index sums) (projection task t.pattern).touches (length task.operators)
-      (λ o h. ap (λ (x : ℕ). falls_within (projection task t.pattern) t.values a o x) (shares o h))
-      (λ o e. falls_to_itself (projection task t.pattern) t.values a o (share_of t.shares o) (abstracts.untouched a o l e))
-      (λ o h. falls_nowhere (projection task t.pattern) t.values a o (share_of t.shares o) (abstracts.operators a o h))
+      first_of_touching (falls_within_share task t a) (λ (s : Spender). falls_within (abstraction_of task t) t.values a s.operator s.share)
+      (slice_index sums) (abstraction_of task t).touches (length task.operators)
+      (λ o h. ap (λ (x : ℕ). falls_within (abstraction_of task t) t.values a o x) (shares o h))
+      (λ o e. falls_to_itself (abstraction_of task t) t.values a o (share_of t.shares o) (abstracts.untouched a o l e))
+      (λ o h. falls_nowhere (abstraction_of task t) t.values a o (share_of t.shares o) (abstracts.operators a o h))
 
   module _ (sums : List ℕ) (shares : (o : ℕ) → o < length task.operators → slice_index sums o ≡ share_of t.shares o)
-      (spenders : List Spender) (are : spenders ≡ map (spender_of (slice_index sums)) (touching_from (projection p.task p.pattern).touches 0 (length task.operators))) where
-    row_is : (a : ℕ) (r : Option ℕ) → a < size_of (ranges task) t.pattern → first_fall_at (projection p.task p.pattern) t.values spenders a ≡ r → IsFirstFailure (falls_within_share task t a) r
+      (spenders : List Spender) (are : spenders ≡ map (spender_of (slice_index sums)) (touching_from (abstraction_in over).touches 0 (length task.operators))) where
+    row_is : (a : ℕ) (r : Option ℕ) → a < (abstraction_of task t).size → first_fall_at (abstraction_in over) t.values spenders a ≡ r → IsFirstFailure (falls_within_share task t a) r
     row_is a r l e =
         subst (IsFirstFailure (falls_within_share task t a))
-        (sym (ap (λ (abs : abstraction.Abstraction). first_fall_at abs t.values (map (spender_of (slice_index sums)) (touching_from abs.touches 0 (length task.operators))) a) projection_is)
-        ∙ ap (λ (ss : List Spender). first_fall_at (projection p.task p.pattern) t.values ss a) (sym are) ∙ e)
+        (sym (ap (λ (abs : abstraction.Abstraction). first_fall_at abs t.values (map (spender_of (slice_index sums)) (touching_from abs.touches 0 (length task.operators))) a) abstraction_is)
+        ∙ ap (λ (ss : List Spender). first_fall_at (abstraction_in over) t.values ss a) (sym are) ∙ e)
         (row_first sums shares a l)
 
-    module _ (formed : has_form task t ≡ true) (goals : IsFirstGoal (projection p.task p.pattern) t.values None) where
-      goals_hold : (b : ℕ) → b < size_of (ranges task) t.pattern → is_goal_at_zero task t b ≡ true
-      goals_hold = subst (λ (abs : abstraction.Abstraction). IsFirstGoal abs t.values None) projection_is goals
+    module _ (formed : has_form task t ≡ true) (goals : IsFirstGoal (abstraction_in over) t.values None) where
+      goals_hold : (b : ℕ) → b < (abstraction_of task t).size → is_goal_at_zero task t b ≡ true
+      goals_hold = subst (λ (abs : abstraction.Abstraction). IsFirstGoal abs t.values None) abstraction_is goals
 
-      pub fall_is_first : (a o : ℕ) → IsFirstFall (projection p.task p.pattern) t.values spenders (Some (a, o)) → IsFirstFault task t (Some (Fall a o))
+      pub fall_is_first : (a o : ℕ) → IsFirstFall (abstraction_in over) t.values spenders (Some (a, o)) → IsFirstFault task t (Some (Fall a o))
       fall_is_first a o fall =
-          let within : a < size_of (ranges task) t.pattern = subst (λ (abs : abstraction.Abstraction). a < abs.size) projection_is fall.0 in
+          let within : a < (abstraction_of task t).size = subst (λ (abs : abstraction.Abstraction). a < abs.size) abstraction_is fall.0 in
           first_fall_fault task t formed goals_hold a o within (row_is a (Some o) within fall.1)
           (λ b l. row_is b None (omega (arith, l, within)) (fall.2 b l))
 
-      pub none_falls : IsFirstFall (projection p.task p.pattern) t.values spenders None → IsFirstFault task t None
+      pub none_falls : IsFirstFall (abstraction_in over) t.values spenders None → IsFirstFault task t None
       none_falls none =
-          no_fault task t formed goals_hold (λ a l. row_is a None l (none a (subst (λ (abs : abstraction.Abstraction). a < abs.size) (sym projection_is) l)))
+          no_fault task t formed goals_hold (λ a l. row_is a None l (none a (subst (λ (abs : abstraction.Abstraction). a < abs.size) (sym abstraction_is) l)))
 
-  pub goal_is_first : has_form task t ≡ true → (a : ℕ) → IsFirstGoal (projection p.task p.pattern) t.values (Some a) → IsFirstFault task t (Some (Goal a))
+  pub goal_is_first : has_form task t ≡ true → (a : ℕ) → IsFirstGoal (abstraction_in over) t.values (Some a) → IsFirstFault task t (Some (Goal a))
   goal_is_first formed a goal =
-      let here = subst (λ (abs : abstraction.Abstraction). IsFirstGoal abs t.values (Some a)) projection_is goal in
+      let here = subst (λ (abs : abstraction.Abstraction). IsFirstGoal abs t.values (Some a)) abstraction_is goal in
       first_goal_fault task t formed a here.0 here.1 here.2
 
 module _ (task : FiniteDomainTask) (c : CertificateValue) where

@@ -1,5 +1,5 @@
+pub mod MappedTables
 pub mod Moves
-pub mod ProjectedTables
 pub mod Rests
 pub mod ShareSums
 pub mod TableFaults

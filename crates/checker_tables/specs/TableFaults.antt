@@ -2,13 +2,12 @@
 use Rattle.std.specs.Prelude.{◌≡◌, ℕ, ◌+◌, ◌<◌, zero, suc, Bool, true, false, if◌then◌else◌, List, [], ◌∷◌, slice_index_or, Option, Some, None}
 use Rattle.std.specs.Option.{option_map_or}
 use Rattle.cost.specs.Distances.{Distance, Finite, Infinite, ◌+ᵈ◌, is_at_most}
-use Rattle.fdr.specs.Tasks.{FiniteDomainTask, ranges}
+use Rattle.fdr.specs.Tasks.{FiniteDomainTask}
 use Rattle.abstraction.specs.Abstractions as abstraction
-use Rattle.abstraction.specs.Projections.{size_of}
 use Rattle.cert_value.specs.Certificates.{Table}
 use Rattle.checker_clauses.specs.declared.violation.Violation.{Violation}
 use Rattle.checker_clauses.specs.declared.violation.Violation.TheVariants as violation
-use Rattle.checker_clauses.specs.Clauses.{has_form, is_zero, is_goal_at_zero, falls_within_share, comes_before}
+use Rattle.checker_clauses.specs.Clauses.{abstraction_of, has_form, is_zero, is_goal_at_zero, falls_within_share, comes_before}
 use Rattle.checker_tables.specs.declared.fault.TableFault.{TableFault}
 use Rattle.checker_tables.specs.declared.fault.TableFault.TheVariants.{Form, Goal, Fall}
 use Rattle.checker_tables.specs.declared.transitions.Spender.{Spender}
@@ -16,8 +15,8 @@ use Rattle.checker_tables.specs.declared.transitions.Spender.{Spender}
 -- the table has this fault
 abbrev pub Fails : FiniteDomainTask → Table → TableFault → Type 0
 Fails task t Form = has_form task t ≡ false
-Fails task t (Goal a) = (a < size_of (ranges task) t.pattern) × (is_goal_at_zero task t a ≡ false)
-Fails task t (Fall a o) = (a < size_of (ranges task) t.pattern) × (falls_within_share task t a o ≡ false)
+Fails task t (Goal a) = (a < (abstraction_of task t).size) × (is_goal_at_zero task t a ≡ false)
+Fails task t (Fall a o) = (a < (abstraction_of task t).size) × (falls_within_share task t a o ≡ false)
 
 -- the place within the table: its form comes first, then its abstract goals, then its transitions
 abbrev pub place_of : TableFault → List ℕ

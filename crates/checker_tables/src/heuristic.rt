@@ -7,11 +7,11 @@ ghost use Rattle.abstraction.specs.Columns.{column_value};
 ghost use Rattle.cert_value.specs.Views as kept;
 ghost use Rattle.checker_clauses.specs.Clauses.{has_form, heuristic_of};
 ghost use Rattle.checker_clauses.specs.Violations.{IsMet};
-ghost use Rattle.checker_tables.specs.ProjectedTables.{on_projection};
+ghost use Rattle.checker_tables.specs.MappedTables.{on_abstraction};
 ghost use Rattle.checker_tables.specs.Rests as spec;
 
-use crate::projected::ProjectedTable;
-use cert_value::{Certificate, PatternTable};
+use crate::mapped::MappedTable;
+use cert_value::{AbstractionTable, Certificate};
 use cost::Dist;
 use fdr::FdrTask;
 use std::alloc::{AllocError, Global};
@@ -30,9 +30,9 @@ fn rest_of(bound: Option<u64>, reached: Option<u64>) -> Option<u64>
 }
 
 /// Whether the sum of the values of the tables at the state is at least the bound.
-fn column_reaches(column: &[ProjectedTable], state: &[u32], bound: Option<u64>) -> bool
+fn column_reaches(column: &[MappedTable], state: &[u32], bound: Option<u64>) -> bool
     requires { All (λ t. IsState (ranges t.task) state.now) column.now }
-    ensures { result ≡ is_at_most (distance_of bound) (column_value state.now (map on_projection column.now)) }
+    ensures { result ≡ is_at_most (distance_of bound) (column_value state.now (map on_abstraction column.now)) }
 {
     let mut rest = bound;
     for table in column {
@@ -44,19 +44,19 @@ fn column_reaches(column: &[ProjectedTable], state: &[u32], bound: Option<u64>) 
     rest == Some(0)
 }
 
-/// The tables of a column with their projections. Fails only if allocation fails.
-fn project_column<'a>(
+/// The tables of a column with their abstractions. Fails only if allocation fails.
+fn mapped_column<'a>(
     alloc: Global,
     task: &'a FdrTask,
-    column: &'a [PatternTable],
-) -> Result<Vec<ProjectedTable<'a>>, AllocError>
+    column: &'a [AbstractionTable],
+) -> Result<Vec<MappedTable<'a>>, AllocError>
     requires { All (λ t. has_form task.now (kept.table_of t) ≡ true) column.now }
     ensures tables { IfOk result (λ made. map (λ t. t.table) made.items ≡ map kept.table_of column.now) }
     ensures task { IfOk result (λ made. All (λ t. t.task ≡ task.now) made.items) }
 {
     let mut made = Vec::with_capacity(alloc, column.len())?;
     for table in column {
-        match ProjectedTable::new(alloc, task, table)? {
+        match MappedTable::new(alloc, task, table)? {
             Some(table) => made.push(table)?,
             None => unreachable!(),
         }
@@ -69,13 +69,13 @@ fn project_column<'a>(
 #[derive(Drop)]
 pub struct Heuristic<'a> {
     task: &'a FdrTask,
-    columns: Vec<Vec<ProjectedTable<'a>>>,
+    columns: Vec<Vec<MappedTable<'a>>>,
     ghost of_task: { All (λ column. All (λ t. t.task ≡ task.now) column.items) columns.items },
 }
 
 impl<'a> Model for Heuristic<'a> {
     ghost use Rattle.std.specs.Prelude.{map};
-    ghost use Rattle.checker_tables.specs.ProjectedTables as spec;
+    ghost use Rattle.checker_tables.specs.MappedTables as spec;
 
     ghost Value = { spec.Heuristic };
 
@@ -95,7 +95,7 @@ impl<'a> Heuristic<'a> {
     {
         let mut columns = Vec::with_capacity(alloc, certificate.columns().len())?;
         for column in certificate.columns() {
-            columns.push(project_column(alloc, task, column)?)?;
+            columns.push(mapped_column(alloc, task, column)?)?;
         }
         Ok(Heuristic { task, columns })
     }

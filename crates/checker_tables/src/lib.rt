@@ -4,9 +4,9 @@
 mod falls;
 mod fault;
 mod heuristic;
+mod mapped;
 mod moves;
 mod places;
-mod projected;
 mod shares;
 mod tables;
 mod transitions;

@@ -1,13 +1,17 @@
 //! The transitions of one operator, by the digits of abstract states that it leaves free.
 
-ghost use Rattle.std.specs.Prelude.{◌≡◌, ℕ, ◌+◌, ◌*◌, ◌^◌, ◌<◌, ◌≤◌, ◌↔◌, ◌++◌, ◌∷◌, [], map, IfSome, IfOk, OnOk, All};
-ghost use Rattle.fdr.specs.Tasks.{ranges, IsTask, IsAssignment};
+ghost use Rattle.std.specs.Prelude.{◌≡◌, ℕ, ◌+◌, ◌*◌, ◌^◌, ◌<◌, ◌≤◌, ◌↔◌, ◌++◌, ◌∷◌, [], nat_eq, map, IfSome, IfOk, OnOk, All};
+ghost use Rattle.std.specs.List.{find};
+ghost use Rattle.fdr.specs.Tasks.{ranges, IsTask, IsInRange, IsAssignment};
 ghost use Rattle.abstraction.specs.Digits.{IsDigitBelow};
 ghost use Rattle.checker_tables.specs.Moves.{Reaches, Leads, IsExtended, AreMoves, IsGathered};
 ghost use Rattle.abstraction.specs.Facts as fact;
+ghost use Rattle.abstraction_mapping.specs.Mappings.{variables_of, facts_by};
+ghost use Rattle.abstraction_mapping.specs.Views.{task_in, mapping_in, counts_in};
 ghost use Rattle.checker_tables.specs.Moves as spec;
 
-use abstraction::{Digit, Projection};
+use abstraction::Digit;
+use abstraction_mapping::TableAbstraction;
 use fdr::Fact;
 use std::alloc::{AllocError, Global};
 
@@ -53,14 +57,21 @@ pub(crate) struct Moves {
     pub(crate) free: Vec<FreeDigit>,
 }
 
-/// The value of the first fact on the variable, if there is one.
-fn value_in(facts: &[Fact], variable: usize) -> Option<u32>
-    ensures { result ≡ fact.value_in facts.now variable }
+/// The first fact on the variable, if there is one.
+fn fact_on(facts: &[Fact], variable: usize) -> Option<Fact>
+    ensures { result ≡ find (λ f. nat_eq f.variable variable) facts.now }
 {
-    facts
-        .iter()
-        .find(|fact| fact.variable == variable)
-        .map(|fact| fact.value)
+    facts.iter().find(|fact| fact.variable == variable).copied()
+}
+
+/// The value of the first fact on the variable, or the class of that value where the variable has classes, if there is
+/// such a fact.
+fn class_in(abstraction: &TableAbstraction<'_>, facts: &[Fact], variable: usize) -> Option<u32>
+    requires { All (IsInRange (ranges (task_in abstraction.now))) facts.now }
+    ensures { result ≡ fact.value_in (facts_by (mapping_in abstraction.now) facts.now) variable }
+{
+    let fact = fact_on(facts, variable)?;
+    Some(abstraction.class_fact(fact).value)
 }
 
 /// The digits without weight in the target. Fails only if allocation fails.
@@ -141,24 +152,25 @@ impl Moves {
     /// The transitions of an operator with this precondition and effect. Fails only if allocation fails.
     pub(crate) fn new(
         alloc: Global,
-        projection: &Projection<'_>,
+        abstraction: &TableAbstraction<'_>,
         precondition: &[Fact],
         effect: &[Fact],
     ) -> Result<Moves, AllocError>
-        requires precondition { IsAssignment (ranges projection.now.task) precondition.now }
-        requires effect { IsAssignment (ranges projection.now.task) effect.now }
-        ensures { IfOk result (AreMoves (ranges projection.now.task) projection.now.pattern 1 precondition.now effect.now) }
+        requires precondition { IsAssignment (ranges (task_in abstraction.now)) precondition.now }
+        requires effect { IsAssignment (ranges (task_in abstraction.now)) effect.now }
+        ensures { IfOk result (AreMoves (counts_in abstraction.now) (variables_of (mapping_in abstraction.now)) 1
+            (facts_by (mapping_in abstraction.now) precondition.now) (facts_by (mapping_in abstraction.now) effect.now)) }
     {
-        let digits = projection.digits();
-        let pattern = projection.pattern();
+        let digits = abstraction.digits();
+        let variables = abstraction.variables();
         let mut moves = Moves {
             source: 0,
             target: 0,
             free: Vec::new(alloc),
         };
-        for place in (0..pattern.len()).rev() {
-            let condition = value_in(precondition, pattern[place]);
-            let value = value_in(effect, pattern[place]);
+        for place in (0..variables.len()).rev() {
+            let condition = class_in(abstraction, precondition, variables[place]);
+            let value = class_in(abstraction, effect, variables[place]);
             moves.add(digits[place], condition, value)?;
         }
         Ok(moves)

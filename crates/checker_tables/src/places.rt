@@ -5,7 +5,7 @@ ghost use Rattle.cert_value.specs.Views as kept;
 ghost use Rattle.checker_clauses.specs.Violations.{table_at};
 ghost use Rattle.checker_tables.specs.TablePlaces.{IsListing, IsListingBefore};
 
-use cert_value::PatternTable;
+use cert_value::AbstractionTable;
 use std::alloc::{AllocError, Global};
 
 /// The place of a table. Both numbers count from 0.
@@ -17,7 +17,10 @@ pub(crate) struct TablePlace {
 }
 
 /// The table at a place, if there is one.
-pub(crate) fn table_at(columns: &[Vec<PatternTable>], place: TablePlace) -> Option<&PatternTable>
+pub(crate) fn table_at(
+    columns: &[Vec<AbstractionTable>],
+    place: TablePlace,
+) -> Option<&AbstractionTable>
     ensures { option_map (λ t. kept.table_of t.now) result ≡ table_at (kept.columns_of columns.now) place.column place.table }
 {
     let column = columns.get(place.column)?;
@@ -27,7 +30,7 @@ pub(crate) fn table_at(columns: &[Vec<PatternTable>], place: TablePlace) -> Opti
 /// Adds the places of the tables of a column behind those of the columns before it. Fails only if allocation fails.
 fn add_column(
     places: &mut Vec<TablePlace>,
-    columns: &[Vec<PatternTable>],
+    columns: &[Vec<AbstractionTable>],
     column: usize,
 ) -> Result<(), AllocError>
     requires column { column < length columns.now }
@@ -43,7 +46,7 @@ fn add_column(
 /// The places of all tables, by column and then by number. Fails only if allocation fails.
 pub(crate) fn table_places(
     alloc: Global,
-    columns: &[Vec<PatternTable>],
+    columns: &[Vec<AbstractionTable>],
 ) -> Result<Vec<TablePlace>, AllocError>
     ensures { IfOk result (λ places. IsListing (kept.columns_of columns.now) places.items) }
 {
@@ -58,7 +61,7 @@ pub(crate) fn table_places(
 /// each value several times. Fails only if allocation fails.
 pub(crate) fn weights_of(
     alloc: Global,
-    columns: &[Vec<PatternTable>],
+    columns: &[Vec<AbstractionTable>],
     places: &[TablePlace],
     operators: usize,
 ) -> Result<Vec<usize>, AllocError>

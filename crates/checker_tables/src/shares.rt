@@ -9,7 +9,7 @@ ghost use Rattle.checker_clauses.specs.Violations.{IsFoundIn};
 ghost use Rattle.checker_tables.specs.ShareSums.{IsFirstFailure, Tally};
 ghost use Rattle.checker_tables.specs.ShareSums as spec;
 
-use cert_value::{Certificate, PatternTable, Share};
+use cert_value::{AbstractionTable, Certificate, Share};
 use checker_clauses::Violation;
 use fdr::FdrTask;
 use std::alloc::{AllocError, Global};
@@ -87,7 +87,7 @@ impl ShareSums {
     /// The sums of the shares of a column. Fails only if allocation fails.
     fn of_column(
         alloc: Global,
-        column: &[PatternTable],
+        column: &[AbstractionTable],
         operators: usize,
     ) -> Result<ShareSums, AllocError>
         ensures { IfOk result (λ s. s ≡ spec.tally_of 0
@@ -149,7 +149,7 @@ fn least_foreign(shares: &[Share], count: usize, before: Option<usize>) -> Optio
 }
 
 /// The least operator from `count` on that has a positive share in a table of the column.
-fn least_of_column(column: &[PatternTable], count: usize) -> Option<usize>
+fn least_of_column(column: &[AbstractionTable], count: usize) -> Option<usize>
     ensures { distance_of result ≡ spec.least_of_column count (map kept.table_of column.now) }
 {
     let mut least = None;
@@ -163,7 +163,7 @@ fn least_of_column(column: &[PatternTable], count: usize) -> Option<usize>
 fn first_overspent(
     alloc: Global,
     task: &FdrTask,
-    column: &[PatternTable],
+    column: &[AbstractionTable],
 ) -> Result<Option<usize>, AllocError>
     ensures { IfOk result (IsFirstFailure (is_within_cost task.now (map kept.table_of column.now))) }
 {

@@ -8,11 +8,11 @@ ghost use Rattle.checker_tables.specs.TableFaults.{IsFirstFault};
 ghost use Rattle.checker_tables.specs.TablePlaces.{IsFaultOf, says_table};
 
 use crate::fault::TableFault;
+use crate::mapped::MappedTable;
 use crate::places::{TablePlace, table_at, table_places, weights_of};
-use crate::projected::ProjectedTable;
 use crate::shares::ShareSums;
 use crate::transitions::{first_fall, first_goal, spenders};
-use cert_value::{Certificate, PatternTable};
+use cert_value::{AbstractionTable, Certificate};
 use checker_clauses::Violation;
 use checker_pieces::first_in_weighed_pieces;
 use fdr::FdrTask;
@@ -23,21 +23,21 @@ use std::thread::Threads;
 fn first_fault(
     alloc: Global,
     task: &FdrTask,
-    table: &PatternTable,
+    table: &AbstractionTable,
 ) -> Result<Option<TableFault>, AllocError>
     ensures { IfOk result (IsFirstFault task.now (kept.table_of table.now)) }
 {
-    let Some(projected) = ProjectedTable::new(alloc, task, table)? else {
+    let Some(mapped) = MappedTable::new(alloc, task, table)? else {
         return Ok(Some(TableFault::Form));
     };
-    let projection = projected.projection();
-    let goal = first_goal(alloc, projection, &table.values)?;
+    let abstraction = mapped.abstraction();
+    let goal = first_goal(alloc, abstraction, &table.values)?;
     if let Some(state) = goal {
         return Ok(Some(TableFault::Goal(state)));
     }
     let shares = ShareSums::of_table(alloc, &table.shares, task.operator_count())?;
-    let spenders = spenders(alloc, projection, &shares, task.operator_count())?;
-    let fall = first_fall(alloc, projection, &table.values, &spenders)?;
+    let spenders = spenders(alloc, abstraction, &shares, task.operator_count())?;
+    let fall = first_fall(alloc, abstraction, &table.values, &spenders)?;
     match fall {
         Some((state, operator)) => Ok(Some(TableFault::Fall(state, operator))),
         None => Ok(None),
@@ -48,7 +48,7 @@ fn first_fault(
 fn fault_at(
     alloc: Global,
     task: &FdrTask,
-    columns: &[Vec<PatternTable>],
+    columns: &[Vec<AbstractionTable>],
     place: TablePlace,
 ) -> Result<Option<TableFault>, AllocError>
     ensures { IfOk result (IsFaultOf task.now (table_at (kept.columns_of columns.now) place.column place.table)) }
@@ -63,7 +63,7 @@ fn fault_at(
 fn first_in_piece(
     alloc: Global,
     task: &FdrTask,
-    columns: &[Vec<PatternTable>],
+    columns: &[Vec<AbstractionTable>],
     places: &[TablePlace],
     start: usize,
     end: usize,

@@ -2,14 +2,15 @@
 
 ghost use Rattle.std.specs.Prelude.{◌≡◌, ◌≤◌, [], ◌∷◌, map, length, slice_index, IfOk};
 ghost use Rattle.cost.specs.Distances.{Finite};
-ghost use Rattle.abstraction.specs.Projections as projections;
+ghost use Rattle.abstraction_mapping.specs.Views.{abstraction_in};
 ghost use Rattle.checker_tables.specs.Moves.{AreGoals, IsLeastFailing};
 ghost use Rattle.checker_tables.specs.TableFaults.{IsFirstGoal, IsFirstFall, falls_within, touching_from, spender_of};
 
 use crate::falls::FallTest;
 use crate::moves::Moves;
 use crate::shares::ShareSums;
-use abstraction::{Abstraction, Projection};
+use abstraction::Abstraction;
+use abstraction_mapping::TableAbstraction;
 use cert_value::Values;
 use cost::Dist;
 use std::alloc::{AllocError, Global};
@@ -44,10 +45,10 @@ pub(crate) fn spenders<A: Abstraction>(
 }
 
 /// The abstract goals, as the sources of transitions to one state. Fails only if allocation fails.
-fn goal_moves(alloc: Global, projection: &Projection<'_>) -> Result<Moves, AllocError>
-    ensures { IfOk result (AreGoals (projections.projection projection.now.task projection.now.pattern)) }
+fn goal_moves(alloc: Global, abstraction: &TableAbstraction<'_>) -> Result<Moves, AllocError>
+    ensures { IfOk result (AreGoals (abstraction_in abstraction.now)) }
 {
-    let goals = Moves::new(alloc, projection, projection.task().goal(), &[])?;
+    let goals = Moves::new(alloc, abstraction, abstraction.task().goal(), &[])?;
     goals.gathered(alloc)
 }
 
@@ -65,13 +66,13 @@ fn goal_values(alloc: Global) -> Result<Values, AllocError>
 /// Each abstract goal is tested as a transition at no cost to a goal state.
 pub(crate) fn first_goal(
     alloc: Global,
-    projection: &Projection<'_>,
+    abstraction: &TableAbstraction<'_>,
     values: &Values,
 ) -> Result<Option<usize>, AllocError>
-    requires { length values.now ≡ (projections.projection projection.now.task projection.now.pattern).size }
-    ensures { IfOk result (IsFirstGoal (projections.projection projection.now.task projection.now.pattern) values.now) }
+    requires { length values.now ≡ (abstraction_in abstraction.now).size }
+    ensures { IfOk result (IsFirstGoal (abstraction_in abstraction.now) values.now) }
 {
-    let goals = goal_moves(alloc, projection)?;
+    let goals = goal_moves(alloc, abstraction)?;
     let zero = goal_values(alloc)?;
     let test = FallTest {
         values,
@@ -90,20 +91,20 @@ pub(crate) fn first_goal(
 /// only if allocation fails.
 fn least_fall(
     alloc: Global,
-    projection: &Projection<'_>,
+    abstraction: &TableAbstraction<'_>,
     values: &Values,
     spender: Spender,
     limit: usize,
 ) -> Result<usize, AllocError>
-    requires size { length values.now ≡ (projections.projection projection.now.task projection.now.pattern).size }
+    requires size { length values.now ≡ (abstraction_in abstraction.now).size }
     requires limit { limit ≤ length values.now }
     ensures { IfOk result (IsLeastFailing
-        (λ a. falls_within (projections.projection projection.now.task projection.now.pattern) values.now a spender.operator spender.share) limit) }
+        (λ a. falls_within (abstraction_in abstraction.now) values.now a spender.operator spender.share) limit) }
 {
-    let Some(operator) = projection.task().operators().get(spender.operator) else {
+    let Some(operator) = abstraction.task().operators().get(spender.operator) else {
         return Ok(limit);
     };
-    let moves = Moves::new(alloc, projection, &operator.precondition, &operator.effect)?;
+    let moves = Moves::new(alloc, abstraction, &operator.precondition, &operator.effect)?;
     let test = FallTest {
         values,
         nexts: values,
@@ -119,17 +120,17 @@ fn least_fall(
 /// one that has failed so far. Their number is at most the product of the numbers of operators and abstract states.
 pub(crate) fn first_fall(
     alloc: Global,
-    projection: &Projection<'_>,
+    abstraction: &TableAbstraction<'_>,
     values: &Values,
     spenders: &[Spender],
 ) -> Result<Option<(usize, usize)>, AllocError>
-    requires { length values.now ≡ (projections.projection projection.now.task projection.now.pattern).size }
-    ensures { IfOk result (IsFirstFall (projections.projection projection.now.task projection.now.pattern) values.now spenders.now) }
+    requires { length values.now ≡ (abstraction_in abstraction.now).size }
+    ensures { IfOk result (IsFirstFall (abstraction_in abstraction.now) values.now spenders.now) }
 {
     let mut limit = values.len();
     let mut found = None;
     for spender in spenders {
-        let state = least_fall(alloc, projection, values, *spender, limit)?;
+        let state = least_fall(alloc, abstraction, values, *spender, limit)?;
         if state < limit {
             limit = state;
             found = Some((state, spender.operator));

@@ -32,6 +32,7 @@ cert_status (cert.Number line) = λ failed. cc
 cert_status cert.Truncated = λ failed. cc
 cert_status (cert.Trailing line) = λ failed. cc
 cert_status (cert.Order line) = λ failed. cc
+cert_status (cert.Classes line) = λ failed. cc
 cert_status cert.TooLong = λ failed. cc
 
 -- a fault of the two texts is no failure of the device

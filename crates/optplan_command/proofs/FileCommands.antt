@@ -7,9 +7,10 @@ use Rattle.optplan_command.specs.Validation.{Validates}
 use Rattle.optplan_command.specs.Checking.{Checks}
 use Rattle.optplan_command.specs.PlanningChecking.{ChecksPlanning}
 use Rattle.optplan_command.specs.Translating.{Translates}
+use Rattle.optplan_command.specs.Migrating.{Migrates}
 use Rattle.optplan_command.specs.declared.file_command.FileCommand.{FileCommand}
-use Rattle.optplan_command.specs.declared.file_command.FileCommand.TheVariants.{Validate, Check, CheckSas, Translate}
-use Rattle.optplan_command.specs.FileCommands.{IsValidation, IsPlanningCheck, IsCheck, IsTranslation, DoesCommand}
+use Rattle.optplan_command.specs.declared.file_command.FileCommand.TheVariants.{Validate, Check, CheckSas, Translate, MigrateCert}
+use Rattle.optplan_command.specs.FileCommands.{IsValidation, IsPlanningCheck, IsCheck, IsTranslation, IsMigration, DoesCommand}
 
 -- an option that is something is not nothing
 pub something : {A : Type 0} (o : Option A) (P : A → Type 0) → IsSomeAnd o P → ((x : A) → o ≡ Some x → ⊥) → ⊥
@@ -25,6 +26,7 @@ validated old new d p l (Validate domain problem plan) status is done =
 validated old new d p l (Check domain problem cert) status is done = elim is [ ]
 validated old new d p l (CheckSas sas cert) status is done = elim is [ ]
 validated old new d p l (Translate domain problem) status is done = elim is [ ]
+validated old new d p l (MigrateCert cert) status is done = elim is [ ]
 
 -- a check of these files for a planning task
 pub planning_checked : (old new : List Event) (d p l : List ℕ) (command : FileCommand) (status : Status) → IsPlanningCheck d p l command → DoesCommand old new command status → ChecksPlanning old new d p l status
@@ -35,6 +37,7 @@ planning_checked old new d p l (Check domain problem cert) status is done =
     (subst (λ (x : List ℕ). ChecksPlanning old new x problem.now cert.now status) is.0 done))
 planning_checked old new d p l (CheckSas sas cert) status is done = elim is [ ]
 planning_checked old new d p l (Translate domain problem) status is done = elim is [ ]
+planning_checked old new d p l (MigrateCert cert) status is done = elim is [ ]
 
 -- a check of these files for a finite-domain task
 pub checked : (old new : List Event) (s l : List ℕ) (command : FileCommand) (status : Status) → IsCheck s l command → DoesCommand old new command status → Checks old new s l status
@@ -44,6 +47,7 @@ checked old new s l (CheckSas sas cert) status is done =
     subst (λ (x : List ℕ). Checks old new s x status) is.1
     (subst (λ (x : List ℕ). Checks old new x cert.now status) is.0 done)
 checked old new s l (Translate domain problem) status is done = elim is [ ]
+checked old new s l (MigrateCert cert) status is done = elim is [ ]
 
 -- a translation of these files
 pub translated : (old new : List Event) (d p : List ℕ) (command : FileCommand) (status : Status) → IsTranslation d p command → DoesCommand old new command status → Translates old new d p status
@@ -53,3 +57,12 @@ translated old new d p (CheckSas sas cert) status is done = elim is [ ]
 translated old new d p (Translate domain problem) status is done =
     subst (λ (x : List ℕ). Translates old new d x status) is.1
     (subst (λ (x : List ℕ). Translates old new x problem.now status) is.0 done)
+translated old new d p (MigrateCert cert) status is done = elim is [ ]
+
+-- a migration of this file
+pub migrated : (old new : List Event) (l : List ℕ) (command : FileCommand) (status : Status) → IsMigration l command → DoesCommand old new command status → Migrates old new l status
+migrated old new l (Validate domain problem plan) status is done = elim is [ ]
+migrated old new l (Check domain problem cert) status is done = elim is [ ]
+migrated old new l (CheckSas sas cert) status is done = elim is [ ]
+migrated old new l (Translate domain problem) status is done = elim is [ ]
+migrated old new l (MigrateCert cert) status is done = subst (λ (x : List ℕ). Migrates old new x status) is done

@@ -3,6 +3,7 @@ pub mod Validations
 pub mod Checks
 pub mod PlanningChecks
 pub mod Translations
+pub mod Migrations
 pub mod FileCommands
 pub mod PlainWords
 pub mod Operands

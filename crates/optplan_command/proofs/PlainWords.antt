@@ -10,6 +10,16 @@ abbrev pub first_text : List (String Global) → List ℕ
 first_text [] = []
 first_text (w ∷ words) = string_bytes w
 
+-- the texts of three words
+pub three_texts : (words : List (String Global)) (b c : String Global) (y z : List ℕ) → 3 ≤ length words → length words < 4
+    → b ≡ slice_index_or words 1 b → c ≡ slice_index_or words 2 c → y ≡ string_bytes b → z ≡ string_bytes c
+    → texts_of words ≡ first_text words ∷ y ∷ z ∷ []
+three_texts [] b c y z least most b_is c_is y_is z_is = absurd (omega arith)
+three_texts (w0 ∷ []) b c y z least most b_is c_is y_is z_is = absurd (omega arith)
+three_texts (w0 ∷ w1 ∷ []) b c y z least most b_is c_is y_is z_is = absurd (omega arith)
+three_texts (w0 ∷ w1 ∷ w2 ∷ []) b c y z least most b_is c_is y_is z_is = rw (y_is, z_is, b_is, c_is) refl
+three_texts (w0 ∷ w1 ∷ w2 ∷ w3 ∷ words) b c y z least most b_is c_is y_is z_is = absurd (omega arith)
+
 -- the texts of four words
 pub four_texts : (words : List (String Global)) (b c d : String Global) (y z t : List ℕ) → 4 ≤ length words → length words < 5
     → b ≡ slice_index_or words 1 b → c ≡ slice_index_or words 2 c → d ≡ slice_index_or words 3 d

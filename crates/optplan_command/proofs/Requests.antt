@@ -1,7 +1,7 @@
 -- What the program does by the words of a command.
-use Rattle.std.proofs.Common.{◌≡◌, ℕ, ◌+◌, ◌*◌, inl, inr, List, [], ◌∷◌, length, get_or, ap, sym, ◌∙◌, subst, refl, arith, Some, codes}
+use Rattle.std.proofs.Common.{◌≡◌, ℕ, ◌+◌, ◌*◌, inl, inr, List, length, get_or, ap, sym, ◌∙◌, subst, arith, Some, codes}
 use Rattle.std.specs.Prelude.{Option, None, Box, option_map}
-use Rattle.clap.specs.Walk.{Row, Text, first_of, rows_of}
+use Rattle.clap.specs.Walk.{Row, Text, rows_of}
 use Rattle.clap.specs.Matches.{first_value}
 use Rattle.clap.specs.Words.{subcommand_rows}
 use Rattle.clap.specs.declared.parser.matches.Found.{Found}
@@ -15,14 +15,15 @@ use Rattle.optplan_command.specs.Validation.{Validates}
 use Rattle.optplan_command.specs.Checking.{Checks}
 use Rattle.optplan_command.specs.PlanningChecking.{ChecksPlanning}
 use Rattle.optplan_command.specs.Translating.{Translates}
+use Rattle.optplan_command.specs.Migrating.{Migrates}
 use Rattle.optplan_command.specs.SolveWords.{HasRefusedValue, SolvesByWords, SolvesSasByWords, operand}
 use Rattle.optplan_command.specs.SolvingCommands.{name_of, Solved}
 use Rattle.optplan_command.specs.declared.solve_words.SolvingCommand.{SolvingCommand}
 use Rattle.optplan_command.specs.declared.solve_words.SolvingCommand.TheVariants.{Solve, SolveSas}
-use Rattle.optplan_command.specs.FileCommands.{IsNamed, NamesNoFileCommand, DoesCommand}
+use Rattle.optplan_command.specs.FileCommands.{IsNamed, DoesCommand}
 use Rattle.optplan_command.specs.Requests.{DoesRequest, IsRefusedRequest, value_in}
 use Rattle.optplan_command.specs.declared.file_command.FileCommand.{FileCommand}
-use Rattle.optplan_command.specs.declared.file_command.FileCommand.TheVariants.{Validate, Check, CheckSas, Translate}
+use Rattle.optplan_command.specs.declared.file_command.FileCommand.TheVariants.{Validate, Check, CheckSas, Translate, MigrateCert}
 
 -- ---- the names of the commands
 
@@ -61,6 +62,7 @@ module _ (name : List ℕ) (value : List ℕ → Option (List ℕ)) (old new : L
     checks = λ e. absurd (apart (codes "solve") (codes "check") (λ m. omega (arith, m)) (sym is ∙ e));
     checks_sas = λ e. absurd (apart (codes "solve") (codes "check-sas") (λ m. omega (arith, m)) (sym is ∙ e));
     translates = λ e. absurd (apart (codes "solve") (codes "translate") (λ m. omega (arith, m)) (sym is ∙ e));
+    migrates = λ e. absurd (apart (codes "solve") (codes "migrate-cert") (λ m. omega (arith, m)) (sym is ∙ e));
     solves = λ e. solved;
     solves_sas = λ e. absurd (apart (codes "solve") (codes "solve-sas") (λ m. omega (arith, m)) (sym is ∙ e));
   }
@@ -71,6 +73,7 @@ module _ (name : List ℕ) (value : List ℕ → Option (List ℕ)) (old new : L
     checks = λ e. absurd (apart (codes "solve-sas") (codes "check") (λ m. omega (arith, m)) (sym is ∙ e));
     checks_sas = λ e. absurd (apart (codes "solve-sas") (codes "check-sas") (λ m. omega (arith, m)) (sym is ∙ e));
     translates = λ e. absurd (apart (codes "solve-sas") (codes "translate") (λ m. omega (arith, m)) (sym is ∙ e));
+    migrates = λ e. absurd (apart (codes "solve-sas") (codes "migrate-cert") (λ m. omega (arith, m)) (sym is ∙ e));
     solves = λ e. absurd (apart (codes "solve-sas") (codes "solve") (λ m. omega (arith, m)) (sym is ∙ e));
     solves_sas = λ e. solved;
   }
@@ -89,6 +92,7 @@ module _ (name : List ℕ) (value : List ℕ → Option (List ℕ)) (old new : L
     checks = λ e. absurd (apart (codes "validate") (codes "check") (λ m. omega (arith, m)) (sym is ∙ e));
     checks_sas = λ e. absurd (apart (codes "validate") (codes "check-sas") (λ m. omega (arith, m)) (sym is ∙ e));
     translates = λ e. absurd (apart (codes "validate") (codes "translate") (λ m. omega (arith, m)) (sym is ∙ e));
+    migrates = λ e. absurd (apart (codes "validate") (codes "migrate-cert") (λ m. omega (arith, m)) (sym is ∙ e));
     solves = λ e. absurd (apart (codes "validate") (codes "solve") (λ m. omega (arith, m)) (sym is ∙ e));
     solves_sas = λ e. absurd (apart (codes "validate") (codes "solve-sas") (λ m. omega (arith, m)) (sym is ∙ e));
   }
@@ -99,6 +103,7 @@ module _ (name : List ℕ) (value : List ℕ → Option (List ℕ)) (old new : L
         (subst (λ x. ChecksPlanning old new domain.now problem.now x status) c done));
     checks_sas = λ e. absurd (apart (codes "check") (codes "check-sas") (λ m. omega (arith, m)) (sym is ∙ e));
     translates = λ e. absurd (apart (codes "check") (codes "translate") (λ m. omega (arith, m)) (sym is ∙ e));
+    migrates = λ e. absurd (apart (codes "check") (codes "migrate-cert") (λ m. omega (arith, m)) (sym is ∙ e));
     solves = λ e. absurd (apart (codes "check") (codes "solve") (λ m. omega (arith, m)) (sym is ∙ e));
     solves_sas = λ e. absurd (apart (codes "check") (codes "solve-sas") (λ m. omega (arith, m)) (sym is ∙ e));
   }
@@ -107,6 +112,7 @@ module _ (name : List ℕ) (value : List ℕ → Option (List ℕ)) (old new : L
     checks = λ e. absurd (apart (codes "check-sas") (codes "check") (λ m. omega (arith, m)) (sym is ∙ e));
     checks_sas = λ e. subst (λ x. Checks old new x (operand value (codes "CERT")) status) s (subst (λ x. Checks old new sas.now x status) c done);
     translates = λ e. absurd (apart (codes "check-sas") (codes "translate") (λ m. omega (arith, m)) (sym is ∙ e));
+    migrates = λ e. absurd (apart (codes "check-sas") (codes "migrate-cert") (λ m. omega (arith, m)) (sym is ∙ e));
     solves = λ e. absurd (apart (codes "check-sas") (codes "solve") (λ m. omega (arith, m)) (sym is ∙ e));
     solves_sas = λ e. absurd (apart (codes "check-sas") (codes "solve-sas") (λ m. omega (arith, m)) (sym is ∙ e));
   }
@@ -115,8 +121,18 @@ module _ (name : List ℕ) (value : List ℕ → Option (List ℕ)) (old new : L
     checks = λ e. absurd (apart (codes "translate") (codes "check") (λ m. omega (arith, m)) (sym is ∙ e));
     checks_sas = λ e. absurd (apart (codes "translate") (codes "check-sas") (λ m. omega (arith, m)) (sym is ∙ e));
     translates = λ e. subst (λ x. Translates old new x (operand value (codes "PROBLEM")) status) d (subst (λ x. Translates old new domain.now x status) p done);
+    migrates = λ e. absurd (apart (codes "translate") (codes "migrate-cert") (λ m. omega (arith, m)) (sym is ∙ e));
     solves = λ e. absurd (apart (codes "translate") (codes "solve") (λ m. omega (arith, m)) (sym is ∙ e));
     solves_sas = λ e. absurd (apart (codes "translate") (codes "solve-sas") (λ m. omega (arith, m)) (sym is ∙ e));
+  }
+  does_files (MigrateCert cert) (is, c) done = record {
+    validates = λ e. absurd (apart (codes "migrate-cert") (codes "validate") (λ m. omega (arith, m)) (sym is ∙ e));
+    checks = λ e. absurd (apart (codes "migrate-cert") (codes "check") (λ m. omega (arith, m)) (sym is ∙ e));
+    checks_sas = λ e. absurd (apart (codes "migrate-cert") (codes "check-sas") (λ m. omega (arith, m)) (sym is ∙ e));
+    translates = λ e. absurd (apart (codes "migrate-cert") (codes "translate") (λ m. omega (arith, m)) (sym is ∙ e));
+    migrates = λ e. subst (λ x. Migrates old new x status) c done;
+    solves = λ e. absurd (apart (codes "migrate-cert") (codes "solve") (λ m. omega (arith, m)) (sym is ∙ e));
+    solves_sas = λ e. absurd (apart (codes "migrate-cert") (codes "solve-sas") (λ m. omega (arith, m)) (sym is ∙ e));
   }
 
 -- a value of an option of a command that solves a task is refused

@@ -3,6 +3,7 @@ pub mod Validation
 pub mod Checking
 pub mod PlanningChecking
 pub mod Translating
+pub mod Migrating
 pub mod Options
 pub mod SolveWords
 pub mod SolvingCommands

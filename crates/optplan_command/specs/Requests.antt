@@ -11,6 +11,7 @@ use Rattle.optplan_command.specs.Validation.{Validates}
 use Rattle.optplan_command.specs.Checking.{Checks}
 use Rattle.optplan_command.specs.PlanningChecking.{ChecksPlanning}
 use Rattle.optplan_command.specs.Translating.{Translates}
+use Rattle.optplan_command.specs.Migrating.{Migrates}
 use Rattle.optplan_command.specs.SolveWords.{HasRefusedValue, SolvesByWords, SolvesSasByWords, operand}
 
 -- the value of an operand or an option, by its name
@@ -23,6 +24,7 @@ pub record DoesRequest (name : List ℕ) (value : List ℕ → Option (List ℕ)
   pub checks : name ≡ codes "check" → ChecksPlanning old new (operand value (codes "DOMAIN")) (operand value (codes "PROBLEM")) (operand value (codes "CERT")) status
   pub checks_sas : name ≡ codes "check-sas" → Checks old new (operand value (codes "SAS")) (operand value (codes "CERT")) status
   pub translates : name ≡ codes "translate" → Translates old new (operand value (codes "DOMAIN")) (operand value (codes "PROBLEM")) status
+  pub migrates : name ≡ codes "migrate-cert" → Migrates old new (operand value (codes "CERT")) status
   pub solves : name ≡ codes "solve" → SolvesByWords value old new status
   pub solves_sas : name ≡ codes "solve-sas" → SolvesSasByWords value old new status
 

@@ -12,6 +12,7 @@ ghost use Rattle.optplan_command.specs.Validation.{AskForValidation, Validates};
 ghost use Rattle.optplan_command.specs.Checking.{AskForCheck, Checks};
 ghost use Rattle.optplan_command.specs.PlanningChecking.{AskForPlanningCheck, ChecksPlanning};
 ghost use Rattle.optplan_command.specs.Translating.{AskForTranslation, Translates};
+ghost use Rattle.optplan_command.specs.Migrating.{AskForMigration, Migrates};
 ghost use Rattle.optplan_command.specs.FileCommands.{IsNotPlain};
 ghost use Rattle.optplan_command.specs.Requests.{DoesRequest, IsMisuse, IsRefusedRequest, value_in};
 
@@ -102,6 +103,9 @@ pub fn run<D: Device, R: Threads + Wait + Clock + Eprint + Sync + AllocGlobal>(
     ensures translates { (h : List Event) (domain problem : List ℕ) → D.history device.old ≡ Some h →
         AskForTranslation (texts_of words.now) domain problem → D.failure_count device.new ≡ D.failure_count device.old → result ≢ Status.OutOfMemory →
         (new : List Event) × (D.history device.new ≡ Some new) × Translates h new domain problem result }
+    ensures migrates { (h : List Event) (cert : List ℕ) → D.history device.old ≡ Some h → AskForMigration (texts_of words.now) cert →
+        D.failure_count device.new ≡ D.failure_count device.old → result ≢ Status.OutOfMemory →
+        (new : List Event) × (D.history device.new ≡ Some new) × Migrates h new cert result }
     ensures requests { (h : List Event) (name : List ℕ) (rows : List Row) → D.history device.old ≡ Some h → IsNotPlain (texts_of words.now) →
         fault_of program (texts_of words.now) ≡ [] → subcommand_of program (texts_of words.now) ≡ Some (name, rows) →
         D.failure_count device.new ≡ D.failure_count device.old → result ≢ Status.OutOfMemory →

@@ -7,6 +7,7 @@ ghost use Rattle.optplan_replies.specs.Runs.{is_operand};
 ghost use Rattle.optplan_command.specs.FileCommands.{IsRequested, DoesCommand};
 
 use crate::checking::run_check;
+use crate::migration::run_migration;
 use crate::planning_check::run_planning_check;
 use crate::translation::run_translation;
 use crate::validation::run_validation;
@@ -38,6 +39,10 @@ pub(crate) enum FileCommand<'a> {
     Translate {
         domain: &'a str,
         problem: &'a str,
+    },
+    /// Prints a certificate as version 2.
+    MigrateCert {
+        cert: &'a str,
     },
 }
 
@@ -98,6 +103,17 @@ fn plain_on_two<'a>(command: &str, first: &'a str, second: &'a str) -> Option<Fi
     }
 }
 
+/// The command of this name on one file that does not start with a hyphen, if there is one.
+fn plain_on_one<'a>(command: &str, file: &'a str) -> Option<FileCommand<'a>>
+    ensures { (program : List ℕ) → IsRequested (program ∷ command.now ∷ file.now ∷ []) result }
+{
+    if is_operand(file) && command == "migrate-cert" {
+        Some(FileCommand::MigrateCert { cert: file })
+    } else {
+        None
+    }
+}
+
 /// The command that plain words request: the program, the command and its files, none of which starts with a hyphen, and
 /// nothing else.
 pub(crate) fn plain_command(words: &[String]) -> Option<FileCommand<'_>>
@@ -115,6 +131,7 @@ pub(crate) fn plain_command(words: &[String]) -> Option<FileCommand<'_>>
         [_, command, first, second] => {
             plain_on_two(command.as_str(), first.as_str(), second.as_str())
         }
+        [_, command, file] => plain_on_one(command.as_str(), file.as_str()),
         _ => None,
     }
 }
@@ -144,5 +161,6 @@ pub(crate) fn run_files<D: Device, R: AllocGlobal + Threads + Sync>(
         FileCommand::Translate { domain, problem } => {
             run_translation(rt.alloc(), device, domain, problem)
         }
+        FileCommand::MigrateCert { cert } => run_migration(rt.alloc(), device, cert),
     }
 }

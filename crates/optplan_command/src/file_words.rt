@@ -39,6 +39,9 @@ pub(crate) fn file_command<'a>(name: &str, words: &ArgMatches<'a>) -> Option<Fil
             domain: named(words, "DOMAIN"),
             problem: named(words, "PROBLEM"),
         }),
+        "migrate-cert" => Some(FileCommand::MigrateCert {
+            cert: named(words, "CERT"),
+        }),
         _ => None,
     }
 }

@@ -5,6 +5,7 @@ mod checking;
 mod command_line;
 mod file_command;
 mod file_words;
+mod migration;
 mod options;
 mod planning_check;
 mod solve_words;

@@ -72,8 +72,12 @@ fn translation_of(alloc: Global, domain: &[u8], problem: &[u8]) -> Result<Vec<u8
     }
 }
 
-/// Prints the text of a translation, or reports the fault of the texts, and returns the exit status.
-fn reply_text<D: Device>(alloc: Global, device: &mut D, answer: &Result<Vec<u8>, Fault>) -> Status
+/// Prints the text, or reports the fault of the texts that it was to be made of, and returns the exit status.
+pub(crate) fn reply_text<D: Device>(
+    alloc: Global,
+    device: &mut D,
+    answer: &Result<Vec<u8>, Fault>,
+) -> Status
     ensures answered { result ≢ Status.OutOfMemory → result ≢ Status.DeviceFailed → IfOk answer.now (λ text. Adds (D.history device.old) (D.history device.new) (HasPut text.items)) }
     ensures status { result ≢ Status.OutOfMemory → result ≢ Status.DeviceFailed → IfOk answer.now (λ _. result ≡ Status.Done) }
     ensures counted { result ≡ Status.DeviceFailed → IfOk answer.now (λ _. D.failure_count device.old + 1 ≤ D.failure_count device.new) }

@@ -44,6 +44,7 @@ fault_of_cert (cert.Number line) = Cert (cert.Number line)
 fault_of_cert cert.Truncated = Cert cert.Truncated
 fault_of_cert (cert.Trailing line) = Cert (cert.Trailing line)
 fault_of_cert (cert.Order line) = Cert (cert.Order line)
+fault_of_cert (cert.Classes line) = Cert (cert.Classes line)
 fault_of_cert cert.TooLong = Cert cert.TooLong
 
 -- a fault of the texts of a finite-domain task and of a certificate for it as the program's

@@ -43,7 +43,7 @@ pub enum Fault {
     Plan(PlanFault),
     /// F18 and F40 to F46: the text of a finite-domain task is refused.
     Sas(SasFault),
-    /// F50 to F56: the text of a certificate is refused.
+    /// F50 to F57: the text of a certificate is refused.
     Cert(CertFault),
     /// F20: a planning task has more atoms or ground actions than the limits allow.
     GroundLimit,
@@ -99,6 +99,7 @@ impl From<CertFault> for Fault {
             | CertFault::Truncated
             | CertFault::Trailing(_)
             | CertFault::Order(_)
+            | CertFault::Classes(_)
             | CertFault::TooLong => Fault::Cert(fault),
         }
     }

@@ -58,6 +58,9 @@ check_sas = command (codes "check-sas") (operand (codes "SAS") ∷ operand (code
 abbrev pub translate : Shape
 translate = command (codes "translate") (operand (codes "DOMAIN") ∷ operand (codes "PROBLEM") ∷ [])
 
+abbrev pub migrate_cert : Shape
+migrate_cert = command (codes "migrate-cert") (operand (codes "CERT") ∷ [])
+
 -- the command that solves a planning task, by this name
 abbrev pub solve : Text → Shape
 solve name = command name (operand (codes "DOMAIN") ∷ operand (codes "PROBLEM") ∷ options)
@@ -78,7 +81,7 @@ bare_program = record (new_shape (codes "optplan")) {
 abbrev pub program : App
 program = record {
   top = record bare_program { is_leaf = false };
-  subs = validate ∷ check_sas ∷ check ∷ translate ∷ solve (codes "solve") ∷ solve_sas (codes "solve-sas") ∷ [];
+  subs = validate ∷ check_sas ∷ check ∷ translate ∷ solve (codes "solve") ∷ solve_sas (codes "solve-sas") ∷ migrate_cert ∷ [];
 }
 
 -- ---- what is made of them

@@ -66,6 +66,15 @@ Reads a domain and a problem in PDDL 2.1 level 1 with types, negative preconditi
 task as output.sas, version 3, as Fast Downward's search reads it (status 0). A text that cannot be read is refused with
 one line on standard error (status 1).";
 
+const MIGRATE_CERT_ABOUT: &str = "Prints a certificate as version 2";
+
+const MIGRATE_CERT_LONG: &str =
+    "Prints a certificate as version 2, in which a table may be one of a domain abstraction.
+
+Reads a certificate of version 1 or 2, and prints the same certificate as version 2 (status 0): only the first line differs,
+and what check and check-sas say of it stays the same. A text that cannot be read is refused with one line on standard
+error (status 1).";
+
 /// The command `validate`. Fails only if allocation fails.
 pub(crate) fn validate_command<'a>(alloc: Global) -> Result<Command<'a>, AllocError>
     ensures { IfOk result (IsCommand spec.validate) }
@@ -110,4 +119,14 @@ pub(crate) fn translate_command<'a>(alloc: Global) -> Result<Command<'a>, AllocE
         .long_about(TRANSLATE_LONG);
     let command = with_arg(command, file(alloc, "DOMAIN", "The domain's file"))?;
     with_arg(command, file(alloc, "PROBLEM", "The problem's file"))
+}
+
+/// The command `migrate-cert`. Fails only if allocation fails.
+pub(crate) fn migrate_cert_command<'a>(alloc: Global) -> Result<Command<'a>, AllocError>
+    ensures { IfOk result (IsCommand spec.migrate_cert) }
+{
+    let command = Command::new(alloc, "migrate-cert")
+        .about(MIGRATE_CERT_ABOUT)
+        .long_about(MIGRATE_CERT_LONG);
+    with_arg(command, file(alloc, "CERT", "The certificate's file"))
 }

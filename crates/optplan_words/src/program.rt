@@ -6,7 +6,9 @@ ghost use Rattle.clap.specs.Words.{app_of, FailsBy, fault_of, subcommand_of, sub
 ghost use Rattle.optplan_words.specs.Commands as spec;
 ghost use Rattle.optplan_words.specs.Commands.{program, IsCommand};
 
-use crate::files::{check_command, check_sas_command, translate_command, validate_command};
+use crate::files::{
+    check_command, check_sas_command, migrate_cert_command, translate_command, validate_command,
+};
 use crate::solving::{solve_command, solve_sas_command};
 use clap::{ArgMatches, Command, Error};
 use std::alloc::{AllocError, Global};
@@ -39,7 +41,8 @@ fn program_command<'a>(alloc: Global) -> Result<Command<'a>, AllocError>
     let program = program.subcommand(check_command(alloc)?)?;
     let program = program.subcommand(translate_command(alloc)?)?;
     let program = program.subcommand(solve_command(alloc, "solve")?)?;
-    program.subcommand(solve_sas_command(alloc, "solve-sas")?)
+    let program = program.subcommand(solve_sas_command(alloc, "solve-sas")?)?;
+    program.subcommand(migrate_cert_command(alloc)?)
 }
 
 /// What these words request, the first of which is the program's name: a command with the values of its operands and options. Fails

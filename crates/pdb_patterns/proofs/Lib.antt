@@ -1,2 +1,3 @@
 pub mod Longer
-pub mod Distinct
+pub mod Classes
+pub mod Choices

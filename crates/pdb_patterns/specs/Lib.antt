@@ -1,1 +1,3 @@
 pub mod Patterns
+pub mod GoalClasses
+pub mod Choices

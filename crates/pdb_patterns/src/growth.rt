@@ -84,10 +84,11 @@ fn taken(
     task: &FdrTask,
     standings: &[Standing],
     limit: usize,
-) -> Result<Vec<usize>, AllocError>
+) -> Result<Vec<u32>, AllocError>
     requires { 1 ≤ limit }
     ensures { IfOk result (λ pattern. IsPattern task.now limit pattern.items) }
 {
+    task.recall(); // there are fewer than 2^32 variables
     let mut pattern = Vec::new(alloc);
     let mut size = 1;
     for variable in 0..task.variable_count() {
@@ -95,7 +96,7 @@ fn taken(
             continue;
         }
         if let Some(larger) = larger_size(task, variable, size, limit) {
-            pattern.push(variable)?;
+            pattern.push(variable as u32)?;
             size = larger;
         }
     }
@@ -111,7 +112,7 @@ pub(crate) fn grow(
     effects: &[Effect],
     first: usize,
     limit: usize,
-) -> Result<Vec<usize>, AllocError>
+) -> Result<Vec<u32>, AllocError>
     requires first { first < length task.now.value_names }
     requires limit { 1 ≤ limit }
     ensures { IfOk result (λ pattern. IsPattern task.now limit pattern.items) }

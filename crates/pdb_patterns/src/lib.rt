@@ -1,8 +1,9 @@
-//! The choice of patterns for the pattern databases of a task.
+//! The choice of abstraction mappings for the tables of a task: patterns, and classes of the values of single variables.
 #![tactic(auto)]
 
 mod choice;
+mod domains;
 mod effects;
 mod growth;
 
-pub use choice::{MAX_PATTERNS, choose_patterns};
+pub use choice::{MAX_MAPPINGS, choose_mappings};

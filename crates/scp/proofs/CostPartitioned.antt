@@ -10,15 +10,16 @@ use Rattle.cost.specs.Distances.{Distance, Finite, Infinite, ◌+ᵈ◌, larger,
 use Rattle.fdr.specs.Tasks.{FiniteDomainTask}
 use Rattle.abstraction.specs.Abstractions.{value_at}
 use Rattle.abstraction.specs.Columns as spec
+use Rattle.cert_value.specs.declared.certificate.Version.TheVariants.{Two}
 use Rattle.cert_value.specs.Certificates.{Table}
 use Rattle.checker_clauses.specs.Clauses.{has_form, table_of, heuristic_of}
-use Rattle.cert_text.specs.Lawful.{IsTable, IsColumn, AreColumns}
-use Rattle.scp.specs.ColumnTables.{ColumnTable, tables_of}
+use Rattle.cert_value.specs.Lawful.{IsTable, IsColumn, AreColumns}
+use Rattle.scp_columns.specs.ColumnTables.{ColumnTable, tables_of}
+use Rattle.scp_columns.specs.TableProps.{table_prop}
+use Rattle.scp_columns.proofs.ColumnsSoFar.{IsOf, tables_in}
 use Rattle.scp.specs.Partitions.{AreCostPartitioned, ColumnsOf}
-use Rattle.scp.specs.TableProps.{table_prop}
-use Rattle.scp.proofs.SameColumns.{IsOf, AreOf, column_in, divided_columns}
-use Rattle.scp.proofs.ColumnsSoFar.{tables_in}
-use Rattle.scp.proofs.ChosenPatterns.{from_map}
+use Rattle.scp.proofs.SameColumns.{AreOf, column_in, divided_columns}
+use Rattle.scp.proofs.ChosenMappings.{from_map}
 
 -- ---- values
 
@@ -42,26 +43,26 @@ value_within n (d ∷ values) zero all = all.0
 value_within n (d ∷ values) (suc a) all = value_within n values a all.1
 
 module _ (task : FiniteDomainTask) (state : List ℕ) where
-  column_within : (column : List Table) → AllByRecursion IsTable column → IsWithin (length column * 2 ^ 55) (spec.column_value state (map (table_of task) column))
+  column_within : (column : List Table) → AllByRecursion (IsTable Two) column → IsWithin (length column * 2 ^ 55) (spec.column_value state (map (table_of task) column))
   column_within [] all = omega arith
   column_within (t ∷ ts) all =
       within_more (2 ^ 55 + length ts * 2 ^ 55) (length (t ∷ ts) * 2 ^ 55) _ (omega arith)
       (sum_within (2 ^ 55) (length ts * 2 ^ 55) (value_at state (table_of task t)) (spec.column_value state (map (table_of task) ts))
       (value_within (2 ^ 55) t.values _ all.0.values.each) (column_within ts all.1))
 
-  columns_within : (columns : List (List Table)) → AllByRecursion IsColumn columns → IsWithin (2 ^ 61) (heuristic_of task columns state)
+  columns_within : (columns : List (List Table)) → AllByRecursion (IsColumn Two) columns → IsWithin (2 ^ 61) (heuristic_of task columns state)
   columns_within [] all = omega arith
   columns_within (c ∷ cs) all =
       larger_within (2 ^ 61) (spec.column_value state (map (table_of task) c)) (heuristic_of task cs state)
       (within_more (length c * 2 ^ 55) (2 ^ 61) _ (omega (arith, all.0.few)) (column_within c all.0.tables)) (columns_within cs all.1)
 
 -- each value is infinite or at most 2^61
-pub values_small : (task : FiniteDomainTask) (columns : List (List Table)) → AreColumns columns → (state : List ℕ) → IsWithin (2 ^ 61) (heuristic_of task columns state)
+pub values_small : (task : FiniteDomainTask) (columns : List (List Table)) → AreColumns Two columns → (state : List ℕ) → IsWithin (2 ^ 61) (heuristic_of task columns state)
 values_small task columns are state = columns_within task state columns are.each
 
 -- ---- what is kept
 
-tables_lawful : (column : List ColumnTable) → AllByRecursion IsTable (tables_in column)
+tables_lawful : (column : List ColumnTable) → AllByRecursion (IsTable Two) (tables_in column)
 tables_lawful [] = tt
 tables_lawful (t ∷ ts) = (∥∥₁_elim t.lawful (table_prop t.table) (λ is. is), tables_lawful ts)
 
@@ -75,7 +76,7 @@ IsSome column = column.items ≢ []
 abbrev IsFew : Vec ColumnTable Global → Type 0
 IsFew column = length column.items ≤ 64
 
-columns_lawful : (columns : List (Vec ColumnTable Global)) → All IsSome columns → All IsFew columns → AllByRecursion IsColumn (map tables_of columns)
+columns_lawful : (columns : List (Vec ColumnTable Global)) → All IsSome columns → All IsFew columns → AllByRecursion (IsColumn Two) (map tables_of columns)
 columns_lawful [] some few = tt
 columns_lawful (c ∷ cs) some few = (
   record {
@@ -101,7 +102,7 @@ module _ (task : FiniteDomainTask) where
       All-cons (All HasForm) (tables_of c) (map tables_of cs) (tables_formed c.items (All-head (AreOf task) c cs of)) (columns_formed cs (All-tail (AreOf task) c cs of))
 
   module _ (columns : List (Vec ColumnTable Global)) (of : All (AreOf task) columns) (few_columns : length columns ≤ 64) (some : All IsSome columns) (few : All IsFew columns) where
-    lawful : AreColumns (map tables_of columns)
+    lawful : AreColumns Two (map tables_of columns)
     lawful = record { few = omega (arith, few_columns, length-map columns tables_of); each = columns_lawful columns some few }
 
     divides : All (λ column. spec.IsColumn task (column_in column)) columns → AreCostPartitioned task (map tables_of columns)

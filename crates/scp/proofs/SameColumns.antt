@@ -12,20 +12,18 @@ use Rattle.scp.specs.Partitions.{ColumnsOf}
 use Rattle.abstraction.specs.Abstractions as abstraction
 use Rattle.abstraction.specs.Columns.{IsColumn, column_value, heuristic}
 use Rattle.checker_clauses.specs.Clauses.{table_of, columns_of, heuristic_of}
-use Rattle.scp.specs.ColumnTables.{ColumnTable, on_projection, tables_of}
-
-abbrev pub IsOf : FiniteDomainTask → ColumnTable → Type 0
-IsOf task t = t.task ≡ task
+use Rattle.scp_columns.specs.ColumnTables.{ColumnTable, on_abstraction, tables_of}
+use Rattle.scp_columns.proofs.ColumnsSoFar.{IsOf}
 
 abbrev pub AreOf : FiniteDomainTask → Vec ColumnTable Global → Type 0
 AreOf task column = All (IsOf task) column.items
 
--- a column on its projections
+-- a column on its abstractions
 abbrev pub column_in : Vec ColumnTable Global → List abstraction.Table
-column_in column = map on_projection column.items
+column_in column = map on_abstraction column.items
 
 module _ (task : FiniteDomainTask) where
-  pub same_tables : (ts : List ColumnTable) → All (IsOf task) ts → map on_projection ts ≡ map (table_of task) (map (λ (t : ColumnTable). t.table) ts)
+  pub same_tables : (ts : List ColumnTable) → All (IsOf task) ts → map on_abstraction ts ≡ map (table_of task) (map (λ (t : ColumnTable). t.table) ts)
   same_tables [] all = refl
   same_tables (t ∷ ts) all = rw (same_tables ts (All-tail (IsOf task) t ts all)) (ap (λ own. table_of own t.table ∷ map (table_of task) (map (λ (t : ColumnTable). t.table) ts)) (All-head (IsOf task) t ts all))
 

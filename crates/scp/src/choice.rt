@@ -1,71 +1,69 @@
 //! The choice of columns.
 
 ghost use Rattle.std.specs.Prelude.{◌≡◌, ◌≢◌, ◌<◌, ◌≤◌, ◌^◌, [], length, All, IfOk};
-ghost use Rattle.pdb_patterns.specs.Patterns.{IsPattern};
+ghost use Rattle.abstraction_mapping.specs.Views.{mapping_of};
+ghost use Rattle.pdb_patterns.specs.Choices.{IsMappingWithin};
 
 use crate::columns::{Columns, make_columns};
+use abstraction_mapping::Mapping;
 use fdr::FdrTask;
-use pdb_patterns::choose_patterns;
+use pdb_patterns::choose_mappings;
 use std::alloc::{AllocError, Global};
 use std::thread::Threads;
 
 /// The greatest number of columns that `choose_columns` makes.
 pub const MAX_COLUMNS: usize = 8;
 
-/// All patterns, from the place `first` to the end, followed by those before it.
+/// All mappings, from the place `first` to the end, followed by those before it.
 fn cyclic_order(
     alloc: Global,
     task: &FdrTask,
-    patterns: &[Vec<usize>],
+    mappings: &[Mapping],
     first: usize,
-) -> Result<Vec<Vec<usize>>, AllocError>
-    requires first { first < length patterns.now }
-    requires patterns { All (λ p. IsPattern task.now (2 ^ 24) p.items) patterns.now }
-    requires some { All (λ p. p.items ≢ []) patterns.now }
-    ensures patterns { IfOk result (λ order. All (λ p. IsPattern task.now (2 ^ 24) p.items) order.items) }
-    ensures some { IfOk result (λ order. All (λ p. p.items ≢ []) order.items) }
-    ensures len { IfOk result (λ order. length order.items ≡ length patterns.now) }
+) -> Result<Vec<Mapping>, AllocError>
+    requires first { first < length mappings.now }
+    requires mappings { All (λ m. IsMappingWithin task.now (2 ^ 24) (mapping_of m)) mappings.now }
+    ensures mappings { IfOk result (λ order. All (λ m. IsMappingWithin task.now (2 ^ 24) (mapping_of m)) order.items) }
+    ensures len { IfOk result (λ order. length order.items ≡ length mappings.now) }
     ensures none_empty { IfOk result (λ order. order.items ≢ []) }
 {
-    let mut order = Vec::with_capacity(alloc, patterns.len())?;
-    for place in 0..patterns.len() {
-        let pattern = if place < patterns.len() - first {
-            &patterns[first + place]
+    let mut order = Vec::with_capacity(alloc, mappings.len())?;
+    for place in 0..mappings.len() {
+        let mapping = if place < mappings.len() - first {
+            &mappings[first + place]
         } else {
-            &patterns[place - (patterns.len() - first)]
+            &mappings[place - (mappings.len() - first)]
         };
-        order.push(Vec::from_slice(alloc, pattern)?)?;
+        order.push(mapping.copied(alloc)?)?;
     }
     Ok(order)
 }
 
-/// The orders of patterns, one for each column: the k-th starts with the k-th pattern. There are at most
+/// The orders of mappings, one for each column: the k-th starts with the k-th mapping. There are at most
 /// `MAX_COLUMNS`.
 fn orders_of(
     alloc: Global,
     task: &FdrTask,
-    patterns: &[Vec<usize>],
-) -> Result<Vec<Vec<Vec<usize>>>, AllocError>
-    requires patterns { All (λ p. IsPattern task.now (2 ^ 24) p.items) patterns.now }
-    requires some { All (λ p. p.items ≢ []) patterns.now }
-    requires few { length patterns.now ≤ 64 }
-    ensures patterns { IfOk result (λ orders. All (λ order. All (λ p. IsPattern task.now (2 ^ 24) p.items) order.items) orders.items) }
-    ensures some { IfOk result (λ orders. All (λ order. All (λ p. p.items ≢ []) order.items) orders.items) }
+    mappings: &[Mapping],
+) -> Result<Vec<Vec<Mapping>>, AllocError>
+    requires mappings { All (λ m. IsMappingWithin task.now (2 ^ 24) (mapping_of m)) mappings.now }
+    requires few { length mappings.now ≤ 64 }
+    ensures mappings { IfOk result (λ orders. All (λ order. All (λ m. IsMappingWithin task.now (2 ^ 24) (mapping_of m)) order.items) orders.items) }
     ensures few { IfOk result (λ orders. All (λ order. length order.items ≤ 64) orders.items) }
     ensures few_columns { IfOk result (λ orders. length orders.items ≤ 64) }
     ensures none_empty { IfOk result (λ orders. All (λ order. order.items ≢ []) orders.items) }
 {
     let mut orders = Vec::new(alloc);
-    for first in 0..patterns.len().min(MAX_COLUMNS) {
-        orders.push(cyclic_order(alloc, task, patterns, first)?)?;
+    for first in 0..mappings.len().min(MAX_COLUMNS) {
+        orders.push(cyclic_order(alloc, task, mappings, first)?)?;
     }
     Ok(orders)
 }
 
-/// Makes the cost-partitioned columns of the task for a search, from the patterns that `choose_patterns` chooses: at
+/// Makes the cost-partitioned columns of the task for a search, from the mappings that `choose_mappings` chooses: at
 /// most 64, with at most `limit` abstract states each. The limit must be from 1 to 2^24. There is a column for each of
-/// the first 8 patterns: it starts with that pattern and has all patterns in cyclic order. The contract does not specify
-/// which patterns are chosen. Threads make columns side by side. Fails only if allocation fails.
+/// the first 8 mappings: it starts with that mapping and has all mappings in cyclic order. The contract does not specify
+/// which mappings are chosen. Threads make columns side by side. Fails only if allocation fails.
 pub fn choose_columns<'a, R: Threads + Sync>(
     rt: &R,
     alloc: Global,
@@ -76,7 +74,7 @@ pub fn choose_columns<'a, R: Threads + Sync>(
     requires small { limit ≤ 2 ^ 24 }
     ensures { IfOk result (λ columns. columns.task ≡ task.now) }
 {
-    let patterns = choose_patterns(alloc, task, limit)?;
-    let orders = orders_of(alloc, task, &patterns)?;
+    let mappings = choose_mappings(alloc, task, limit)?;
+    let orders = orders_of(alloc, task, &mappings)?;
     make_columns(rt, alloc, task, &orders)
 }

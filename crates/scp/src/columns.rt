@@ -6,20 +6,22 @@ ghost use Rattle.cost.specs.Distances.{Finite, ◌≤ᵈ◌, IsWithin, greatest}
 ghost use Rattle.fdr.specs.Tasks.{ranges, IsState, LeadsToGoal, plan_cost};
 ghost use Rattle.abstraction.specs.Columns as spec;
 ghost use Rattle.checker_clauses.specs.Clauses.{heuristic_of};
-ghost use Rattle.pdb_patterns.specs.Patterns.{IsPattern};
-ghost use Rattle.scp.specs.ColumnTables.{on_projection};
-ghost use Rattle.scp.specs.Rows.{AreOf, value_of, blocks_value};
-ghost use Rattle.scp.specs.Flats.{most_in, blocks_in};
-ghost use Rattle.scp.specs.Places.{AreTouches, first_rows};
-ghost use Rattle.scp.specs.Partitions.{AreColumnsFrom, AreCostPartitioned, IsColumnFrom, IsMadeFrom, patterns_of};
+ghost use Rattle.abstraction_mapping.specs.Views.{mapping_of};
+ghost use Rattle.pdb_patterns.specs.Choices.{IsMappingWithin};
+ghost use Rattle.scp_columns.specs.ColumnTables.{on_abstraction};
+ghost use Rattle.scp_columns.specs.Partitions.{IsMadeFrom};
+ghost use Rattle.scp_rows.specs.Rows.{AreOf, value_of, blocks_value};
+ghost use Rattle.scp_rows.specs.Flats.{most_in, blocks_in};
+ghost use Rattle.scp_rows.specs.Moves.{AreTouches, first_rows};
+ghost use Rattle.scp.specs.Partitions.{AreColumnsFrom, AreCostPartitioned, IsColumnFrom, mappings_of};
 
-use crate::column::make_column;
-use crate::flat::{Flat, flat_value, make_flat, touches_in};
 use crate::places::Places;
-use crate::table::ColumnTable;
+use abstraction_mapping::Mapping;
 use cost::Dist;
 use fdr::FdrTask;
 use rayon::prelude::*;
+use scp_columns::{ColumnTable, make_column};
+use scp_rows::{Flat, flat_value, make_flat, touches_in};
 use std::alloc::{AllocError, Global};
 use std::marker::Model;
 use std::thread::Threads;
@@ -36,7 +38,7 @@ pub struct Columns<'a> {
     ghost few_columns: { length columns.items ≤ 64 },
     ghost none_empty: { All (λ column. column.items ≢ []) columns.items },
     ghost few: { All (λ column. length column.items ≤ 64) columns.items },
-    ghost divided: { ∥ All (λ column. spec.IsColumn task.now (map on_projection column.items)) columns.items ∥₁ },
+    ghost divided: { ∥ All (λ column. spec.IsColumn task.now (map on_abstraction column.items)) columns.items ∥₁ },
     ghost flat_of_task: { All (λ b. AreOf task.now b.items) (blocks_in flat) },
     ghost flat_value: { (state : List ℕ) → IsState (ranges task.now) state →
         blocks_value (most_in flat) state (blocks_in flat) ≡ greatest (map (value_of state) columns.items) },
@@ -45,7 +47,7 @@ pub struct Columns<'a> {
 
 impl<'a> Model for Columns<'a> {
     ghost use Rattle.std.specs.Prelude.{map};
-    ghost use Rattle.scp.specs.ColumnTables.{tables_of};
+    ghost use Rattle.scp_columns.specs.ColumnTables.{tables_of};
     ghost use Rattle.scp.specs.Partitions as spec;
 
     ghost Value = { spec.ColumnsOf };
@@ -54,7 +56,7 @@ impl<'a> Model for Columns<'a> {
 }
 
 impl<'a> Columns<'a> {
-    ghost use Rattle.scp.specs.ColumnTables.{tables_of};
+    ghost use Rattle.scp_columns.specs.ColumnTables.{tables_of};
 
     /// Returns the task.
     pub fn task(&self) -> &'a FdrTask
@@ -108,19 +110,18 @@ impl<'a> Columns<'a> {
     }
 }
 
-/// A column for each of these orders of patterns, in order. Threads make them side by side. Fails only if allocation
+/// A column for each of these orders of mappings, in order. Threads make them side by side. Fails only if allocation
 /// fails.
 fn columns_from<'a, R: Threads + Sync>(
     rt: &R,
     alloc: Global,
     task: &'a FdrTask,
-    orders: &[Vec<Vec<usize>>],
+    orders: &[Vec<Mapping>],
 ) -> Result<Vec<Vec<ColumnTable<'a>>>, AllocError>
-    requires patterns { All (λ order. All (λ p. IsPattern task.now (2 ^ 24) p.items) order.items) orders.now }
-    requires some { All (λ order. All (λ p. p.items ≢ []) order.items) orders.now }
+    requires mappings { All (λ order. All (λ m. IsMappingWithin task.now (2 ^ 24) (mapping_of m)) order.items) orders.now }
     requires few { All (λ order. length order.items ≤ 64) orders.now }
     requires none_empty { All (λ order. order.items ≢ []) orders.now }
-    ensures { IfOk result (λ columns. AreColumnsFrom task.now (map patterns_of orders.now) columns.items) }
+    ensures { IfOk result (λ columns. AreColumnsFrom task.now (map mappings_of orders.now) columns.items) }
 {
     task.recall();
     orders
@@ -128,31 +129,29 @@ fn columns_from<'a, R: Threads + Sync>(
         // a column is heavy work, so each may have a thread of its own
         .with_min_len(1)
         .map(
-            |order: &Vec<Vec<usize>>| -> Result<Vec<ColumnTable<'_>>, AllocError>
-                requires patterns { All (λ p. IsPattern task.now (2 ^ 24) p.items) order.now.items }
-                requires some { All (λ p. p.items ≢ []) order.now.items }
+            |order: &Vec<Mapping>| -> Result<Vec<ColumnTable<'_>>, AllocError>
+                requires { All (λ m. IsMappingWithin task.now (2 ^ 24) (mapping_of m)) order.now.items }
                 ensures { IfOk result (IsColumnFrom task.entry.now order.now) }
             { make_column(alloc, task, order) },
         )
         .collect::<Result<Vec<Vec<ColumnTable<'a>>>, AllocError>>(rt, alloc)?
 }
 
-/// Makes a column for each of these orders of patterns, as `make_column` does. Threads make columns side by side; which
-/// tables they have does not depend on that. There must be at most 64 orders, each of 1 to 64 patterns. Fails only if
+/// Makes a column for each of these orders of mappings, as `make_column` does. Threads make columns side by side; which
+/// tables they have does not depend on that. There must be at most 64 orders, each of 1 to 64 mappings. Fails only if
 /// allocation fails.
 pub fn make_columns<'a, R: Threads + Sync>(
     rt: &R,
     alloc: Global,
     task: &'a FdrTask,
-    orders: &[Vec<Vec<usize>>],
+    orders: &[Vec<Mapping>],
 ) -> Result<Columns<'a>, AllocError>
-    requires patterns { All (λ order. All (λ p. IsPattern task.now (2 ^ 24) p.items) order.items) orders.now }
-    requires some { All (λ order. All (λ p. p.items ≢ []) order.items) orders.now }
+    requires mappings { All (λ order. All (λ m. IsMappingWithin task.now (2 ^ 24) (mapping_of m)) order.items) orders.now }
     requires few { All (λ order. length order.items ≤ 64) orders.now }
     requires few_columns { length orders.now ≤ 64 }
     requires none_empty { All (λ order. order.items ≢ []) orders.now }
     ensures task { IfOk result (λ c. c.task ≡ task.now) }
-    ensures made { IfOk result (λ c. AllZip (IsMadeFrom task.now) (map patterns_of orders.now) c.columns) }
+    ensures made { IfOk result (λ c. AllZip (IsMadeFrom task.now) (map mappings_of orders.now) c.columns) }
 {
     let columns = columns_from(rt, alloc, task, orders)?;
     let flat = make_flat(alloc, task, &columns)?;

@@ -4,13 +4,13 @@ ghost use Rattle.std.specs.Prelude.{◌≡◌, ℕ, List, ◌^◌, length, Some,
 ghost use Rattle.cost.specs.Distances.{IsWithin};
 ghost use Rattle.fdr.specs.Tasks.{ranges, step, IsState};
 ghost use Rattle.checker_clauses.specs.Clauses.{heuristic_of};
-ghost use Rattle.scp.specs.Flats.{most_in, blocks_in, words_in};
-ghost use Rattle.scp.specs.Places.{AreTouches, IsEntered, first_rows};
-ghost use Rattle.scp.specs.Rows.{AreOf, blocks_value};
+ghost use Rattle.scp_rows.specs.Flats.{most_in, blocks_in, words_in};
+ghost use Rattle.scp_rows.specs.Moves.{AreTouches, IsEntered, first_rows};
+ghost use Rattle.scp_rows.specs.Rows.{AreOf, blocks_value};
 
 use crate::columns::Columns;
-use crate::flat::{BlockSums, Flat, enter_flat, flat_value_after, pattern_count};
 use cost::Dist;
+use scp_rows::{BlockSums, Flat, enter_flat, flat_value_after, mapping_count};
 use std::alloc::{AllocError, Global};
 use std::marker::Model;
 
@@ -23,7 +23,7 @@ pub struct Places<'a> {
     flat: &'a Flat<'a>,
     touches: &'a [Vec<usize>],
     state: Vec<u32>,
-    /// The abstract states of the state, one for each pattern, once they are entered.
+    /// The abstract states of the state, one for each mapping, once they are entered.
     indices: Vec<usize>,
     /// The sums of the rows of the state in the first block, once they are entered.
     sums: Option<BlockSums>,
@@ -43,7 +43,7 @@ impl<'a> Model for Places<'a> {
     ghost invariant = { λ p. AreEntered p.columns.now.task p.flat.now p.state.items p.indices.items p.sums };
 }
 
-/// Enters the abstract states of a state, one for each pattern of the first block, unless they are entered. Returns the
+/// Enters the abstract states of a state, one for each mapping of the first block, unless they are entered. Returns the
 /// sums of its rows there.
 fn enter_once(
     flat: &Flat<'_>,
@@ -78,7 +78,7 @@ impl<'a> Places<'a> {
     {
         let task = columns.task();
         let state = Vec::from_slice(alloc, task.initial())?;
-        let indices = vec![in alloc; 0; pattern_count(flat)]?;
+        let indices = vec![in alloc; 0; mapping_count(flat)]?;
         Ok(Places {
             columns,
             flat,
@@ -107,7 +107,7 @@ impl<'a> Places<'a> {
 
     /// Returns the estimate of the columns for the successor of the state by the operator, as `Columns::h` gives it. The
     /// abstract states of the state and the sums of its rows are computed at the first call after `enter`, and later ones
-    /// add only the rows of patterns that the operator touches. No memory is allocated.
+    /// add only the rows of mappings that the operator touches. No memory is allocated.
     pub fn h_after(&mut self, operator: usize, successor: &[u32]) -> Dist
         requires { step self.old.task self.old.state operator ≡ Some successor.now }
         ensures value { result ≡ heuristic_of self.old.task self.old.columns successor.now }

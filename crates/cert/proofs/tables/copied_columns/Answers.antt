@@ -1,5 +1,5 @@
 use Rattle.cert_value.specs.Views as kept
-use Rattle.scp.specs.ColumnTables.{tables_of}
+use Rattle.scp_columns.specs.ColumnTables.{tables_of}
 use Rattle.cert.proofs.Copies.{one_alike}
 use Rattle.cert.proofs.tables.copied_columns.Goals as goal
 

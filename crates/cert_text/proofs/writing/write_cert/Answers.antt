@@ -4,7 +4,8 @@ use Rattle.cert_text.proofs.writing.write_cert.Goals as goal
 
 pub returns : goal.returns
 returns c =
-    written c.args.certificate.now (kind_of c.kind.result.now) (kind_of c.kind-2.result.now) c.bound.result (columns_of c.columns.result.now) c.closed.result.now
-    c.in_ok-out.out.items c.push_kind.new.out.items c.push_bound.new.out.items c.push_parts.new.out.items c.push_all_columns.new.out.items c.push_closed.new.out.items c.extend_from_slice.new.self.items
-    c.kind.ensures c.kind-2.ensures c.bound.ensures c.columns.ensures c.closed.ensures
-    c.in_ok-out.ensures.items c.in_ok-push_kind.ensures c.in_ok-push_bound.ensures c.in_ok-push_parts.ensures c.in_ok-push_all_columns.ensures c.in_ok-push_closed.ensures c.in_ok-extend_from_slice.ensures.items
+    let first = rw c.new-out.ensures.items at c.in_ok-push_version.ensures in
+    written c.args.certificate.now c.version.result (kind_of c.kind.result.now) (kind_of c.kind-2.result.now) c.bound.result (columns_of c.columns.result.now) c.closed.result.now
+    c.push_version.new.out.items c.push_kind.new.out.items c.push_bound.new.out.items c.push_parts.new.out.items c.push_all_columns.new.out.items c.push_closed.new.out.items c.extend_from_slice.new.self.items
+    c.version.ensures c.kind.ensures c.kind-2.ensures c.bound.ensures c.columns.ensures c.closed.ensures
+    first c.in_ok-push_kind.ensures c.in_ok-push_bound.ensures c.in_ok-push_parts.ensures c.in_ok-push_all_columns.ensures c.in_ok-push_closed.ensures c.in_ok-extend_from_slice.ensures.items

@@ -1,6 +1,6 @@
 use Rattle.std.proofs.Common.{ℕ, Option, List, ◌+◌, take, sym, ap, ◌∙◌, subst}
 use Rattle.std.specs.Option.{option_map_or}
-use Rattle.abstraction.specs.Projections.{projection}
+use Rattle.abstraction_mapping.specs.Views.{abstraction_in}
 use Rattle.checker_tables.specs.declared.transitions.Spender.{Spender}
 use Rattle.checker_tables.specs.TableFaults.{IsFirstFall}
 use Rattle.checker_tables.proofs.FallLaws.{lower_fall, same_fall, all_taken}
@@ -9,7 +9,7 @@ use Rattle.checker_tables.proofs.transitions.first_fall.Goals.{then-state-limit,
 
 pub loop-spender-preserved : goal.loop-spender-preserved
 loop-spender-preserved c =
-    let abs = projection c.args.projection.now.task c.args.projection.now.pattern in
+    let abs = abstraction_in c.args.abstraction.now in
     let values = c.args.values.now in
     let ss = c.args.spenders.now in
     let i = c.loop-spender.spender-index in
@@ -31,6 +31,6 @@ loop-spender-preserved c =
 
 pub returns : goal.returns
 returns c =
-    let abs = projection c.args.projection.now.task c.args.projection.now.pattern in
+    let abs = abstraction_in c.args.abstraction.now in
     subst (λ (xs : List Spender). IsFirstFall abs c.args.values.now xs c.loop-spender.found)
     (all_taken c.args.spenders.now c.loop-spender.spender-index c.loop-spender-test.false) c.loop-spender.invariant.first

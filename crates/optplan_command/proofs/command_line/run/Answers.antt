@@ -1,6 +1,6 @@
 use Rattle.std.proofs.Common.{inr, ⊎_elim}
 use Rattle.clap.specs.Words.{kind_of}
-use Rattle.optplan_command.proofs.FileCommands.{something, validated, planning_checked, checked, translated}
+use Rattle.optplan_command.proofs.FileCommands.{something, validated, planning_checked, checked, translated, migrated}
 use Rattle.optplan_command.proofs.command_line.run.Goals as goal
 
 pub returns-in-Some-clause-validates : goal.returns-in-Some-clause-validates
@@ -23,6 +23,11 @@ returns-in-Some-clause-translates g c = λ h domain problem is asks same known.
     let done = c.run_files.ensures.done h is same known in
     (done.0, done.1, translated h done.0 domain problem c.in-Some.command c.run_files.result (c.in-Some.ensures.translates domain problem asks) done.2)
 
+pub returns-in-Some-clause-migrates : goal.returns-in-Some-clause-migrates
+returns-in-Some-clause-migrates g c = λ h cert is asks same known.
+    let done = c.run_files.ensures.done h is same known in
+    (done.0, done.1, migrated h done.0 cert c.in-Some.command c.run_files.result (c.in-Some.ensures.migrates cert asks) done.2)
+
 pub returns-in-Ok-clause-validates : goal.returns-in-Ok-clause-validates
 returns-in-Ok-clause-validates g c = λ h domain problem plan is asks same known.
     absurd (something c.plain_command.result _ (c.plain_command.ensures.validates domain problem plan asks) c.in_default.not-Some)
@@ -39,6 +44,10 @@ pub returns-in-Ok-clause-translates : goal.returns-in-Ok-clause-translates
 returns-in-Ok-clause-translates g c = λ h domain problem is asks same known.
     absurd (something c.plain_command.result _ (c.plain_command.ensures.translates domain problem asks) c.in_default.not-Some)
 
+pub returns-in-Ok-clause-migrates : goal.returns-in-Ok-clause-migrates
+returns-in-Ok-clause-migrates g c = λ h cert is asks same known.
+    absurd (something c.plain_command.result _ (c.plain_command.ensures.migrates cert asks) c.in_default.not-Some)
+
 pub returns-in-Err-clause-validates : goal.returns-in-Err-clause-validates
 returns-in-Err-clause-validates g c = λ h domain problem plan is asks same known.
     absurd (something c.plain_command.result _ (c.plain_command.ensures.validates domain problem plan asks) c.in_default.not-Some)
@@ -54,6 +63,10 @@ returns-in-Err-clause-checks_planning g c = λ h domain problem cert is asks sam
 pub returns-in-Err-clause-translates : goal.returns-in-Err-clause-translates
 returns-in-Err-clause-translates g c = λ h domain problem is asks same known.
     absurd (something c.plain_command.result _ (c.plain_command.ensures.translates domain problem asks) c.in_default.not-Some)
+
+pub returns-in-Err-clause-migrates : goal.returns-in-Err-clause-migrates
+returns-in-Err-clause-migrates g c = λ h cert is asks same known.
+    absurd (something c.plain_command.result _ (c.plain_command.ensures.migrates cert asks) c.in_default.not-Some)
 
 pub returns-in-Err-clause-misuses : goal.returns-in-Err-clause-misuses
 returns-in-Err-clause-misuses g c = λ plain misuse.

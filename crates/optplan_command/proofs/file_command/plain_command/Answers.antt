@@ -1,13 +1,20 @@
 use Rattle.std.proofs.Common.{sym, subst, ℕ, List}
 use Rattle.optplan_command.specs.FileCommands.{IsRequested}
-use Rattle.optplan_command.proofs.PlainWords.{first_text, four_texts, five_texts}
+use Rattle.optplan_command.proofs.PlainWords.{first_text, three_texts, four_texts, five_texts}
 use Rattle.optplan_command.proofs.file_command.plain_command.Goals as goal
+
+pub returns-in-len3 : goal.returns-in-len3
+returns-in-len3 c =
+    subst (λ (texts : List (List ℕ)). IsRequested texts c.plain_on_one.result)
+    (sym (three_texts c.args.words.now c.command-item.result c.file-item.result _ _ c.in-len3.len_at_least c.in-len3.len_below
+    c.command-item.is c.file-item.is c.as_str.ensures.value c.as_str-in-len3.ensures.value))
+    (c.plain_on_one.ensures (first_text c.args.words.now))
 
 pub returns-in-len4 : goal.returns-in-len4
 returns-in-len4 c =
     subst (λ (texts : List (List ℕ)). IsRequested texts c.plain_on_two.result)
-    (sym (four_texts c.args.words.now c.command-item.result c.first-item.result c.second-item.result _ _ _ c.in-len4.len_at_least c.in-len4.len_below
-    c.command-item.is c.first-item.is c.second-item.is c.as_str.ensures.value c.as_str-in-len4.ensures.value c.as_str-in-len4-2.ensures.value))
+    (sym (four_texts c.args.words.now c.command-item-then-words-lt5.result c.first-item.result c.second-item.result _ _ _ c.in-len4.len_at_least c.in-len4.len_below
+    c.command-item-then-words-lt5.is c.first-item.is c.second-item.is c.as_str-in-len4.ensures.value c.as_str-in-len4-2.ensures.value c.as_str-in-len4-3.ensures.value))
     (c.plain_on_two.ensures (first_text c.args.words.now))
 
 pub returns-in-len5 : goal.returns-in-len5

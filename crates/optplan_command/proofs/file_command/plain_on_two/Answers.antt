@@ -9,6 +9,7 @@ returns-in-text c = λ program. record {
   checks = λ domain problem cert asks. search rules;
   checks_sas = λ sas cert asks. search rules;
   translates = λ domain problem asks. two_names _ _ _ _ _ _ asks.are (rw c.in-text.is (λ same. omega (arith, same)));
+  migrates = λ cert asks. search rules;
 }
 
 pub returns-in-translate : goal.returns-in-translate
@@ -18,4 +19,5 @@ returns-in-translate c = λ program. record {
   checks = λ domain problem cert asks. search rules;
   checks_sas = λ sas cert asks. two_names _ _ _ _ _ _ asks.are (rw c.in-translate.is (λ same. omega (arith, same)));
   translates = λ domain problem asks. search rules;
+  migrates = λ cert asks. search rules;
 }

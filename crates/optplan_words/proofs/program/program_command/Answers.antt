@@ -21,5 +21,7 @@ returns c =
     let s4 = adds_command c.in_ok-program-3.program c.in_ok-program-4.program c.in_ok-translate_command.field-0 a3 spec.translate s3 c.in_ok-translate_command.ensures c.in_ok-program-4.ensures in
     let a5 = with_subcommand a4 (spec.solve (codes "solve")) in
     let s5 = adds_command c.in_ok-program-4.program c.in_ok-program-5.program c.in_ok-solve_command.field-0 a4 (spec.solve (codes "solve")) s4 c.in_ok-solve_command.ensures c.in_ok-program-5.ensures in
-    IfOk-weaker c.subcommand-6.result (AddsSubcommand c.in_ok-program-5.program c.in_ok-solve_sas_command.field-0) (λ d. app_of d ≡ program)
-    (λ d h. (adds_command c.in_ok-program-5.program d c.in_ok-solve_sas_command.field-0 a5 (spec.solve_sas (codes "solve-sas")) s5 c.in_ok-solve_sas_command.ensures h).is) c.subcommand-6.ensures
+    let a6 = with_subcommand a5 (spec.solve_sas (codes "solve-sas")) in
+    let s6 = adds_command c.in_ok-program-5.program c.in_ok-program-6.program c.in_ok-solve_sas_command.field-0 a5 (spec.solve_sas (codes "solve-sas")) s5 c.in_ok-solve_sas_command.ensures c.in_ok-program-6.ensures in
+    IfOk-weaker c.subcommand-7.result (AddsSubcommand c.in_ok-program-6.program c.in_ok-migrate_cert_command.field-0) (λ d. app_of d ≡ program)
+    (λ d h. (adds_command c.in_ok-program-6.program d c.in_ok-migrate_cert_command.field-0 a6 spec.migrate_cert s6 c.in_ok-migrate_cert_command.ensures h).is) c.subcommand-7.ensures

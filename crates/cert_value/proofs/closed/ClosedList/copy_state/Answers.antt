@@ -1,5 +1,5 @@
-use Rattle.std.proofs.Common.{◌≡◌, ◌∙◌, ◌+◌, ◌*◌, ◌≤◌, sym, ap, subst, refl, length, List, ℕ}
-use Rattle.std.specs.Prelude.{option_map, slice_get, IsSomeAnd}
+use Rattle.std.proofs.Common.{◌∙◌, ◌+◌, ◌*◌, ◌≤◌, sym, ap, subst, refl, length, List, ℕ}
+use Rattle.std.specs.Prelude.{option_map, slice_get}
 use Rattle.cert_value.specs.Certificates.{Entry}
 use Rattle.cert_value.proofs.KeptLaws.{state_within, state_at, wide_given}
 use Rattle.cert_value.proofs.closed.ClosedList.copy_state.Goals as goal

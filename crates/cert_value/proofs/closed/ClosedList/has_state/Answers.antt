@@ -1,5 +1,5 @@
-use Rattle.std.proofs.Common.{◌≡◌, ◌∙◌, ◌+◌, ◌*◌, ◌≤◌, sym, ap, subst, refl, length, List, ℕ, arith, ne_eqb}
-use Rattle.std.specs.Prelude.{slice_get, Some, false, nat_eq}
+use Rattle.std.proofs.Common.{◌≡◌, ◌∙◌, ◌+◌, ◌*◌, ◌≤◌, sym, ap, subst, length, List, ℕ, arith, ne_eqb}
+use Rattle.std.specs.Prelude.{slice_get, false, nat_eq}
 use Rattle.std.specs.Option.{option_map_or}
 use Rattle.std.specs.Cmp.Lexicographic.{pointwise}
 use Rattle.cert_value.specs.Certificates.{Entry}

@@ -5,8 +5,9 @@ use Rattle.std.proofs.lemmas.List.{with_items_is}
 use Rattle.fdr.specs.Tasks.{ranges, IsState, IsTask, step}
 use Rattle.cost.specs.Distances.{IsWithin}
 use Rattle.checker_clauses.specs.Clauses.{heuristic_of}
-use Rattle.scp.specs.Flats.{most_in, blocks_in, words_in}
-use Rattle.scp.specs.Places.{PlacesOf, AreEntered, AreMoved, AreTouched, IsEntered, first_rows}
+use Rattle.scp_rows.specs.Flats.{most_in, blocks_in, words_in}
+use Rattle.scp_rows.specs.Moves.{AreMoved, AreTouched, IsEntered, first_rows}
+use Rattle.scp.specs.Places.{PlacesOf, AreEntered}
 use Rattle.scp.proofs.PlaceLaws.{first_of_task, all_states, moved, next_state, operator_within}
 use Rattle.scp.proofs.places.Places.h_after.Goals as goal
 

@@ -1,0 +1,51 @@
+-- A certificate as one of version 2: the words that request it, the answer for its text, and what the command does.
+use Rattle.std.specs.Prelude.{◌≡◌, ◌≢◌, ℕ, true, List, [], ◌∷◌, ◌++◌, Err, codes}
+use Rattle.optplan_device.specs.Events.{Event, HasRead}
+use Rattle.cert_value.specs.Certificates.{CertificateValue}
+use Rattle.cert_value.specs.Lawful.{IsLawful}
+use Rattle.cert_value.specs.declared.certificate.Version.TheVariants.{Two}
+use Rattle.cert_text.specs.Spelling.{spelling}
+use Rattle.cert_text.specs.Reading.{certificate_of}
+use Rattle.cert_text.specs.declared.fault.CertFault.TheVariants as cert_fault
+use Rattle.optplan_replies.specs.declared.status.Status.{Status}
+use Rattle.optplan_replies.specs.declared.status.Status.TheVariants.{Done}
+use Rattle.optplan_replies.specs.Runs.{is_operand, Follows}
+use Rattle.optplan_replies.specs.declared.fault.Fault.{Fault}
+use Rattle.optplan_replies.specs.declared.fault.Fault.TheVariants.{OutOfMemory, CannotRead, CannotWrite, Task, Plan, Sas, Cert, GroundLimit, TaskTooLarge, TotalTooLarge}
+
+-- the words request it: the program's name, `migrate-cert`, and a file
+pub record AskForMigration (words : List (List ℕ)) (cert : List ℕ) : Type 0 where
+  pub program : List ℕ
+  pub are : words ≡ program ∷ codes "migrate-cert" ∷ cert ∷ []
+  pub cert_is : is_operand cert ≡ true
+
+-- the first text spells a certificate, and the second the same certificate as one of version 2
+pub record IsMigrated (cert text : List ℕ) : Type 0 where
+  pub certificate : CertificateValue
+  pub lawful : IsLawful certificate
+  pub spelled : cert ≡ spelling certificate
+  pub text_is : text ≡ spelling (record certificate { version = Two })
+
+-- the text is that of version 2, and the status is `Done`
+abbrev pub IsMigrationAnswer : List ℕ → List ℕ → Status → Type 0
+IsMigrationAnswer cert text status = IsMigrated cert text × (status ≡ Done)
+
+-- the text is refused, with its first fault
+abbrev pub IsMigrationRefusal : List ℕ → Fault → Type 0
+IsMigrationRefusal cert OutOfMemory = Unit {0}
+IsMigrationRefusal cert (CannotRead file) = ⊥
+IsMigrationRefusal cert (CannotWrite file) = ⊥
+IsMigrationRefusal cert (Task e word) = ⊥
+IsMigrationRefusal cert (Plan e) = ⊥
+IsMigrationRefusal cert (Sas e) = ⊥
+IsMigrationRefusal cert (Cert e) = (e ≢ cert_fault.OutOfMemory) × (certificate_of cert ≡ Err e)
+IsMigrationRefusal cert GroundLimit = ⊥
+IsMigrationRefusal cert (TaskTooLarge table) = ⊥
+IsMigrationRefusal cert TotalTooLarge = ⊥
+
+-- the file is read; then the text of version 2 is printed, or the file's text is refused
+pub record Migrates (old new : List Event) (cert : List ℕ) (status : Status) : Type 0 where
+  pub cert_text : List ℕ
+  pub later : List Event
+  pub events : new ≡ old ++ (HasRead cert cert_text ∷ later)
+  pub follows : Follows (IsMigrationAnswer cert_text) (IsMigrationRefusal cert_text) later status

@@ -1,0 +1,45 @@
+//! The command that prints a certificate as version 2, over any device.
+
+ghost use Rattle.std.specs.Prelude.{◌≡◌, ◌≢◌, ◌≤◌, ◌+◌, List, Some, IfOk, IfErr};
+ghost use Rattle.optplan_device.specs.Events.{Event};
+ghost use Rattle.optplan_command.specs.Migrating.{IsMigrated, IsMigrationRefusal, Migrates};
+
+use crate::translation::reply_text;
+use cert_text::{read_cert, write_cert};
+use cert_value::Version;
+use optplan_device::Device;
+use optplan_replies::{Fault, FileWord, Status, read_file, report};
+use std::alloc::Global;
+
+/// The text of the certificate as version 2. The text that was read is dropped before that is made. Fails with the first fault of the
+/// text, or with `OutOfMemory`.
+fn migrated(alloc: Global, cert: Vec<u8>) -> Result<Vec<u8>, Fault>
+    ensures text { IfOk result (λ text. IsMigrated cert.items text.items) }
+    ensures refused { IfErr result (IsMigrationRefusal cert.items) }
+{
+    let certificate = match read_cert(alloc, &cert) {
+        Ok(certificate) => certificate.with_version(Version::Two),
+        Err(fault) => return Err(Fault::from(fault)),
+    };
+    drop(cert);
+    match write_cert(alloc, &certificate) {
+        Ok(text) => Ok(text),
+        Err(_) => Err(Fault::OutOfMemory),
+    }
+}
+
+/// Prints a certificate as version 2: reads the file, and prints the text or reports the fault of what was read. Returns the exit
+/// status.
+pub fn run_migration<D: Device>(alloc: Global, device: &mut D, cert: &str) -> Status
+    ensures done { (h : List Event) → D.history device.old ≡ Some h → D.failure_count device.new ≡ D.failure_count device.old → result ≢ Status.OutOfMemory →
+        (new : List Event) × (D.history device.new ≡ Some new) × Migrates h new cert.now result }
+    ensures device_failed { result ≡ Status.DeviceFailed → D.failure_count device.old + 1 ≤ D.failure_count device.new }
+{
+    match read_file(alloc, device, cert, FileWord::Cert) {
+        Ok(text) => {
+            let answer = migrated(alloc, text);
+            reply_text(alloc, device, &answer)
+        }
+        Err(fault) => report(alloc, device, &fault),
+    }
+}

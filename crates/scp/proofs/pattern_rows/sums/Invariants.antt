@@ -1,7 +1,0 @@
-use Rattle.std.proofs.Common.{◌≡◌, ℕ, min, slice_index, take}
-use Rattle.scp.specs.Rows.{lane_sum}
-use Rattle.scp.proofs.pattern_rows.sums.Given as goal
-
-abbrev pub invariant-loop-pattern : goal.invariant-loop-pattern
-invariant-loop-pattern g l =
-    (lane : ℕ) → slice_index (g.R.Row.words l.sums) lane ≡ min (lane_sum l.state lane (take l.pattern-index l.patterns)) g.R.Row.most

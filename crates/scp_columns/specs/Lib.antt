@@ -1,0 +1,3 @@
+pub mod ColumnTables
+pub mod TableProps
+pub mod Partitions

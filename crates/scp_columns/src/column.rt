@@ -1,0 +1,161 @@
+//! Columns, made table by table (saturated cost partitioning).
+
+ghost use Rattle.std.specs.Prelude.{◌≡◌, ℕ, ◌<◌, ◌-◌, ◌^◌, true, length, map, slice_index, All, IfOk};
+ghost use Rattle.fdr.specs.Tasks.{cost_of};
+ghost use Rattle.cost.specs.Distances.{IsWithin};
+ghost use Rattle.abstraction_mapping.specs.Mappings.{is_mapping};
+ghost use Rattle.abstraction_mapping.specs.Views.{mapping_of, task_in, mapping_in, abstraction_in};
+ghost use Rattle.checker_clauses.specs.Clauses.{share_of};
+ghost use Rattle.pdb_walks.specs.Walks.{AreDistances, IsGreatestFall, value_in};
+ghost use Rattle.pdb_patterns.specs.Choices.{IsMappingWithin};
+ghost use Rattle.scp_columns.specs.ColumnTables.{tables_of};
+ghost use Rattle.scp_columns.specs.Partitions.{IsMadeFrom, IsNextTable};
+
+use crate::shares::shares_of;
+use crate::table::ColumnTable;
+use abstraction_mapping::{Mapping, TableAbstraction};
+use cert_value::{AbstractionTable, Values};
+use fdr::FdrTask;
+use pdb::{distances, saturate};
+use pdb_domain::BackwardDomain;
+use pdb_regression::BackwardProjection;
+use pdb_walks::BackwardAbstraction;
+use std::alloc::{AllocError, Global};
+
+/// The abstraction of the task by a mapping of the task. Fails only if allocation fails.
+fn abstraction_to<'a>(
+    alloc: Global,
+    task: &'a FdrTask,
+    mapping: &Mapping,
+) -> Result<TableAbstraction<'a>, AllocError>
+    requires { is_mapping task.now (mapping_of mapping.now) ≡ true }
+    ensures { IfOk result (λ a. (task_in a ≡ task.now) × (mapping_in a ≡ mapping_of mapping.now)) }
+{
+    match TableAbstraction::new(alloc, task, mapping)? {
+        Some(abstraction) => Ok(abstraction),
+        None => unreachable!(),
+    }
+}
+
+/// Subtracts the shares from the remaining costs.
+fn take_shares(left: &mut [u32], needed: &[u32])
+    requires { length needed.now ≡ length left.old }
+    ensures len { length left.new ≡ length left.old }
+    ensures left { (o : ℕ) → slice_index left.new o ≡ slice_index left.old o - slice_index needed.now o }
+{
+    for operator in 0..left.len() {
+        left[operator] = left[operator].saturating_sub(needed[operator]);
+    }
+}
+
+/// The distances of an abstraction under the remaining costs, and the saturated cost function, by its transitions
+/// backwards.
+fn saturated_by<A: BackwardAbstraction>(
+    alloc: Global,
+    backward: &A,
+    left: &[u32],
+) -> Result<(Values, Vec<u32>), AllocError>
+    requires operators { length left.now ≡ length (A.task backward.now).operators }
+    requires small { (o : ℕ) → slice_index left.now o < 2 ^ 31 }
+    ensures distances { IfOk result (λ made. AreDistances (A.abstraction backward.now) (λ o. slice_index left.now o) made.0) }
+    ensures small { IfOk result (λ made. All (IsWithin (2 ^ 55)) made.0) }
+    ensures len { IfOk result (λ made. length made.1.items ≡ length left.now) }
+    ensures needed { IfOk result (λ made. (o : ℕ) →
+        IsGreatestFall (A.abstraction backward.now) (value_in made.0) o (slice_index made.1.items o)) }
+{
+    let values = distances(alloc, backward, left)?;
+    let needed = saturate(alloc, backward, left, &values)?;
+    Ok((values, needed))
+}
+
+/// The distances of an abstraction under the remaining costs, and the saturated cost function.
+fn saturated_distances(
+    alloc: Global,
+    abstraction: &TableAbstraction<'_>,
+    left: &[u32],
+) -> Result<(Values, Vec<u32>), AllocError>
+    requires operators { length left.now ≡ length (task_in abstraction.now).operators }
+    requires small { (o : ℕ) → slice_index left.now o < 2 ^ 31 }
+    ensures distances { IfOk result (λ made. AreDistances (abstraction_in abstraction.now) (λ o. slice_index left.now o) made.0) }
+    ensures small { IfOk result (λ made. All (IsWithin (2 ^ 55)) made.0) }
+    ensures len { IfOk result (λ made. length made.1.items ≡ length left.now) }
+    ensures needed { IfOk result (λ made. (o : ℕ) →
+        IsGreatestFall (abstraction_in abstraction.now) (value_in made.0) o (slice_index made.1.items o)) }
+{
+    match abstraction {
+        TableAbstraction::Projection(projection) => {
+            let backward = BackwardProjection::new(alloc, projection)?;
+            saturated_by(alloc, &backward, left)
+        }
+        TableAbstraction::Domain(domain) => {
+            let backward = BackwardDomain::new(alloc, domain)?;
+            saturated_by(alloc, &backward, left)
+        }
+    }
+}
+
+/// The table of a mapping with the distances under the remaining costs. Its shares are the saturated cost function, and
+/// they are subtracted from the remaining costs. Fails only if allocation fails, and then `left` is not specified.
+fn next_table<'a>(
+    alloc: Global,
+    task: &'a FdrTask,
+    mapping: &Mapping,
+    left: &mut [u32],
+) -> Result<ColumnTable<'a>, AllocError>
+    requires mapping { IsMappingWithin task.now (2 ^ 24) (mapping_of mapping.now) }
+    requires operators { length left.old ≡ length task.now.operators }
+    requires small { (o : ℕ) → slice_index left.old o < 2 ^ 31 }
+    ensures task { IfOk result (λ t. t.task ≡ task.now) }
+    ensures next { IfOk result (λ t. IsNextTable task.now (mapping_of mapping.now) (λ o. slice_index left.old o) t.table) }
+    ensures left { IfOk result (λ t. (o : ℕ) → slice_index left.new o ≡ slice_index left.old o - share_of t.table.shares o) }
+    ensures len { length left.new ≡ length left.old }
+{
+    task.recall();
+    let abstraction = abstraction_to(alloc, task, mapping)?;
+    let (values, needed) = saturated_distances(alloc, &abstraction, left)?;
+    let shares = shares_of(alloc, &needed)?;
+    let mapping = mapping.copied(alloc)?;
+    take_shares(left, &needed);
+    let table = AbstractionTable {
+        mapping,
+        shares,
+        values,
+    };
+    Ok(ColumnTable::new(task, table))
+}
+
+/// The cost of each operator.
+fn costs_of(alloc: Global, task: &FdrTask) -> Result<Vec<u32>, AllocError>
+    ensures len { IfOk result (λ costs. length costs.items ≡ length task.now.operators) }
+    ensures costs { IfOk result (λ costs. (o : ℕ) → o < length task.now.operators →
+        (slice_index costs.items o ≡ cost_of task.now o) × (slice_index costs.items o < 2 ^ 31)) }
+{
+    let mut costs = Vec::with_capacity(alloc, task.operator_count())?;
+    for operator in 0..task.operator_count() {
+        costs.push(task.cost(operator).get() as u32)?;
+    }
+    Ok(costs)
+}
+
+/// Makes a column with a table for each mapping, in order, by saturated cost partitioning (Seipp, Keller and Helmert
+/// 2020): a table has the distances under the remaining costs of the operators, and its shares are the least that
+/// preserve these distances. Each mapping must be one of the task that keeps something of at least one variable, with at
+/// most 2^24 abstract states and with classes that are numbered in the order in which they first stand in their row. Fails
+/// only if allocation fails.
+pub fn make_column<'a>(
+    alloc: Global,
+    task: &'a FdrTask,
+    mappings: &[Mapping],
+) -> Result<Vec<ColumnTable<'a>>, AllocError>
+    requires { All (λ m. IsMappingWithin task.now (2 ^ 24) (mapping_of m)) mappings.now }
+    ensures task { IfOk result (λ column. All (λ t. t.task ≡ task.now) column.items) }
+    ensures made { IfOk result (λ column. IsMadeFrom task.now (map mapping_of mappings.now) (tables_of column)) }
+{
+    let mut left = costs_of(alloc, task)?;
+    let mut column = Vec::with_capacity(alloc, mappings.len())?;
+    for mapping in mappings {
+        let table = next_table(alloc, task, mapping, &mut left)?;
+        column.push(table)?;
+    }
+    Ok(column)
+}
