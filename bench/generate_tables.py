@@ -3,13 +3,15 @@
 
     generate_tables.py FOLDER KIND SIZE
 
-FOLDER gets task.sas. KIND is one of two:
+FOLDER gets task.sas. KIND is one of three:
 
     one     three variables of SIZE values, at most 91: the last counts up to its goal, the second has to walk from end to end
             between two of its steps, and the first before each turn of the second. 500 operators: those, and others that lower the last
             variable, 50 of them from any state. One table has all SIZE * SIZE * SIZE abstract states.
     many    64 pairs of variables of SIZE values, of which one counts up to its goal, and the other has to walk from end to end
             between two of its steps. There are 8 columns of 64 tables of SIZE * SIZE abstract states.
+    classes one variable of SIZE values, more than 1,000, which 450 operators lead step by step from the first value to its goal, the
+            last one, and 50 lead from any value to the first. A table of at most 1,000 abstract states is over classes of its values.
 
 Standard output gets three numbers: how many tables there are in all columns, the lower bound of the initial state, which is the cost
 of a cheapest plan, and the greatest bound of 1,000 states that are drawn by SplitMix64 from seed 1 (of `many` alone, else 0).
@@ -22,6 +24,7 @@ from sas_lines import operator_lines, task_lines
 
 OPERATORS, FROM_ANYWHERE, PAIRS, COLUMNS, STATES = 500, 50, 64, 8, 1000
 GREATEST_SIZE = 91  # with which 500 operators are enough
+CLASSES, GREATEST_RANGE = 1000, 65_536  # the most values that a variable may have
 WORD = (1 << 64) - 1
 
 
@@ -52,6 +55,15 @@ def one_operators(size):
     return operators
 
 
+def classes_operators(size):
+    """The operators of the task with one variable: a way to its last value, and resets to its first."""
+    steps = OPERATORS - FROM_ANYWHERE
+    for step in range(steps):
+        yield operator_lines(f"step {step}", [], 0, step, step + 1 if step + 1 < steps else size - 1)
+    for place in range(FROM_ANYWHERE):
+        yield operator_lines(f"reset {place}", [], 0, -1, 0)
+
+
 def distance(walker, counter, size):
     """The cost of a cheapest way to the last value of a counting variable of a pair: its steps, and walks to where they may be made."""
     total = 0
@@ -78,14 +90,20 @@ def greatest_of_drawn(size):
 
 def main(arguments):
     """Writes the file."""
-    if len(arguments) != 3 or arguments[1] not in ("one", "many") or not arguments[2].isdecimal() or not 2 <= int(arguments[2]) <= GREATEST_SIZE:
-        print("usage: generate_tables.py FOLDER one|many SIZE, with a size from 2 to 91", file=sys.stderr)
+    sizes = {"one": (2, GREATEST_SIZE), "many": (2, GREATEST_SIZE), "classes": (CLASSES + 1, GREATEST_RANGE)}
+    least, greatest = sizes.get(arguments[1], (1, 0)) if len(arguments) == 3 else (1, 0)
+    if greatest == 0 or not arguments[2].isdecimal() or not least <= int(arguments[2]) <= greatest:
+        print("usage: generate_tables.py FOLDER one|many|classes SIZE, with a size from 2 to 91, of classes from 1,001 to 65,536",
+              file=sys.stderr)
         return 2
     folder, kind, size = arguments[0], arguments[1], int(arguments[2])
     if kind == "one":
         lines = task_lines(1, "value", [size] * 3, [(2, size - 1)], one_operators(size))
         # Each walk of the second variable from end to end needs one of the first before it.
         numbers = 1, (size - 1) + 2 * (size - 2) * (size - 1), 0
+    elif kind == "classes":
+        lines = task_lines(1, "value", [size], [(0, size - 1)], list(classes_operators(size)))
+        numbers = 1, OPERATORS - FROM_ANYWHERE, 0
     else:
         operators = [lines for pair in range(PAIRS)
                      for lines in pair_operators(str(pair), 2 * pair, 2 * pair + 1, size, lambda turns, value: [])]

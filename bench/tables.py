@@ -19,6 +19,12 @@ The second table has a line for each size of the 64 tables of a column, of which
     ns/look-up  how much longer it took to ask for the lower bounds of states, divided by the tables that were looked up, in nanoseconds
     peak MB     as above
 
+The third table has a line for a goal variable of so many values, of which a table has classes, 2 of them or 1,000, with 500 operators:
+
+    values      values of the variable
+    classes     classes of the table
+    seconds     from the program's start to its end, in the fastest run: nearly all of it reading where there are 2 classes
+
 Figures are only printed. The status is 1 where an answer is wrong, and 2 where there is no program.
 """
 
@@ -31,6 +37,8 @@ import measuring
 
 ONE_SIZES = [22, 46, 68, 90]
 MANY_SIZES = [10, 20, 40]
+RANGES = [16_384, 65_536]
+CLASSES = 1000
 TIMES = 200_000
 BUILT = os.path.join(measuring.FOLDER, "..", "crates", "bench_tables", "out", "bench_tables")
 
@@ -41,10 +49,12 @@ def generate(folder, kind, size):
     return subprocess.run(command, check=True, stdout=subprocess.PIPE).stdout.decode("ascii").split()
 
 
-def measure(program, kind, size, limit, times):
-    """Runs the program on a task. Returns whether each answer was right, the least seconds and the greatest peak in bytes."""
+def measure(program, kind, size, limit, times, bound=None):
+    """Runs the program on a task. Returns whether each answer was right, the least seconds and the greatest peak in bytes. `bound` is the
+    lower bound of the initial state where it is not the task's own, as with tables that merge more."""
     with tempfile.TemporaryDirectory() as folder:
-        tables, bound, greatest = generate(folder, kind, size)
+        tables, own_bound, greatest = generate(folder, kind, size)
+        bound = own_bound if bound is None else bound
         wanted = f"{tables} tables, {bound} from the initial state, {greatest if times else 0} at most"
         right, seconds, peaks = True, [], []
         for _ in range(measuring.RUNS):
@@ -80,6 +90,12 @@ def main(arguments):
         all_right = all_right and right and also_right
         look_up = (seconds - without) / (TIMES * 512)
         print(f"{size ** 2:>8,} {without:>8.3f} {look_up * 1e9:>10.1f} {peak / 1e6:>8.1f}", flush=True)
+    print(f"{'values':>9} {'classes':>8} {'seconds':>8}")
+    for size in RANGES:
+        for limit in (2, CLASSES):
+            right, seconds, _ = measure(program, "classes", size, limit, 0, bound=1 if limit == 2 else None)
+            all_right = all_right and right
+            print(f"{size:>9,} {limit:>8,} {seconds:>8.3f}", flush=True)
     return 0 if all_right else 1
 
 

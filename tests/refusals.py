@@ -83,6 +83,7 @@ def commands():
         solved = run("solve", "d", "p", "--simulate", "1", "--plan", "l", "--cert", "c", files=files)
         yield ("validate", "d", "p", "l"), files | {"l": solved.files["l"]}
         yield ("check", "d", "p", "c"), files | {"c": solved.files["c"]}
+    yield ("migrate-cert", "c"), {"c": solved.files["c"]}
 
 
 def last_lines(outcome):

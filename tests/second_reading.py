@@ -171,10 +171,10 @@ def number_of(word, most):
 
 
 class CertificateReader:
-    """The lines of a certificate. On one line F53 goes before F51, that before F52, and that before F55."""
+    """The lines of a certificate. On one line F53 goes before F51, that before F52, that before F55, and that before F57."""
 
     def __init__(self, text):
-        self.text, self.at, self.place = text, 0, 0
+        self.text, self.at, self.place, self.version = text, 0, 0, None
 
     def fault(self, name):
         return Fault(f"{name} cert {self.place}")
@@ -243,17 +243,36 @@ class CertificateReader:
         self.number(words[1], MAX_WORD, 1)
         self.increase(self.numbers(words[2:], atoms - 1))
 
-    def table(self):
+    def pattern(self):
+        """The variables of a pattern, each without classes."""
         count, rest = self.list(b"table", 1)
         self.number(count, MAX_WORD, 1)
-        pattern = self.increase(self.numbers(rest, MAX_WORD))
+        return [(variable, None) for variable in self.increase(self.numbers(rest, MAX_WORD))]
+
+    def rows(self):
+        """Variables, each with the class of each of its values."""
+        found = []
+        for _ in range(self.keyword(b"domain", MAX_WORD, 1)):
+            words = self.words()
+            self.counted(words, 1, 1)
+            variable, _ = self.number(words[0], MAX_WORD), self.number(words[1], MAX_WORD, 1)
+            classes = self.numbers(words[2:], MAX_WORD)
+            self.increase([it for it, _ in found[-1:]] + [variable])
+            if any(it > max(classes[:place], default=-1) + 1 for place, it in enumerate(classes)):
+                raise self.fault("F57 Classes")
+            found.append((variable, classes))
+        return found
+
+    def table(self):
+        has_rows = self.version == 2 and self.text[self.at:self.at + 7] in (b"domain ", b"domain\n")
+        mapping = self.rows() if has_rows else self.pattern()
         count, rest = self.list(b"shares", 2)
         self.number(count, MAX_WORD)
         operators, shares = self.numbers(rest[::2], MAX_WORD), self.numbers(rest[1::2], MAX_COST, 1)
         self.increase(operators)
         count, rest = self.list(b"values", 1)
         self.number(count, MAX_STATES)
-        return pattern, dict(zip(operators, shares)), [self.value(it, 2**55) for it in rest]
+        return mapping, dict(zip(operators, shares)), [self.value(it, 2**55) for it in rest]
 
     def closed(self):
         found, width = [], None
@@ -267,11 +286,13 @@ class CertificateReader:
 
 
 class Certificate:
-    """A certificate's kind, bound, columns (lists of tables: pattern, shares, values) and closed states with their costs."""
+    """A certificate's kind, bound, columns (lists of tables: variables with classes or None, shares, values) and closed states with
+    their costs."""
 
     def __init__(self, text):
         it = CertificateReader(text)
-        if it.line() != b"optplan-cert 1":
+        it.version = {b"optplan-cert 1": 1, b"optplan-cert 2": 2}.get(it.line())
+        if it.version is None:
             raise Fault("F50 Header cert")
         self.kind = it.line()
         if self.kind not in (b"pddl", b"sas"):
@@ -339,14 +360,20 @@ class Check:
                 for it in self.falls(*table):
                     yield f"C4 column {number} table {place}{it}"
 
-    def falls(self, pattern, shares, values):
-        if any(it >= len(self.task.ranges) for it in pattern) or \
-                math.prod(self.task.ranges[it] for it in pattern) != len(values):
+    def classes(self, mapping):
+        """For each variable the class of each of its values, each value its own where there are no classes."""
+        return [list(range(self.task.ranges[variable])) if classes is None else classes for variable, classes in mapping]
+
+    def falls(self, mapping, shares, values):
+        if any(variable >= len(self.task.ranges) for variable, _ in mapping) or \
+                any(len(it) != self.task.ranges[variable] for it, (variable, _) in zip(self.classes(mapping), mapping)) or \
+                math.prod(max(it) + 1 for it in self.classes(mapping)) != len(values):
             yield ""
             return
-        places = {variable: place for place, variable in enumerate(pattern)}
-        within = lambda facts: [(places[variable], value) for variable, value in facts if variable in places]
-        states = abstract_states([self.task.ranges[it] for it in pattern])
+        classes = self.classes(mapping)
+        places = {variable: place for place, (variable, _) in enumerate(mapping)}
+        within = lambda facts: [(places[variable], classes[places[variable]][value]) for variable, value in facts if variable in places]
+        states = abstract_states([max(it) + 1 for it in classes])
         numbers = {state: number for number, state in enumerate(states)}
         for number, state in enumerate(states):
             if agrees(state, within(self.task.goal)) and values[number] != 0:
@@ -368,10 +395,10 @@ class Check:
 
     def value(self, state):
         """The heuristic value of a state."""
-        def of_table(pattern, _, values):
+        def of_table(mapping, _, values):
             place, weight = 0, 1
-            for variable in pattern:
-                place, weight = place + state[variable] * weight, weight * self.task.ranges[variable]
+            for (variable, _), classes in zip(mapping, self.classes(mapping)):
+                place, weight = place + classes[state[variable]] * weight, weight * (max(classes) + 1)
             return values[place]
 
         return max((sum(of_table(*table) for table in column) for column in self.certificate.columns), default=0)

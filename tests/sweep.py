@@ -17,7 +17,8 @@ from damages import damaged_bytes, damaged_lines, tokens
 from program import checked, checked_sas, example, validated, wanted
 from second_reading import certificate_fault, check_sas
 
-FINITE_DOMAIN = (("road", "closed.cert"), ("road", "table.cert"))
+FINITE_DOMAIN = (("road", "closed.cert"), ("road", "table.cert"), ("road", "classes.cert"))
+PLANNING_CERTIFICATES = (("road", "planning.cert"), ("lamp", "closed.cert"), ("lamp", "tables.cert"), ("drive", "classes.cert"))
 PLANNING = ("blocks", "door", "drive", "grip", "gripper", "lamp", "logistics", "noop", "road")
 VERDICT = re.compile(rb"(valid \d+|no such action \d+|not applicable \d+ \(.+\)|goal open \(.+\))\n")
 CLAUSE = re.compile(rb"(accepted (\d+|unsolvable)|rejected C[1-8]( [^\n]*)?)\n")
@@ -91,7 +92,7 @@ def main(arguments):
     sweep = Sweep()
     for names in FINITE_DOMAIN:
         sweep.damage_finite_domain(*names)
-    for name, certificate in (("road", "planning.cert"), ("lamp", "closed.cert"), ("lamp", "tables.cert")):
+    for name, certificate in PLANNING_CERTIFICATES:
         sweep.damage_planning_certificate(name, certificate)
     for name in PLANNING:
         sweep.damage_planning(name)

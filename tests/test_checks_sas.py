@@ -47,7 +47,9 @@ class CertificateTexts(FiniteDomainTest):
 
     def test_texts_of_certificates(self):
         self.hold(ROAD_SAS, ROAD_CERTIFICATE, [
-            ("", "1=optplan-cert 2", "F50 Header cert"),
+            ("", "1=optplan-cert 2", "accepted 2"),
+            ("", "1=optplan-cert 3", "F50 Header cert"),
+            ("", "1=optplan-cert  2", "F50 Header cert"),
             ("", "2=fdr", "F51 Expected cert 2"),
             ("", "3=bound 01", "F52 Number cert 3"),
             ("", "3=bound  ", "F51 Expected cert 3"),

@@ -265,7 +265,7 @@ class FaultLines(ProgramTest):
     ]
 
     CERT_ROWS = [
-        (with_line(ROAD_CERTIFICATE, 1, "optplan-cert 2"), "F50 Header cert"),
+        (with_line(ROAD_CERTIFICATE, 1, "optplan-cert 3"), "F50 Header cert"),
         (with_line(ROAD_CERTIFICATE, 2, "fdr"), "F51 Expected cert 2"),
         (with_line(ROAD_CERTIFICATE, 3, "bound 02"), "F52 Number cert 3"),
         (ROAD_CERTIFICATE.removesuffix("end\n"), "F53 Truncated cert"),

@@ -2,7 +2,7 @@
 
 import unittest
 
-from sweep import PLANNING, FINITE_DOMAIN, Sweep
+from sweep import FINITE_DOMAIN, PLANNING, PLANNING_CERTIFICATES, Sweep
 
 # One of so many damages.
 SHARE = 41
@@ -26,6 +26,6 @@ class DamagedTest(unittest.TestCase):
                 self.is_clean(Sweep(SHARE).damage_planning(name))
 
     def test_certificates_of_planning_tasks(self):
-        for name, certificate in (("road", "planning.cert"), ("lamp", "closed.cert"), ("lamp", "tables.cert")):
+        for name, certificate in PLANNING_CERTIFICATES:
             with self.subTest(certificate=certificate):
                 self.is_clean(Sweep(SHARE).damage_planning_certificate(name, certificate))

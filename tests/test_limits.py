@@ -18,7 +18,7 @@ R1_AT_A = R1.replace("(:goal (at c))", "(:goal (at a))")
 # at 8.
 DRIVE_WITHOUT_TABLES = ("--table", "1", "--workers", "1")
 
-DRIVE_CERTIFICATE = """optplan-cert 1
+DRIVE_CERTIFICATE = """optplan-cert 2
 pddl
 bound 3
 atoms 6

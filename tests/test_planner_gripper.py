@@ -90,5 +90,8 @@ class Gripper(PlannerTest):
             with self.subTest(seed=seed):
                 outcome = solved(DOMAIN, THREE_BALLS, simulate=seed, workers=3, table=TABLE)
                 self.assertEqual((outcome.err, outcome.status, outcome.files["l"]), (b"", 0, outcome.out))
-                # The certificate's checksum goes on from that of the plan.
-                self.assertEqual(checksum(outcome.out + outcome.files["c"]), wanted_checksum)
+                # The certificate's checksum goes on from that of the plan. It is of version 1, from which a certificate without domain
+                # abstractions differs in its first line alone.
+                version, rest = outcome.files["c"].split(b"\n", 1)
+                self.assertEqual(version, b"optplan-cert 2")
+                self.assertEqual(checksum(outcome.out + b"optplan-cert 1\n" + rest), wanted_checksum)

@@ -5,18 +5,17 @@ mod report;
 mod searching;
 mod sums;
 
-ghost use Rattle.std.specs.Prelude.{◌≡◌, ◌≤◌, ◌^◌, IfOk};
+ghost use Rattle.std.specs.Prelude.{◌≤◌, ◌^◌};
 
 use crate::report::Report;
 use crate::searching::searched_in_smallest_form;
+use bench_input::{MAX_TABLE, columns_within, status_of, task_in, words_of_call};
 use engine::EngineFault;
 use fdr::FdrTask;
 use optplan_device::{Device, ProcessDevice};
 use owner::{Space, Ties};
 use packed_spread::Zobrist;
-use sasfile::read_sas;
-use scp::{Columns, choose_columns, make_columns};
-use std::alloc::{AllocError, Global};
+use std::alloc::Global;
 use std::process::ExitCode;
 use std::sync::Wait;
 use std::thread::Threads;
@@ -24,9 +23,6 @@ use std::time::Clock;
 
 /// The greatest number of workers.
 const MAX_WORKERS: usize = 64;
-
-/// The greatest number of abstract states of a table.
-const MAX_TABLE: usize = 16_777_216;
 
 /// The size of a search: the number of workers, the number of messages for which a link has room, the greatest number of
 /// abstract states of a table, and the greatest number of nodes that each worker expands.
@@ -36,22 +32,6 @@ struct Amounts {
     ring: usize,
     table: usize,
     limit: u64,
-}
-
-/// Columns with tables of at most `table` abstract states, and no column if that is 0. Fails only if allocation fails.
-fn columns_of<'a, R: Threads + Sync>(
-    rt: &R,
-    alloc: Global,
-    task: &'a FdrTask,
-    table: usize,
-) -> Result<Columns<'a>, AllocError>
-    requires { table ≤ 2 ^ 24 }
-    ensures { IfOk result (λ columns. columns.task ≡ task.now) }
-{
-    if table == 0 {
-        return make_columns(rt, alloc, task, &[]);
-    }
-    choose_columns(rt, alloc, task, table)
 }
 
 /// The report of the search of a task.
@@ -64,7 +44,7 @@ fn searched<'a, R: Threads + Wait + Clock + Sync>(
     requires table { amounts.table ≤ 2 ^ 24 }
     requires workers { 1 ≤ amounts.workers }
 {
-    let columns = columns_of(rt, alloc, task, amounts.table)?;
+    let columns = columns_within(rt, alloc, task, amounts.table)?;
     let spread = Zobrist::new(alloc, task)?;
     let space: Space<'a, Zobrist<'a>> = Space::new(
         alloc,
@@ -77,20 +57,17 @@ fn searched<'a, R: Threads + Wait + Clock + Sync>(
     searched_in_smallest_form(rt, alloc, &space, amounts.workers, amounts.ring)
 }
 
-/// The report that the program prints. `None` if the text spells no task, or an amount is out of range.
+/// The report that the program prints. `None` if an amount is out of range.
 fn answer<R: Threads + Wait + Clock + Sync>(
     rt: &R,
     alloc: Global,
-    text: &[u8],
+    task: &FdrTask,
     amounts: Amounts,
 ) -> Result<Option<Report>, EngineFault> {
-    let Ok(task) = read_sas(alloc, text) else {
-        return Ok(None);
-    };
     if amounts.workers < 1 || amounts.workers > MAX_WORKERS || amounts.table > MAX_TABLE {
         return Ok(None);
     }
-    Ok(Some(searched(rt, alloc, &task, amounts)?))
+    Ok(Some(searched(rt, alloc, task, amounts)?))
 }
 
 /// The four amounts of the command line.
@@ -127,27 +104,19 @@ fn put_answer<D: Device, R: Threads + Wait + Clock + Sync>(
     ) else {
         return false;
     };
-    let Ok(text) = device.read(alloc, task.as_str()) else {
+    let Some(task) = task_in(alloc, device, task.as_str()) else {
         return false;
     };
-    match answer(rt, alloc, &text, amounts) {
+    match answer(rt, alloc, &task, amounts) {
         Ok(Some(report)) => report.put(device),
         _ => false,
     }
 }
 
 fn main(rt: HostRuntime) -> ExitCode {
-    let words: Vec<String> = match std::env::args(&rt) {
-        Ok(args) => match args.collect(rt.alloc()) {
-            Ok(words) => words,
-            Err(_) => return ExitCode::from(6),
-        },
-        Err(_) => return ExitCode::from(6),
+    let Some(words) = words_of_call(&rt) else {
+        return ExitCode::from(6);
     };
     let mut device = ProcessDevice::new(&rt);
-    if put_answer(&rt, rt.alloc(), &mut device, &words) {
-        ExitCode::from(0)
-    } else {
-        ExitCode::from(1)
-    }
+    status_of(put_answer(&rt, rt.alloc(), &mut device, &words))
 }

@@ -2,6 +2,7 @@
 //! `count_groundings DOMAIN PROBLEM`.
 #![tactic(auto)]
 
+use bench_input::{status_of, words_of_call};
 use ground::ground;
 use optplan_device::{Device, ProcessDevice};
 use pddl::read_task;
@@ -45,17 +46,9 @@ fn put_counts<D: Device>(alloc: Global, device: &mut D, words: &[String]) -> boo
 }
 
 fn main(rt: HostRuntime) -> ExitCode {
-    let words: Vec<String> = match std::env::args(&rt) {
-        Ok(args) => match args.collect(rt.alloc()) {
-            Ok(words) => words,
-            Err(_) => return ExitCode::from(6),
-        },
-        Err(_) => return ExitCode::from(6),
+    let Some(words) = words_of_call(&rt) else {
+        return ExitCode::from(6);
     };
     let mut device = ProcessDevice::new(&rt);
-    if put_counts(rt.alloc(), &mut device, &words) {
-        ExitCode::from(0)
-    } else {
-        ExitCode::from(1)
-    }
+    status_of(put_counts(rt.alloc(), &mut device, &words))
 }

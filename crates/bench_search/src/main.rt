@@ -5,25 +5,21 @@
 mod alone;
 mod together;
 
-ghost use Rattle.std.specs.Prelude.{◌≡◌, ◌≤◌, ◌^◌, IfOk};
+ghost use Rattle.std.specs.Prelude.{◌≤◌, ◌^◌};
 
 use crate::alone::alone_in_smallest_form;
 use crate::together::together_in_smallest_form;
+use bench_input::{MAX_TABLE, columns_within, status_of, task_in, words_of_call};
 use fdr::FdrTask;
 use optplan_device::{Device, ProcessDevice};
 use owner::{OwnerFault, Space, Ties};
 use packed_spread::Zobrist;
-use sasfile::read_sas;
-use scp::{Columns, choose_columns, make_columns};
-use std::alloc::{AllocError, Global};
+use std::alloc::Global;
 use std::process::ExitCode;
 use std::thread::Threads;
 
 /// The greatest number of owners.
 const MAX_OWNERS: usize = 64;
-
-/// The greatest number of abstract states of a table.
-const MAX_TABLE: usize = 16_777_216;
 
 /// The size of a search: the number of owners, the number of steps, and the greatest number of abstract states of a
 /// table.
@@ -32,22 +28,6 @@ struct Amounts {
     owners: usize,
     steps: u64,
     table: usize,
-}
-
-/// Columns with tables of at most `table` abstract states, and no column if that is 0. Fails only if allocation fails.
-fn columns_of<'a, R: Threads + Sync>(
-    rt: &R,
-    alloc: Global,
-    task: &'a FdrTask,
-    table: usize,
-) -> Result<Columns<'a>, AllocError>
-    requires { table ≤ 2 ^ 24 }
-    ensures { IfOk result (λ columns. columns.task ≡ task.now) }
-{
-    if table == 0 {
-        return make_columns(rt, alloc, task, &[]);
-    }
-    choose_columns(rt, alloc, task, table)
 }
 
 /// The line for the search of a task.
@@ -60,7 +40,7 @@ fn searched<'a, R: Threads + Sync>(
     requires table { amounts.table ≤ 2 ^ 24 }
     requires owners { 1 ≤ amounts.owners }
 {
-    let columns = columns_of(rt, alloc, task, amounts.table)?;
+    let columns = columns_within(rt, alloc, task, amounts.table)?;
     let spread = Zobrist::new(alloc, task)?;
     let space: Space<'a, Zobrist<'a>> = Space::new(
         alloc,
@@ -77,20 +57,17 @@ fn searched<'a, R: Threads + Sync>(
     }
 }
 
-/// The line that the program prints. `None` if the text spells no task, or an amount is out of range.
+/// The line that the program prints. `None` if an amount is out of range.
 fn answer<R: Threads + Sync>(
     rt: &R,
     alloc: Global,
-    text: &[u8],
+    task: &FdrTask,
     amounts: Amounts,
 ) -> Result<Option<String>, OwnerFault> {
-    let Ok(task) = read_sas(alloc, text) else {
-        return Ok(None);
-    };
     if amounts.owners < 1 || amounts.owners > MAX_OWNERS || amounts.table > MAX_TABLE {
         return Ok(None);
     }
-    Ok(Some(searched(rt, alloc, &task, amounts)?))
+    Ok(Some(searched(rt, alloc, task, amounts)?))
 }
 
 /// The three amounts of the command line.
@@ -118,27 +95,19 @@ fn put_answer<D: Device, R: Threads + Sync>(
     let Some(amounts) = amounts_of(owners.as_str(), steps.as_str(), table.as_str()) else {
         return false;
     };
-    let Ok(text) = device.read(alloc, task.as_str()) else {
+    let Some(task) = task_in(alloc, device, task.as_str()) else {
         return false;
     };
-    match answer(rt, alloc, &text, amounts) {
+    match answer(rt, alloc, &task, amounts) {
         Ok(Some(line)) => device.out(line.as_bytes()).is_ok(),
         _ => false,
     }
 }
 
 fn main(rt: HostRuntime) -> ExitCode {
-    let words: Vec<String> = match std::env::args(&rt) {
-        Ok(args) => match args.collect(rt.alloc()) {
-            Ok(words) => words,
-            Err(_) => return ExitCode::from(6),
-        },
-        Err(_) => return ExitCode::from(6),
+    let Some(words) = words_of_call(&rt) else {
+        return ExitCode::from(6);
     };
     let mut device = ProcessDevice::new(&rt);
-    if put_answer(&rt, rt.alloc(), &mut device, &words) {
-        ExitCode::from(0)
-    } else {
-        ExitCode::from(1)
-    }
+    status_of(put_answer(&rt, rt.alloc(), &mut device, &words))
 }

@@ -8,9 +8,10 @@ ghost use Rattle.std.specs.Prelude.{◌<◌, length, All};
 ghost use Rattle.fdr.specs.Tasks.{ranges, IsState};
 
 use crate::states::draw_states;
+use bench_input::{MAX_TABLE, status_of, task_in, words_of_call};
 use cost::Dist;
+use fdr::FdrTask;
 use optplan_device::{Device, ProcessDevice};
-use sasfile::read_sas;
 use scp::{Columns, choose_columns};
 use std::alloc::{AllocError, Global};
 use std::process::ExitCode;
@@ -37,22 +38,19 @@ fn table_count(columns: &Columns<'_>) -> usize {
     count
 }
 
-/// The line that the program prints. `None` if the text spells no task, or the limit is out of range.
+/// The line that the program prints. `None` if the limit is out of range.
 fn answer<R: Threads + Sync>(
     rt: &R,
     alloc: Global,
-    text: &[u8],
+    task: &FdrTask,
     limit: usize,
     times: usize,
 ) -> Result<Option<String>, AllocError> {
-    let Ok(task) = read_sas(alloc, text) else {
-        return Ok(None);
-    };
-    if limit < 1 || limit > 16_777_216 {
+    if limit < 1 || limit > MAX_TABLE {
         return Ok(None);
     }
-    let columns = choose_columns(rt, alloc, &task, limit)?;
-    let states = draw_states(alloc, &task)?;
+    let columns = choose_columns(rt, alloc, task, limit)?;
+    let states = draw_states(alloc, task)?;
     let tables = table_count(&columns);
     let initial = columns.h(task.initial());
     let greatest = greatest_bound(&columns, &states, times);
@@ -75,27 +73,19 @@ fn put_answer<D: Device, R: Threads + Sync>(
     let (Ok(limit), Ok(times)) = (limit.parse::<usize>(), times.parse::<usize>()) else {
         return false;
     };
-    let Ok(text) = device.read(alloc, task.as_str()) else {
+    let Some(task) = task_in(alloc, device, task.as_str()) else {
         return false;
     };
-    match answer(rt, alloc, &text, limit, times) {
+    match answer(rt, alloc, &task, limit, times) {
         Ok(Some(line)) => device.out(line.as_bytes()).is_ok(),
         _ => false,
     }
 }
 
 fn main(rt: HostRuntime) -> ExitCode {
-    let words: Vec<String> = match std::env::args(&rt) {
-        Ok(args) => match args.collect(rt.alloc()) {
-            Ok(words) => words,
-            Err(_) => return ExitCode::from(6),
-        },
-        Err(_) => return ExitCode::from(6),
+    let Some(words) = words_of_call(&rt) else {
+        return ExitCode::from(6);
     };
     let mut device = ProcessDevice::new(&rt);
-    if put_answer(&rt, rt.alloc(), &mut device, &words) {
-        ExitCode::from(0)
-    } else {
-        ExitCode::from(1)
-    }
+    status_of(put_answer(&rt, rt.alloc(), &mut device, &words))
 }

@@ -16,7 +16,7 @@ use Rattle.translate_theory.specs.Variables.{PlacedVariable, IsPlaced}
 use Rattle.translate_vars.specs.Parts.{value_count, has_long_range}
 use Rattle.translate.specs.Translated.{TranslatedTask, IsTranslation}
 use Rattle.cert_value.specs.Certificates.{CertificateValue}
-use Rattle.cert_text.specs.Lawful.{IsIncreasing, IsAtomWord, IsAtom, IsVariable, IsLawful, IsLawfulKind}
+use Rattle.cert_value.specs.Lawful.{IsIncreasing, IsAtomWord, IsAtom, IsVariable, IsLawful, IsLawfulKind}
 use Rattle.cert_text.specs.Spelling.{spelling}
 use Rattle.checker_clauses.specs.Violations.{IsHeld}
 use Rattle.checker_pddl.specs.declared.verdict.PlanningVerdict.TheVariants.{Accepted}

@@ -5,7 +5,7 @@ ghost use Rattle.pddl_task.specs.Planning.{PlanningTask};
 ghost use Rattle.pddl.specs.Texts.{SpellTask};
 ghost use Rattle.translate.specs.Translated.{TranslatedTask, IsTranslation};
 ghost use Rattle.cert_value.specs.Certificates.{CertificateValue};
-ghost use Rattle.cert_text.specs.Lawful.{IsLawful, IsLawfulKind};
+ghost use Rattle.cert_value.specs.Lawful.{IsLawful, IsLawfulKind};
 ghost use Rattle.cert_text.specs.Spelling.{spelling};
 ghost use Rattle.checker_clauses.specs.Violations.{IsHeld};
 ghost use Rattle.checker_pddl.specs.Answers.{IsAnswer};

@@ -12,7 +12,7 @@ use Rattle.owner.specs.Owned.{OwnerOf, IsKept, space_of, max_total}
 use Rattle.std.specs.List.Sorted.{IsPermutation}
 use Rattle.std.proofs.lemmas.List.Sorted.{length_permutation}
 use Rattle.cert_value.specs.Certificates.{Kind, Entry, CertificateValue}
-use Rattle.cert_text.specs.Lawful.{IsLawful, IsLawfulKind}
+use Rattle.cert_value.specs.Lawful.{IsLawful, IsLawfulKind}
 use Rattle.optplan_sas.specs.Findings.{IsCertificateOf, IsCheapestPlan, IsPlanAt, IsBestSoFar, IsSettledEnd}
 use Rattle.optplan_sas.specs.declared.found.FoundPlan.{FoundPlan}
 use Rattle.checker_clauses.specs.Violations.{IsHeld}

@@ -3,7 +3,7 @@ use Rattle.std.specs.Prelude.{◌≡◌, ℕ, ◌<◌, ◌≤◌, ◌^◌, List,
 use Rattle.cost.specs.Distances.{Distance, Finite, Infinite}
 use Rattle.fdr.specs.Tasks.{FiniteDomainTask, IsPlan, plan_cost, EveryPlanCostsAtLeast, HasNoPlan}
 use Rattle.cert_value.specs.Certificates.{Kind, CertificateValue}
-use Rattle.cert_text.specs.Lawful.{IsLawful, IsLawfulKind}
+use Rattle.cert_value.specs.Lawful.{IsLawful, IsLawfulKind}
 use Rattle.checker_clauses.specs.Violations.{IsHeld}
 use Rattle.packed_spread.specs.Spreads as spread
 use Rattle.packed_spread.specs.Spreads.{zobrist_owner}

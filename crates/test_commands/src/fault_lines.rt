@@ -41,6 +41,7 @@ const CERT_ROWS: &[(CertFault, &str)] = &[
     (CertFault::Truncated, "F53 Truncated cert"),
     (CertFault::Trailing(9), "F54 Trailing cert 9"),
     (CertFault::Order(8), "F55 Order cert 8"),
+    (CertFault::Classes(16), "F57 Classes cert 16"),
     (CertFault::TooLong, "F56 TooLong cert"),
 ];
 

@@ -1,4 +1,4 @@
-//! A device that fails, and a file whose name is empty.
+//! A device that fails, a file whose name is empty, and a certificate as version 2.
 
 use optplan_command::run;
 use optplan_device::{DeviceFault, MemoryDevice};
@@ -12,6 +12,10 @@ use std::thread::Threads;
 use std::time::Clock;
 
 const PLAN: &str = "(go a b)(go b c)";
+
+/// `ROAD_CERTIFICATE` as version 2.
+const MIGRATED_CERTIFICATE: &str =
+    "optplan-cert 2\nsas\nbound 2\ncolumns 0\nclosed 2\n0 0\n1 1\nend\n";
 
 /// What is printed, what is reported, and the status.
 type Texts = (&'static str, &'static str, u8);
@@ -52,6 +56,21 @@ fn a_file_whose_name_is_empty(rt: HostRuntime) -> Result<(), Fail> {
     puts(&rt, &["check-sas", "", "c"], &texts, "accepted 2\n")
 }
 
+#[test]
+fn a_certificate_as_version_2(rt: HostRuntime) -> Result<(), Fail> {
+    let texts = [
+        ("c", ROAD_CERTIFICATE.as_bytes()),
+        ("-m", MIGRATED_CERTIFICATE.as_bytes()),
+    ];
+    puts(&rt, &["migrate-cert", "c"], &texts, MIGRATED_CERTIFICATE)?;
+    puts(
+        &rt,
+        &["migrate-cert", "--", "-m"],
+        &texts,
+        MIGRATED_CERTIFICATE,
+    )
+}
+
 /// The outcome of the program if one call of its device fails with a fault.
 fn run_with_fault<R: Threads + Wait + Clock + Eprint + Sync + AllocGlobal>(
     rt: &R,
@@ -80,8 +99,12 @@ const VALIDATE: &[&str] = &["validate", "d", "p", "l"];
 
 const CHECK: &[&str] = &["check-sas", "s", "c"];
 
+const MIGRATE: &[&str] = &["migrate-cert", "c"];
+
 /// A task's text in place of a certificate's.
 const CHECK_OF_NO_CERTIFICATE: &[&str] = &["check-sas", "s", "s"];
+
+const MIGRATE_NO_CERTIFICATE: &[&str] = &["migrate-cert", "s"];
 
 const FAILING_ROWS: &[FaultRow] = &[
     (CHECK, "", 0, ("", "optplan: F70 CannotRead sas\n", 7)),
@@ -96,6 +119,16 @@ const FAILING_ROWS: &[FaultRow] = &[
         ("", "optplan: F50 Header cert\n", 1),
     ),
     (&["check-sas", "s", "gone"], "", 2, ("", "", 7)),
+    (MIGRATE, "", 0, ("", "optplan: F70 CannotRead cert\n", 7)),
+    (MIGRATE, "", 1, ("", "optplan: F71 CannotWrite output\n", 7)),
+    (MIGRATE, "", 2, (MIGRATED_CERTIFICATE, "", 0)),
+    (MIGRATE_NO_CERTIFICATE, "", 1, ("", "", 1)),
+    (
+        MIGRATE_NO_CERTIFICATE,
+        "",
+        2,
+        ("", "optplan: F50 Header cert\n", 1),
+    ),
     (
         VALIDATE,
         PLAN,
@@ -167,6 +200,10 @@ const MEMORY_ROWS: &[FaultRow] = &[
     (CHECK, "", 2, ("", "optplan: out of memory\n", 6)),
     (CHECK, "", 3, ("accepted 2\n", "", 0)),
     (CHECK_OF_NO_CERTIFICATE, "", 2, ("", "", 1)),
+    (MIGRATE, "", 0, ("", "optplan: out of memory\n", 6)),
+    (MIGRATE, "", 1, ("", "optplan: out of memory\n", 6)),
+    (MIGRATE, "", 2, (MIGRATED_CERTIFICATE, "", 0)),
+    (MIGRATE_NO_CERTIFICATE, "", 1, ("", "", 1)),
 ];
 
 #[test]

@@ -1,6 +1,6 @@
 ghost use Rattle.checker_clauses.specs.Violations.{IsMet};
 
-use cert_value::{Certificate, CertificateKind, ClosedList};
+use cert_value::{Certificate, CertificateKind, ClosedList, Version};
 use checker_clauses::Violation;
 use checker_states::{Coverage, first_closed_violation, first_goal_violation};
 use checker_tables::first_table_violation;
@@ -73,7 +73,13 @@ fn found<R: Threads + Sync + Abort>(
     bound: Dist,
     closed: ClosedList,
 ) -> Option<Violation> {
-    let certificate = Certificate::new(CertificateKind::Sas, bound, Vec::new(alloc), closed);
+    let certificate = Certificate::new(
+        Version::One,
+        CertificateKind::Sas,
+        bound,
+        Vec::new(alloc),
+        closed,
+    );
     first_violation(rt, alloc, task, &certificate).expect(rt, "memory")
 }
 

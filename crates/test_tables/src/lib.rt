@@ -1,8 +1,10 @@
-//! Tests of distances, patterns, tables and columns of tasks, and of their check, worked out by hand.
+//! Tests of distances, mappings, tables and columns of tasks, and of their check, worked out by hand.
 #![tactic(auto)]
 
 #[cfg(test)]
 mod closed_violations;
+#[cfg(test)]
+mod domain_violations;
 #[cfg(test)]
 mod stair_distances;
 #[cfg(test)]

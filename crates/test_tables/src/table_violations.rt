@@ -1,6 +1,10 @@
 ghost use Rattle.std.specs.Prelude.{◌≡◌, ◌<◌, IfOk};
 
-use cert_value::{Certificate, CertificateKind, ClosedList, PatternTable, Share, Values};
+use abstraction_domain::ClassRow;
+use abstraction_mapping::Mapping;
+use cert_value::{
+    AbstractionTable, Certificate, CertificateKind, ClosedList, Share, Values, Version,
+};
 use checker_clauses::Violation;
 use checker_tables::{Heuristic, first_share_violation, first_table_violation};
 use cost::Dist;
@@ -11,23 +15,49 @@ use std::test::Fail;
 use std::thread::Threads;
 use test_tasks::{fact, is_state_of, task, walk};
 
-const INF: u64 = u64::MAX;
+pub(crate) const INF: u64 = u64::MAX;
 
 const HUGE: u64 = 9_223_372_036_854_775_808;
 
+/// What a table keeps of a state: a pattern, or variables with the classes of their values.
+#[derive(Clone, Copy)]
+pub(crate) enum Kept<'a> {
+    Pattern(&'a [u32]),
+    Domains(&'a [(usize, &'a [u32])]),
+}
+
 /// A table as a text would state it: `INF` is infinite.
 #[derive(Clone, Copy)]
-struct Given<'a> {
-    pattern: &'a [u32],
-    shares: &'a [(u32, u32)],
-    values: &'a [u64],
+pub(crate) struct Given<'a> {
+    pub(crate) mapping: Kept<'a>,
+    pub(crate) shares: &'a [(u32, u32)],
+    pub(crate) values: &'a [u64],
 }
 
 fn dist(value: u64) -> Dist {
     Dist::fin(value).unwrap_or(Dist::inf())
 }
 
-fn table(rt: &impl Abort, alloc: Global, given: &Given<'_>) -> PatternTable {
+fn rows(rt: &impl Abort, alloc: Global, given: &[(usize, &[u32])]) -> Vec<ClassRow> {
+    let mut rows = Vec::new(alloc);
+    for (variable, classes) in given {
+        let classes = Vec::from_slice(alloc, classes).expect(rt, "memory");
+        let row = ClassRow::new(*variable, classes).expect(rt, "classes in their order");
+        rows.push(row).expect(rt, "memory");
+    }
+    rows
+}
+
+fn mapping(rt: &impl Abort, alloc: Global, given: Kept<'_>) -> Mapping {
+    match given {
+        Kept::Pattern(pattern) => {
+            Mapping::Pattern(Vec::from_slice(alloc, pattern).expect(rt, "memory"))
+        }
+        Kept::Domains(given) => Mapping::Domains(rows(rt, alloc, given)),
+    }
+}
+
+fn table(rt: &impl Abort, alloc: Global, given: &Given<'_>) -> AbstractionTable {
     let mut shares = Vec::new(alloc);
     for &(operator, amount) in given.shares {
         shares.push(Share { operator, amount }).expect(rt, "memory");
@@ -36,14 +66,14 @@ fn table(rt: &impl Abort, alloc: Global, given: &Given<'_>) -> PatternTable {
     for value in given.values {
         values.push(dist(*value)).expect(rt, "memory");
     }
-    PatternTable {
-        pattern: Vec::from_slice(alloc, given.pattern).expect(rt, "memory"),
+    AbstractionTable {
+        mapping: mapping(rt, alloc, given.mapping),
         shares,
         values,
     }
 }
 
-fn column(rt: &impl Abort, alloc: Global, tables: &[Given<'_>]) -> Vec<PatternTable> {
+fn column(rt: &impl Abort, alloc: Global, tables: &[Given<'_>]) -> Vec<AbstractionTable> {
     let mut column = Vec::new(alloc);
     for given in tables {
         column.push(table(rt, alloc, given)).expect(rt, "memory");
@@ -51,12 +81,13 @@ fn column(rt: &impl Abort, alloc: Global, tables: &[Given<'_>]) -> Vec<PatternTa
     column
 }
 
-fn certificate(rt: &impl Abort, alloc: Global, columns: &[&[Given<'_>]]) -> Certificate {
+pub(crate) fn certificate(rt: &impl Abort, alloc: Global, columns: &[&[Given<'_>]]) -> Certificate {
     let mut all = Vec::new(alloc);
     for tables in columns {
         all.push(column(rt, alloc, tables)).expect(rt, "memory");
     }
     Certificate::new(
+        Version::Two,
         CertificateKind::Sas,
         Dist::inf(),
         all,
@@ -76,7 +107,7 @@ fn share_violation(
 }
 
 /// The violation that the test of the fourth clause finds.
-fn table_violation<R: Threads + Sync + Abort>(
+pub(crate) fn table_violation<R: Threads + Sync + Abort>(
     rt: &R,
     alloc: Global,
     task: &FdrTask,
@@ -100,21 +131,21 @@ fn has_violations<R: Threads + Sync + Abort>(
 }
 
 /// One variable with the values 0, 1 and 2, at first 0; the goal is 2. Operators: 0 to 1 and 1 to 2, at 1 each.
-fn chain(rt: &impl Abort, alloc: Global) -> FdrTask {
+pub(crate) fn chain(rt: &impl Abort, alloc: Global) -> FdrTask {
     walk(alloc, 3, 2, &[(0, 1, 1), (1, 2, 1)])
         .expect(rt, "memory")
         .expect(rt, "a task")
 }
 
 /// The distances of the chain, and each operator's whole cost.
-const DISTANCES: Given<'static> = Given {
-    pattern: &[0],
+pub(crate) const DISTANCES: Given<'static> = Given {
+    mapping: Kept::Pattern(&[0]),
     shares: &[(0, 1), (1, 1)],
     values: &[2, 1, 0],
 };
 
 const IDLE: Given<'static> = Given {
-    pattern: &[],
+    mapping: Kept::Pattern(&[]),
     shares: &[],
     values: &[0],
 };
@@ -147,7 +178,7 @@ fn spends(
     at_fault: Option<usize>,
 ) {
     let spending = Given {
-        pattern: &[0],
+        mapping: Kept::Pattern(&[0]),
         shares,
         values: &[2, 1, 0],
     };
@@ -195,7 +226,7 @@ const TABLE_ROWS: &[TableRow] = &[
 fn fails<R: Threads + Sync + Abort>(rt: &R, alloc: Global, chain: &FdrTask, row: &TableRow) {
     let (pattern, values, violation) = row;
     let failing = Given {
-        pattern,
+        mapping: Kept::Pattern(pattern),
         shares: &[(0, 1), (1, 1)],
         values,
     };
@@ -241,7 +272,7 @@ fn stuck(rt: &impl Abort, alloc: Global) -> FdrTask {
 }
 
 /// Whether the heuristic of the certificate reaches the bound from the state, reached at the cost.
-fn certificate_reaches<R: Abort + Threads + Sync>(
+pub(crate) fn certificate_reaches<R: Abort + Threads + Sync>(
     rt: &R,
     alloc: Global,
     task: &FdrTask,
@@ -270,19 +301,19 @@ fn reaches<R: Abort + Threads + Sync>(
 }
 
 const FIRST: Given<'static> = Given {
-    pattern: &[0],
+    mapping: Kept::Pattern(&[0]),
     shares: &[],
     values: &[3, 0],
 };
 
 const BOTH: Given<'static> = Given {
-    pattern: &[0, 1],
+    mapping: Kept::Pattern(&[0, 1]),
     shares: &[],
     values: &[6, 5, 4, 0],
 };
 
 const FAR: Given<'static> = Given {
-    pattern: &[1],
+    mapping: Kept::Pattern(&[1]),
     shares: &[],
     values: &[8, 0],
 };
@@ -321,13 +352,13 @@ fn sums_and_the_greatest(rt: HostRuntime) -> Result<(), Fail> {
 }
 
 const HUGE_TABLE: Given<'static> = Given {
-    pattern: &[0],
+    mapping: Kept::Pattern(&[0]),
     shares: &[],
     values: &[HUGE, 0],
 };
 
 const ENDLESS: Given<'static> = Given {
-    pattern: &[1],
+    mapping: Kept::Pattern(&[1]),
     shares: &[],
     values: &[INF, 0],
 };

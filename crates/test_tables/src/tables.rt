@@ -3,14 +3,14 @@
 ghost use Rattle.std.specs.Prelude.{◌≡◌};
 
 use crate::tasks::*;
-use crate::texts::{columns_text, patterns_text, task_of};
+use crate::texts::{columns_text, mappings_text, task_of};
 use fdr::FdrTask;
 use scp::{Columns, choose_columns};
 use std::alloc::Global;
 use std::process::Abort;
 use std::thread::Threads;
 
-/// A task, the greatest number of abstract states of a pattern, the columns, and the lower bound of the initial state.
+/// A task, the greatest number of abstract states of a mapping, the columns, and the lower bound of the initial state.
 struct Row {
     task: &'static str,
     limit: usize,
@@ -28,8 +28,32 @@ const ROWS: &[Row] = &[
     Row {
         task: CHAIN,
         limit: 3,
+        columns: "0( 0 1 1 2 ) : 6 4 0; 0=2 2=4//",
+        bound: "6",
+    },
+    Row {
+        task: CHAIN,
+        limit: 2,
+        columns: "0( 0 0 0 1 ) : 4 0; 2=4//",
+        bound: "4",
+    },
+    Row {
+        task: CHAIN,
+        limit: 1,
         columns: "",
         bound: "0",
+    },
+    Row {
+        task: ROADS,
+        limit: 3,
+        columns: "0 : 5 4 0; 0=1 1=5 2=4//",
+        bound: "5",
+    },
+    Row {
+        task: ROADS,
+        limit: 2,
+        columns: "0( 0 0 1 ) : 4 0; 1=4 2=4//",
+        bound: "4",
     },
     Row {
         task: UNIT_CHAIN,
@@ -103,6 +127,12 @@ const ROWS: &[Row] = &[
         columns: "1 : 2 0 1; 2=1 7=1/2 : 2 0 1; 4=1 9=1//2 : 2 0 1; 4=1 9=1/1 : 2 0 1; 2=1 7=1//",
         bound: "4",
     },
+    Row {
+        task: GRIPPER,
+        limit: 2,
+        columns: "1( 0 1 0 ) : 1 0; 7=1/2( 0 1 0 ) : 1 0; 9=1//2( 0 1 0 ) : 1 0; 9=1/1( 0 1 0 ) : 1 0; 7=1//",
+        bound: "2",
+    },
 ];
 
 /// Checks the columns and the bound of a row's task.
@@ -140,28 +170,37 @@ fn columns_and_bounds_are_those_by_hand(rt: HostRuntime) {
     }
 }
 
-/// Limits, and the patterns of the gripper's task.
-const PATTERN_ROWS: &[(usize, &str)] = &[
-    (2, ""),
-    (3, "1 /2 /"),
-    (6, "0 1 /0 2 /"),
-    (12, "0 1 3 /0 2 3 /"),
-    (36, "0 1 2 3 /"),
+/// A task, a limit, and the mappings.
+const MAPPING_ROWS: &[(&str, usize, &str)] = &[
+    (GRIPPER, 1, ""),
+    (GRIPPER, 2, "1( 0 1 0 ) /2( 0 1 0 ) /"),
+    (GRIPPER, 3, "1 /2 /"),
+    (GRIPPER, 6, "0 1 /0 2 /"),
+    (GRIPPER, 12, "0 1 3 /0 2 3 /"),
+    (GRIPPER, 36, "0 1 2 3 /"),
+    (LATE_GOAL, 1, ""),
+    (LATE_GOAL, 2, "0( 0 0 0 1 0 ) /"),
+    (LATE_GOAL, 3, "0( 0 1 1 2 1 ) /"),
+    (LATE_GOAL, 4, "0( 0 1 2 3 2 ) /"),
+    (LATE_GOAL, 5, "0 /"),
+    (EARLY_GOAL, 2, "0( 0 1 0 0 0 ) /"),
+    (EARLY_GOAL, 3, "0( 0 1 2 2 2 ) /"),
+    (EARLY_GOAL, 4, "0( 0 1 2 3 3 ) /"),
 ];
 
-/// Checks the patterns below a limit.
-fn has_patterns(rt: &impl Abort, alloc: Global, task: &FdrTask, limit: usize, want: &str) {
-    assert!(rt; 1 <= limit);
-    let found = patterns_text(alloc, task, limit).expect(rt, "memory");
+/// Checks the mappings of a task within a limit.
+fn has_mappings(rt: &impl Abort, alloc: Global, text: &str, limit: usize, want: &str) {
+    assert!(rt; 1 <= limit && limit <= 16_777_216);
+    let task = task_of(alloc, text)
+        .expect(rt, "memory")
+        .expect(rt, "a task");
+    let found = mappings_text(alloc, &task, limit).expect(rt, "memory");
     assert_eq!(rt; found.as_str(), want);
 }
 
 #[test]
-fn patterns_grow_by_causes(rt: HostRuntime) {
-    let task = task_of(rt.alloc(), GRIPPER)
-        .expect(&rt, "memory")
-        .expect(&rt, "a task");
-    for (limit, want) in PATTERN_ROWS {
-        has_patterns(&rt, rt.alloc(), &task, *limit, want);
+fn patterns_grow_by_causes_and_long_ranges_have_classes(rt: HostRuntime) {
+    for (text, limit, want) in MAPPING_ROWS {
+        has_mappings(&rt, rt.alloc(), text, *limit, want);
     }
 }

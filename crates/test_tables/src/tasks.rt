@@ -78,3 +78,22 @@ pub(crate) const ONE_VALUE: &str =
     "begin_version|3|end_version|begin_metric|1|end_metric|2|begin_variable|var0|-1|1|v0|\
 end_variable|begin_variable|var1|-1|2|v0|v1|end_variable|0|begin_state|0|0|end_state|begin_goal|\
 1|0 0|end_goal|1|begin_operator|o|0|1|0 1 0 1|1|end_operator|0";
+
+/// Roads from the first place to the second at 1, from there to the third, the goal, at 4, and straight to it at 8.
+pub(crate) const ROADS: &str =
+    "begin_version|3|end_version|begin_metric|1|end_metric|1|begin_variable|var0|-1|3|v0|v1|v2|\
+end_variable|0|begin_state|0|end_state|begin_goal|1|0 2|end_goal|3|begin_operator|o|0|1|\
+0 0 0 1|1|end_operator|begin_operator|o|0|1|0 0 0 2|8|end_operator|begin_operator|o|0|1|\
+0 0 1 2|4|end_operator|0";
+
+/// Five values, of which the fourth is the goal.
+pub(crate) const LATE_GOAL: &str =
+    "begin_version|3|end_version|begin_metric|1|end_metric|1|begin_variable|var0|-1|5|v0|v1|v2|v3|\
+v4|end_variable|0|begin_state|0|end_state|begin_goal|1|0 3|end_goal|1|begin_operator|o|0|1|\
+0 0 0 3|1|end_operator|0";
+
+/// Five values, of which the second is the goal.
+pub(crate) const EARLY_GOAL: &str =
+    "begin_version|3|end_version|begin_metric|1|end_metric|1|begin_variable|var0|-1|5|v0|v1|v2|v3|\
+v4|end_variable|0|begin_state|0|end_state|begin_goal|1|0 1|end_goal|1|begin_operator|o|0|1|\
+0 0 0 1|1|end_operator|0";

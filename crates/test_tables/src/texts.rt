@@ -1,10 +1,12 @@
-//! Patterns, tables and columns as texts.
+//! Mappings, tables and columns as texts.
 
-ghost use Rattle.std.specs.Prelude.{◌≤◌};
+ghost use Rattle.std.specs.Prelude.{◌≤◌, ◌^◌};
 
-use cert_value::PatternTable;
+use abstraction_domain::ClassRow;
+use abstraction_mapping::Mapping;
+use cert_value::AbstractionTable;
 use fdr::FdrTask;
-use pdb_patterns::choose_patterns;
+use pdb_patterns::choose_mappings;
 use sasfile::read_sas;
 use scp::Columns;
 use std::alloc::{AllocError, Global};
@@ -18,11 +20,36 @@ pub(crate) fn task_of(alloc: Global, text: &str) -> Result<Option<FdrTask>, Allo
     Ok(read_sas(alloc, &bytes).ok())
 }
 
-/// Appends the pattern, a colon, and the values.
-fn push_values(alloc: Global, text: &mut String, table: &PatternTable) -> Result<(), AllocError> {
-    for variable in &table.pattern {
-        text.push_str(format!(in alloc; "{variable} ")?.as_str())?;
+/// Appends a row: the variable, and in parentheses the classes.
+fn push_row(alloc: Global, text: &mut String, row: &ClassRow) -> Result<(), AllocError> {
+    text.push_str(format!(in alloc; "{}( ", row.variable())?.as_str())?;
+    push_numbers(alloc, text, row.classes())?;
+    text.push_str(") ")
+}
+
+/// Appends the rows.
+fn push_rows(alloc: Global, text: &mut String, rows: &[ClassRow]) -> Result<(), AllocError> {
+    for row in rows {
+        push_row(alloc, text, row)?;
     }
+    Ok(())
+}
+
+/// Appends the variables of a pattern, or the rows.
+fn push_mapping(alloc: Global, text: &mut String, mapping: &Mapping) -> Result<(), AllocError> {
+    match mapping {
+        Mapping::Pattern(pattern) => push_numbers(alloc, text, pattern),
+        Mapping::Domains(rows) => push_rows(alloc, text, rows),
+    }
+}
+
+/// Appends the mapping, a colon, and the values.
+fn push_values(
+    alloc: Global,
+    text: &mut String,
+    table: &AbstractionTable,
+) -> Result<(), AllocError> {
+    push_mapping(alloc, text, &table.mapping)?;
     text.push(':')?;
     for state in 0..table.values.len() {
         let value = table.values.get(state);
@@ -32,7 +59,11 @@ fn push_values(alloc: Global, text: &mut String, table: &PatternTable) -> Result
 }
 
 /// Appends a semicolon and the shares.
-fn push_shares(alloc: Global, text: &mut String, table: &PatternTable) -> Result<(), AllocError> {
+fn push_shares(
+    alloc: Global,
+    text: &mut String,
+    table: &AbstractionTable,
+) -> Result<(), AllocError> {
     text.push(';')?;
     for share in &table.shares {
         let part = format!(in alloc; " {}={}", share.operator, share.amount)?;
@@ -55,24 +86,25 @@ pub(crate) fn columns_text(alloc: Global, columns: &Columns<'_>) -> Result<Strin
     Ok(text)
 }
 
-/// The patterns with at most this number of abstract states, one a line.
-pub(crate) fn patterns_text(
+/// The mappings with at most this number of abstract states, one a line.
+pub(crate) fn mappings_text(
     alloc: Global,
     task: &FdrTask,
     limit: usize,
 ) -> Result<String, AllocError>
-    requires { 1 ≤ limit }
+    requires some { 1 ≤ limit }
+    requires small { limit ≤ 2 ^ 24 }
 {
     let mut text = String::new(alloc);
-    for pattern in &choose_patterns(alloc, task, limit)? {
-        push_numbers(alloc, &mut text, pattern)?;
+    for mapping in &choose_mappings(alloc, task, limit)? {
+        push_mapping(alloc, &mut text, mapping)?;
         text.push('/')?;
     }
     Ok(text)
 }
 
 /// Appends the numbers, each followed by a blank.
-fn push_numbers(alloc: Global, text: &mut String, numbers: &[usize]) -> Result<(), AllocError> {
+fn push_numbers(alloc: Global, text: &mut String, numbers: &[u32]) -> Result<(), AllocError> {
     for number in numbers {
         text.push_str(format!(in alloc; "{number} ")?.as_str())?;
     }

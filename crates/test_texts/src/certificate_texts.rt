@@ -1,7 +1,11 @@
 //! The text of a certificate.
 
+use abstraction_domain::ClassRow;
+use abstraction_mapping::Mapping;
 use cert_text::{CertFault, MAX_LENGTH, read_cert, write_cert};
-use cert_value::{Certificate, CertificateKind, ClosedList, PatternTable, Share, Values};
+use cert_value::{
+    AbstractionTable, Certificate, CertificateKind, ClosedList, Share, Values, Version,
+};
 use cost::Dist;
 use std::alloc::{AllocError, Global};
 use std::process::Abort;
@@ -13,6 +17,13 @@ const K2: &[u8] =
     b"optplan-cert 1\npddl\nbound 2\natoms 5\nat a\nat b\nat c\nroad a b\nroad b c\nvars 1\n0 3 0 1 2\ncolumns 1\ncolumn 1\ntable 1 0\nshares 2 0 1 1 1\nvalues 3 2 1 0\nclosed 0\nend\n";
 
 const K3: &[u8] = b"optplan-cert 1\nsas\nbound 2\ncolumns 0\nclosed 2\n0 0\n1 1\nend\n";
+
+const K4: &[u8] =
+    b"optplan-cert 2\npddl\nbound 4\natoms 6\nat a\nat b\nat c\nroad a b\nroad a c\nroad b c\nvars 1\n0 3 0 1 2\ncolumns 1\ncolumn 1\ndomain 1\n0 3 0 0 1\nshares 2 1 4 2 4\nvalues 2 4 0\nclosed 0\nend\n";
+
+/// A pattern database and a table of a domain abstraction in one column.
+const K5: &[u8] =
+    b"optplan-cert 2\nsas\nbound 2\ncolumns 1\ncolumn 2\ntable 1 3\nshares 0\nvalues 1 0\ndomain 2\n3 2 0 0\n5 3 0 1 1\nshares 0\nvalues 2 0 inf\nclosed 0\nend\n";
 
 /// The text with other bytes in place of a line. Lines are counted from 1.
 fn with_line(alloc: Global, text: &[u8], place: usize, line: &[u8]) -> Result<Vec<u8>, AllocError> {
@@ -46,12 +57,13 @@ fn number_of_digits(digits: &[u8]) -> usize {
     number
 }
 
-/// The fault for a letter and a line: E, N and O for `Expected`, `Number` and `Order`; `-` for none.
+/// The fault for a letter and a line: E, N, O and C for `Expected`, `Number`, `Order` and `Classes`; `-` for none.
 fn wanted(fault: &[u8]) -> Option<CertFault> {
     match fault {
         [b'E', line @ ..] => Some(CertFault::Expected(number_of_digits(line))),
         [b'N', line @ ..] => Some(CertFault::Number(number_of_digits(line))),
         [b'O', line @ ..] => Some(CertFault::Order(number_of_digits(line))),
+        [b'C', line @ ..] => Some(CertFault::Classes(number_of_digits(line))),
         [b'X', line @ ..] => Some(CertFault::Trailing(number_of_digits(line))),
         [b'H'] => Some(CertFault::Header),
         [b'T'] => Some(CertFault::Truncated),
@@ -96,9 +108,15 @@ fn dist(number: u64) -> Dist {
     Dist::fin(number).unwrap_or(Dist::inf())
 }
 
-/// Whether the certificate has the bound 2 and this number of states, and its text is this.
-fn is_written(alloc: Global, certificate: &Certificate, states: usize, text: &[u8]) -> bool {
-    certificate.bound() == dist(2)
+/// Whether the certificate has this bound and this number of states, and its text is this.
+fn is_written(
+    alloc: Global,
+    certificate: &Certificate,
+    bound: u64,
+    states: usize,
+    text: &[u8],
+) -> bool {
+    certificate.bound() == dist(bound)
         && certificate.closed().len() == states
         && match write_cert(alloc, certificate) {
             Ok(bytes) => bytes.as_slice() == text,
@@ -106,19 +124,21 @@ fn is_written(alloc: Global, certificate: &Certificate, states: usize, text: &[u
         }
 }
 
-/// Whether the text is read, and written again from what was read, which has the bound 2 and this number of states.
-fn is_read(alloc: Global, text: &[u8], states: usize) -> bool {
+/// Whether the text is read, and written again from what was read, which has this bound and this number of states.
+fn is_read(alloc: Global, text: &[u8], bound: u64, states: usize) -> bool {
     match read_cert(alloc, text) {
-        Ok(certificate) => is_written(alloc, &certificate, states, text),
+        Ok(certificate) => is_written(alloc, &certificate, bound, states, text),
         Err(_) => false,
     }
 }
 
 #[test]
 fn reads_and_writes_again(rt: HostRuntime) {
-    assert!(rt; is_read(rt.alloc(), K1, 2));
-    assert!(rt; is_read(rt.alloc(), K2, 0));
-    assert!(rt; is_read(rt.alloc(), K3, 2));
+    assert!(rt; is_read(rt.alloc(), K1, 2, 2));
+    assert!(rt; is_read(rt.alloc(), K2, 2, 0));
+    assert!(rt; is_read(rt.alloc(), K3, 2, 2));
+    assert!(rt; is_read(rt.alloc(), K4, 4, 0));
+    assert!(rt; is_read(rt.alloc(), K5, 2, 0));
 }
 
 /// Checks that each front of the text is truncated.
@@ -134,11 +154,14 @@ fn every_front_is_truncated(rt: HostRuntime) {
     has_truncated_fronts(&rt, rt.alloc(), K1);
     has_truncated_fronts(&rt, rt.alloc(), K2);
     has_truncated_fronts(&rt, rt.alloc(), K3);
+    has_truncated_fronts(&rt, rt.alloc(), K4);
+    has_truncated_fronts(&rt, rt.alloc(), K5);
 }
 
 /// Rows of the lines before the atoms.
 const HEADS: &[&[u8]] = &[
-    b"1|H|optplan-cert 1\r|optplan-cert 1 |optplan-cert 2|",
+    b"1|H|optplan-cert 1\r|optplan-cert 1 |optplan-cert 3|optplan-cert 02|optplan-cert 12|",
+    b"1|-|optplan-cert 2",
     b"2|E2|pddl\r|fdr|",
     b"3|E3|bound  |bound |bound 2 | bound 2|bound|bound\t2|bound 2 2|bount 2|",
     b"3|N3|bound 01|bound 2\r|bound Inf|bound +1|bound -0|bound 1.0|bound 00|bound x",
@@ -198,6 +221,38 @@ fn tables(rt: HostRuntime) {
     have_faults(&rt, rt.alloc(), K2, TABLES);
 }
 
+/// Rows of the lines of a domain abstraction with one row.
+const DOMAINS: &[&[u8]] = &[
+    b"1|E15|optplan-cert 1",
+    b"15|E15|domain|domain 1 0|domain 1 |domain  1| domain 1|domains 1",
+    b"15|N15|domain 0|domain x|domain 01|domain 4294967296",
+    b"15|E17|domain 2",
+    b"15|E16|table 1 0",
+    b"16|E16|0 0 0|0 3 0 0|0 3 0 0 1 |0  3 0 0 1|0 4 1 0 0|0|",
+    b"16|N16|0 0|0 x|0 03 0 0 1|x 3 0 0 1|01 3 0 0 1|4294967296 3 0 0 1|0 3 0 00 1|0 3 1 0 4294967296",
+    b"16|C16|0 3 1 0 0|0 3 0 2 1|0 3 1 2 0|0 1 1|0 3 0 0 2|0 2 0 4294967295",
+    b"16|-|0 3 0 0 0|0 3 0 1 2|0 3 0 1 0|0 1 0|4294967295 3 0 0 1",
+];
+
+/// Rows of the lines of a domain abstraction with two rows.
+const SECOND_ROWS: &[&[u8]] = &[
+    b"1|E9|optplan-cert 1",
+    b"10|C10|3 2 1 0",
+    b"10|O11|5 2 0 0|6 2 0 1",
+    b"10|-|4 2 0 1|0 1 0",
+    b"11|E11|3 3 1 0",
+    b"11|N11|3 3 1 0 x",
+    b"11|O11|3 3 0 1 1|2 3 0 1 1|0 3 0 1 1|3 3 1 0 0",
+    b"11|C11|4 3 1 0 0|5 3 0 2 1",
+    b"11|-|4 3 0 1 2",
+];
+
+#[test]
+fn domains(rt: HostRuntime) {
+    have_faults(&rt, rt.alloc(), K4, DOMAINS);
+    have_faults(&rt, rt.alloc(), K5, SECOND_ROWS);
+}
+
 /// Rows of the lines of states, and of the last line.
 const STATES: &[&[u8]] = &[
     b"13|N13|closed 4294967296",
@@ -232,6 +287,7 @@ const BEHIND: &[(&[u8], &[u8], usize)] = &[
     (K1, b"\n", 17),
     (K1, b"x\ny\n", 17),
     (K3, b" ", 9),
+    (K4, b"x", 21),
 ];
 
 #[test]
@@ -287,28 +343,45 @@ fn large_values(rt: &impl Abort, alloc: Global) -> Values {
 }
 
 /// A table of those values.
-fn large_table(rt: &impl Abort, alloc: Global) -> PatternTable {
+fn large_table(rt: &impl Abort, alloc: Global, mapping: Mapping) -> AbstractionTable {
     let share = Share {
         operator: 7,
         amount: 2_147_483_647,
     };
-    PatternTable {
-        pattern: Vec::from_slice(alloc, &[0, 4_294_967_295]).expect(rt, "memory"),
+    AbstractionTable {
+        mapping,
         shares: Vec::from_slice(alloc, &[share]).expect(rt, "memory"),
         values: large_values(rt, alloc),
     }
 }
 
+fn large_pattern(rt: &impl Abort, alloc: Global) -> Mapping {
+    Mapping::Pattern(Vec::from_slice(alloc, &[0, 4_294_967_295]).expect(rt, "memory"))
+}
+
+/// A row of two classes of the last variable.
+fn large_rows(rt: &impl Abort, alloc: Global) -> Mapping {
+    let classes = Vec::from_slice(alloc, &[0, 1, 0]).expect(rt, "memory");
+    let mut rows = Vec::new(alloc);
+    rows.push(ClassRow::new(4_294_967_295, classes).expect(rt, "classes"))
+        .expect(rt, "memory");
+    Mapping::Domains(rows)
+}
+
 /// A column of that table alone.
-fn large_column(rt: &impl Abort, alloc: Global) -> Vec<PatternTable> {
+fn large_column(rt: &impl Abort, alloc: Global, mapping: Mapping) -> Vec<AbstractionTable> {
     let mut column = Vec::new(alloc);
-    column.push(large_table(rt, alloc)).expect(rt, "memory");
+    column
+        .push(large_table(rt, alloc, mapping))
+        .expect(rt, "memory");
     column
 }
 
-fn large_columns(rt: &impl Abort, alloc: Global) -> Vec<Vec<PatternTable>> {
+fn large_columns(rt: &impl Abort, alloc: Global, mapping: Mapping) -> Vec<Vec<AbstractionTable>> {
     let mut columns = Vec::new(alloc);
-    columns.push(large_column(rt, alloc)).expect(rt, "memory");
+    columns
+        .push(large_column(rt, alloc, mapping))
+        .expect(rt, "memory");
     columns
 }
 
@@ -319,11 +392,12 @@ fn one_state(rt: &impl Abort, alloc: Global) -> ClosedList {
     closed
 }
 
-fn large_text(rt: &impl Abort, alloc: Global) -> Vec<u8> {
+fn large_text(rt: &impl Abort, alloc: Global, version: Version, mapping: Mapping) -> Vec<u8> {
     let certificate = Certificate::new(
+        version,
         CertificateKind::Sas,
         Dist::inf(),
-        large_columns(rt, alloc),
+        large_columns(rt, alloc, mapping),
         one_state(rt, alloc),
     );
     write_cert(alloc, &certificate).expect(rt, "memory")
@@ -332,8 +406,19 @@ fn large_text(rt: &impl Abort, alloc: Global) -> Vec<u8> {
 const LARGE: &[u8] =
     b"optplan-cert 1\nsas\nbound inf\ncolumns 1\ncolumn 1\ntable 2 0 4294967295\nshares 1 7 2147483647\nvalues 2 inf 36028797018963968\nclosed 1\n0 0\nend\n";
 
+const LARGE_DOMAIN: &[u8] =
+    b"optplan-cert 2\nsas\nbound inf\ncolumns 1\ncolumn 1\ndomain 1\n4294967295 3 0 1 0\nshares 1 7 2147483647\nvalues 2 inf 36028797018963968\nclosed 1\n0 0\nend\n";
+
 #[test]
 fn writes_a_value(rt: HostRuntime) {
-    let bytes = large_text(&rt, rt.alloc());
+    let pattern = large_pattern(&rt, rt.alloc());
+    let bytes = large_text(&rt, rt.alloc(), Version::One, pattern);
     assert!(rt; bytes.as_slice() == LARGE);
+}
+
+#[test]
+fn writes_a_domain_abstraction(rt: HostRuntime) {
+    let rows = large_rows(&rt, rt.alloc());
+    let bytes = large_text(&rt, rt.alloc(), Version::Two, rows);
+    assert!(rt; bytes.as_slice() == LARGE_DOMAIN);
 }

@@ -1,6 +1,0 @@
-use Rattle.std.proofs.Common.{◌≡◌, take}
-use Rattle.scp.specs.Rows.{blocks_value}
-use Rattle.scp.proofs.block.greatest_value.Given as goal
-
-abbrev pub invariant-loop-block : goal.invariant-loop-block
-invariant-loop-block g l = l.greatest ≡ blocks_value g.R.Row.most l.state (take l.block-index l.blocks)

@@ -1,9 +1,0 @@
-use Rattle.std.proofs.Common.{◌≡◌, ◌<◌, ◌^◌, ℕ, length}
-use Rattle.std.specs.Prelude.{slice_index}
-use Rattle.fdr.specs.Tasks.{cost_of}
-use Rattle.scp.proofs.column.costs_of.Given as goal
-
-abbrev pub invariant-loop-operator : goal.invariant-loop-operator
-invariant-loop-operator l =
-    (length l.costs.items ≡ l.operator)
-    × ((o : ℕ) → o < l.operator → (slice_index l.costs.items o ≡ cost_of l.task o) × (slice_index l.costs.items o < 2 ^ 31))

@@ -1,9 +1,0 @@
-use Rattle.std.proofs.Common.{ℕ, List, ◌≤◌, ◌*◌, ◌^◌, map, take}
-use Rattle.cost.specs.Distances.{IsWithin, total}
-use Rattle.abstraction.specs.Abstractions.{value_at}
-use Rattle.scp.specs.ColumnTables.{on_projection}
-use Rattle.scp.proofs.limit.column_limit.Given as goal
-
-abbrev pub invariant-loop-table : goal.invariant-loop-table
-invariant-loop-table l =
-    ((state : List ℕ) → IsWithin l.limit (total (take l.table-index (map (λ t. value_at state (on_projection t)) l.column)))) × (l.limit ≤ l.table-index * 2 ^ 55)

@@ -1,7 +1,0 @@
-use Rattle.std.proofs.Common.{◌≡◌, ℕ, ◌+◌, min, slice_index, take}
-use Rattle.scp.specs.Places.{sum_at}
-use Rattle.scp.proofs.pattern_rows.add_rows.Given as goal
-
-abbrev pub invariant-loop-place : goal.invariant-loop-place
-invariant-loop-place g l =
-    (lane : ℕ) → slice_index (g.R.Row.words l.sums) lane ≡ min (slice_index (g.R.Row.words l.fn.sums) lane + sum_at l.state lane l.patterns (take l.place-index l.places)) g.R.Row.most

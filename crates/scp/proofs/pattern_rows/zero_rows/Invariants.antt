@@ -1,6 +1,0 @@
-use Rattle.std.proofs.Common.{◌≡◌, ℕ, length, map}
-use Rattle.scp.specs.Rows.{word_in}
-use Rattle.scp.proofs.pattern_rows.zero_rows.Given as goal
-
-abbrev pub invariant-loop-index : goal.invariant-loop-index
-invariant-loop-index g l = (length l.rows.items ≡ l.index) × ((i lane : ℕ) → word_in (map g.R.Row.words l.rows.items) i lane ≡ 0)

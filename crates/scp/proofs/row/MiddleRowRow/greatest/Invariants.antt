@@ -1,6 +1,0 @@
-use Rattle.std.proofs.Common.{◌≡◌}
-use Rattle.scp.proofs.RowWords.{top}
-use Rattle.scp.proofs.row.MiddleRowRow.greatest.Given as goal
-
-abbrev pub invariant-loop-lane : goal.invariant-loop-lane
-invariant-loop-lane l = l.greatest ≡ top l.self.words l.lane
