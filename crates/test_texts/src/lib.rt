@@ -2,10 +2,6 @@
 #![tactic(auto)]
 
 #[cfg(test)]
-mod certificate_parts;
-#[cfg(test)]
-mod certificate_texts;
-#[cfg(test)]
 mod plan_steps;
 #[cfg(test)]
 mod plans;
