@@ -18,13 +18,13 @@ use Rattle.scp.proofs.MadeColumns.{divides_costs, as_many}
 abbrev Order : Type 0
 Order = Vec KeptMapping Global
 
-abbrev IsFew : Vec ColumnTable Global → Type 0
+abbrev pub IsFew : Vec ColumnTable Global → Type 0
 IsFew column = length column.items ≤ 64
 
-abbrev IsSome : Vec ColumnTable Global → Type 0
+abbrev pub IsSome : Vec ColumnTable Global → Type 0
 IsSome column = column.items ≢ []
 
-abbrev Divides : FiniteDomainTask → Vec ColumnTable Global → Type 0
+abbrev pub Divides : FiniteDomainTask → Vec ColumnTable Global → Type 0
 Divides task column = IsColumn task (column_in column)
 
 some_mappings : (order : List KeptMapping) → order ≢ [] → map mapping_of order ≢ []

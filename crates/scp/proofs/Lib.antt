@@ -5,3 +5,4 @@ pub mod ColumnLists
 pub mod ChosenMappings
 pub mod CostPartitioned
 pub mod PlaceLaws
+pub mod JoinedColumns

@@ -1,11 +1,12 @@
 //! Cost-partitioned columns, and the heuristic that they define.
 
-ghost use Rattle.std.specs.Prelude.{◌≡◌, ◌≢◌, ◌≤◌, ◌^◌, ℕ, List, [], length, map, All, IfOk};
+ghost use Rattle.std.specs.Prelude.{◌≡◌, ◌≢◌, ◌≤◌, ◌^◌, ℕ, List, [], length, map, All, IfOk, IfSome};
 ghost use Rattle.std.specs.List.{AllZip};
 ghost use Rattle.cost.specs.Distances.{Finite, ◌≤ᵈ◌, IsWithin, greatest};
 ghost use Rattle.fdr.specs.Tasks.{ranges, IsState, LeadsToGoal, plan_cost};
 ghost use Rattle.abstraction.specs.Columns as spec;
 ghost use Rattle.checker_clauses.specs.Clauses.{heuristic_of};
+ghost use Rattle.abstraction_mapping.specs.Mappings.{Mapping as MappingOf};
 ghost use Rattle.abstraction_mapping.specs.Views.{mapping_of};
 ghost use Rattle.pdb_patterns.specs.Choices.{IsMappingWithin};
 ghost use Rattle.scp_columns.specs.ColumnTables.{on_abstraction};
@@ -19,8 +20,9 @@ use crate::places::Places;
 use abstraction_mapping::Mapping;
 use cost::Dist;
 use fdr::FdrTask;
+use rayon::current_num_threads;
 use rayon::prelude::*;
-use scp_columns::{ColumnTable, make_column};
+use scp_columns::{ColumnTable, EarlierColumn, make_column};
 use scp_rows::{Flat, flat_value, make_flat, touches_in};
 use std::alloc::{AllocError, Global};
 use std::marker::Model;
@@ -110,9 +112,63 @@ impl<'a> Columns<'a> {
     }
 }
 
-/// A column for each of these orders of mappings, in order. Threads make them side by side. Fails only if allocation
-/// fails.
+/// A column for each of these orders of mappings, in order. Threads make them side by side. Tables that the earlier column
+/// has too are copied from it. Fails only if allocation fails.
 fn columns_from<'a, R: Threads + Sync>(
+    rt: &R,
+    alloc: Global,
+    task: &'a FdrTask,
+    orders: &[Vec<Mapping>],
+    earlier: Option<&EarlierColumn<'_>>,
+) -> Result<Vec<Vec<ColumnTable<'a>>>, AllocError>
+    requires mappings { All (λ order. All (λ m. IsMappingWithin task.now (2 ^ 24) (mapping_of m)) order.items) orders.now }
+    requires few { All (λ order. length order.items ≤ 64) orders.now }
+    requires none_empty { All (λ order. order.items ≢ []) orders.now }
+    requires earlier { IfSome earlier (λ c. c.now ≡ task.now) }
+    ensures { IfOk result (λ columns. AreColumnsFrom task.now (map mappings_of orders.now) columns.items) }
+{
+    task.recall();
+    orders
+        .par_iter()
+        // a column is heavy work, so each may have a thread of its own
+        .with_min_len(1)
+        .map(
+            |order: &Vec<Mapping>| -> Result<Vec<ColumnTable<'_>>, AllocError>
+                requires mappings { All (λ m. IsMappingWithin task.now (2 ^ 24) (mapping_of m)) order.now.items }
+                requires earlier { IfSome earlier (λ c. c.now ≡ task.now) }
+                ensures { IfOk result (IsColumnFrom task.entry.now order.now) }
+            { make_column(alloc, task, order, earlier) },
+        )
+        .collect::<Result<Vec<Vec<ColumnTable<'a>>>, AllocError>>(rt, alloc)?
+}
+
+/// A column for each of these orders of mappings, in order. Tables that the first of the columns made before has too are
+/// copied from it. Fails only if allocation fails.
+fn columns_beside<'a, R: Threads + Sync>(
+    rt: &R,
+    alloc: Global,
+    task: &'a FdrTask,
+    orders: &[Vec<Mapping>],
+    columns: &[Vec<ColumnTable<'a>>],
+) -> Result<Vec<Vec<ColumnTable<'a>>>, AllocError>
+    requires mappings { All (λ order. All (λ m. IsMappingWithin task.now (2 ^ 24) (mapping_of m)) order.items) orders.now }
+    requires few { All (λ order. length order.items ≤ 64) orders.now }
+    requires none_empty { All (λ order. order.items ≢ []) orders.now }
+    requires columns { (given : List (List MappingOf)) × AreColumnsFrom task.now given columns.now }
+    ensures { IfOk result (λ columns. AreColumnsFrom task.now (map mappings_of orders.now) columns.items) }
+{
+    match columns.first() {
+        Some(column) => {
+            let earlier = EarlierColumn::new(alloc, task, column)?;
+            columns_from(rt, alloc, task, orders, Some(&earlier))
+        }
+        None => columns_from(rt, alloc, task, orders, None),
+    }
+}
+
+/// A column for each of these orders of mappings, in order: first as many as threads can make side by side, and then the
+/// others, which copy the tables that the first column has too. Fails only if allocation fails.
+fn columns_in_turn<'a, R: Threads + Sync>(
     rt: &R,
     alloc: Global,
     task: &'a FdrTask,
@@ -123,18 +179,12 @@ fn columns_from<'a, R: Threads + Sync>(
     requires none_empty { All (λ order. order.items ≢ []) orders.now }
     ensures { IfOk result (λ columns. AreColumnsFrom task.now (map mappings_of orders.now) columns.items) }
 {
-    task.recall();
-    orders
-        .par_iter()
-        // a column is heavy work, so each may have a thread of its own
-        .with_min_len(1)
-        .map(
-            |order: &Vec<Mapping>| -> Result<Vec<ColumnTable<'_>>, AllocError>
-                requires { All (λ m. IsMappingWithin task.now (2 ^ 24) (mapping_of m)) order.now.items }
-                ensures { IfOk result (IsColumnFrom task.entry.now order.now) }
-            { make_column(alloc, task, order) },
-        )
-        .collect::<Result<Vec<Vec<ColumnTable<'a>>>, AllocError>>(rt, alloc)?
+    let at_once = current_num_threads(rt).min(orders.len());
+    let (before, behind) = orders.split_at(at_once);
+    let mut columns = columns_from(rt, alloc, task, before, None)?;
+    let mut others = columns_beside(rt, alloc, task, behind, &columns)?;
+    columns.append(&mut others)?;
+    Ok(columns)
 }
 
 /// Makes a column for each of these orders of mappings, as `make_column` does. Threads make columns side by side; which
@@ -153,7 +203,7 @@ pub fn make_columns<'a, R: Threads + Sync>(
     ensures task { IfOk result (λ c. c.task ≡ task.now) }
     ensures made { IfOk result (λ c. AllZip (IsMadeFrom task.now) (map mappings_of orders.now) c.columns) }
 {
-    let columns = columns_from(rt, alloc, task, orders)?;
+    let columns = columns_in_turn(rt, alloc, task, orders)?;
     let flat = make_flat(alloc, task, &columns)?;
     let touches = touches_in(alloc, &flat, task.operator_count())?;
     Ok(Columns {

@@ -1,6 +1,9 @@
 pub mod SparseShares
 pub mod Partitions
+pub mod SharedDistances
 pub mod Forms
 pub mod Lawful
 pub mod Tables
 pub mod ColumnsSoFar
+pub mod TakenShares
+pub mod EarlierTables

@@ -1,3 +1,4 @@
 pub mod ColumnTables
 pub mod TableProps
 pub mod Partitions
+pub mod EarlierTables

@@ -1,16 +1,16 @@
 //! Columns, made table by table (saturated cost partitioning).
 
-ghost use Rattle.std.specs.Prelude.{◌≡◌, ℕ, ◌<◌, ◌-◌, ◌^◌, true, length, map, slice_index, All, IfOk};
-ghost use Rattle.fdr.specs.Tasks.{cost_of};
+ghost use Rattle.std.specs.Prelude.{◌≡◌, ℕ, ◌<◌, ◌^◌, true, length, map, slice_index, All, IfOk, IfSome};
 ghost use Rattle.cost.specs.Distances.{IsWithin};
 ghost use Rattle.abstraction_mapping.specs.Mappings.{is_mapping};
 ghost use Rattle.abstraction_mapping.specs.Views.{mapping_of, task_in, mapping_in, abstraction_in};
-ghost use Rattle.checker_clauses.specs.Clauses.{share_of};
 ghost use Rattle.pdb_walks.specs.Walks.{AreDistances, IsGreatestFall, value_in};
 ghost use Rattle.pdb_patterns.specs.Choices.{IsMappingWithin};
 ghost use Rattle.scp_columns.specs.ColumnTables.{tables_of};
 ghost use Rattle.scp_columns.specs.Partitions.{IsMadeFrom, IsNextTable};
 
+use crate::costs::{costs_of, take_shares};
+use crate::earlier::EarlierColumn;
 use crate::shares::shares_of;
 use crate::table::ColumnTable;
 use abstraction_mapping::{Mapping, TableAbstraction};
@@ -34,17 +34,6 @@ fn abstraction_to<'a>(
     match TableAbstraction::new(alloc, task, mapping)? {
         Some(abstraction) => Ok(abstraction),
         None => unreachable!(),
-    }
-}
-
-/// Subtracts the shares from the remaining costs.
-fn take_shares(left: &mut [u32], needed: &[u32])
-    requires { length needed.now ≡ length left.old }
-    ensures len { length left.new ≡ length left.old }
-    ensures left { (o : ℕ) → slice_index left.new o ≡ slice_index left.old o - slice_index needed.now o }
-{
-    for operator in 0..left.len() {
-        left[operator] = left[operator].saturating_sub(needed[operator]);
     }
 }
 
@@ -94,28 +83,25 @@ fn saturated_distances(
     }
 }
 
-/// The table of a mapping with the distances under the remaining costs. Its shares are the saturated cost function, and
-/// they are subtracted from the remaining costs. Fails only if allocation fails, and then `left` is not specified.
-fn next_table<'a>(
+/// The table of a mapping with the distances under the remaining costs, whose shares are the saturated cost function.
+fn new_table<'a>(
     alloc: Global,
     task: &'a FdrTask,
     mapping: &Mapping,
-    left: &mut [u32],
+    abstraction: &TableAbstraction<'_>,
+    left: &[u32],
 ) -> Result<ColumnTable<'a>, AllocError>
     requires mapping { IsMappingWithin task.now (2 ^ 24) (mapping_of mapping.now) }
-    requires operators { length left.old ≡ length task.now.operators }
-    requires small { (o : ℕ) → slice_index left.old o < 2 ^ 31 }
+    requires abstraction { (task_in abstraction.now ≡ task.now) × (mapping_in abstraction.now ≡ mapping_of mapping.now) }
+    requires operators { length left.now ≡ length task.now.operators }
+    requires small { (o : ℕ) → slice_index left.now o < 2 ^ 31 }
     ensures task { IfOk result (λ t. t.task ≡ task.now) }
-    ensures next { IfOk result (λ t. IsNextTable task.now (mapping_of mapping.now) (λ o. slice_index left.old o) t.table) }
-    ensures left { IfOk result (λ t. (o : ℕ) → slice_index left.new o ≡ slice_index left.old o - share_of t.table.shares o) }
-    ensures len { length left.new ≡ length left.old }
+    ensures next { IfOk result (λ t. IsNextTable task.now (mapping_of mapping.now) (λ o. slice_index left.now o) t.table) }
 {
     task.recall();
-    let abstraction = abstraction_to(alloc, task, mapping)?;
-    let (values, needed) = saturated_distances(alloc, &abstraction, left)?;
+    let (values, needed) = saturated_distances(alloc, abstraction, left)?;
     let shares = shares_of(alloc, &needed)?;
     let mapping = mapping.copied(alloc)?;
-    take_shares(left, &needed);
     let table = AbstractionTable {
         mapping,
         shares,
@@ -124,37 +110,52 @@ fn next_table<'a>(
     Ok(ColumnTable::new(task, table))
 }
 
-/// The cost of each operator.
-fn costs_of(alloc: Global, task: &FdrTask) -> Result<Vec<u32>, AllocError>
-    ensures len { IfOk result (λ costs. length costs.items ≡ length task.now.operators) }
-    ensures costs { IfOk result (λ costs. (o : ℕ) → o < length task.now.operators →
-        (slice_index costs.items o ≡ cost_of task.now o) × (slice_index costs.items o < 2 ^ 31)) }
+/// The table of a mapping with the distances under the remaining costs, copied from the earlier column where that has it.
+fn table_under<'a>(
+    alloc: Global,
+    task: &'a FdrTask,
+    mapping: &Mapping,
+    left: &[u32],
+    earlier: Option<&EarlierColumn<'_>>,
+) -> Result<ColumnTable<'a>, AllocError>
+    requires mapping { IsMappingWithin task.now (2 ^ 24) (mapping_of mapping.now) }
+    requires operators { length left.now ≡ length task.now.operators }
+    requires small { (o : ℕ) → slice_index left.now o < 2 ^ 31 }
+    requires earlier { IfSome earlier (λ c. c.now ≡ task.now) }
+    ensures task { IfOk result (λ t. t.task ≡ task.now) }
+    ensures next { IfOk result (λ t. IsNextTable task.now (mapping_of mapping.now) (λ o. slice_index left.now o) t.table) }
 {
-    let mut costs = Vec::with_capacity(alloc, task.operator_count())?;
-    for operator in 0..task.operator_count() {
-        costs.push(task.cost(operator).get() as u32)?;
+    let abstraction = abstraction_to(alloc, task, mapping)?;
+    if let Some(earlier) = earlier {
+        if let Some(table) = earlier.table_for(mapping, &abstraction, left) {
+            return table.copied(alloc, task);
+        }
     }
-    Ok(costs)
+    new_table(alloc, task, mapping, &abstraction, left)
 }
 
 /// Makes a column with a table for each mapping, in order, by saturated cost partitioning (Seipp, Keller and Helmert
 /// 2020): a table has the distances under the remaining costs of the operators, and its shares are the least that
 /// preserve these distances. Each mapping must be one of the task that keeps something of at least one variable, with at
-/// most 2^24 abstract states and with classes that are numbered in the order in which they first stand in their row. Fails
-/// only if allocation fails.
+/// most 2^24 abstract states and with classes that are numbered in the order in which they first stand in their row. Tables
+/// that an earlier column of the task has too are copied from it; the column does not depend on that. Fails only if
+/// allocation fails.
 pub fn make_column<'a>(
     alloc: Global,
     task: &'a FdrTask,
     mappings: &[Mapping],
+    earlier: Option<&EarlierColumn<'_>>,
 ) -> Result<Vec<ColumnTable<'a>>, AllocError>
-    requires { All (λ m. IsMappingWithin task.now (2 ^ 24) (mapping_of m)) mappings.now }
+    requires mappings { All (λ m. IsMappingWithin task.now (2 ^ 24) (mapping_of m)) mappings.now }
+    requires earlier { IfSome earlier (λ c. c.now ≡ task.now) }
     ensures task { IfOk result (λ column. All (λ t. t.task ≡ task.now) column.items) }
     ensures made { IfOk result (λ column. IsMadeFrom task.now (map mapping_of mappings.now) (tables_of column)) }
 {
     let mut left = costs_of(alloc, task)?;
     let mut column = Vec::with_capacity(alloc, mappings.len())?;
     for mapping in mappings {
-        let table = next_table(alloc, task, mapping, &mut left)?;
+        let table = table_under(alloc, task, mapping, &left, earlier)?;
+        take_shares(&mut left, &table.table().shares);
         column.push(table)?;
     }
     Ok(column)

@@ -3,8 +3,11 @@
 #![tactic(auto)]
 
 mod column;
+mod costs;
+mod earlier;
 mod shares;
 mod table;
 
 pub use column::make_column;
+pub use earlier::EarlierColumn;
 pub use table::ColumnTable;

@@ -1,14 +1,15 @@
 //! Tables of columns.
 
-ghost use Rattle.std.specs.Prelude.{◌≡◌, true};
+ghost use Rattle.std.specs.Prelude.{◌≡◌, true, IfOk};
 ghost use Rattle.cert_value.specs.declared.certificate.Version.TheVariants.{Two};
 ghost use Rattle.cert_value.specs.Views as kept;
 ghost use Rattle.cert_value.specs.Lawful.{IsTable};
 ghost use Rattle.checker_clauses.specs.Clauses.{has_form};
 ghost use Rattle.scp_columns.specs.TableProps.{table_prop};
 
-use cert_value::AbstractionTable;
+use cert_value::{AbstractionTable, Values};
 use fdr::FdrTask;
+use std::alloc::{AllocError, Global};
 use std::marker::Model;
 
 /// A table of an abstraction of a task. A certificate of version 2 can contain it.
@@ -29,6 +30,17 @@ impl<'a> Model for ColumnTable<'a> {
     ghost view = { λ t. record { task = t.task.now; table = kept.table_of t.table; formed = t.has_form; lawful = ∣ t.is_table ∣₁ } };
 }
 
+/// A second list with the same values. Fails only if allocation fails.
+fn copied_values(alloc: Global, values: &Values) -> Result<Values, AllocError>
+    ensures { IfOk result (λ copy. copy ≡ values.now) }
+{
+    let mut copy = Values::new(alloc);
+    for state in 0..values.len() {
+        copy.push(values.get(state))?;
+    }
+    Ok(copy)
+}
+
 impl<'a> ColumnTable<'a> {
     /// Joins a table and its task.
     pub(crate) fn new(task: &'a FdrTask, table: AbstractionTable) -> ColumnTable<'a>
@@ -46,5 +58,26 @@ impl<'a> ColumnTable<'a> {
         ensures lawful { IsTable Two self.now.table }
     {
         &self.table
+    }
+
+    /// Returns a second table of the task with the same content. Fails only if allocation fails.
+    pub(crate) fn copied<'b>(
+        &self,
+        alloc: Global,
+        task: &'b FdrTask,
+    ) -> Result<ColumnTable<'b>, AllocError>
+        requires { task.now ≡ self.now.task }
+        ensures task { IfOk result (λ copy. copy.task ≡ task.now) }
+        ensures table { IfOk result (λ copy. copy.table ≡ self.now.table) }
+    {
+        let mapping = self.table.mapping.copied(alloc)?;
+        let shares = Vec::from_slice(alloc, &self.table.shares)?;
+        let values = copied_values(alloc, &self.table.values)?;
+        let table = AbstractionTable {
+            mapping,
+            shares,
+            values,
+        };
+        Ok(ColumnTable::new(task, table))
     }
 }

@@ -1,7 +1,7 @@
 use Rattle.std.proofs.Common.{◌≡◌, ◌<◌, ◌^◌, ℕ, length}
 use Rattle.std.specs.Prelude.{slice_index}
 use Rattle.fdr.specs.Tasks.{cost_of}
-use Rattle.scp_columns.proofs.column.costs_of.Given as goal
+use Rattle.scp_columns.proofs.costs.costs_of.Given as goal
 
 abbrev pub invariant-loop-operator : goal.invariant-loop-operator
 invariant-loop-operator l =

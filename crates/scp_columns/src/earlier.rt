@@ -1,0 +1,128 @@
+//! Tables that a column has in common with one that was made before.
+
+ghost use Rattle.std.specs.Prelude.{◌≡◌, ℕ, ◌≤◌, true, length, map, slice_get, slice_index, Some, All, IfOk, IfSome, IsSomeAnd};
+ghost use Rattle.fdr.specs.Tasks.{cost_of};
+ghost use Rattle.abstraction_mapping.specs.Views.{mapping_of, task_in, mapping_in, abstraction_in};
+ghost use Rattle.cert_value.specs.Lawful.{AreShares};
+ghost use Rattle.checker_clauses.specs.Clauses.{share_of, table_of};
+ghost use Rattle.pdb_walks.specs.Walks.{IsPartition};
+ghost use Rattle.scp_columns.specs.Partitions.{IsNextTable};
+
+use crate::costs::{costs_of, take_shares};
+use crate::table::ColumnTable;
+use abstraction::Abstraction;
+use abstraction_mapping::{Mapping, TableAbstraction};
+use cert_value::Share;
+use fdr::FdrTask;
+use std::alloc::{AllocError, Global};
+use std::marker::Model;
+
+/// A column that was made before, with what was left of the operators' costs before each of its tables. Another column
+/// copies the tables that it has in common with this one, as saturated cost partitioning often leaves the same costs for a
+/// mapping in several columns. In contracts its value is the task.
+#[derive(Drop)]
+pub struct EarlierColumn<'a> {
+    task: &'a FdrTask,
+    tables: &'a [ColumnTable<'a>],
+    costs: Vec<Vec<u32>>,
+}
+
+impl<'a> Model for EarlierColumn<'a> {
+    ghost use Rattle.std.specs.List.{AllZip};
+    ghost use Rattle.fdr.specs.Tasks.{FiniteDomainTask};
+    ghost use Rattle.scp_columns.specs.EarlierTables.{IsMadeUnder};
+
+    ghost Value = { FiniteDomainTask };
+
+    ghost view = { λ c. c.task.now };
+
+    ghost invariant = { λ c. AllZip (IsMadeUnder c.task.now) c.tables.now c.costs.items };
+}
+
+/// Whether at least the share of each operator is left of its cost.
+fn are_left(left: &[u32], shares: &[Share]) -> bool
+    ensures { result ≡ true → (o : ℕ) → share_of shares.now o ≤ slice_index left.now o }
+{
+    for share in shares {
+        match left.get(share.operator as usize) {
+            Some(cost) if share.amount <= *cost => {}
+            _ => return false,
+        }
+    }
+    true
+}
+
+/// Whether the remaining costs of the operators that touch the abstraction are at most those others.
+fn are_at_most(abstraction: &TableAbstraction<'_>, left: &[u32], costs: &[u32]) -> bool
+    requires { length costs.now ≡ length left.now }
+    ensures { result ≡ true → (o : ℕ) → (abstraction_in abstraction.now).touches o ≡ true → slice_index left.now o ≤ slice_index costs.now o }
+{
+    for operator in 0..left.len() {
+        if left[operator] > costs[operator] && abstraction.touches(operator) {
+            return false;
+        }
+    }
+    true
+}
+
+/// The place of the first table of the mapping, counted from 0.
+fn place_of(tables: &[ColumnTable<'_>], mapping: &Mapping) -> Option<usize>
+    ensures { IfSome result (λ place. IsSomeAnd (slice_get tables.now place) (λ t. t.table.mapping ≡ mapping_of mapping.now)) }
+{
+    for place in 0..tables.len() {
+        if tables[place].table().mapping.is_same(mapping) {
+            return Some(place);
+        }
+    }
+    None
+}
+
+impl<'a> EarlierColumn<'a> {
+    /// Joins the tables of a column of the task, which were made in turn from the operators' costs, with what was left of
+    /// the costs before each. Fails only if allocation fails.
+    pub fn new(
+        alloc: Global,
+        task: &'a FdrTask,
+        tables: &'a [ColumnTable<'a>],
+    ) -> Result<EarlierColumn<'a>, AllocError>
+        requires of_task { All (λ t. t.task ≡ task.now) tables.now }
+        requires made { IsPartition (cost_of task.now) (map (table_of task.now) (map (λ t. t.table) tables.now)) }
+        ensures { IfOk result (λ c. c ≡ task.now) }
+    {
+        let mut left = costs_of(alloc, task)?;
+        let mut costs = Vec::with_capacity(alloc, tables.len())?;
+        for table in tables {
+            costs.push(Vec::from_slice(alloc, &left)?)?;
+            take_shares(&mut left, &table.table().shares);
+        }
+        Ok(EarlierColumn {
+            task,
+            tables,
+            costs,
+        })
+    }
+
+    /// A table by this mapping that has the distances under the remaining costs, if the column has one: what is left is at
+    /// least the share of each operator, and for those that touch the abstraction at most what was left before the table.
+    pub(crate) fn table_for(
+        &self,
+        mapping: &Mapping,
+        abstraction: &TableAbstraction<'_>,
+        left: &[u32],
+    ) -> Option<&ColumnTable<'a>>
+        requires task { task_in abstraction.now ≡ self.now }
+        requires mapping { mapping_in abstraction.now ≡ mapping_of mapping.now }
+        requires operators { length left.now ≡ length self.now.operators }
+        ensures task { IfSome result (λ t. t.now.task ≡ self.now) }
+        ensures next { IfSome result (λ t. IsNextTable self.now (mapping_of mapping.now) (λ o. slice_index left.now o) t.now.table) }
+    {
+        let place = place_of(self.tables, mapping)?;
+        let table = &self.tables[place];
+        let costs = &self.costs[place];
+        if are_left(left, &table.table().shares) && are_at_most(abstraction, left, costs) {
+            Some(table)
+        } else {
+            None
+        }
+    }
+}
