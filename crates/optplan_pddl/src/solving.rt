@@ -9,6 +9,7 @@ ghost use Rattle.packed_spread.specs.Spreads as spread;
 ghost use Rattle.packed_spread.specs.Spreads.{zobrist_owner};
 ghost use Rattle.extract.specs.Ends.{EndOf};
 ghost use Rattle.optplan_kind.specs.Kinds.{translation_kind};
+ghost use Rattle.optplan_plans.specs.Steps.{HasStepNames};
 ghost use Rattle.optplan_sas.specs.Findings.{IsPlanAt, IsBestSoFar, IsSolution, IsSoFar, IsFound, IsTrueOf};
 ghost use Rattle.optplan_sas.specs.SasAnswers.{IsBestWritten};
 ghost use Rattle.optplan_sas.specs.Searches.{EndsAfter, IsRefusedAfter, EndsBySeed, IsRefusedBySeed, EndsByThreads, IsRefusedByThreads};
@@ -40,7 +41,8 @@ fn plan_text(
     translated: &Translated,
     found: FoundPlan,
 ) -> Result<WrittenPlan<Vec<Step>>, AllocError>
-    requires { IsPlanAt translated.now.task found.plan.items found.cost }
+    requires plan { IsPlanAt translated.now.task found.plan.items found.cost }
+    requires names { HasStepNames translated.now.task }
     ensures plan { (domain problem : List ℕ) (task : PlanningTask) → SpellTask domain problem task → IsTranslation task translated.now →
         HasSamePlans task translated.now → IfOk result (IsPlanningPlan task) }
     ensures cost { IfOk result (λ p. p.cost ≡ found.cost) }
@@ -60,7 +62,8 @@ fn best_text(
     translated: &Translated,
     best: Option<FoundPlan>,
 ) -> Result<Option<WrittenPlan<Vec<Step>>>, AllocError>
-    requires { (most : Distance) × IsBestSoFar translated.now.task most best }
+    requires best { (most : Distance) × IsBestSoFar translated.now.task most best }
+    requires names { HasStepNames translated.now.task }
     ensures { (domain problem : List ℕ) (task : PlanningTask) (most : Distance) → SpellTask domain problem task → IsTranslation task translated.now →
         HasSamePlans task translated.now → IsBestSoFar translated.now.task most best → IfOk result (IsBestWritten (IsPlanningPlan task) most) }
 {
@@ -77,7 +80,8 @@ fn solution_texts(
     translated: &Translated,
     solution: Solution,
 ) -> Result<CheapestPlan<Vec<Step>>, AllocError>
-    requires { (task : PlanningTask) × IsSolution translated.now.task (translation_kind task translated.now) solution }
+    requires solution { (task : PlanningTask) × IsSolution translated.now.task (translation_kind task translated.now) solution }
+    requires names { HasStepNames translated.now.task }
     ensures solution { (domain problem : List ℕ) (task : PlanningTask) → SpellTask domain problem task → IsTranslation task translated.now →
         HasSamePlans task translated.now → IsSolution translated.now.task (translation_kind task translated.now) solution →
         IfOk result (IsPlanningSolution domain problem task) }
@@ -95,7 +99,8 @@ fn known_texts(
     translated: &Translated,
     known: SoFar,
 ) -> Result<KnownSoFar<Vec<Step>>, AllocError>
-    requires { (task : PlanningTask) × ((most : Distance) × IsSoFar translated.now.task (translation_kind task translated.now) most known) }
+    requires known { (task : PlanningTask) × ((most : Distance) × IsSoFar translated.now.task (translation_kind task translated.now) most known) }
+    requires names { HasStepNames translated.now.task }
     ensures known { (domain problem : List ℕ) (task : PlanningTask) (most : Distance) → SpellTask domain problem task → IsTranslation task translated.now →
         HasSamePlans task translated.now → IsSoFar translated.now.task (translation_kind task translated.now) most known →
         IfOk result (IsPlanningKnown domain problem task most) }
@@ -116,7 +121,8 @@ fn answer_texts(
     translated: &Translated,
     found: Found,
 ) -> Result<PlanningAnswer, AllocError>
-    requires { (task : PlanningTask) × IsTrueOf translated.now.task (translation_kind task translated.now) found }
+    requires found { (task : PlanningTask) × IsTrueOf translated.now.task (translation_kind task translated.now) found }
+    requires names { HasStepNames translated.now.task }
     ensures { (domain problem : List ℕ) (task : PlanningTask) (e : EndOf spread.Zobrist) → SpellTask domain problem task →
         IsTranslation task translated.now → HasSamePlans task translated.now → e.space.task ≡ translated.now.task →
         IsFound zobrist_owner e (translation_kind task translated.now) found → IfOk result (IsAnswerFor domain problem task e) }

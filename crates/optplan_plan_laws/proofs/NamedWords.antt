@@ -19,7 +19,7 @@ use Rattle.pddl_domain.specs.DeclaredHeads.{with_item, is_equals, predicate_head
 use Rattle.pddl_domain.specs.Objects.{Objects, no_objects, with_entry, with_text, with_object, number_of_type, objects_with}
 use Rattle.pddl_action.specs.Actions.{with_action_name, names_with}
 use Rattle.pddl.specs.Texts.{SpellTask, inside, inside_of, types_of, constants_of, declared_in, actions_of, task_of}
-use Rattle.pddl_plan_laws.proofs.SpelledPlans.{AreAll}
+use Rattle.validate.specs.PlanWords.{AreAll}
 use Rattle.optplan_plan_laws.specs.PlanNames.{NamesAre}
 
 module _ (P : List ℕ → Type 0) where

@@ -18,9 +18,9 @@ use Rattle.optplan_plans.specs.Plans.{step_of, text_of_plan}
 use Rattle.optplan_plans.proofs.NamedActions.{action_numbers}
 use Rattle.optplan_plans.proofs.SpelledSteps.{name_is}
 use Rattle.optplan_plans.proofs.PlanVerdicts.{plan_has_verdict}
-use Rattle.pddl_plan_laws.specs.PlanWords.{IsPlanWord, IsPlanStep}
-use Rattle.pddl_plan_laws.proofs.SpelledPlans.{spelled_are_plan_words}
-use Rattle.pddl_plan_laws.proofs.WrittenPlans.{written_is}
+use Rattle.validate.specs.PlanWords.{IsPlanWord, IsPlanStep}
+use Rattle.validate.proofs.SpelledPlans.{spelled_are_plan_words}
+use Rattle.validate.proofs.WrittenPlans.{written_is}
 use Rattle.optplan_plan_laws.specs.PlanNames.{NamesAre}
 use Rattle.optplan_plan_laws.proofs.NamedWords.{names_are}
 
@@ -37,7 +37,7 @@ all_named names (n ∷ ns) h within =
     (named_is names n h (All-head (λ m. m < length names) n ns within), all_named names ns h (All-tail (λ m. m < length names) n ns within))
 
 module _ (domain problem : List ℕ) (task : PlanningTask) (spelled : SpellTask domain problem task) where
-  step_is : (a : Action) → IsActionOf task a → IsPlanStep (step_of task.vocabulary a)
+  pub step_is : (a : Action) → IsActionOf task a → IsPlanStep (step_of task.vocabulary a)
   step_is a is =
       let names = plan_names_are domain problem task spelled in
       let numbers = action_numbers task a is in

@@ -10,7 +10,7 @@ ghost use Rattle.validate.specs.PlanTexts.{max_steps, SpellsPlan};
 ghost use Rattle.validate.specs.Verdicts.{IsVerdict};
 ghost use Rattle.validate.specs.declared.verdict.Verdict.TheVariants.{Valid};
 ghost use Rattle.optplan_plans.specs.Plans.{step_of, text_of_plan};
-ghost use Rattle.pddl_plan_laws.specs.PlanWords.{IsPlanWord};
+ghost use Rattle.validate.specs.PlanWords.{IsPlanWord};
 ghost use Rattle.optplan_plan_laws.specs.PlanNames.{NamesAre};
 
 /// The names of the objects, predicates and schemas of a spelled task are plan words: they stand in a plan's text as they

@@ -5,3 +5,4 @@ pub mod PrintedNames
 pub mod NamedActions
 pub mod WrittenTasks
 pub mod PlanVerdicts
+pub mod NamedTexts

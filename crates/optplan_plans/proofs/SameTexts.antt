@@ -11,7 +11,7 @@ use Rattle.validate.specs.Written.{step_line, cost_kind}
 use Rattle.optplan_plans.specs.Plans.{step_of, text_of_plan}
 use Rattle.optplan_plans.proofs.SpelledSteps.{action_words, operator_name}
 
-kind_same : (metric : Bool) → sas.cost_kind metric ≡ cost_kind (not metric)
+pub kind_same : (metric : Bool) → sas.cost_kind metric ≡ cost_kind (not metric)
 kind_same true = refl
 kind_same false = refl
 

@@ -1,5 +1,5 @@
 -- The names of operators spell the steps of their actions.
-use Rattle.std.proofs.Common.{◌≡◌, ℕ, ◌+◌, zero, suc, ◌<◌, lit<, get_or, take, false, List, [], ◌∷◌, ◌++◌, Option, Some, refl, sym, ap, ◌∙◌, arith}
+use Rattle.std.proofs.Common.{◌≡◌, ℕ, ◌+◌, zero, suc, ◌<◌, lit<, get_or, take, false, List, [], ◌∷◌, ◌++◌, Option, Some, refl, sym, ap, subst, ◌∙◌, arith}
 use Rattle.std.specs.Prelude.{◌==◌, All, map, length, codes, slice_get, slice_index_or}
 use Rattle.std.specs.List.{flat_map, position_or_len, before_first, after_first}
 use Rattle.std.specs.Option.{option_map, option_map_or}
@@ -21,7 +21,8 @@ use Rattle.translate.specs.Translated.{TranslatedTask, IsTranslation, AreOperato
 use Rattle.validate.specs.Steps.{Step}
 use Rattle.validate.specs.Written.{name_of, spaced}
 use Rattle.optplan_plans.specs.Plans.{step_of}
-use Rattle.optplan_plans.specs.Steps.{words_of, step_of_words, operator_step}
+use Rattle.validate.specs.PlanWords.{IsPlanStep}
+use Rattle.optplan_plans.specs.Steps.{words_of, step_of_words, HasStepNames, operator_step}
 
 -- ---- the name of an action, from the words of its step
 
@@ -67,7 +68,7 @@ names_clear : (names : List (List ℕ)) (ns : List ℕ) → All IsWord names →
 names_clear names [] h = All-nil IsClear
 names_clear names (n ∷ ns) h = All-cons IsClear (name_of names n) (map (name_of names) ns) (name_clear names n h) (names_clear names ns h)
 
-spelled_again : (names : Vocabulary) (a : Action) → HasWords names → step_of_words (words_of (action_name names a)) ≡ step_of names a
+pub spelled_again : (names : Vocabulary) (a : Action) → HasWords names → step_of_words (words_of (action_name names a)) ≡ step_of names a
 spelled_again names a h =
     ap (λ (text : List ℕ). step_of_words (words_of text)) (action_words names a)
     ∙ ap step_of_words (words_again (name_of names.schemas a.schema) (map (name_of names.objects) a.objects)
@@ -96,6 +97,12 @@ pub operator_step_at : (f : FiniteDomainTask) (ops : List Operator) (o : ℕ) (o
 operator_step_at f ops o op same within at =
     ap (λ (r : Option Operator). step_of_words (words_of (option_map_or (λ (x : Operator). x.name) r [])))
     (sym (ap (λ (xs : List Operator). slice_get xs o) (sym same) ∙ slice_get_read ops (length f.operators) o op (ap length (sym same)) within at))
+
+-- the name of an operator spells a step, where all do
+pub step_name_at : (f : FiniteDomainTask) (ops : List Operator) (o : ℕ) (op : Operator) → ops ≡ f.operators → HasStepNames f → o < length f.operators → op ≡ get_or ops o op
+    → IsPlanStep (step_of_words (words_of op.name))
+step_name_at f ops o op same names within at =
+    subst (λ (x : Operator). IsPlanStep (step_of_words (words_of x.name))) (sym (at ∙ ap (λ (xs : List Operator). get_or xs o op) same)) (names o op within)
 
 -- with the step of one operator more
 pub steps_more : (f : FiniteDomainTask) (plan : List ℕ) (i : ℕ) (steps more : List Step) (step : Step) → i < length plan → step ≡ operator_step f (get_or plan i 0)

@@ -58,7 +58,7 @@ module _ (domain problem : List ℕ) (task : PlanningTask) (t : TranslatedTask) 
   carried_grounded : All (IsActionOf task) (carried (variables_at t.atoms t.variables) (actions_of task t))
   carried_grounded = All-filter (has_operator (variables_at t.atoms t.variables)) (IsActionOf task) (actions_of task t) (over_listed task t.atoms).grounded
 
-  all_operators : (P : Operator → Type 0) → ((a : Action) → IsActionOf task a → P (operator_of task.vocabulary (variables_at t.atoms t.variables) a)) → All P t.task.operators
+  pub all_operators : (P : Operator → Type 0) → ((a : Action) → IsActionOf task a → P (operator_of task.vocabulary (variables_at t.atoms t.variables) a)) → All P t.task.operators
   all_operators P h =
       subst (λ (f : FiniteDomainTask). All P f.operators) (sym made.task_is)
       (All-map P (operator_of task.vocabulary (variables_at t.atoms t.variables)) (carried (variables_at t.atoms t.variables) (actions_of task t))

@@ -1,7 +1,7 @@
 //! Laws of plans and translations. Each function states laws as its contract, and its body is empty.
 
-ghost use Rattle.std.specs.Prelude.{◌≡◌, ◌≤◌, ℕ, List, length, map};
-ghost use Rattle.fdr.specs.Tasks.{IsTask, IsWithinLimits, IsPlan, plan_cost};
+ghost use Rattle.std.specs.Prelude.{◌≡◌, ◌<◌, ◌≤◌, ◌^◌, ℕ, List, All, length, map};
+ghost use Rattle.fdr.specs.Tasks.{FiniteDomainTask, IsTask, IsWithinLimits, IsPlan, plan_cost};
 ghost use Rattle.pddl_task.specs.Planning.{PlanningTask, Action, IsActionOf};
 ghost use Rattle.pddl_task.specs.Plans.{IsValidPlan, total_cost};
 ghost use Rattle.pddl.specs.Texts.{SpellTask};
@@ -10,9 +10,11 @@ ghost use Rattle.sasfile.specs.SasTexts.{SpellsTask};
 ghost use Rattle.sasfile_writer.specs.Written.{written};
 ghost use Rattle.sasfile_writer.specs.TextOrder.{CanBeWritten, in_text_order};
 ghost use Rattle.translate.specs.Translated.{TranslatedTask, IsTranslation, HasSamePlans, AreOperatorsOf};
+ghost use Rattle.validate.specs.PlanTexts.{max_steps, SpellsPlan};
 ghost use Rattle.validate.specs.Verdicts.{IsVerdict};
 ghost use Rattle.validate.specs.declared.verdict.Verdict.TheVariants.{Valid};
 ghost use Rattle.optplan_plans.specs.Plans.{step_of, text_of_plan};
+ghost use Rattle.optplan_plans.specs.Steps.{HasStepNames, operator_step};
 ghost use Rattle.pddl_task.specs.Limits.{max_cost};
 
 /// The text of a plan of the translation is the text of the plan of its ground actions.
@@ -43,4 +45,12 @@ pub fn translation_can_be_written()
 pub fn valid_plan_has_verdict()
     ensures { (domain problem : List ℕ) (task : PlanningTask) (actions : List Action) → SpellTask domain problem task → IsValidPlan task actions →
         IsVerdict task (map (step_of task.vocabulary) actions) (Valid (total_cost actions)) }
+{}
+
+/// The text of a plan of a finite-domain task, where its operators' names spell steps of plan words, is read as these steps: if
+/// they are at most 1,048,576, the text is at most 16,777,216 bytes long and the cost fits 64 bits.
+pub fn named_plan_is_read()
+    ensures { (task : FiniteDomainTask) (plan : List ℕ) (cost : ℕ) → HasStepNames task → All (λ o. o < length task.operators) plan →
+        length plan ≤ max_steps → cost < 2 ^ 64 → length (sas_plan_text task plan cost) ≤ 2 ^ 24 →
+        SpellsPlan (sas_plan_text task plan cost) (map (operator_step task) plan) }
 {}

@@ -5,7 +5,7 @@ mod laws;
 mod steps;
 
 pub use laws::{
-    translated_plan_has_same_text, translated_plan_is_valid, translation_can_be_written,
-    valid_plan_has_verdict,
+    named_plan_is_read, translated_plan_has_same_text, translated_plan_is_valid,
+    translation_can_be_written, valid_plan_has_verdict,
 };
-pub use steps::named_steps;
+pub use steps::{named_step, named_steps};

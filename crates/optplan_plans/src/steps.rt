@@ -1,13 +1,14 @@
 //! The steps of a plan, from the names of its operators.
 
-ghost use Rattle.std.specs.Prelude.{◌≡◌, ◌<◌, ℕ, List, All, IfOk, length, map};
+ghost use Rattle.std.specs.Prelude.{◌≡◌, ◌<◌, ℕ, List, [], ◌∷◌, ◌++◌, All, IfOk, IfSome, IfNone, length, map};
 ghost use Rattle.fdr.specs.Tasks as spec;
 ghost use Rattle.pddl_names.specs.Names.{texts_of};
 ghost use Rattle.pddl_task.specs.Planning.{PlanningTask, Action};
 ghost use Rattle.pddl.specs.Texts.{SpellTask};
 ghost use Rattle.translate.specs.Translated.{TranslatedTask, IsTranslation, AreOperatorsOf};
 ghost use Rattle.optplan_plans.specs.Plans.{step_of};
-ghost use Rattle.optplan_plans.specs.Steps.{words_of, step_of_words, operator_step};
+ghost use Rattle.validate.specs.PlanWords.{IsPlanStep};
+ghost use Rattle.optplan_plans.specs.Steps.{words_of, step_of_words, HasStepNames, operator_step};
 
 use fdr::FdrTask;
 use std::alloc::{AllocError, Global};
@@ -24,19 +25,33 @@ fn words(alloc: Global, text: &str) -> Result<Vec<String>, AllocError>
     Ok(words)
 }
 
-/// The step whose words, separated by single blanks, are the name of an operator. Fails only if allocation fails.
-fn named_step(alloc: Global, name: &str) -> Result<Step, AllocError>
-    ensures { IfOk result (λ step. step ≡ step_of_words (words_of name.now)) }
+/// The step whose words, separated by single blanks, are this name; or `None` if one of them is no plan word. Fails only if
+/// allocation fails.
+pub fn named_step(alloc: Global, name: &str) -> Result<Option<Step>, AllocError>
+    ensures some { IfOk result (λ o. IfSome o (λ step. step ≡ step_of_words (words_of name.now))) }
+    ensures none { IfOk result (λ o. IfNone o (IsPlanStep (step_of_words (words_of name.now)) → ⊥)) }
 {
     match name.split_once(' ') {
-        Some((schema, objects)) => Ok(Step {
-            name: String::from_str(alloc, schema)?,
-            arguments: words(alloc, objects)?,
-        }),
-        None => Ok(Step {
-            name: String::from_str(alloc, name)?,
-            arguments: Vec::new(alloc),
-        }),
+        Some((schema, objects)) => {
+            let schema = String::from_str(alloc, schema)?;
+            let objects = words(alloc, objects)?;
+            Ok(Step::new(schema, objects))
+        }
+        None => Ok(Step::new(String::from_str(alloc, name)?, Vec::new(alloc))),
+    }
+}
+
+/// Adds the step that a name spells.
+fn push_named(alloc: Global, name: &str, steps: &mut Vec<Step>) -> Result<(), AllocError>
+    requires { IsPlanStep (step_of_words (words_of name.now)) }
+    ensures { IfOk result (λ _. steps.new.items ≡ steps.old.items ++ step_of_words (words_of name.now) ∷ []) }
+{
+    match named_step(alloc, name)? {
+        Some(step) => {
+            steps.push(step)?;
+            Ok(())
+        }
+        None => unreachable!(),
     }
 }
 
@@ -47,7 +62,8 @@ pub fn named_steps(
     translated: &FdrTask,
     plan: &[usize],
 ) -> Result<Vec<Step>, AllocError>
-    requires { All (λ o. o < length translated.now.operators) plan.now }
+    requires there { All (λ o. o < length translated.now.operators) plan.now }
+    requires names { HasStepNames translated.now }
     ensures { (domain problem : List ℕ) (task : PlanningTask) (t : TranslatedTask) (actions : List Action) → SpellTask domain problem task →
         IsTranslation task t → t.task ≡ translated.now → AreOperatorsOf task t actions plan.now →
         IfOk result (λ steps. steps.items ≡ map (step_of task.vocabulary) actions) }
@@ -56,7 +72,7 @@ pub fn named_steps(
     let mut steps = Vec::new(alloc);
     for operator in plan {
         let operator = &operators[*operator];
-        steps.push(named_step(alloc, operator.name.as_str())?)?;
+        push_named(alloc, operator.name.as_str(), &mut steps)?;
     }
     Ok(steps)
 }

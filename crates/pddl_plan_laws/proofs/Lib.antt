@@ -1,3 +1,1 @@
-pub mod Comments
-pub mod WrittenPlans
-pub mod SpelledPlans
+pub mod ReadPlans

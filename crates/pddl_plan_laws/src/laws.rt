@@ -6,7 +6,7 @@ ghost use Rattle.sexp.specs.Limits.{max_bytes};
 ghost use Rattle.validate.specs.Steps.{Step};
 ghost use Rattle.validate.specs.Written.{plan_text_of};
 ghost use Rattle.validate.specs.PlanTexts.{max_steps, SpellsPlan};
-ghost use Rattle.pddl_plan_laws.specs.PlanWords.{IsPlanStep};
+ghost use Rattle.validate.specs.PlanWords.{IsPlanStep};
 
 /// The text that is written for a plan spells that plan, where its names are plan words, the text is not too long and the
 /// cost fits 64 bits.

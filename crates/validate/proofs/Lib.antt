@@ -1,4 +1,8 @@
 pub mod PlanLaws
+pub mod PlanWordTests
+pub mod Comments
+pub mod WrittenPlans
+pub mod SpelledPlans
 pub mod CostLaws
 pub mod StateLaws
 pub mod VerdictLaws

@@ -1,4 +1,5 @@
 pub mod Steps
+pub mod PlanWords
 pub mod PlanTexts
 pub mod States
 pub mod Verdicts

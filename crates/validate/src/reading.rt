@@ -6,6 +6,7 @@ ghost use Rattle.sexp.specs.Forms.{Forms, before, views};
 ghost use Rattle.sexp.specs.Grammar.{SpellsAll};
 ghost use Rattle.pddl_names.specs.Names.{texts_of};
 ghost use Rattle.validate.specs.Steps.{Step as Words};
+ghost use Rattle.validate.specs.PlanWords.{IsPlanWord, AreAll};
 ghost use Rattle.validate.specs.PlanTexts.{SpellsPlan, IsPlanFault, GivesPlan, first_of_places, lists_in, list_faults, shape_faults, words_of, step_of, steps_of, with_step};
 
 use crate::plan::{Plan, PlanFault, Step};
@@ -101,13 +102,14 @@ fn words(alloc: Global, items: &[Tree]) -> Result<Vec<String>, AllocError>
 /// The step of a list whose first tree is `name`, or `None` if that is no word.
 #[tactic(auto, using(sexp::proofs::Walking::walking))]
 fn headed(alloc: Global, name: &Tree, arguments: &[Tree]) -> Result<Option<Step>, AllocError>
+    requires { AreAll IsPlanWord (before name.now (views arguments.now)) }
     ensures { IfOk result (λ s. s ≡ step_of (before name.now (views arguments.now))) }
 {
     match name {
         Tree::Word { text, span: _ } => {
             let name = String::from_str(alloc, text.as_str())?;
             let arguments = words(alloc, arguments)?;
-            Ok(Some(Step { name, arguments }))
+            Ok(Step::new(name, arguments))
         }
         Tree::List { items: _, span: _ } => Ok(None),
     }
@@ -116,6 +118,7 @@ fn headed(alloc: Global, name: &Tree, arguments: &[Tree]) -> Result<Option<Step>
 /// The step of a list, or `None` if it does not begin with a word.
 #[tactic(auto, using(sexp::proofs::Walking::walking))]
 fn step(alloc: Global, items: &[Tree]) -> Result<Option<Step>, AllocError>
+    requires { AreAll IsPlanWord (views items.now) }
     ensures { IfOk result (λ s. s ≡ step_of (views items.now)) }
 {
     match items {
@@ -126,6 +129,7 @@ fn step(alloc: Global, items: &[Tree]) -> Result<Option<Step>, AllocError>
 
 #[tactic(auto, using(sexp::proofs::Walking::walking, crate::proofs::PlanLaws::appending))]
 fn push_step(alloc: Global, tree: &Tree, steps: &mut Vec<Step>) -> Result<(), AllocError>
+    requires { (rest : Forms) × AreAll IsPlanWord (before tree.now rest) }
     ensures { IfOk result (λ _. (rest : Forms) → steps.old.items ++ steps_of (before tree.now rest) ≡ steps.new.items ++ steps_of rest) }
 {
     match tree {
@@ -142,6 +146,7 @@ fn push_step(alloc: Global, tree: &Tree, steps: &mut Vec<Step>) -> Result<(), Al
 
 /// The steps of the lists among the trees.
 fn steps(alloc: Global, trees: &[Tree]) -> Result<Vec<Step>, AllocError>
+    requires { AreAll IsPlanWord (views trees.now) }
     ensures { IfOk result (λ steps. steps.items ≡ steps_of (views trees.now)) }
 {
     let mut steps = Vec::new(alloc);

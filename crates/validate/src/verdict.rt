@@ -53,10 +53,10 @@ fn action_named(alloc: Global, task: &Task, step: &Step) -> Result<Option<Ground
     requires { IsTrue (has_small_costs task.now) }
     ensures { IfOk result (λ a. a ≡ action_named task.now step.now) }
 {
-    let Some(schema) = task.vocabulary.schemas.place_of(step.name.as_str()) else {
+    let Some(schema) = task.vocabulary.schemas.place_of(step.name()) else {
         return Ok(None);
     };
-    match numbers_of(alloc, &task.vocabulary.objects, &step.arguments)? {
+    match numbers_of(alloc, &task.vocabulary.objects, step.arguments())? {
         Some(objects) => task.action_of(alloc, schema, &objects),
         None => Ok(None),
     }

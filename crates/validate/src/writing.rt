@@ -1,9 +1,11 @@
 //! Writing plans and verdicts.
 
-ghost use Rattle.std.specs.Prelude.{◌≡◌, ◌++◌, IfOk, OnOk, string_bytes};
+ghost use Rattle.std.specs.Prelude.{◌≡◌, ◌≤◌, ◌++◌, IfOk, OnOk, length, string_bytes};
 ghost use Rattle.std.specs.Fmt.{decimal};
 ghost use Rattle.std.specs.List.{flat_map};
+ghost use Rattle.sexp.specs.Limits.{max_bytes};
 ghost use Rattle.pddl_names.specs.Names.{texts_of};
+ghost use Rattle.validate.specs.PlanTexts.{SpellsPlan};
 ghost use Rattle.validate.specs.Written.{spaced, step_line, cost_kind, plan_text_of, name_of, spaced_names, atom_text, literal_text, verdict_text, verdict_line_of};
 
 use crate::plan::{Plan, Step};
@@ -39,8 +41,8 @@ fn push_step(text: &mut String, step: &Step) -> Result<(), AllocError>
     ensures { OnOk result (string_bytes text.new ≡ string_bytes text.old ++ step_line step.now) }
 {
     text.push_str("(")?;
-    text.push_str(step.name.as_str())?;
-    push_words(text, &step.arguments)?;
+    text.push_str(step.name())?;
+    push_words(text, step.arguments())?;
     text.push_str(")\n")?;
     Ok(())
 }
@@ -65,19 +67,28 @@ fn push_cost_kind(text: &mut String, unit: bool) -> Result<(), AllocError>
     })
 }
 
+#[tactic(auto, using(crate::proofs::PlanLaws::appending))]
+fn steps_text(alloc: Global, steps: &[Step], cost: u64, unit: bool) -> Result<String, AllocError>
+    ensures { IfOk result (λ text. string_bytes text ≡ plan_text_of steps.now cost unit) }
+{
+    let mut text = String::new(alloc);
+    push_steps(&mut text, steps)?;
+    text.push_str("; cost = ")?;
+    push_number(&mut text, cost)?;
+    push_cost_kind(&mut text, unit)?;
+    Ok(text)
+}
+
 /// The plan as a text: a line for each step, such as `(go a b)`, and a last line such as `; cost = 2 (unit cost)`. If
 /// `unit` is not set that line ends with `(general cost)`.
 ///
 /// Fails only if allocation fails.
-#[tactic(auto, using(crate::proofs::PlanLaws::appending))]
 pub fn plan_text(alloc: Global, plan: &Plan, cost: u64, unit: bool) -> Result<String, AllocError>
-    ensures { IfOk result (λ text. string_bytes text ≡ plan_text_of plan.now cost unit) }
+    ensures written { IfOk result (λ text. string_bytes text ≡ plan_text_of plan.now cost unit) }
+    // `read_plan` gives the plan back, unless the text is too long for it.
+    ensures read { IfOk result (λ text. length (string_bytes text) ≤ max_bytes → SpellsPlan (string_bytes text) plan.now) }
 {
-    let mut text = String::new(alloc);
-    push_steps(&mut text, plan.steps())?;
-    text.push_str("; cost = ")?;
-    push_number(&mut text, cost)?;
-    push_cost_kind(&mut text, unit)?;
+    let text = steps_text(alloc, plan.steps(), cost, unit)?;
     Ok(text)
 }
 

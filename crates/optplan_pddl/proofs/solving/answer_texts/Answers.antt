@@ -6,17 +6,17 @@ use Rattle.optplan_sas.specs.Findings.{IsFound, IsTrueOf}
 use Rattle.optplan_pddl.proofs.Answering.{solution_there, known_there, solved_answer, unsolvable_answer, limit_answer}
 use Rattle.optplan_pddl.proofs.solving.answer_texts.Goals as goal
 
-pub solution_texts-requires : goal.solution_texts-requires
-solution_texts-requires c =
+pub solution_texts-requires-clause-solution : goal.solution_texts-requires-clause-solution
+solution_texts-requires-clause-solution c =
     let t = c.args.translated.now in
-    let kind = translation_kind c.requires.0 t in
-    (c.requires.0, solution_there t.task kind c.in-Solved.solution (subst (IsTrueOf t.task kind) c.in-Solved.is c.requires.1))
+    let kind = translation_kind c.requires.found.0 t in
+    (c.requires.found.0, solution_there t.task kind c.in-Solved.solution (subst (IsTrueOf t.task kind) c.in-Solved.is c.requires.found.1))
 
-pub known_texts-requires : goal.known_texts-requires
-known_texts-requires c =
+pub known_texts-requires-clause-known : goal.known_texts-requires-clause-known
+known_texts-requires-clause-known c =
     let t = c.args.translated.now in
-    let kind = translation_kind c.requires.0 t in
-    (c.requires.0, known_there t.task kind c.in-Stopped.known (subst (IsTrueOf t.task kind) c.in-Stopped.is c.requires.1))
+    let kind = translation_kind c.requires.found.0 t in
+    (c.requires.found.0, known_there t.task kind c.in-Stopped.known (subst (IsTrueOf t.task kind) c.in-Stopped.is c.requires.found.1))
 
 pub returns-in_ok-solution_texts-in-Solved : goal.returns-in_ok-solution_texts-in-Solved
 returns-in_ok-solution_texts-in-Solved c = λ domain problem task e spells made plans same found.

@@ -4,10 +4,10 @@ use Rattle.optplan_sas.proofs.Texts.{best_is_plan, best_with_text, none_with_tex
 use Rattle.optplan_pddl.specs.Answers.{IsPlanningPlan}
 use Rattle.optplan_pddl.proofs.solving.best_text.Goals as goal
 
-pub plan_text-requires : goal.plan_text-requires
-plan_text-requires c =
+pub plan_text-requires-clause-plan : goal.plan_text-requires-clause-plan
+plan_text-requires-clause-plan c =
     let over = c.args.translated.now.task in
-    best_is_plan over c.requires.0 c.in-Some.found (subst (IsBestSoFar over c.requires.0) c.in-Some.is c.requires.1)
+    best_is_plan over c.requires.best.0 c.in-Some.found (subst (IsBestSoFar over c.requires.best.0) c.in-Some.is c.requires.best.1)
 
 pub returns-in_ok-plan_text-in-Some : goal.returns-in_ok-plan_text-in-Some
 returns-in_ok-plan_text-in-Some c = λ domain problem task most spells made same best.

@@ -2,8 +2,8 @@ use Rattle.std.proofs.Common.{refl}
 use Rattle.optplan_pddl.proofs.Accepting.{known_for}
 use Rattle.optplan_pddl.proofs.solving.known_texts.Goals as goal
 
-pub best_text-requires : goal.best_text-requires
-best_text-requires c = (c.requires.1.0, c.requires.1.1.best_is)
+pub best_text-requires-clause-best : goal.best_text-requires-clause-best
+best_text-requires-clause-best c = (c.requires.known.1.0, c.requires.known.1.1.best_is)
 
 pub returns-clause-known : goal.returns-clause-known
 returns-clause-known c = λ domain problem task most spells made same is.

@@ -1,8 +1,8 @@
 use Rattle.optplan_pddl.proofs.Accepting.{solution_for}
 use Rattle.optplan_pddl.proofs.solving.solution_texts.Goals as goal
 
-pub plan_text-requires : goal.plan_text-requires
-plan_text-requires c = record { leads = c.requires.1.cheapest.leads; costs = c.requires.1.cheapest.costs }
+pub plan_text-requires-clause-plan : goal.plan_text-requires-clause-plan
+plan_text-requires-clause-plan c = record { leads = c.requires.solution.1.cheapest.leads; costs = c.requires.solution.1.cheapest.costs }
 
 pub returns-clause-solution : goal.returns-clause-solution
 returns-clause-solution c = λ domain problem task spells made same is.

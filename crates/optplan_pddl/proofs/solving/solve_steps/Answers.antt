@@ -1,5 +1,6 @@
 use Rattle.std.proofs.lemmas.Result.{err_from_is_err_and}
 use Rattle.optplan_sas.specs.Searches.{EndsAfter, IsRefusedAfter}
+use Rattle.optplan_pddl.proofs.StepNames.{names_there}
 use Rattle.optplan_pddl.proofs.Answering.{found_true, answer_for, search_refused}
 use Rattle.optplan_pddl.proofs.solving.solve_steps.Goals as goal
 
@@ -10,8 +11,11 @@ returns-in_err-found-clause-refused g c =
     (search_refused c.args.domain.now c.args.problem.now c.in_ok-translated.field-0 c.in_ok-translated.ensures.prepared c.task.result.now c.task.ensures
     (IsRefusedAfter c.args.options.now c.args.steps.now) c.in_err-found.field-0.0 c.in_err-found.ensures.refused)
 
-pub answer_texts-requires : goal.answer_texts-requires
-answer_texts-requires g c =
+pub answer_texts-requires-clause-names : goal.answer_texts-requires-clause-names
+answer_texts-requires-clause-names g c = names_there c.args.domain.now c.args.problem.now c.in_ok-translated.field-0 c.in_ok-translated.ensures.prepared
+
+pub answer_texts-requires-clause-found : goal.answer_texts-requires-clause-found
+answer_texts-requires-clause-found g c =
     found_true c.args.domain.now c.args.problem.now c.in_ok-translated.field-0 c.in_ok-translated.ensures.prepared c.task.result.now c.task.ensures
     (EndsAfter c.args.options.now c.args.steps.now) c.in_ok-found.found c.in_ok-found.ensures.found
 

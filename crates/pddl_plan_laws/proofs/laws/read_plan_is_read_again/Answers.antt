@@ -1,4 +1,4 @@
-use Rattle.pddl_plan_laws.proofs.SpelledPlans.{read_again_is}
+use Rattle.pddl_plan_laws.proofs.ReadPlans.{read_again_is}
 use Rattle.pddl_plan_laws.proofs.laws.read_plan_is_read_again.Goals as goal
 
 pub returns : goal.returns

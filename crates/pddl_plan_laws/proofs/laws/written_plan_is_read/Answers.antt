@@ -1,4 +1,4 @@
-use Rattle.pddl_plan_laws.proofs.WrittenPlans.{written_is}
+use Rattle.validate.proofs.WrittenPlans.{written_is}
 use Rattle.pddl_plan_laws.proofs.laws.written_plan_is_read.Goals as goal
 
 pub returns : goal.returns

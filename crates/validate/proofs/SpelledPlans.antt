@@ -1,18 +1,18 @@
--- The words of a plan that a text spells are plan words.
-use Rattle.std.proofs.Common.{◌≡◌, ◌+◌, ◌^◌, ◌<◌, ◌≤◌, length, ℕ, Bool, true, false, List, [], ◌∷◌, map, sym, subst, arith}
+-- The words that a text spells are plan words, and so are those of its steps.
+use Rattle.std.proofs.Common.{◌≡◌, ◌+◌, ℕ, Bool, false, List, [], ◌∷◌, map, Option, Some, None, sym, ap, subst, ◌∙◌, arith}
+use Rattle.std.specs.Prelude.{IfSome, IfNone}
 use Rattle.std.specs.List.{AllByRecursion}
 use Rattle.std.specs.Char.{to_ascii_lowercase}
 use Rattle.std.proofs.lemmas.Bool.Decides.{nat_tests}
 use Rattle.sexp.specs.declared.byte_kind.ByteKind.TheVariants.{Letter}
 use Rattle.sexp.specs.Bytes.{kind}
-use Rattle.sexp.specs.Forms.{Forms, none, word, group}
+use Rattle.sexp.specs.declared.tree.Tree.{Tree}
+use Rattle.sexp.specs.Forms.{Forms, none, word, group, before}
 use Rattle.sexp.specs.Grammar.{Spells}
-use Rattle.sexp.specs.Limits.{max_bytes}
+use Rattle.sexp.proofs.Walking.{at_tree}
 use Rattle.validate.specs.Steps.{Step}
-use Rattle.validate.specs.Written.{plan_text_of}
-use Rattle.validate.specs.PlanTexts.{words_of, step_of, steps_of, with_step, SpellsPlan}
-use Rattle.pddl_plan_laws.specs.PlanWords.{IsPlanByte, IsPlanWord, IsPlanStep}
-use Rattle.pddl_plan_laws.proofs.WrittenPlans.{written_is}
+use Rattle.validate.specs.PlanTexts.{words_of, step_of, steps_of, with_step}
+use Rattle.validate.specs.PlanWords.{IsPlanByte, IsPlanWord, IsPlanStep, AreAll}
 
 lower_letter : (b : ℕ) → kind b ≡ Letter → kind (to_ascii_lowercase b) ≡ Letter
 lower_letter b e = grind (arith, nat_tests)
@@ -26,12 +26,6 @@ plan_bytes (b ∷ bs) h = ((lower_letter b h.0, lower_twice b), plan_bytes bs h.
 
 word_is : (letter : ℕ) (letters text : List ℕ) → kind letter ≡ Letter → AllByRecursion (λ b. kind b ≡ Letter) letters → text ≡ map to_ascii_lowercase (letter ∷ letters) → IsPlanWord text
 word_is letter letters text first others is = subst IsPlanWord (sym is) (record { some = λ e. absurd cc; bytes = plan_bytes (letter ∷ letters) (first, others) })
-
--- each word of the expressions, also within lists, has the property
-abbrev pub AreAll : (List ℕ → Type 0) → Forms → Type 0
-AreAll P none = Unit {0}
-AreAll P (word s e t f) = P t × AreAll P f
-AreAll P (group s e i f) = AreAll P i × AreAll P f
 
 pub spelled_are_plan_words : (last : Bool) (levels at : ℕ) (bytes : List ℕ) (f : Forms) → Spells last levels at bytes f → AreAll IsPlanWord f
 spelled_are_plan_words last levels at bytes none h = tt
@@ -52,13 +46,23 @@ listed none steps h k = k
 listed (word s e t f) steps h k = (record { name = h.0; arguments = words_plan f h.1 }, k)
 listed (group s e i f) steps h k = k
 
-steps_plan : (f : Forms) → AreAll IsPlanWord f → AllByRecursion IsPlanStep (steps_of f)
+pub steps_plan : (f : Forms) → AreAll IsPlanWord f → AllByRecursion IsPlanStep (steps_of f)
 steps_plan none h = tt
 steps_plan (word s e t f) h = steps_plan f h.1
 steps_plan (group s e i f) h = listed i (steps_of f) h.0 (steps_plan f h.1)
 
-pub plan_words_is : (bytes : List ℕ) (steps : List Step) → SpellsPlan bytes steps → AllByRecursion IsPlanStep steps
-plan_words_is bytes steps h = subst (λ (xs : List Step). AllByRecursion IsPlanStep xs) (sym h.steps_are) (steps_plan h.forms (spelled_are_plan_words true 0 0 bytes h.forms h.spelled.1))
+-- ---- trees
 
-pub read_again_is : (bytes : List ℕ) (steps : List Step) (cost : ℕ) (unit : Bool) → SpellsPlan bytes steps → cost < 2 ^ 64 → length (plan_text_of steps cost unit) ≤ max_bytes → SpellsPlan (plan_text_of steps cost unit) steps
-read_again_is bytes steps cost unit h room short = written_is steps cost unit (plan_words_is bytes steps h) h.few room short
+-- what stands behind a tree
+pub all_behind : (P : List ℕ → Type 0) (t : Tree) (rest : Forms) → AreAll P (before t rest) → AreAll P rest
+all_behind P t rest = at_tree (λ f g. AreAll P f → AreAll P g) (λ s e text g h. h.1) (λ s e inner g h. h.1) t rest
+
+-- the step of a word with what stands behind it, if it is made of these words exactly where they are plan words
+pub step_made : (r : Option Step) (f g : Forms) (s e : ℕ) (t name : List ℕ) (arguments : List (List ℕ)) → f ≡ word s e t g → name ≡ t → arguments ≡ words_of g → AreAll IsPlanWord f
+    → IfSome r (λ x. x ≡ record { name = name; arguments = arguments }) → IfNone r (IsPlanStep (record { name = name; arguments = arguments }) → ⊥) → r ≡ step_of f
+step_made (Some x) f g s e t name arguments is n a all made refused =
+    ap Some made ∙ ap (λ (w : List ℕ). Some (record { name = w; arguments = arguments })) n
+    ∙ ap (λ (ws : List (List ℕ)). Some (record { name = t; arguments = ws })) a ∙ ap step_of (sym is)
+step_made None f g s e t name arguments is n a all made refused =
+    let h : AreAll IsPlanWord (word s e t g) = subst (λ (x : Forms). AreAll IsPlanWord x) is all in
+    absurd (refused (record { name = subst IsPlanWord (sym n) h.0; arguments = subst (λ (ws : List (List ℕ)). AllByRecursion IsPlanWord ws) (sym a) (words_plan g h.1) }))

@@ -1,5 +1,5 @@
 -- The text of a plan spells the plan.
-use Rattle.std.proofs.Common.{◌≡◌, ℕ, ◌+◌, ◌^◌, ◌<◌, ◌≤◌, Bool, true, false, inl, List, [], ◌∷◌, ◌++◌, length, map, refl, sym, ap, ◌∙◌, arith, append_assoc}
+use Rattle.std.proofs.Common.{◌≡◌, ℕ, ◌+◌, ◌^◌, ◌<◌, ◌≤◌, Bool, true, false, inl, List, [], ◌∷◌, ◌++◌, length, map, refl, sym, ap, subst, ◌∙◌, arith, append_assoc}
 use Rattle.std.specs.List.{flat_map, AllByRecursion}
 use Rattle.std.specs.Char.{to_ascii_lowercase}
 use Rattle.sexp.specs.declared.byte_kind.ByteKind.TheVariants.{Letter}
@@ -10,8 +10,8 @@ use Rattle.sexp.specs.Limits.{max_bytes}
 use Rattle.validate.specs.Steps.{Step}
 use Rattle.validate.specs.Written.{spaced, step_line, plan_text_of}
 use Rattle.validate.specs.PlanTexts.{words_of, steps_of, lists_in, shape_faults, max_steps, SpellsPlan}
-use Rattle.pddl_plan_laws.specs.PlanWords.{IsPlanByte, IsPlanWord, IsPlanStep}
-use Rattle.pddl_plan_laws.proofs.Comments.{cost_line, cost_gap}
+use Rattle.validate.specs.PlanWords.{IsPlanByte, IsPlanWord, IsPlanStep}
+use Rattle.validate.proofs.Comments.{cost_line, cost_gap}
 
 -- ---- words
 
@@ -141,3 +141,10 @@ written_is steps cost unit h few room short = record {
   steps_are = sym (steps_are 0 0 steps);
   few = few;
 }
+
+-- the same of a text, for steps that go by two names
+pub written_by : (text : List ℕ) (plan steps : List Step) (cost : ℕ) (unit : Bool) → text ≡ plan_text_of steps cost unit → steps ≡ plan → AllByRecursion IsPlanStep plan → length plan ≤ max_steps
+    → cost < 2 ^ 64 → length text ≤ max_bytes → SpellsPlan text plan
+written_by text plan steps cost unit is same h few room short =
+    let whole = is ∙ ap (λ (xs : List Step). plan_text_of xs cost unit) same in
+    subst (λ (bytes : List ℕ). SpellsPlan bytes plan) (sym whole) (written_is plan cost unit h few room (subst (λ (bytes : List ℕ). length bytes ≤ max_bytes) whole short))
