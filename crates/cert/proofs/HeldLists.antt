@@ -1,23 +1,28 @@
 -- A finished closed list whose states rise, with a cost partitioning, is a certificate that fails nowhere.
-use Rattle.std.proofs.Common.{◌≡◌, ℕ, suc, ◌+◌, ◌<◌, ◌≤◌, Bool, true, false, ◌&&◌, List, [], ◌∷◌, length, map, Option, Some, None, refl, sym, ap, ◌∙◌, inl, inr, subst, arith, true≢false, le-leb, lt-ltb}
-use Rattle.std.specs.Prelude.{All, IfSome, IsSomeAnd, option_and_then, slice_get, slice_index, sum_by, nat_eq, nat_le}
+use Rattle.std.proofs.Common.{◌≡◌, ℕ, zero, suc, ◌+◌, ◌<◌, ◌≤◌, Bool, true, false, ◌&&◌, ◌||◌, List, [], ◌∷◌, length, map, Option, Some, None, cond, ltb, refl, sym, ap, ◌∙◌, inl, inr, ⊎_elim, subst, arith, true≢false, le-leb, lt-ltb}
+use Rattle.std.specs.Prelude.{All, not, IfSome, IsSomeAnd, option_and_then, slice_get, slice_index, sum_by, nat_eq, nat_le}
 use Rattle.std.specs.Option.{option_map_or}
 use Rattle.std.specs.Cmp.Lexicographic.{pointwise, bytes_decides}
+use Rattle.std.specs.List.{AllByRecursion}
 use Rattle.std.proofs.Math.Logic.{∥∥₁_elim}
-use Rattle.std.proofs.lemmas.Bool.{and_from, or_left, or_right, cond_both}
+use Rattle.std.proofs.lemmas.Bool.{and_from, or_left, or_right, or_cases, cond_both, cases_Bool, cases_eq, cases_lt, eq-eqb, ne_eqb}
+use Rattle.std.proofs.lemmas.Option.{slice_get_past}
 use Rattle.std.proofs.lemmas.List.Elements.{All-weaker}
 use Rattle.std.proofs.lemmas.List.Folds.{list_any-from_Any}
 use Rattle.std.proofs.lemmas.List.Sums.{sum_by-cons}
 use Rattle.cost.specs.Distances.{Distance, Finite, ◌≤ᵈ◌, ◌+ᵈ◌, is_at_most}
 use Rattle.cost.proofs.DistanceLaws.{is_at_most-from}
-use Rattle.fdr.specs.Tasks.{FiniteDomainTask, ranges, IsState, step, is_goal_state, cost_of}
+use Rattle.fdr.specs.Tasks.{FiniteDomainTask, ranges, IsState, step, is_goal_state, Operator, operator_cost, cost_of}
 use Rattle.abstraction.specs.Abstractions as abstraction
 use Rattle.abstraction.specs.Columns.{IsColumn, IsTableOf}
 use Rattle.abstraction.specs.Steps.{found}
 use Rattle.cert_value.specs.declared.certificate.Version.TheVariants.{Two}
+use Rattle.cert_value.specs.declared.table.Share.{Share}
 use Rattle.cert_value.specs.Certificates.{Kind, Table, Entry, CertificateValue}
+use Rattle.cert_value.specs.Lawful.{IsShare, IsTable}
+use Rattle.cert_value.specs.Lawful as text
 use Rattle.checker_clauses.specs.declared.violation.Violation.TheVariants.{Shares, TableForm, GoalValue, Fall, ClosedState, Start, ClosedGoal, Successor}
-use Rattle.checker_clauses.specs.Clauses.{abstraction_of, share_of, value_of, table_of, heuristic_of, is_within_cost, has_form, is_zero, is_goal_at_zero, falls_within_share, is_state, is_behind, is_listed, reaches_bound, is_covered, is_dear_if_goal, covers_successor}
+use Rattle.checker_clauses.specs.Clauses.{abstraction_of, share_of, value_of, table_of, heuristic_of, lists, column_lists, is_within_cost, has_form, is_zero, is_goal_at_zero, falls_within_share, is_state, is_behind, is_listed, reaches_bound, is_covered, is_dear_if_goal, covers_successor}
 use Rattle.checker_clauses.specs.ClosedLists.{IsListed, IsCovered, CoversSuccessors, IsFinished}
 use Rattle.checker_clauses.specs.Violations.{table_at, IsHeld}
 use Rattle.scp.specs.Partitions.{AreCostPartitioned}
@@ -35,6 +40,15 @@ none_found : {X : Type 0} (P Q : X → Type 0) (r : Option X) → IfSome r P →
 none_found P Q None all excludes bad = bad
 none_found P Q (Some x) all excludes bad = excludes x all bad
 
+found_by : {X : Type 0} (P : X → Type 0) (xs : List X) (i : ℕ) → AllByRecursion P xs → IfSome (slice_get xs i) P
+found_by P [] i all = tt
+found_by P (x ∷ xs) zero all = all.0
+found_by P (x ∷ xs) (suc i) all = found_by P xs i all.1
+
+both_found : {X : Type 0} (P Q : X → Type 0) (r : Option X) → IfSome r P → IfSome r Q → IfSome r (λ x. P x × Q x)
+both_found P Q None p q = tt
+both_found P Q (Some x) p q = (p, q)
+
 found_table : (P : Table → Type 0) (r : Option (List Table)) (j : ℕ) → IfSome r (All P) → IfSome (option_and_then (λ column. slice_get column j) r) P
 found_table P None j all = tt
 found_table P (Some column) j all = found P column j all
@@ -51,6 +65,27 @@ state_test (r ∷ rs) [] long below = absurd (omega (arith, long))
 state_test (r ∷ rs) (x ∷ xs) long below =
     and_from _ _ (lt-ltb x r (below 0 (omega arith))) (state_test rs xs (omega (arith, long)) (λ v l. below (suc v) (omega (arith, l))))
 
+-- ---- listed operators
+
+-- a lawful table gives an operator that it lists a share of at least 1
+listed_share : (o : ℕ) (shares : List Share) → AllByRecursion IsShare shares → lists shares o ≡ true → 1 ≤ share_of shares o
+listed_share o [] all listed = absurd (true≢false (sym listed))
+listed_share o (s ∷ shares) all listed =
+    ⊎_elim
+    (λ (q : s.operator ≡ o). rw (ap (λ b. cond b s.amount (share_of shares o)) (eq-eqb s.operator o q)) all.0.least)
+    (λ (ne : s.operator ≡ o → ⊥).
+    rw (ap (λ b. cond b s.amount (share_of shares o)) (ne_eqb s.operator o ne))
+    (listed_share o shares all.1 (sym (ap (λ b. b || lists shares o) (ne_eqb s.operator o ne)) ∙ listed)))
+    (cases_eq s.operator o)
+
+listed_total : (o : ℕ) (column : List Table) → AllByRecursion (IsTable Two) column → column_lists column o ≡ true → 1 ≤ sum_by (λ t. share_of t.shares o) column
+listed_total o [] all listed = absurd (true≢false (sym listed))
+listed_total o (t ∷ ts) all listed =
+    ⊎_elim
+    (λ here. omega (arith, sum_by-cons (λ (u : Table). share_of u.shares o) t ts, listed_share o t.shares all.0.shares.each here))
+    (λ there. omega (arith, sum_by-cons (λ (u : Table). share_of u.shares o) t ts, listed_total o ts all.1 there))
+    (or_cases (lists t.shares o) (column_lists ts o) listed)
+
 module _ (task : FiniteDomainTask) where
   -- ---- tables
 
@@ -59,8 +94,24 @@ module _ (task : FiniteDomainTask) where
   column_shares (t ∷ ts) o =
       rw (sum_by-cons (λ (t : abstraction.Table). t.share o) (table_of task t) (map (table_of task) ts), sum_by-cons (λ (t : Table). share_of t.shares o) t ts, column_shares ts o) refl
 
-  within_cost : (column : List Table) → IsColumn task (map (table_of task) column) → (o : ℕ) → is_within_cost task column o ≡ true
-  within_cost column is o = le-leb _ _ (subst (λ n. n ≤ cost_of task o) (column_shares column o) (is.costs o))
+  abbrev total : List Table → ℕ → ℕ
+  total column o = sum_by (λ t. share_of t.shares o) column
+
+  -- an operator with shares that its cost covers costs something, so it exists
+  paid_exists : (o : ℕ) → 1 ≤ cost_of task o → o < length task.operators
+  paid_exists o paid =
+      ⊎_elim (λ l. l)
+      (λ past. absurd (omega (arith, paid, ap (λ (r : Option Operator). option_map_or (operator_cost task.metric) r 0) (slice_get_past task.operators o past))))
+      (cases_lt o (length task.operators))
+
+  within_cost : (column : List Table) → IsColumn task (map (table_of task) column) → AllByRecursion (IsTable Two) column → (o : ℕ) → is_within_cost task column o ≡ true
+  within_cost column is all o =
+      let low : total column o ≤ cost_of task o = subst (λ n. n ≤ cost_of task o) (column_shares column o) (is.costs o) in
+      and_from _ _ (le-leb _ _ low)
+      (⊎_elim
+      (λ listed. or_left _ (not (column_lists column o)) (lt-ltb o (length task.operators) (paid_exists o (omega (arith, low, listed_total o column all listed)))))
+      (λ unlisted. or_right (ltb o (length task.operators)) _ (ap not unlisted))
+      (cases_Bool (column_lists column o)))
 
   goal_at_zero : (t : Table) → IsTableOf task (table_of task t) → (a : ℕ) → a < (abstraction_of task t).size → is_goal_at_zero task t a ≡ true
   goal_at_zero t is a low =
@@ -80,6 +131,15 @@ module _ (task : FiniteDomainTask) where
     tables_of_task : All (All IsOfTask) columns
     tables_of_task =
         All-weaker (λ column. IsColumn task (map (table_of task) column)) (All IsOfTask) (λ column is. from_map (IsTableOf task) (table_of task) column is.tables) columns divided.each
+
+    -- the column partitions the costs, and has a text
+    abbrev IsHeldColumn : List Table → Type 0
+    IsHeldColumn column = IsColumn task (map (table_of task) column) × text.IsColumn Two column
+
+    held_column_at : (i : ℕ) → IfSome (slice_get columns i) IsHeldColumn
+    held_column_at i =
+        both_found (λ column. IsColumn task (map (table_of task) column)) (text.IsColumn Two) (slice_get columns i)
+        (found (λ column. IsColumn task (map (table_of task) column)) columns i divided.each) (found_by (text.IsColumn Two) columns i divided.lawful.each)
 
     abbrev HasForm : Table → Type 0
     HasForm t = has_form task t ≡ true
@@ -120,8 +180,8 @@ module _ (task : FiniteDomainTask) where
 
       pub held : IsHeld task made
       held (Shares i o) bad =
-          none_found (λ column. IsColumn task (map (table_of task) column)) (λ column. is_within_cost task column o ≡ false) (slice_get columns i)
-          (found (λ column. IsColumn task (map (table_of task) column)) columns i divided.each) (λ column is. not_both _ (within_cost column is o)) bad
+          none_found IsHeldColumn (λ column. is_within_cost task column o ≡ false) (slice_get columns i)
+          (held_column_at i) (λ column is. not_both _ (within_cost column is.0 is.1.tables o)) bad
       held (TableForm i j) bad = none_found HasForm (λ t. has_form task t ≡ false) (table_at columns i j) (formed_at i j) (λ t. not_both _) bad
       held (GoalValue i j a) bad =
           none_found IsOfTask (λ t. (a < (abstraction_of task t).size) × (is_goal_at_zero task t a ≡ false)) (table_at columns i j) (of_task_at i j)

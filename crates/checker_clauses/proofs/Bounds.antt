@@ -64,7 +64,7 @@ module _ (task : FiniteDomainTask) (well : IsTask task) (c : CertificateValue) (
       record {
         tables = All-map (IsTableOf task) (table_of task) column
             (each (λ t. IsTableOf task (table_of task t)) column (λ j t f. table_is i j t (table_found i j column t e f)));
-        costs = λ o. rw (column_shares column o) (leb-true _ _ (passes_at (λ d. is_within_cost task d o) (slice_get c.columns i) column e (held (Shares i o))));
+        costs = λ o. rw (column_shares column o) (leb-true _ _ (and_parts _ _ (passes_at (λ d. is_within_cost task d o) (slice_get c.columns i) column e (held (Shares i o)))).0);
       }
 
   columns_are : All (IsColumn task) (columns_of task c.columns)

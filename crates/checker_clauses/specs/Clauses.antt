@@ -1,7 +1,7 @@
 -- The clauses of a certificate for a finite-domain task, each as a test. They allow anyone to check a lower bound on
 -- the cost of every plan: cost-partitioned tables (Seipp, Keller and Helmert 2020), and a closed list whose successors
 -- are in it or have a heuristic value that reaches the bound.
-use Rattle.std.specs.Prelude.{ℕ, ◌+◌, ◌-◌, Bool, true, false, ◌==◌, ◌&&◌, ◌||◌, nat_le, nat_lt, nat_eq, if◌then◌else◌, List, [], ◌∷◌, length, map, sum_by, slice_get, slice_index_or}
+use Rattle.std.specs.Prelude.{ℕ, ◌+◌, ◌-◌, Bool, true, false, ◌==◌, ◌&&◌, ◌||◌, not, nat_le, nat_lt, nat_eq, if◌then◌else◌, List, [], ◌∷◌, length, map, sum_by, slice_get, slice_index_or}
 use Rattle.std.specs.List.{list_any}
 use Rattle.std.specs.Option.{option_map_or}
 use Rattle.std.specs.Cmp.Lexicographic.{pointwise}
@@ -39,9 +39,18 @@ columns_of task columns = map (map (table_of task)) columns
 abbrev pub heuristic_of : FiniteDomainTask → List (List Table) → List ℕ → Distance
 heuristic_of task columns = heuristic (columns_of task columns)
 
--- the shares of an operator sum to at most its cost, which is 0 if there is no such operator
+-- a table with these shares lists the operator, whatever its share
+abbrev pub lists : List Share → ℕ → Bool
+lists shares o = list_any (λ s. s.operator == o) shares
+
+-- a table of the column lists the operator
+abbrev pub column_lists : List Table → ℕ → Bool
+column_lists column o = list_any (λ t. lists t.shares o) column
+
+-- the shares of an operator sum to at most its cost, and an operator that a table lists exists
 abbrev pub is_within_cost : FiniteDomainTask → List Table → ℕ → Bool
-is_within_cost task column o = nat_le (sum_by (λ t. share_of t.shares o) column) (cost_of task o)
+is_within_cost task column o =
+    nat_le (sum_by (λ t. share_of t.shares o) column) (cost_of task o) && (nat_lt o (length task.operators) || not (column_lists column o))
 
 -- the mapping is one of the task, and there is a value for each abstract state, of which there are at most 2^24
 abbrev pub has_form : FiniteDomainTask → Table → Bool

@@ -46,6 +46,15 @@ table second first =
       values = Finite first ∷ Finite 1 ∷ Finite 0 ∷ [];
     }
 
+-- a table that lists this operator with a share of 0
+abbrev pub listing : ℕ → Table
+listing o =
+    record {
+      mapping = Pattern (0 ∷ []);
+      shares = record { operator = o; amount = 0 } ∷ [];
+      values = Finite 0 ∷ Finite 0 ∷ Finite 0 ∷ [];
+    }
+
 -- a certificate with one column and no closed state
 abbrev pub with_column : Distance → List Table → CertificateValue
 with_column bound column = record { version = One; kind = FiniteDomain; bound = bound; columns = column ∷ []; closed = [] }

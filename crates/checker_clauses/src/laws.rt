@@ -8,7 +8,7 @@ ghost use Rattle.cert_value.specs.Certificates.{CertificateValue};
 ghost use Rattle.checker_clauses.specs.declared.violation.Violation.{Violation};
 ghost use Rattle.checker_clauses.specs.Clauses.{is_within_cost, has_form, is_goal_at_zero, falls_within_share, is_state, is_behind, is_covered, is_dear_if_goal, covers_successor};
 ghost use Rattle.checker_clauses.specs.Violations.{clause_of, IsMet, IsFirstViolation, IsHeld};
-ghost use Rattle.checker_clauses.specs.Examples.{road, reached, with_closed, two_closed, table, with_column};
+ghost use Rattle.checker_clauses.specs.Examples.{road, reached, with_closed, two_closed, table, listing, with_column};
 
 /// Proves that a certificate without a violation implies its bound, whoever wrote it: every plan costs at least the
 /// bound, and there is no plan if it is infinite.
@@ -33,6 +33,8 @@ pub fn worked_road()
     ensures states { (is_state (3 ∷ []) (3 ∷ []) ≡ false) × (is_state (3 ∷ []) (1 ∷ 1 ∷ []) ≡ false) × (is_state (3 ∷ []) (2 ∷ []) ≡ true) ×
         (is_behind (reached 1 1 ∷ reached 0 0 ∷ []) 1 (0 ∷ []) ≡ false) × (is_behind (reached 1 1 ∷ reached 0 1 ∷ []) 1 (1 ∷ []) ≡ false) }
     ensures shares { (is_within_cost road (table 1 2 ∷ []) 1 ≡ true) × (is_within_cost road (table 2 2 ∷ []) 1 ≡ false) × (is_within_cost road (table 1 2 ∷ table 1 2 ∷ []) 0 ≡ false) }
+    ensures listed_operators { (is_within_cost road (listing 2 ∷ []) 2 ≡ false) × (is_within_cost road (table 1 2 ∷ listing 2 ∷ []) 2 ≡ false) × (is_within_cost road (listing 1 ∷ []) 1 ≡ true) ×
+        (is_within_cost road (listing 1 ∷ []) 2 ≡ true) }
     ensures tables { (has_form road (table 1 2) ≡ true) × (falls_within_share road (table 1 2) 0 0 ≡ true) × (falls_within_share road (table 1 3) 0 0 ≡ false) ×
         (is_goal_at_zero road (table 1 2) 2 ≡ true) × (is_covered road (with_column (Finite 2) (table 1 2 ∷ [])) (0 ∷ []) 0 ≡ true) ×
         (is_covered road (with_column (Finite 3) (table 1 2 ∷ [])) (0 ∷ []) 0 ≡ false) }

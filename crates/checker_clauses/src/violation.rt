@@ -6,8 +6,8 @@ use std::fmt;
 /// 0. It prints as `C3 column I op O`, and so on.
 #[derive(Clone, Copy, Debug, PartialEq, Eq)]
 pub enum Violation {
-    /// C3: in a column the shares of an operator, which need not exist, sum to more than its cost. The numbers are
-    /// those of the column and the operator.
+    /// C3: in a column the shares of an operator sum to more than its cost, or a table lists an operator that does not
+    /// exist. The numbers are those of the column and the operator.
     Shares(usize, usize),
     /// C4: the variables of a table are not strictly increasing, one of them does not exist, a row does not have a class
     /// for each value of its variable and no more, there are too many abstract states, or another number of values. The

@@ -3,7 +3,6 @@ use Rattle.std.specs.Prelude.{◌≡◌, ℕ, ◌+◌, ◌-◌, ◌^◌, ◌<◌
 use Rattle.cost.specs.Distances.{Distance, Finite, Infinite, least}
 use Rattle.cert_value.specs.declared.table.Share.{Share}
 use Rattle.cert_value.specs.Certificates.{Table}
-use Rattle.checker_clauses.specs.Clauses.{share_of}
 
 -- the least number that fails the test, or none
 abbrev pub IsFirstFailure : (ℕ → Bool) → Option ℕ → Type 0
@@ -30,14 +29,13 @@ abbrev pub tally_of : ℕ → Tally → List Table → Tally
 tally_of n t [] = t
 tally_of n t (table ∷ tables) = tally_of (n + 1) (fold (counted (n + 1)) t table.shares) tables
 
--- the operator of the share, if it is at least `count` and has a positive share
-abbrev pub foreign : ℕ → List Share → Share → Distance
-foreign count shares s =
-    if nat_le count s.operator && nat_lt 0 (share_of shares s.operator) then Finite s.operator else Infinite
+-- the operator of the share, if it is at least `count`
+abbrev pub foreign : ℕ → Share → Distance
+foreign count s = if nat_le count s.operator then Finite s.operator else Infinite
 
--- the least operator from `count` on that has a positive share
+-- the least operator from `count` on that the shares list
 abbrev pub least_foreign : ℕ → List Share → Distance
-least_foreign count shares = least (map (foreign count shares) shares)
+least_foreign count shares = least (map (foreign count) shares)
 
 -- the same for several tables
 abbrev pub least_of_column : ℕ → List Table → Distance

@@ -1,4 +1,5 @@
-//! The clause C3: the shares of an operator in a column sum to at most its cost.
+//! The clause C3: the shares of an operator in a column sum to at most its cost, and each operator that a table lists
+//! exists.
 
 ghost use Rattle.std.specs.Prelude.{◌≡◌, ℕ, ◌^◌, ◌<◌, All, map, fold, length, slice_index, replicate, IfOk};
 ghost use Rattle.cost.specs.Distances.{Finite, distance_of, is_below, lesser};
@@ -109,18 +110,6 @@ impl ShareSums {
     }
 }
 
-/// The share of an operator: the first one that is listed for it, and else 0.
-fn share_of(shares: &[Share], operator: u32) -> u32
-    ensures { result ≡ clauses.share_of shares.now operator }
-{
-    for share in shares {
-        if share.operator == operator {
-            return share.amount;
-        }
-    }
-    0
-}
-
 /// Whether a number is less than the least one so far.
 fn is_less(number: usize, least: Option<usize>) -> bool
     ensures { result ≡ is_below (Finite number) (distance_of least) }
@@ -131,24 +120,21 @@ fn is_less(number: usize, least: Option<usize>) -> bool
     }
 }
 
-/// The lesser of `before` and the least operator from `count` on that has a positive share.
-///
-/// The shares are searched for an operator only if it is less than the least so far. That is once if the operators are
-/// strictly increasing and the shares positive, as in every certificate that `read_cert` returns.
+/// The lesser of `before` and the least operator from `count` on that the shares list.
 fn least_foreign(shares: &[Share], count: usize, before: Option<usize>) -> Option<usize>
     ensures { distance_of result ≡ lesser (distance_of before) (spec.least_foreign count shares.now) }
 {
     let mut least = before;
     for share in shares {
         let operator = share.operator as usize;
-        if operator >= count && is_less(operator, least) && share_of(shares, share.operator) > 0 {
+        if operator >= count && is_less(operator, least) {
             least = Some(operator);
         }
     }
     least
 }
 
-/// The least operator from `count` on that has a positive share in a table of the column.
+/// The least operator from `count` on that a table of the column lists.
 fn least_of_column(column: &[AbstractionTable], count: usize) -> Option<usize>
     ensures { distance_of result ≡ spec.least_of_column count (map kept.table_of column.now) }
 {
@@ -159,7 +145,8 @@ fn least_of_column(column: &[AbstractionTable], count: usize) -> Option<usize>
     least
 }
 
-/// The least operator whose shares sum to more than its cost. Fails only if allocation fails.
+/// The least operator whose shares sum to more than its cost, or that a table lists although it does not exist. Fails
+/// only if allocation fails.
 fn first_overspent(
     alloc: Global,
     task: &FdrTask,
@@ -177,8 +164,8 @@ fn first_overspent(
 }
 
 /// Returns the first violation of the clause C3, by column and then by operator: the shares of an operator in a column
-/// sum to more than its cost, which is 0 if the operator does not exist. Returns `None` if there is none. Fails only if
-/// allocation fails.
+/// sum to more than its cost, or a table lists an operator that does not exist, whatever its share. Returns `None` if
+/// there is none. Fails only if allocation fails.
 pub fn first_share_violation(
     alloc: Global,
     task: &FdrTask,

@@ -4,7 +4,7 @@ use Rattle.cert_value.specs.Certificates.{Table}
 use Rattle.cert_value.specs.Views as kept
 use Rattle.checker_clauses.specs.Clauses.{share_of}
 use Rattle.checker_tables.specs.ShareSums.{Tally}
-use Rattle.checker_tables.proofs.ForeignLaws.{foreign_first}
+use Rattle.checker_tables.proofs.ForeignLaws.{overspent_fails, existing_passes, foreign_first}
 use Rattle.checker_tables.proofs.TallyLaws.{tally_sized, tally_sum, above_cost, within_cost}
 use Rattle.checker_tables.proofs.shares.first_overspent.Goals as goal
 
@@ -21,8 +21,10 @@ returns-then-sum-get c =
     let total = sum_by (λ (t : Table). share_of t.shares o) column in
     let sum : c.sum.result ≡ min total (2 ^ 64 - 1) =
     c.sum.ensures ∙ ap (λ (t : Tally). slice_index t.sums o) c.in_ok-sums.ensures ∙ tally_sum o c.operator_count.result (omega arith) column
-    in
-    (rw (← c.cost.ensures, ← c.get.ensures.value) (above_cost total (2 ^ 64 - 1) c.get.result c.sum.result sum c.if-sum-get.true), c.loop-operator.invariant)
+    in (
+      overspent_fails c.args.task.now column o (rw (← c.cost.ensures, ← c.get.ensures.value) (above_cost total (2 ^ 64 - 1) c.get.result c.sum.result sum c.if-sum-get.true)),
+      c.loop-operator.invariant,
+    )
 
 pub loop-operator-preserved : goal.loop-operator-preserved
 loop-operator-preserved c =
@@ -33,7 +35,8 @@ loop-operator-preserved c =
     c.sum.ensures ∙ ap (λ (t : Tally). slice_index t.sums o) c.in_ok-sums.ensures ∙ tally_sum o c.operator_count.result (omega arith) column
     in
     below_more _ _ c.loop-operator.invariant
-    (rw (← c.cost.ensures, ← c.get.ensures.value) (within_cost total (2 ^ 64 - 1) c.get.result c.sum.result sum c.if-sum-get.false (omega (arith, c.get.ensures.bound))))
+    (existing_passes c.args.task.now column o (omega arith)
+    (rw (← c.cost.ensures, ← c.get.ensures.value) (within_cost total (2 ^ 64 - 1) c.get.result c.sum.result sum c.if-sum-get.false (omega (arith, c.get.ensures.bound)))))
 
 pub returns : goal.returns
 returns c =
