@@ -124,7 +124,7 @@ fn columns_from<'a, R: Threads + Sync>(
     requires mappings { All (λ order. All (λ m. IsMappingWithin task.now (2 ^ 24) (mapping_of m)) order.items) orders.now }
     requires few { All (λ order. length order.items ≤ 64) orders.now }
     requires none_empty { All (λ order. order.items ≢ []) orders.now }
-    requires earlier { IfSome earlier (λ c. c.now ≡ task.now) }
+    requires earlier { IfSome earlier (λ c. c.now.task ≡ task.now) }
     ensures { IfOk result (λ columns. AreColumnsFrom task.now (map mappings_of orders.now) columns.items) }
 {
     task.recall();
@@ -135,7 +135,7 @@ fn columns_from<'a, R: Threads + Sync>(
         .map(
             |order: &Vec<Mapping>| -> Result<Vec<ColumnTable<'_>>, AllocError>
                 requires mappings { All (λ m. IsMappingWithin task.now (2 ^ 24) (mapping_of m)) order.now.items }
-                requires earlier { IfSome earlier (λ c. c.now ≡ task.now) }
+                requires earlier { IfSome earlier (λ c. c.now.task ≡ task.now) }
                 ensures { IfOk result (IsColumnFrom task.entry.now order.now) }
             { make_column(alloc, task, order, earlier) },
         )

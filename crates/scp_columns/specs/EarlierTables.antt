@@ -1,10 +1,16 @@
 -- Tables of a column, with the costs that were left before each.
-use Rattle.std.specs.Prelude.{◌≡◌, ℕ, Vec, length, slice_index}
+use Rattle.std.specs.Prelude.{◌≡◌, ℕ, List, Vec, length, slice_index}
 use Rattle.std.specs.Global.{Global}
 use Rattle.fdr.specs.Tasks.{FiniteDomainTask}
+use Rattle.cert_value.specs.Certificates.{Table}
 use Rattle.checker_clauses.specs.Clauses.{table_of}
 use Rattle.pdb_walks.specs.Walks.{HasDistances, IsSaturated}
 use Rattle.scp_columns.specs.ColumnTables.{ColumnTable}
+
+-- a column of the task that was made before
+pub record EarlierOf : Type 0 where
+  pub task : FiniteDomainTask
+  pub tables : List Table
 
 -- the table is one of the task, with the distances under these costs of its operators, and its shares are saturated
 pub record IsMadeUnder (task : FiniteDomainTask) (t : ColumnTable) (costs : Vec ℕ Global) : Type 0 where

@@ -121,7 +121,7 @@ fn table_under<'a>(
     requires mapping { IsMappingWithin task.now (2 ^ 24) (mapping_of mapping.now) }
     requires operators { length left.now ≡ length task.now.operators }
     requires small { (o : ℕ) → slice_index left.now o < 2 ^ 31 }
-    requires earlier { IfSome earlier (λ c. c.now ≡ task.now) }
+    requires earlier { IfSome earlier (λ c. c.now.task ≡ task.now) }
     ensures task { IfOk result (λ t. t.task ≡ task.now) }
     ensures next { IfOk result (λ t. IsNextTable task.now (mapping_of mapping.now) (λ o. slice_index left.now o) t.table) }
 {
@@ -147,7 +147,7 @@ pub fn make_column<'a>(
     earlier: Option<&EarlierColumn<'_>>,
 ) -> Result<Vec<ColumnTable<'a>>, AllocError>
     requires mappings { All (λ m. IsMappingWithin task.now (2 ^ 24) (mapping_of m)) mappings.now }
-    requires earlier { IfSome earlier (λ c. c.now ≡ task.now) }
+    requires earlier { IfSome earlier (λ c. c.now.task ≡ task.now) }
     ensures task { IfOk result (λ column. All (λ t. t.task ≡ task.now) column.items) }
     ensures made { IfOk result (λ column. IsMadeFrom task.now (map mapping_of mappings.now) (tables_of column)) }
 {

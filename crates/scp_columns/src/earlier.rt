@@ -19,7 +19,7 @@ use std::marker::Model;
 
 /// A column that was made before, with what was left of the operators' costs before each of its tables. Another column
 /// copies the tables that it has in common with this one, as saturated cost partitioning often leaves the same costs for a
-/// mapping in several columns. In contracts its value is the task.
+/// mapping in several columns. In contracts its value is the task and the tables.
 #[derive(Drop)]
 pub struct EarlierColumn<'a> {
     task: &'a FdrTask,
@@ -28,13 +28,13 @@ pub struct EarlierColumn<'a> {
 }
 
 impl<'a> Model for EarlierColumn<'a> {
+    ghost use Rattle.std.specs.Prelude.{map};
     ghost use Rattle.std.specs.List.{AllZip};
-    ghost use Rattle.fdr.specs.Tasks.{FiniteDomainTask};
-    ghost use Rattle.scp_columns.specs.EarlierTables.{IsMadeUnder};
+    ghost use Rattle.scp_columns.specs.EarlierTables.{EarlierOf, IsMadeUnder};
 
-    ghost Value = { FiniteDomainTask };
+    ghost Value = { EarlierOf };
 
-    ghost view = { λ c. c.task.now };
+    ghost view = { λ c. record { task = c.task.now; tables = map (λ t. t.table) c.tables.now } };
 
     ghost invariant = { λ c. AllZip (IsMadeUnder c.task.now) c.tables.now c.costs.items };
 }
@@ -87,7 +87,7 @@ impl<'a> EarlierColumn<'a> {
     ) -> Result<EarlierColumn<'a>, AllocError>
         requires of_task { All (λ t. t.task ≡ task.now) tables.now }
         requires made { IsPartition (cost_of task.now) (map (table_of task.now) (map (λ t. t.table) tables.now)) }
-        ensures { IfOk result (λ c. c ≡ task.now) }
+        ensures { IfOk result (λ c. c ≡ record { task = task.now; tables = map (λ t. t.table) tables.now }) }
     {
         let mut left = costs_of(alloc, task)?;
         let mut costs = Vec::with_capacity(alloc, tables.len())?;
@@ -110,11 +110,11 @@ impl<'a> EarlierColumn<'a> {
         abstraction: &TableAbstraction<'_>,
         left: &[u32],
     ) -> Option<&ColumnTable<'a>>
-        requires task { task_in abstraction.now ≡ self.now }
+        requires task { task_in abstraction.now ≡ self.now.task }
         requires mapping { mapping_in abstraction.now ≡ mapping_of mapping.now }
-        requires operators { length left.now ≡ length self.now.operators }
-        ensures task { IfSome result (λ t. t.now.task ≡ self.now) }
-        ensures next { IfSome result (λ t. IsNextTable self.now (mapping_of mapping.now) (λ o. slice_index left.now o) t.now.table) }
+        requires operators { length left.now ≡ length self.now.task.operators }
+        ensures task { IfSome result (λ t. t.now.task ≡ self.now.task) }
+        ensures next { IfSome result (λ t. IsNextTable self.now.task (mapping_of mapping.now) (λ o. slice_index left.now o) t.now.table) }
     {
         let place = place_of(self.tables, mapping)?;
         let table = &self.tables[place];
