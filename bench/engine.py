@@ -49,7 +49,7 @@ CAP = 120
 SECONDS = 10
 FEWEST = 20_000
 LEAST_SECONDS = 0.05
-# A search is taken to last at least so many seconds: the programs tell no less than milliseconds.
+# A search is taken to last at least this many seconds: the programs tell no less than milliseconds.
 LEAST_TIME = 1e-3
 ANSWER = re.compile(r"(?:settled (?P<cost>\d+|infinite)|stopped)\n")
 FIGURES = re.compile(r"expansions (?P<expansions>\d+), states \d+, milliseconds (?P<milliseconds>\d+)\n")
@@ -110,7 +110,7 @@ def run_baseline(program, file, workers, with_tables, seconds):
 
 
 class Search:
-    """The fastest of some runs of a program with so many workers."""
+    """The fastest of some runs of a program with this many workers."""
 
     def __init__(self, program, workers, run_once):
         self.program, self.workers, self.run_once = program, workers, run_once

@@ -27,7 +27,7 @@ def sas_lines():
 
 
 def closed_lines(depth, counters, values, total):
-    """The lines of the states that go on from these values with so many more counters, in the order of their values."""
+    """The lines of the states that go on from these values with this many more counters, in the order of their values."""
     if counters == 0:
         yield f"{total}{values}"
         return

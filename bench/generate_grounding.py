@@ -3,7 +3,7 @@
 
     generate_grounding.py FOLDER PACKAGES
 
-FOLDER gets domain.pddl and problem.pddl: 20 cities of 15 places each, a truck in each city, 22 airplanes, and so many packages,
+FOLDER gets domain.pddl and problem.pddl: 20 cities of 15 places each, a truck in each city, 22 airplanes, and PACKAGES packages,
 from 1 to 700, which trucks and airplanes carry from any place to any other. With 0 packages it is another task: a schema of 8
 parameters over 60 objects, of which static preconditions leave 5,000 bindings. Standard output gets the number of atoms that can be
 reached, and of the actions over them, which are told by the sizes alone.

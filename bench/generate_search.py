@@ -71,7 +71,7 @@ def task_of(kind):
 
 
 def searched(ranges, operators, steps):
-    """How many states are known after so many expansions, and the least cost of those that are not expanded."""
+    """How many states are known after this many expansions, and the least cost of those that are not expanded."""
     rows = [(prevails + [(variable, before) for variable, before, _ in effects],
              [(variable, after) for variable, _, after in effects], cost) for _, prevails, effects, cost in operators]
     initial = (0,) * len(ranges)

@@ -19,7 +19,7 @@ The second table has a line for each size of the 64 tables of a column, of which
     ns/look-up  how much longer it took to ask for the lower bounds of states, divided by the tables that were looked up, in nanoseconds
     peak MB     as above
 
-The third table has a line for a goal variable of so many values, of which a table has classes, 2 of them or 1,000, with 500 operators:
+The third table has a line for a goal variable of some number of values, of which a table has classes, 2 of them or 1,000, with 500 operators:
 
     values      values of the variable
     classes     classes of the table

@@ -37,7 +37,7 @@ DOMAIN = """(define (domain hanoi)
 
 
 def tower(discs):
-    """A tower of so many discs on peg a, which is to stand on peg c. Disc 0 is the smallest."""
+    """A tower of this many discs on peg a, which is to stand on peg c. Disc 0 is the smallest."""
     names = [f"d{number}" for number in range(discs)]
     fits = " ".join(f"(fits {name} {below})" for number, name in enumerate(names) for below in [*"abc", *names[number + 1:]])
     pile = " ".join(f"(on {name} {below})" for name, below in zip(names, names[1:]))

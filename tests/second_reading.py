@@ -220,7 +220,7 @@ class CertificateReader:
             raise self.fault("F51 Expected")
 
     def list(self, word, each):
-        """The words of a line of a keyword, a count and so many words, by `each`: the count and the others."""
+        """The words of a line of a keyword, a count and that many words, by `each`: the count and the others."""
         words = self.words()
         if words[0] != word:
             raise self.fault("F51 Expected")

@@ -8,7 +8,7 @@ PLACES = (3, STATES // 2, STATES - 5)
 
 
 def chain(states=STATES, goal=None):
-    """The text of a task over one variable with so many values. At first it is 0, each operator adds 1 to one of them at cost 1, and the goal
+    """The text of a task over one variable with this many values. At first it is 0, each operator adds 1 to one of them at cost 1, and the goal
     is the last value, or the one that is named."""
     atoms = "".join(f"Atom at({value})\n" for value in range(states))
     operators = "".join(f"begin_operator\nstep {value}\n0\n1\n0 0 {value} {value + 1}\n1\nend_operator\n" for value in range(states - 1))

@@ -461,7 +461,7 @@ class Seeds(SolverTest):
     }
 
     def stopped(self, workers, seed, steps):
-        """The outcome for a seed whose simulation may take so many steps."""
+        """The outcome for a seed whose simulation may take this many steps."""
         words = ["solve-sas", "s", "--table", "1", "--workers", str(workers), "--simulate", str(seed), "--steps", str(steps)]
         return run(*words, files={"s": self.SQUARE_SAS})
 

@@ -4,7 +4,7 @@ from program import ProgramTest, example, run, wanted
 from second_reading import certificate_fault, check_sas
 
 MOST = b"4294967295"
-# The bytes of addresses that a run may take: far less than a word for each of so many lines.
+# The bytes of addresses that a run may take: far less than a word for each of that many lines.
 MEMORY = 2**30
 
 SAS = example("road", "task.sas").encode()

@@ -4,7 +4,7 @@ import unittest
 
 from sweep import FINITE_DOMAIN, PLANNING, PLANNING_CERTIFICATES, Sweep
 
-# One of so many damages.
+# One of this many damages.
 SHARE = 41
 
 

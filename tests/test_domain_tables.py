@@ -101,7 +101,7 @@ class Migration(ProgramTest):
 
 
 def counter(values, costs):
-    """A variable with so many values, an operator from each to the next, at these costs in turn, and the last value as the goal."""
+    """A variable with this many values, an operator from each to the next, at these costs in turn, and the last value as the goal."""
     operators = "".join(f"begin_operator\nstep {it}\n0\n1\n0 0 {it} {it + 1}\n{costs[it % len(costs)]}\nend_operator\n" for it in range(values - 1))
     names = "".join(f"value {it}\n" for it in range(values))
     return (f"begin_version\n3\nend_version\nbegin_metric\n1\nend_metric\n1\nbegin_variable\ncount\n-1\n{values}\n{names}end_variable\n0\n"

@@ -16,7 +16,7 @@ SEARCHES = 50
 
 
 def tower(discs):
-    """A tower of so many discs, which is to go from peg a to peg c. The discs are numbered from the smallest on."""
+    """A tower of this many discs, which is to go from peg a to peg c. The discs are numbered from the smallest on."""
     names = [f"d{number}" for number in range(discs)]
     places = [(name, below) for number, name in enumerate(names) for below in [*"abc", *names[number + 1:]]]
     fits = " ".join(f"(fits {name} {below})" for name, below in places)

@@ -47,7 +47,7 @@ def wrong_answer(search):
 
 
 def searches(times):
-    """Each task with each number of workers, so many times, with links that have room for one message and for many in turn."""
+    """Each task with each number of workers, this many times, with links that have room for one message and for many in turn."""
     for task in (*TASKS, (ROAD_DOMAIN, ROAD_TO_NOWHERE, None)):
         for workers in WORKERS:
             for number in range(times):

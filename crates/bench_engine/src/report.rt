@@ -31,7 +31,7 @@ fn answer_of<S: Spread + Drop, F: StateForm + Drop>(
     }
 }
 
-/// The line for what the owners have expanded and stored in so many milliseconds. Fails only if allocation fails.
+/// The line for what the owners have expanded and stored in this many milliseconds. Fails only if allocation fails.
 fn figures_of<S: Spread + Drop, F: StateForm + Drop>(
     alloc: Global,
     joined: &Joined<'_, S, F>,
@@ -42,7 +42,7 @@ fn figures_of<S: Spread + Drop, F: StateForm + Drop>(
 }
 
 impl Report {
-    /// The report of a search that took so many milliseconds. Fails only if allocation fails.
+    /// The report of a search that took this many milliseconds. Fails only if allocation fails.
     pub(crate) fn new<S: Spread + Drop, F: StateForm + Drop>(
         alloc: Global,
         joined: &Joined<'_, S, F>,

@@ -24,7 +24,7 @@ fn milliseconds_since<R: Clock>(rt: &R, start: Option<Instant>) -> u128 {
     }
 }
 
-/// The report of a search by so many workers, with a link from each to each that has room for `ring` messages.
+/// The report of a search by this many workers, with a link from each to each that has room for `ring` messages.
 fn search_in_threads<'a, R: Threads + Wait + Clock + Sync, F: StateForm + Drop + Send>(
     rt: &R,
     alloc: Global,

@@ -37,7 +37,7 @@ none_of : (n : Node) → n.expanded ≡ false → expanded_of (n ∷ []) ≡ []
 none_of n not_done = rw not_done refl
 
 module _ (width : ℕ) (nodes : List Node) (before : List Entry) where
-  -- the states of so many nodes are added to those before
+  -- the states of this many nodes are added to those before
   pub record AreAdded (i : ℕ) (costs values : List ℕ) : Type 0 where
     pub states : entries width costs values ≡ before ++ expanded_of (take i nodes)
     pub long : length values ≡ length costs * width

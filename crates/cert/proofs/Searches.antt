@@ -128,7 +128,7 @@ zero_at_most (Finite n) = omega arith
 zero_at_most Infinite = tt
 
 module _ {S : Type 0} (owner : S → List ℕ → ℕ → ℕ) (e : EndOf S) where
-  -- every owner's states have so many values
+  -- every owner's states have this many values
   pub widths : IsForm e → (space : SpaceOf S) → space ≡ e.space → (n : ℕ) → n ≡ length space.task.value_names → All (λ o. length o.space.task.value_names ≡ n) e.owners
   widths form space same n is =
       all_at (λ (o : OwnerOf S). length o.space.task.value_names ≡ n) e.owners

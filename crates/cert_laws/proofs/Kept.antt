@@ -113,7 +113,7 @@ within_kept n e ls h hs k ks count within is =
 
 -- ---- how many lines there are
 
--- so many lines in all, with those before
+-- this many lines in all, with those before
 pub record Counts (c : ℕ) (r : Remaining) : Type 0 where
   pub some : 1 ≤ r.number
   pub all : r.number + line_count_of r.lines ≡ c + 1
@@ -125,7 +125,7 @@ pub record IsThere (c m : ℕ) : Type 0 where
   pub some : 1 ≤ m
   pub most : m ≤ c
 
--- what is known of a fault of a text with so many lines
+-- what is known of a fault of a text with this many lines
 abbrev pub Told : ℕ → CertFault → Type 0
 Told c fault.OutOfMemory = ⊥
 Told c fault.Header = IsThere c 1

@@ -113,7 +113,7 @@ count_single keyword least end = single_tested Cert line_at (single_line Cert) (
 pub count : (F : Frame Cert) (keyword : List ℕ) (least end : ℕ) → Pairs F (count_at keyword least end)
 count F keyword least end = reads_single F (count_at keyword least end) (count_single keyword least end)
 
--- so many items behind a line with their count
+-- this many items behind a line with their count
 counted : {S : Type 0} (F : Frame Cert) (keyword : List ℕ) (least end : ℕ) (step : S → Remaining → Result (S × Remaining) CertFault) (s : S) → ((t : S) → Pairs F (step t))
     → Pairs F (λ r. count_at keyword least end r >>= λ n. repeated step n.0 s n.1)
 counted F keyword least end step s each = then_pair F (count F keyword least end) (λ n. repeated_reads F step each n s)

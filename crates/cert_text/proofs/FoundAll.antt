@@ -22,7 +22,7 @@ use Rattle.cert_text.proofs.Found.{Takes, Takes-then, nothing_taken, one_text, o
 use Rattle.cert_text.proofs.FoundLines.{not_empty, bound_found, shares_line_found, values_found, variable_found, atom_found, entry_found}
 use Rattle.cert_text.proofs.FoundRows.{mapping_found}
 
--- what a step that is done so many times reads
+-- what a step that is done this many times reads
 pub record ItemsRead {X : Type 0} (spell : X → List (List (List ℕ))) (P : X → Type 0) (n : ℕ) (r q : Remaining) (front back : List X) : Type 0 where
   pub items : List X
   pub is_behind : back ≡ front ++ items
@@ -55,7 +55,7 @@ items_read {X} spell P step reads (suc n) front r back q e =
       each = (one.1, more.each);
     }
 
--- a line with a count, and so many items
+-- a line with a count, and that many items
 pub section_read : {X : Type 0} (spell : X → List (List (List ℕ))) (P : X → Type 0) (step : Remaining → Result (X × Remaining) CertFault) → StepReads spell P step
     → (keyword : List ℕ) (least end : ℕ) (r : Remaining) (back : List X) (q : Remaining) → end ≤ 2 ^ 64 → (count_at keyword least end r >>= λ count. repeated (behind step) count.0 [] count.1) ≡ Ok (back, q)
     → Takes r (counted keyword (length back) [] ∷ flat_map spell back) q × AllByRecursion P back × (least ≤ length back) × (length back < end)

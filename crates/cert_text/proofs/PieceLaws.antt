@@ -19,7 +19,7 @@ whole_piece separator [] before = refl
 whole_piece separator (b ∷ bs) before =
     rw (is_other b separator (before 0 (omega arith)), whole_piece separator bs (λ k lt. before (suc k) (omega arith))) refl
 
--- a separator behind so many bytes without one: a piece of those bytes
+-- a separator behind this many bytes without one: a piece of those bytes
 pub first_piece : (separator : ℕ) (bytes : List ℕ) (n : ℕ) → n < length bytes → get_or bytes n 0 ≡ separator → ((k : ℕ) → k < n → get_or bytes k 0 ≢ separator)
     → pieces separator bytes ≡ take n bytes ∷ pieces separator (drop (suc n) bytes)
 unfolding pieces

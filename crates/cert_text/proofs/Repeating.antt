@@ -1,4 +1,4 @@
--- A step of reading that is done so many times, as a loop does it.
+-- A step of reading that is done this many times, as a loop does it.
 use Rattle.std.proofs.Common.{◌≡◌, ℕ, suc, ◌-◌, ◌+◌, ◌≤◌, ◌<◌, Result, Ok, sym, ap, ◌∙◌, arith}
 use Rattle.cert_text.specs.declared.fault.CertFault.{CertFault}
 use Rattle.cert_text.specs.declared.fault.CertFault.TheVariants as fault

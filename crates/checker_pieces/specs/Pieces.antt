@@ -18,16 +18,16 @@ abbrev pub IsFirstOf : List Piece → Option Violation → Type 0
 IsFirstOf pieces None = (k : ℕ) → k < length pieces → slice_get pieces k ≡ Some (Ok None)
 IsFirstOf pieces (Some v) = (k : ℕ) × (slice_get pieces k ≡ Some (Ok (Some v))) × ((j : ℕ) → j < k → slice_get pieces j ≡ Some (Ok None))
 
--- pieces that begin at these places have all of so many places: each of them ends where the next one begins, and the last one at the end
+-- pieces that begin at these places have all of this many places: each of them ends where the next one begins, and the last one at the end
 pub record AreStarts (len : ℕ) (starts : List ℕ) : Type 0 where
   pub first : slice_index_or starts 0 len ≡ 0
   pub within : All (λ s. s ≤ len) starts
 
--- a search may be called for the places of any piece of so many
+-- a search may be called for the places of any piece of this many
 abbrev pub AcceptsPieces : (ℕ → ℕ → Type 0) → ℕ → Type 0
 AcceptsPieces pre len = (start end : ℕ) → end ≤ len → pre start end
 
--- the first violation of pieces that have all of so many places, where the search gives this for each of them
+-- the first violation of pieces that have all of this many places, where the search gives this for each of them
 pub record IsFirstOfPieces (gives : ℕ → ℕ → Piece → Type 0) (len : ℕ) (found : Option Violation) : Type 0 where
   pub pieces : List Piece
   pub starts : List ℕ

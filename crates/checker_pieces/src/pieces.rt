@@ -23,7 +23,7 @@ fn first_of(
     Ok(None)
 }
 
-/// The first violation among so many places, of pieces that begin at `starts`, each of which a thread searches. Fails if a piece does
+/// The first violation among this many places, of pieces that begin at `starts`, each of which a thread searches. Fails if a piece does
 /// before one has a violation, or if allocation fails.
 fn first_from_starts<
     R: Threads + Sync,
@@ -59,7 +59,7 @@ fn first_from_starts<
     first_of(&found)
 }
 
-/// The first violation among so many places, which are cut in pieces of about the same number of places: one for each processor, and
+/// The first violation among this many places, which are cut in pieces of about the same number of places: one for each processor, and
 /// one alone where there are few places. Threads search the pieces side by side. `find` gives the first violation of a piece, from the
 /// place `start` on and before `end`. The violation does not depend on how many pieces there are.
 ///

@@ -23,7 +23,7 @@ pub(crate) fn piece_count(rt: &impl Threads, work: usize) -> usize
     processors.min(work / WORK_OF_A_THREAD).clamp(1, MAX_PIECES)
 }
 
-/// Where so many pieces of about the same number of places begin. Fails only if allocation fails.
+/// Where `pieces` pieces of about the same number of places begin. Fails only if allocation fails.
 pub(crate) fn equal_starts(
     alloc: Global,
     len: usize,
@@ -50,7 +50,7 @@ pub(crate) fn weight_of(weights: &[usize]) -> usize {
     sum
 }
 
-/// Where at most so many pieces of about the same weight begin, of places with these weights. A piece ends before the place in which
+/// Where at most `pieces` pieces of about the same weight begin, of places with these weights. A piece ends before the place in which
 /// it would pass its share by half the weight of the place. Fails only if allocation fails.
 pub(crate) fn weighed_starts(
     alloc: Global,

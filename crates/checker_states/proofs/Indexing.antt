@@ -135,7 +135,7 @@ module _ (multipliers : List ℕ) (closed : List Entry) where
     abbrev pub lists_there : ℕ → Bool
     lists_there place = option_map_or (lists state cost) (slice_get closed place) false
 
-    -- the slot so many steps after the home of the state is taken, and is not that of an entry that lists the state
+    -- the slot this many steps after the home of the state is taken, and is not that of an entry that lists the state
     pub record IsMissed (j : ℕ) : Type 0 where
       pub taken : (slot_after slots (home_of (hash_of multipliers state) (length slots)) j).link ≢ 0
       pub other : lists_there ((slot_after slots (home_of (hash_of multipliers state) (length slots)) j).link - 1) ≡ false

@@ -14,7 +14,7 @@ hash_from hash (multiplier ∷ multipliers) (value ∷ values) = hash_from (mixe
 abbrev pub hash_of : List ℕ → List ℕ → ℕ
 hash_of multipliers state = hash_from 0 multipliers state
 
--- the slot from which a state with this hash is looked for, where there are so many slots
+-- the slot from which a state with this hash is looked for, where there are this many slots
 unfoldable pub home_of : ℕ → ℕ → ℕ
 home_of hash slots = hash / 2 ^ 32 * slots / 2 ^ 32
 

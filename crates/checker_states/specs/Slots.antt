@@ -19,11 +19,11 @@ slot_at slots k = slice_index_or slots k empty
 abbrev pub empties : List Slot → ℕ
 empties slots = count_by (λ s. s.link == 0) slots
 
--- the number of the slot so many steps after another one, where the first slot follows the last
+-- the number of the slot this many steps after another one, where the first slot follows the last
 abbrev pub probed : ℕ → ℕ → ℕ → ℕ
 probed size home steps = if nat_lt (home + steps) size then home + steps else home + steps - size
 
--- the slot so many steps after the home
+-- the slot this many steps after the home
 abbrev pub slot_after : List Slot → ℕ → ℕ → Slot
 slot_after slots home steps = slot_at slots (probed (length slots) home steps)
 
@@ -31,13 +31,13 @@ slot_after slots home steps = slot_at slots (probed (length slots) home steps)
 abbrev pub AreTaken : List Slot → ℕ → ℕ → Type 0
 AreTaken slots home steps = (j : ℕ) → j < steps → (slot_after slots home j).link ≢ 0
 
--- the first empty slot comes so many steps after the home
+-- the first empty slot comes this many steps after the home
 pub record IsFirstEmpty (slots : List Slot) (home steps : ℕ) : Type 0 where
   pub within : steps < length slots
   pub free : (slot_after slots home steps).link ≡ 0
   pub taken : AreTaken slots home steps
 
--- the place is in the slot so many steps after the home, and no slot between is empty
+-- the place is in the slot this many steps after the home, and no slot between is empty
 pub record IsFoundAfter (slots : List Slot) (home place steps : ℕ) : Type 0 where
   pub within : steps < length slots
   pub here : (slot_after slots home steps).link ≡ place + 1

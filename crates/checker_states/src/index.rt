@@ -38,7 +38,7 @@ impl<'a> Model for ClosedIndex<'a> {
     ghost invariant = { λ index. IndexesTo (length index.closed.now) index.multipliers.items index.closed.now index.slots.items };
 }
 
-/// The number of slots for so many states: two for each, but at least one and fewer than 2^32.
+/// The number of slots for this many states: two for each, but at least one and fewer than 2^32.
 fn slot_count(places: usize) -> usize
     requires { places < 2 ^ 32 }
     ensures some { 0 < result }

@@ -41,7 +41,7 @@ impl Slot {
     }
 }
 
-/// The number of the slot so many steps after the home, where the first slot follows the last.
+/// The number of the slot this many steps after the home, where the first slot follows the last.
 fn probed(size: usize, home: usize, steps: usize) -> usize
     requires home { home < size }
     requires steps { steps < size }
@@ -53,7 +53,7 @@ fn probed(size: usize, home: usize, steps: usize) -> usize
     if at < size { at } else { at - size }
 }
 
-/// The slot so many steps after the home.
+/// The slot this many steps after the home.
 pub(crate) fn slot_after(slots: &[Slot], home: usize, steps: usize) -> Slot
     requires home { home < length slots.now }
     requires steps { steps < length slots.now }

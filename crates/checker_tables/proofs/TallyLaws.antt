@@ -134,7 +134,7 @@ size_of_tally : (n : ℕ) (tables : List Table) (k : ℕ) (t : Tally) → HasSiz
 size_of_tally n [] k t size = size
 size_of_tally n (u ∷ us) k t size = size_of_tally n us (k + 1) (fold (counted (k + 1)) t u.shares) (sized_all n (k + 1) u.shares t size)
 
--- no share of any of so many operators
+-- no share of any of this many operators
 abbrev nothing : ℕ → Tally
 nothing n = record { sums = replicate n 0; tables = replicate n 0 }
 

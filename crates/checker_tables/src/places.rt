@@ -57,7 +57,7 @@ pub(crate) fn table_places(
     Ok(places)
 }
 
-/// About how long the tests of the tables at these places take in a task with so many operators: each operator is looked at once, and
+/// About how long the tests of the tables at these places take in a task with this many operators: each operator is looked at once, and
 /// each value several times. Fails only if allocation fails.
 pub(crate) fn weights_of(
     alloc: Global,

@@ -85,7 +85,7 @@ module _ {F : Type 0} (values : F → List ℕ) (IsForm : F → Type 0) (eq : F 
       go false e rest h =
           outcome_is false at p ps (All-head (λ q. IsForm q.0) p ps all) e ∙ rest h ∙ ap New (omega arith)
 
-  -- an entry of the state, found behind so many others
+  -- an entry of the state, found behind some others
   record FoundFrom (entries : List (F × SmallEntry)) (before i : ℕ) : Type 0 where
     pub place : ℕ
     pub entry : SmallEntry

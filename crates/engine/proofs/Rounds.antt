@@ -120,7 +120,7 @@ module _ {S F : Type 0} (t : TeamOf S F) (team : IsTeam t) (ws : List (WorkerOf 
 
 -- ---- what ended it
 
--- the fault is that of one of so many workers; where it is the gate's, the gate may stop that worker so
+-- the fault is that of one of this many workers; where it is the gate's, the gate may stop that worker so
 abbrev pub IsFaultIn : MayStop → ℕ → Option (ℕ × TurnFault) → Type 0
 IsFaultIn may_stop workers None = Unit {0}
 IsFaultIn may_stop workers (Some (v, Owner fault)) = v < workers

@@ -21,13 +21,13 @@ halt_of (Some (worker, Owner fault)) = Ok (Some (Refused worker))
 halt_of (Some (worker, Gate turn Fail)) = Err (engine.Gate worker turn)
 halt_of (Some (worker, Gate turn Limit)) = Ok (Some AtGate)
 
--- why a round of so many workers ended early: the owner of one of them refused; or the gate may end the search as at a limit
+-- why a round of this many workers ended early: the owner of one of them refused; or the gate may end the search as at a limit
 abbrev pub IsHalt : MayStop → ℕ → Option Halt → Type 0
 IsHalt may_stop workers None = Unit {0}
 IsHalt may_stop workers (Some (Refused worker)) = worker < workers
 IsHalt may_stop workers (Some AtGate) = IsEndedByGate may_stop workers
 
--- a team of so many workers in that space
+-- a team of this many workers in that space
 pub record IsTeamIn {S F : Type 0} (searched_space : SpaceOf S) (workers : ℕ) (t : TeamOf S F) : Type 0 where
   pub space : t.space ≡ searched_space
   pub count : length t.workers ≡ workers

@@ -119,7 +119,7 @@ fn step<
     }
 }
 
-/// Searches a space by so many workers, each in a thread of its own, with a link from each to each that has room for `capacity`
+/// Searches a space by `workers` workers, each in a thread of its own, with a link from each to each that has room for `capacity`
 /// messages, or for 1 where that is 0: rounds of turns, until the owners are settled, one of them has reached its limit, or the gate
 /// ends the search. States of the task have the form `F`.
 ///

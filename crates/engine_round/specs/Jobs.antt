@@ -10,7 +10,7 @@ use Rattle.worker.specs.Workers.{WorkerOf}
 use Rattle.engine_round.specs.Turns.{MayStop, WorkedOf, HasWorked}
 use Rattle.engine_round.specs.declared.fault.TurnFault.TheVariants.{Owner}
 
--- so many seats that were split from one which knew this: each has seen the same bound, together they have its parts and have offered
+-- this many seats that were split from one which knew this: each has seen the same bound, together they have its parts and have offered
 -- what it had offered
 pub record AreSplit (b : Board) (v : View) (count : ℕ) (seats : List BoardSeat) : Type 0 where
   pub count_is : length seats ≡ count

@@ -59,7 +59,7 @@ fn receive_each<'a, S: Spread + Drop, F: StateForm + Drop>(
 
 /// Sends the messages that stand in outboxes and takes those that are in the rings, until there are none, and counts what was taken.
 /// Where a ring is full it lets other threads run, so that the receiver takes the messages before more nodes are expanded; but it
-/// goes on after a few times, and after so many passes over the links. Returns false if a message was set aside, after which nothing
+/// goes on after `WAITS` times, and ends after `PASSES` passes over the links. Returns false if a message was set aside, after which nothing
 /// more is done. Fails only if allocation fails, and then the worker holds the message that could not be taken, and nothing more is done.
 pub(crate) fn relay<'a, S: Spread + Drop, F: StateForm + Drop>(
     board: &Board,

@@ -96,7 +96,7 @@ module _ {S F : Type 0} (owner : S → List ℕ → ℕ → ℕ) where
   }
 
   -- ---- one link
-  -- so many messages were in the ring of a link, and this many of them are taken
+  -- some messages were in the ring of a link, and this many of them are taken
   pub record IsEmptying (values : F → List ℕ) (from to : ℕ) (old now : List (WorkerOf S F)) (waiting i : ℕ) : Type 0 where
     pub len : length now ≡ length old
     pub links : AreAllLinked now

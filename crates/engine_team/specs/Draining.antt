@@ -48,7 +48,7 @@ pub record AreLookedAt {S F : Type 0} (owner : S → List ℕ → ℕ → ℕ) (
   pub links : AreAllLinked new
   pub each : (v : ℕ) (a b : WorkerOf S F) → At old v a → At new v b → IsLookedAt owner a b
 
--- the ends of the link from one worker to another were looked at together; so many messages are in its ring
+-- the ends of the link from one worker to another were looked at together; this many messages are in its ring
 pub record IsLinkMatched {S F : Type 0} (owner : S → List ℕ → ℕ → ℕ) (from to : ℕ) (old new : List (WorkerOf S F)) (count : ℕ) : Type 0 where
   pub looked : AreLookedAt owner old new
   pub all : (values : F → List ℕ) (b : WorkerOf S F) → At new to b

@@ -17,7 +17,7 @@ pub record TeamOf (S F : Type 0) : Type 0 where
   pub workers : List (WorkerOf S F)
   pub best : Distance
 
--- the worker of that number of so many in a space, with a link to each and from each; no message in its outboxes is uncounted
+-- the worker of that number of this many in a space, with a link to each and from each; no message in its outboxes is uncounted
 pub record IsMember {S F : Type 0} (searched_space : SpaceOf S) (workers v : ℕ) (w : WorkerOf S F) : Type 0 where
   pub space : w.owner.space ≡ searched_space
   pub number : w.owner.worker ≡ v
@@ -43,7 +43,7 @@ pub record IsTeam {S F : Type 0} (t : TeamOf S F) : Type 0 where
 
 -- ---- the start
 
--- the ends of new links between so many workers, each with this room: the rows of sending ends by sender, of receiving ends by receiver
+-- the ends of new links between this many workers, each with this room: the rows of sending ends by sender, of receiving ends by receiver
 pub record AreFreshLinks {F : Type 0} (capacity workers : ℕ) (outs : List (List (Out F))) (ins : List (List (In F))) : Type 0 where
   pub senders : HasSize workers workers outs
   pub receivers : HasSize workers workers ins
@@ -56,13 +56,13 @@ pub record IsFirst {S F : Type 0} (searched_space : SpaceOf S) (workers : ℕ) (
   pub sends : At outs v w.outs
   pub receives : At ins v w.ins
 
--- so many workers at the start
+-- this many workers at the start
 pub record AreFirstWorkers {S F : Type 0} (searched_space : SpaceOf S) (workers : ℕ) (outs : List (List (Out F))) (ins : List (List (In F)))
     (ws : List (WorkerOf S F)) : Type 0 where
   pub len : length ws ≡ workers
   pub each : (v : ℕ) (w : WorkerOf S F) → At ws v w → IsFirst searched_space workers outs ins v w
 
--- so many workers at the start, with links that have room for so many messages and over which nothing was sent
+-- this many workers at the start, with links that have room for this many messages and over which nothing was sent
 pub record IsFirstTeam {S F : Type 0} (searched_space : SpaceOf S) (workers capacity : ℕ) (t : TeamOf S F) : Type 0 where
   pub space : t.space ≡ searched_space
   pub count : length t.workers ≡ workers

@@ -82,7 +82,7 @@ pub record AreKept (old new : List Node) : Type 0 where
   pub long : length old ≤ length new
   pub kept : (n : ℕ) → n < length old → slice_get new n ≡ slice_get old n
 
--- the candidates from one place to another test this fact after so many others
+-- the candidates from one place to another test this fact after this many others
 pub record IsRun (facts : List Fact) (candidates : List Candidate) (tested : ℕ) (fact : Fact) (first end : ℕ) : Type 0 where
   pub rising : first ≤ end
   pub tests : (i : ℕ) → first ≤ i → i < end → slice_get (facts_at facts candidates i) tested ≡ Some fact

@@ -18,7 +18,7 @@ pub(crate) struct Listing {
 }
 
 /// The candidates from the place `first` on that are before the place `end`. They have the first `tested` facts of their
-/// preconditions in common. After them a visit goes on at the node `next`, and below them are at most so many levels of
+/// preconditions in common. After them a visit goes on at the node `next`, and below them are at most `levels` levels of
 /// the tree.
 #[derive(Clone, Copy)]
 pub(crate) struct Part {

@@ -175,7 +175,7 @@ extended_more parts all i candidate room now after l e f g =
     (sym (ap (λ (cs : List Candidate). flat_map (extensions parts) cs) (take_more all i candidate l ∙ ap (λ (c : Candidate). take i all ++ c ∷ []) (sym e))
     ∙ flat_map-append (extensions parts) (take i all) (candidate ∷ []) ∙ ap (λ (es : List Candidate). flat_map (extensions parts) (take i all) ++ es) (append-nil (extensions parts candidate))))
 
--- the candidates of so many parts
+-- the candidates of this many parts
 
 abbrev of_length : List Part → ℕ → List Candidate
 of_length parts n = filter is_increasing (lists_of n parts)

@@ -77,7 +77,7 @@ module _ {S : Type 0} (owner : S → List ℕ → ℕ → ℕ) (over : SpaceOf S
       (world, subst (λ (s : WorldStep). IsNextDrawn owner over n seed asked s world) h.1 next))
       (at_snoc asked last i step at)
 
-  -- the world of the space after so many steps that are drawn
+  -- the world of the space after this many steps that are drawn
   pub record IsUnderWay (taken : ℕ) (w : WorldOf S) : Type 0 where
     pub asked : List WorldStep
     pub drawn : AreDrawn owner over n seed asked

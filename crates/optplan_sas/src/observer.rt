@@ -6,7 +6,7 @@ use owner::Owner;
 use packed::StateForm;
 use packed_spread::Spread;
 
-/// After so many steps, each time, an observer is told.
+/// The number of steps after which, each time, an observer is told.
 pub const STEPS_BETWEEN_REPORTS: u64 = 100_000;
 
 /// What the owners of a search have come to together.
@@ -24,7 +24,7 @@ pub struct Reached {
 
 /// Told how far a simulation is. Nothing that a simulation answers depends on it.
 pub trait Observer {
-    /// Told once in `STEPS_BETWEEN_REPORTS` steps what the owners have come to after so many.
+    /// Told once in `STEPS_BETWEEN_REPORTS` steps what the owners have come to after `steps` of them.
     fn observe(&self, steps: u64, reached: Reached);
 }
 
@@ -36,7 +36,7 @@ impl Observer for Unobserved {
     fn observe(&self, _steps: u64, _reached: Reached) {}
 }
 
-/// What these owners have come to, after so many expansions.
+/// What these owners have come to, after this many expansions.
 fn sum_of<'a, S: Spread + Drop, F: StateForm + Drop>(
     owners: &[Owner<'a, S, F>],
     expanded: u64,

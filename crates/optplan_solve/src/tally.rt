@@ -39,7 +39,7 @@ fn distance_of(number: u64) -> Dist {
 }
 
 impl Tally {
-    /// Nothing is told yet by so many workers. Fails only if allocation fails.
+    /// Nothing is told yet by any of this many workers. Fails only if allocation fails.
     pub(crate) fn new(alloc: Global, workers: usize) -> Result<Tally, AllocError> {
         let mut rows = Vec::new(alloc);
         for _ in 0..workers {

@@ -39,7 +39,7 @@ fn is_past(mebibytes: u64, workers: usize, progress: &Progress) -> bool {
 }
 
 impl<'a, R: Clock + Eprint + Sync> Watcher<'a, R> {
-    /// The watcher of a search by so many workers, which tells how far it is or does not. The time runs from now on; where the clock cannot
+    /// The watcher of a search by this many workers, which tells how far it is or does not. The time runs from now on; where the clock cannot
     /// be read now, no time ends the search, and nothing is told. Fails only if allocation fails.
     pub(crate) fn new(
         rt: &'a R,

@@ -25,7 +25,7 @@ fn class_of(limit: usize, goal: usize, value: usize) -> u32
     class as u32
 }
 
-/// The classes of so many values. Fails only if allocation fails.
+/// The classes of this many values. Fails only if allocation fails.
 fn classes_of(
     alloc: Global,
     limit: usize,
@@ -43,7 +43,7 @@ fn classes_of(
     Ok(classes)
 }
 
-/// The row of a variable with so many values, of which the goal asks for the value `goal`: the first `limit - 2` values
+/// The row of a variable with this many values, of which the goal asks for the value `goal`: the first `limit - 2` values
 /// other than the goal's value, and the goal's value, have classes of their own, and all the rest share one. Fails only if
 /// allocation fails.
 pub(crate) fn goal_row(

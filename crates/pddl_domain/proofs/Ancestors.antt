@@ -113,7 +113,7 @@ module _ (f : List ℕ) where
                   ∙ ap (λ (k : ℕ). ancestor f k n) (let e : i + (steps - i) ≡ steps = omega (arith, m.2, m.3, count, long) in e),
             )
 
-    -- what lies on a cycle is the end of a walk of so many steps
+    -- what lies on a cycle is the end of a walk of this many steps
     comes_from : (n : ℕ) → n < length f → (k : ℕ) → 1 ≤ k → ancestor f k n ≡ n → (steps : ℕ) → (m : ℕ) × (m < length f) × (ancestor f steps m ≡ n)
     comes_from n h zero one e steps = absurd (omega (arith, one))
     comes_from n h (suc k) one e steps = (

@@ -13,7 +13,7 @@ use Rattle.pddl_syntax.specs.Heads.{Heads}
 use Rattle.pddl_syntax.proofs.Trees.{first_of_cons, noted, at_tree, views_at}
 use Rattle.pddl_domain.specs.DeclaredHeads.{with_item, past_limit, item_faults, is_equals, predicate_heads, predicates_faults, function_heads, heads_behind, functions_faults}
 
--- a head that is a list, behind so many items
+-- a head that is a list, behind some items
 list_head : (first counted new : Option Fault) (hs : ℕ) (limit : List Fault → List Fault) → ((fs : List Fault) → first_of first (limit fs) ≡ first_of counted fs) → new ≡ earlier counted (fault Shape hs)
     → (fs : List Fault) → first_of first (limit (fault Shape hs ∷ fs)) ≡ first_of new fs
 list_head first counted new hs limit limited e fs =

@@ -89,7 +89,7 @@ numbers_run names old new rs i r lt is e =
     ∙ ap (λ (xs : List Subtype). old ++ xs) (sym (map_append (numbered names) (spread_run r) rest))
     ∙ ap (λ (ds : List Declared). old ++ map (numbered names) ds) (sym (spread_at rs i r lt is))
 
--- a declaration's numbers are of so many types
+-- a declaration's numbers are of this many types
 pub record IsWithin (count : ℕ) (d : Subtype) : Type 0 where
   pub name : d.name < count
   pub parent : IfSome d.parent (λ p. p < count)

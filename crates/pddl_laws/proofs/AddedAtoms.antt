@@ -90,7 +90,7 @@ few_names names (d ∷ ds) =
     by true e = omega arith
     by false e = omega (arith, length-append names (d.name ∷ []))
 
--- the effects of a schema name predicates, its parameters, and some of so many objects
+-- the effects of a schema name predicates, its parameters, and some of this many objects
 pub record IsSchema (arities : List ℕ) (objects : ℕ) (schema : Schema) : Type 0 where
   pub variables : ℕ
   pub few : variables ≤ length schema.parameters

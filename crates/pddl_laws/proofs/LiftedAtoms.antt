@@ -18,7 +18,7 @@ use Rattle.pddl_syntax.specs.Words.{word_kind}
 use Rattle.pddl_syntax.specs.Heads.{Heads}
 use Rattle.pddl_terms.specs.Terms.{Scope, term_by_kind, term_of, with_term, terms, lifted_of, lifted}
 
--- one of so many parameters, or one of so many objects
+-- one of this many parameters, or one of this many objects
 abbrev pub IsTerm : ℕ → ℕ → Term → Type 0
 IsTerm variables objects (Parameter i) = i < variables
 IsTerm variables objects (Object o) = o < objects

@@ -102,7 +102,7 @@ skip_item ks small s t r q e =
       next = refl;
     }
 
--- a count and so many lines
+-- a count and that many lines
 pub counted : {S X : Type 0} (P : List ℕ → X → Type 0) (push : S → X → S) (s t : S) (r m q : Remaining) (k : ℕ) → Roomy r → TookNumber r m (Natural k) → (items : TookItems P push k s t m q) → TookPart (λ ls. SpellsLines P ls items.items) r q
 counted P push s t r m q k room number items =
     let inner : Roomy m = roomy_after r m (number.line ∷ []) number.took.lines_are room in

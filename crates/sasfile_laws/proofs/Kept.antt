@@ -110,7 +110,7 @@ whole_kept e ls rest other is = not_late other (task_fault (whole_frame rest) (l
 
 -- ---- how many lines there are
 
--- so many lines in all, with those before
+-- this many lines in all, with those before
 pub record Counts (c : ℕ) (r : Remaining) : Type 0 where
   pub some : 1 ≤ r.number
   pub all : r.number + length r.lines ≡ c + 1

@@ -74,7 +74,7 @@ range_at [] k names e = absurd cc
 range_at (first ∷ others) zero names e = ap (length {A = List ℕ}) (some_is first names e)
 range_at (first ∷ others) (suc k) names e = range_at others k names e
 
--- a size, where there is one, is of a variable with so many values
+-- a size, where there is one, is of a variable with this many values
 abbrev IsSized : List ℕ → ℕ → ℕ → Type 0
 IsSized ranges size v = (v < length ranges) × (size ≤ get_or ranges v 0)
 

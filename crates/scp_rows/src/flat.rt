@@ -96,7 +96,7 @@ pub fn enter_flat(flat: &Flat<'_>, state: &[u32], indices: &mut [usize]) -> Bloc
     }
 }
 
-/// Returns for each of so many operators the places of the mappings of the first block that it may touch. Fails only if
+/// Returns for each operator the places of the mappings of the first block that it may touch. Fails only if
 /// allocation fails.
 pub fn touches_in(
     alloc: Global,

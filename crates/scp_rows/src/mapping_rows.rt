@@ -230,7 +230,7 @@ fn touched_by<R: Row>(
     Ok(touched)
 }
 
-/// For each of so many operators, the places of the mappings that it touches.
+/// For each operator, the places of the mappings that it touches.
 pub(crate) fn touches<R: Row>(
     alloc: Global,
     mappings: &[MappingRows<'_, R>],

@@ -98,7 +98,7 @@ fn fork(alloc: Global) -> Result<FdrTask, Fail> {
     Ok(walk(alloc, 6, 5, FORK)?.ok_or("a task")?)
 }
 
-/// How a search of the task by so many workers ends with this gate: whether it is settled, or the fault.
+/// How a search of the task by this many workers ends with this gate: whether it is settled, or the fault.
 fn ends<'t, R: Threads + Wait + Clock + Sync, G: Gate + Sync>(
     rt: &R,
     alloc: Global,
@@ -188,7 +188,7 @@ fn a_stop_as_at_a_limit_hands_the_owners_back(rt: HostRuntime) -> Result<(), Fai
     Ok(())
 }
 
-/// A search by so many workers has as many first turns.
+/// A search by `workers` workers has as many first turns.
 fn has_a_first_turn_each<R: Threads + Wait + Clock + Sync + Abort>(
     rt: &R,
     alloc: Global,

@@ -75,7 +75,7 @@ fn answer_of<S: Spread + Drop, F: StateForm + Drop>(
     }
 }
 
-/// A search by so many workers, with rings of that room, ends settled with this answer.
+/// A search by this many workers, with rings of this room, ends settled with this answer.
 fn settles<'a, R: Threads + Wait + Clock + Sync + Abort, S: Spread + Drop + Send + Sync>(
     rt: &R,
     alloc: Global,
@@ -117,7 +117,7 @@ fn most_expansions<S: Spread + Drop, F: StateForm + Drop>(joined: &Joined<'_, S,
     most
 }
 
-/// A search by so many workers ends at the limit of the space, as some owner has expanded so many nodes.
+/// A search by this many workers ends at the limit of the space, as some owner has expanded as many nodes as that.
 fn stops<'a, R: Threads + Wait + Clock + Sync + Abort, S: Spread + Drop + Send + Sync>(
     rt: &R,
     alloc: Global,
@@ -190,7 +190,7 @@ fn the_initial_state_is_a_goal(rt: HostRuntime) -> Result<(), Fail> {
     agrees_on(&rt, rt.alloc(), &task, SearchAnswer::Solved(0))
 }
 
-/// Searches of the task in which each owner may expand so many nodes.
+/// Searches of the task in which each owner may expand at most this many nodes.
 fn stops_on<'t, R: Threads + Wait + Clock + Sync + Abort>(
     rt: &R,
     alloc: Global,
@@ -221,7 +221,7 @@ fn a_limit_of_one_node(rt: HostRuntime) -> Result<(), Fail> {
     stops_on(&rt, rt.alloc(), &task, 1)
 }
 
-/// Operators that add or subtract 1 in one of so many variables with so many values.
+/// Operators that add or subtract 1 in one of several variables, all with the same number of values.
 fn unit_steps(alloc: Global, variables: usize, values: u32) -> Result<Vec<Operator>, AllocError> {
     let mut operators = Vec::new(alloc);
     for variable in 0..variables {
@@ -235,7 +235,7 @@ fn unit_steps(alloc: Global, variables: usize, values: u32) -> Result<Vec<Operat
     Ok(operators)
 }
 
-/// A search by so many workers of a space whose cheapest plan has so many operators of cost 1.
+/// A search by this many workers of a space whose cheapest plan has `cost` operators of cost 1.
 fn finds_plan<'a, R: Threads + Wait + Clock + Sync + Abort, S: Spread + Drop + Send + Sync>(
     rt: &R,
     alloc: Global,

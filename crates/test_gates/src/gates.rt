@@ -53,7 +53,7 @@ pub(crate) struct LastIsFirst {
 }
 
 impl LastIsFirst {
-    /// No turn has begun; there are so many workers.
+    /// No turn has begun; there are this many workers.
     pub(crate) fn of(workers: usize) -> LastIsFirst {
         LastIsFirst {
             last: workers.saturating_sub(1),

@@ -113,7 +113,7 @@ fn two_variables(rt: HostRuntime) {
     keeps::<Bits<2>>(&rt, rt.alloc(), &[2, 3], &[1, 2], &[1, 0]);
 }
 
-/// Checks the forms of states of so many variables, of three values each.
+/// Checks the forms of states of this many variables, of three values each.
 fn keeps_wide(rt: &impl Abort, alloc: Global, width: usize) {
     let ranges = vec![in alloc; 3; width].expect(rt, "memory");
     let first = vec![in alloc; 0u32; width].expect(rt, "memory");

@@ -85,7 +85,7 @@ named_by at (b ∷ bs) arguments h k = (
 abbrev step_stop : ℕ → Step → ℕ
 step_stop start s = start + 1 + length (step_words s) + 1
 
--- steps in lists, with so many bytes before the first and one before each other
+-- steps in lists, with this many bytes before the first and one before each other
 abbrev plan_forms : ℕ → ℕ → List Step → Forms
 plan_forms at before [] = none
 plan_forms at before (s ∷ steps) = group (at + before) (step_stop (at + before) s) (named_forms (at + before + 1) s.name s.arguments) (plan_forms (step_stop (at + before) s) 1 steps)

@@ -9,7 +9,7 @@ use Rattle.worker.specs.Workers.{sent_to, received_from, known_from}
 abbrev pub AreLinked : {F : Type 0} → List (Out F) → ℕ → List (In F) → ℕ → Type 0
 AreLinked {F = F} outs to ins from = (o : Out F) (i : In F) → slice_get outs to ≡ Some o → slice_get ins from ≡ Some i → AreEnds o i
 
--- the ends of one link are looked at together: what was sent over it was received or is known to be in its ring, which has so many
+-- the ends of one link are looked at together: what was sent over it was received or is known to be in its ring, which has this many
 -- messages; nothing is sent or received, and the other ends are as they were
 pub record IsMatchedUp {F : Type 0} (to from : ℕ) (outs new_outs : List (Out F)) (ins new_ins : List (In F)) (count : ℕ) : Type 0 where
   pub sender : Out F

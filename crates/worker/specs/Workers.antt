@@ -70,7 +70,7 @@ pub record AreSameIns {F : Type 0} (old new : List (In F)) : Type 0 where
   pub len : length new ≡ length old
   pub each : (v : ℕ) (i j : In F) → slice_get old v ≡ Some i → slice_get new v ≡ Some j → SameIn i j
 
--- the worker of that number of so many, at the start
+-- the worker of that number of this many, at the start
 pub record IsFirstWorker {S F : Type 0} (searched_space : SpaceOf S) (v workers : ℕ) (senders : List (Out F)) (receivers : List (In F)) (w : WorkerOf S F) : Type 0 where
   pub space : w.owner.space ≡ searched_space
   pub number : w.owner.worker ≡ v

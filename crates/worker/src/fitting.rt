@@ -11,7 +11,7 @@ use owner::Space;
 use packed::StateForm;
 use packed_spread::Spread;
 
-/// Whether the message is of a state of the task that this one of so many owners has; the buffer is for use within.
+/// Whether the message is of a state of the task that this one of several owners has; the buffer is for use within.
 pub(crate) fn is_for<S: Spread + Drop, F: StateForm + Drop>(
     space: &Space<'_, S>,
     number: usize,

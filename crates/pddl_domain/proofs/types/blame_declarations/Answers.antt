@@ -8,7 +8,7 @@ use Rattle.pddl_domain.specs.Types.{first_of_name}
 use Rattle.pddl_domain.proofs.TypeSteps.{table_faults}
 use Rattle.pddl_domain.proofs.types.blame_declarations.Goals as goal
 
--- a table of so many has each number of these declarations
+-- a table of this many has each number of these declarations
 in_table : (ds : List Subtype) (m n : ℕ) → n ≡ m → All (λ (d : Subtype). d.name < m) ds → All (λ (d : Subtype). d.name < n) ds
 in_table ds m n e h = subst (λ (k : ℕ). All (λ (d : Subtype). d.name < k) ds) (sym e) h
 
