@@ -1,3 +1,4 @@
 pub mod Longer
 pub mod Classes
+pub mod GoalValues
 pub mod Choices

@@ -1,6 +1,7 @@
 -- Mappings that are chosen for the tables of a task.
-use Rattle.std.specs.Prelude.{◌≡◌, ◌≢◌, ℕ, ◌≤◌, true, List, [], length, All, AllPairs}
-use Rattle.fdr.specs.Tasks.{FiniteDomainTask}
+use Rattle.std.specs.Prelude.{◌≡◌, ◌≢◌, ℕ, ◌≤◌, ◌==◌, ◌⊎◌, Bool, true, List, [], length, slice_index, All, AllPairs}
+use Rattle.std.specs.List.{list_any}
+use Rattle.fdr.specs.Tasks.{FiniteDomainTask, ranges}
 use Rattle.abstraction_domain.specs.Rows.{are_numbered}
 use Rattle.abstraction_mapping.specs.Mappings.{Mapping, Pattern, Domains, variables_of, abstraction_by, is_mapping}
 
@@ -15,6 +16,14 @@ pub record IsMappingWithin (task : FiniteDomainTask) (limit : ℕ) (m : Mapping)
   pub within : (abstraction_by task m).size ≤ limit
   pub some : variables_of m ≢ []
   pub numbered : HasNumberedClasses m
+
+-- the mapping keeps something of the variable
+abbrev pub keeps : ℕ → Mapping → Bool
+keeps variable m = list_any (λ v. v == variable) (variables_of m)
+
+-- each variable of the goal of which a table within the limit can keep something is kept by one of the mappings
+abbrev pub KeepGoal : FiniteDomainTask → ℕ → List Mapping → Type 0
+KeepGoal task limit mappings = All (λ f. ((2 ≤ limit) ⊎ (slice_index (ranges task) f.variable ≤ limit)) → list_any (keeps f.variable) mappings ≡ true) task.goal
 
 -- the greatest number of mappings
 abbrev pub max_mappings : ℕ

@@ -1,9 +1,12 @@
 //! The choice of mappings.
 
-ghost use Rattle.std.specs.Prelude.{◌≡◌, ◌≢◌, ◌≤◌, ◌<◌, ◌^◌, ℕ, false, length, map, All, IfOk, IfSome, OnOk};
-ghost use Rattle.fdr.specs.Tasks.{FiniteDomainTask};
+ghost use Rattle.std.specs.Prelude.{◌≡◌, ◌≢◌, ◌≤◌, ◌<◌, ◌==◌, ◌^◌, ℕ, Bool, true, false, length, map, slice_index, slice_index_or, is_some, None, All, IfOk, IfSome, IfNone, OnOk};
+ghost use Rattle.std.specs.List.{list_any};
+ghost use Rattle.fdr.specs.Tasks.{FiniteDomainTask, ranges};
+ghost use Rattle.abstraction_mapping.specs.Mappings.{Mapping as MappingOf};
 ghost use Rattle.abstraction_mapping.specs.Views.{mapping_of};
-ghost use Rattle.pdb_patterns.specs.Choices.{IsMappingWithin, AreMappings};
+ghost use Rattle.pdb_patterns.specs.Patterns.{IsPattern};
+ghost use Rattle.pdb_patterns.specs.Choices.{IsMappingWithin, AreMappings, KeepGoal, keeps};
 
 use crate::domains::goal_row;
 use crate::effects::{Effect, effects_of};
@@ -17,7 +20,8 @@ pub const MAX_MAPPINGS: usize = 64;
 
 /// For each variable, the value that the goal asks for, if it names the variable.
 fn goal_values(alloc: Global, task: &FdrTask) -> Result<Vec<Option<u32>>, AllocError>
-    ensures { IfOk result (λ values. length values.items ≡ length task.now.value_names) }
+    ensures as_many { IfOk result (λ values. length values.items ≡ length task.now.value_names) }
+    ensures named { IfOk result (λ values. All (λ f. is_some (slice_index_or values.items f.variable None) ≡ true) task.now.goal) }
 {
     let mut values = vec![in alloc; None; task.variable_count()]?;
     for fact in task.goal() {
@@ -28,7 +32,8 @@ fn goal_values(alloc: Global, task: &FdrTask) -> Result<Vec<Option<u32>>, AllocE
 
 /// Whether one of the mappings is the same as this one.
 fn has_mapping(mappings: &[Mapping], mapping: &Mapping) -> bool
-    ensures { result ≡ false → All (λ m. mapping_of m ≢ mapping_of mapping.now) mappings.now }
+    ensures none { result ≡ false → All (λ m. mapping_of m ≢ mapping_of mapping.now) mappings.now }
+    ensures one { result ≡ true → (p : MappingOf → Bool) → p (mapping_of mapping.now) ≡ true → list_any p (map mapping_of mappings.now) ≡ true }
 {
     for other in mappings {
         if other.is_same(mapping) {
@@ -40,9 +45,13 @@ fn has_mapping(mappings: &[Mapping], mapping: &Mapping) -> bool
 
 /// Appends the mapping, unless it is one of the mappings.
 fn push_mapping(mappings: &mut Vec<Mapping>, mapping: Mapping) -> Result<(), AllocError>
-    ensures { OnOk result ((task : FiniteDomainTask) (limit : ℕ) → AreMappings task limit (map mapping_of mappings.old.items) →
+    ensures mappings { OnOk result ((task : FiniteDomainTask) (limit : ℕ) → AreMappings task limit (map mapping_of mappings.old.items) →
         IsMappingWithin task limit (mapping_of mapping) → length mappings.old.items < 64 →
         AreMappings task limit (map mapping_of mappings.new.items)) }
+    ensures others { OnOk result ((p : MappingOf → Bool) → list_any p (map mapping_of mappings.old.items) ≡ true →
+        list_any p (map mapping_of mappings.new.items) ≡ true) }
+    ensures listed { OnOk result ((p : MappingOf → Bool) → p (mapping_of mapping) ≡ true → list_any p (map mapping_of mappings.new.items) ≡ true) }
+    ensures longer { OnOk result (length mappings.old.items ≤ length mappings.new.items) }
 {
     if !has_mapping(mappings, &mapping) {
         mappings.push(mapping)?;
@@ -50,8 +59,47 @@ fn push_mapping(mappings: &mut Vec<Mapping>, mapping: Mapping) -> Result<(), All
     Ok(())
 }
 
-/// The mapping that begins with a variable of which the goal asks for the value `goal`, if there is one: a pattern that
-/// grows from it if its range is within the limit, and else classes of its values. Fails only if allocation fails.
+/// The pattern of this variable alone. Fails only if allocation fails.
+fn alone(
+    alloc: Global,
+    task: &FdrTask,
+    variable: usize,
+    limit: usize,
+) -> Result<Vec<u32>, AllocError>
+    requires exists { variable < length task.now.value_names }
+    requires within { slice_index (ranges task.now) variable ≤ limit }
+    ensures pattern { IfOk result (λ pattern. IsPattern task.now limit pattern.items) }
+    ensures kept { IfOk result (λ pattern. list_any (λ v. v == variable) pattern.items ≡ true) }
+{
+    task.recall(); // there are fewer than 2^32 variables
+    let mut pattern = Vec::with_capacity(alloc, 1)?;
+    pattern.push(variable as u32)?;
+    Ok(pattern)
+}
+
+/// The pattern that grows from a variable whose range is within the limit, with that variable. Fails only if allocation fails.
+fn pattern_from(
+    alloc: Global,
+    task: &FdrTask,
+    effects: &[Effect],
+    first: usize,
+    limit: usize,
+) -> Result<Vec<u32>, AllocError>
+    requires first { first < length task.now.value_names }
+    requires some { 1 ≤ limit }
+    requires within { slice_index (ranges task.now) first ≤ limit }
+    ensures pattern { IfOk result (λ pattern. IsPattern task.now limit pattern.items) }
+    ensures kept { IfOk result (λ pattern. list_any (λ v. v == first) pattern.items ≡ true) }
+{
+    let pattern = grow(alloc, task, effects, first, limit)?;
+    if pattern.iter().any(|variable| *variable as usize == first) {
+        return Ok(pattern);
+    }
+    alone(alloc, task, first, limit) // a pattern has the variable from which it grows
+}
+
+/// The mapping that begins with a variable of which the goal asks for the value `goal`: a pattern that grows from it if its range is
+/// within the limit, and else classes of its values, which no mapping has if the limit is 1. Fails only if allocation fails.
 fn mapping_from(
     alloc: Global,
     task: &FdrTask,
@@ -63,14 +111,13 @@ fn mapping_from(
     requires first { first < length task.now.value_names }
     requires some { 1 ≤ limit }
     requires small { limit ≤ 2 ^ 24 }
-    ensures { IfOk result (λ found. IfSome found (λ mapping. IsMappingWithin task.now limit (mapping_of mapping))) }
+    ensures within { IfOk result (λ found. IfSome found (λ mapping. IsMappingWithin task.now limit (mapping_of mapping))) }
+    ensures kept { IfOk result (λ found. IfSome found (λ mapping. keeps first (mapping_of mapping) ≡ true)) }
+    ensures none { IfOk result (λ found. IfNone found ((limit < 2) × (limit < slice_index (ranges task.now) first))) }
 {
     let range = task.range(first);
     if range <= limit {
-        let pattern = grow(alloc, task, effects, first, limit)?;
-        if pattern.is_empty() {
-            return Ok(None);
-        }
+        let pattern = pattern_from(alloc, task, effects, first, limit)?;
         return Ok(Some(Mapping::Pattern(pattern)));
     }
     if limit < 2 {
@@ -90,8 +137,9 @@ fn mapping_from(
 /// the causal graph (Helmert 2006): the least variable is added that occurs in a precondition of an operator with an
 /// effect on the pattern and keeps the pattern within the limit, until there is none. A variable whose range is past the
 /// limit gives a domain abstraction of that variable alone, if the limit is at least 2: the first `limit - 2` values other
-/// than the goal's value, and the goal's value, have classes of their own, and all the rest share one. The contract does
-/// not specify which mappings are chosen.
+/// than the goal's value, and the goal's value, have classes of their own, and all the rest share one. The contract
+/// specifies that a mapping keeps something of each variable of the goal, if the limit is at least 2 or the variable has
+/// one value, unless there are 64 mappings; it does not specify which other variables a pattern has.
 pub fn choose_mappings(
     alloc: Global,
     task: &FdrTask,
@@ -99,18 +147,19 @@ pub fn choose_mappings(
 ) -> Result<Vec<Mapping>, AllocError>
     requires some { 1 ≤ limit }
     requires small { limit ≤ 2 ^ 24 }
-    ensures { IfOk result (λ mappings. AreMappings task.now limit (map mapping_of mappings.items)) }
+    ensures mappings { IfOk result (λ mappings. AreMappings task.now limit (map mapping_of mappings.items)) }
+    ensures goal { IfOk result (λ mappings. length mappings.items < 64 → KeepGoal task.now limit (map mapping_of mappings.items)) }
 {
     let effects = effects_of(alloc, task)?;
     let goals = goal_values(alloc, task)?;
     let mut mappings = Vec::new(alloc);
     for first in 0..task.variable_count() {
-        if mappings.len() >= MAX_MAPPINGS {
-            break;
-        }
         let Some(goal) = goals[first] else {
             continue;
         };
+        if mappings.len() >= MAX_MAPPINGS {
+            continue; // no more are chosen
+        }
         if let Some(mapping) = mapping_from(alloc, task, &effects, first, goal as usize, limit)? {
             push_mapping(&mut mappings, mapping)?;
         }

@@ -1,14 +1,37 @@
 use Rattle.std.proofs.Common.{◌≢◌, ◌<◌, ◌∷◌, [], map, length, arith}
+use Rattle.std.proofs.Math.Bool.{or-true, true-or}
+use Rattle.std.specs.List.{list_any}
 use Rattle.std.proofs.lemmas.List.{map-append, length-map}
 use Rattle.std.proofs.lemmas.List.Elements.{All-map}
+use Rattle.std.proofs.lemmas.List.Folds.{list_any-append}
 use Rattle.abstraction_mapping.specs.Views.{mapping_of}
 use Rattle.pdb_patterns.proofs.Choices.{mappings_longer}
 use Rattle.pdb_patterns.proofs.choice.push_mapping.Goals as goal
 
-pub returns-in_ok-push : goal.returns-in_ok-push
-returns-in_ok-push c task limit are is few =
+pub returns-in_ok-push-clause-mappings : goal.returns-in_ok-push-clause-mappings
+returns-in_ok-push-clause-mappings c task limit are is few =
     let mappings = c.args.mappings.now.items in
     let short : length (map mapping_of mappings) < 64 = omega (arith, few, length-map mappings mapping_of) in
-    let none = rw c.deref.ensures.value at (c.has_mapping.ensures c.if-not-has_mapping.true) in
+    let none = rw c.deref.ensures.value at (c.has_mapping.ensures.none c.if-not-has_mapping.true) in
     rw (c.in_ok-push.ensures.items, map-append mapping_of mappings (c.args.mapping ∷ []))
     (mappings_longer task limit (map mapping_of mappings) (mapping_of c.args.mapping) are is short (All-map (λ m. m ≢ mapping_of c.args.mapping) mapping_of mappings none))
+
+pub returns-in_ok-push-clause-others : goal.returns-in_ok-push-clause-others
+returns-in_ok-push-clause-others c p any =
+    let mappings = c.args.mappings.now.items in
+    rw (
+      c.in_ok-push.ensures.items,
+      map-append mapping_of mappings (c.args.mapping ∷ []),
+      list_any-append p (map mapping_of mappings) (mapping_of c.args.mapping ∷ []),
+      any,
+    ) (true-or (list_any p (mapping_of c.args.mapping ∷ [])))
+
+pub returns-in_ok-push-clause-listed : goal.returns-in_ok-push-clause-listed
+returns-in_ok-push-clause-listed c p passes =
+    let mappings = c.args.mappings.now.items in
+    rw (
+      c.in_ok-push.ensures.items,
+      map-append mapping_of mappings (c.args.mapping ∷ []),
+      list_any-append p (map mapping_of mappings) (mapping_of c.args.mapping ∷ []),
+      passes,
+    ) (or-true (list_any p (map mapping_of mappings)))
