@@ -95,11 +95,12 @@ fn pattern_from(
     if pattern.iter().any(|variable| *variable as usize == first) {
         return Ok(pattern);
     }
-    alone(alloc, task, first, limit) // a pattern has the variable from which it grows
+    // growth keeps the variable that it starts with, but its contract does not say so
+    alone(alloc, task, first, limit)
 }
 
 /// The mapping that begins with a variable of which the goal asks for the value `goal`: a pattern that grows from it if its range is
-/// within the limit, and else classes of its values, which no mapping has if the limit is 1. Fails only if allocation fails.
+/// within the limit, and else classes of its values, or `None` if the limit is 1 too. Fails only if allocation fails.
 fn mapping_from(
     alloc: Global,
     task: &FdrTask,
