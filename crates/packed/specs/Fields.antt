@@ -1,7 +1,7 @@
 -- Where the values of a state stand in words of 64 bits.
 use Rattle.std.specs.Prelude.{◌≡◌, ℕ, zero, suc, ◌+◌, ◌-◌, ◌*◌, ◌/◌, ◌%◌, ◌^◌, ◌<◌, ◌≤◌, ◌==◌, nat_le, if◌then◌else◌, List, [], ◌∷◌, map, length, slice_index, All}
 use Rattle.std.specs.List.{range_with_len}
-use Rattle.std.proofs.Common.{sym, ap, ◌∙◌}
+use Rattle.std.proofs.Common.{sym, ap, subst, ◌∙◌}
 use Rattle.fdr.specs.Tasks.{IsState}
 use Rattle.packed.specs.declared.field.Field.{Field}
 
@@ -92,6 +92,14 @@ pub same_words : (count : ℕ) (ranges xs ys : List ℕ) → ArePacked count ran
     → values_in xs ranges ≡ values_in ys ranges → xs ≡ ys
 same_words count ranges xs ys packed packed' same =
     packed.no_other_bits ∙ ap (words_of count ranges) same ∙ sym packed'.no_other_bits
+
+-- words that equal packed ones are packed
+pub packed_alike : (count : ℕ) (ranges xs ys : List ℕ) → xs ≡ ys → ArePacked count ranges ys → ArePacked count ranges xs
+packed_alike count ranges xs ys same packed = subst (ArePacked count ranges) (sym same) packed
+
+-- values that equal those of a state are those of a state
+pub state_alike : (ranges xs ys : List ℕ) → xs ≡ ys → IsState ranges ys → IsState ranges xs
+state_alike ranges xs ys same state = subst (IsState ranges) (sym same) state
 
 -- and equal words have equal values
 pub same_values : (ranges xs ys : List ℕ) → xs ≡ ys → values_in xs ranges ≡ values_in ys ranges

@@ -106,6 +106,9 @@ impl<const WORDS: usize> StateForm for Bits<WORDS> {
     ghost equal = { λ ranges f g form form' same.
         (bytes_decides f.words g.words).1 (spec.same_words WORDS ranges f.words g.words form form' same) };
 
+    ghost like = { λ ranges f g form same.
+        spec.packed_alike WORDS ranges f.words g.words ((bytes_decides f.words g.words).0 same) form };
+
     ghost same = { λ ranges f g _ _ same. spec.same_values ranges f.words g.words ((bytes_decides f.words g.words).0 same) };
 
     fn fits(layout: &Layout) -> bool {

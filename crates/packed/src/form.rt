@@ -76,6 +76,9 @@ pub trait StateForm: Eq + Hash {
     ghost equal: { (ranges : List ℕ) (f g : Self) → IsForm ranges f → IsForm ranges g → values ranges f ≡ values ranges g →
         IsTrue (Self.eq f g) };
 
+    /// What equals a form of a state is one.
+    ghost like: { (ranges : List ℕ) (f g : Self) → IsForm ranges g → IsTrue (Self.eq f g) → IsForm ranges f };
+
     /// Equal forms are forms of equal states.
     ghost same: { (ranges : List ℕ) (f g : Self) → IsForm ranges f → IsForm ranges g → IsTrue (Self.eq f g) →
         values ranges f ≡ values ranges g };

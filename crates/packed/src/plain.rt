@@ -32,6 +32,7 @@ fn set_values(facts: &[Fact], state: &mut [u32])
 impl StateForm for Plain {
     ghost use Rattle.std.specs.Cmp.Lexicographic.{bytes_decides};
     ghost use Rattle.fdr.specs.Tasks.{IsState};
+    ghost use Rattle.packed.specs.Fields.{state_alike};
 
     ghost Fits = { λ _. Unit {0} };
 
@@ -42,6 +43,8 @@ impl StateForm for Plain {
     ghost state = { λ ranges f form. form };
 
     ghost equal = { λ ranges f g _ _ same. (bytes_decides f.values.items g.values.items).1 same };
+
+    ghost like = { λ ranges f g form same. state_alike ranges f.values.items g.values.items ((bytes_decides f.values.items g.values.items).0 same) form };
 
     ghost same = { λ ranges f g _ _ same. (bytes_decides f.values.items g.values.items).0 same };
 
