@@ -6,5 +6,5 @@ mod steps;
 mod ties;
 
 pub use space::{Space, f_after};
-pub use steps::{effect_of, write_successor};
+pub use steps::{effect_of, is_goal_form, write_successor};
 pub use ties::Ties;

@@ -4,13 +4,13 @@ ghost use Rattle.std.specs.Prelude.{◌≡◌, ◌<◌, ◌≤◌, ◌^◌, [], 
 ghost use Rattle.cost.specs.Distances.{◌+ᵈ◌, Finite, IsWithin};
 ghost use Rattle.checker_clauses.specs.Clauses.{heuristic_of};
 ghost use Rattle.fdr.specs.Tasks as tasks;
-ghost use Rattle.fdr.specs.Tasks.{IsState, IsTask, step};
+ghost use Rattle.fdr.specs.Tasks.{IsState, IsTask, IsAssignment, step, with_values};
 ghost use Rattle.owner_theory.specs.Families.{IsLowerBound};
 ghost use Rattle.fdr_successors.specs.Applicable.{applicable_operators};
 
 use crate::ties::Ties;
 use cost::Dist;
-use fdr::FdrTask;
+use fdr::{Fact, FdrTask};
 use fdr_successors::SuccessorGenerator;
 use packed::Layout;
 use packed_spread::Spread;
@@ -133,6 +133,27 @@ impl<'a, S: Spread + Drop> Space<'a, S> {
         ensures below { result < owners }
     {
         self.spread.owner_of(state, owners)
+    }
+
+    /// The number of a state that `owner_after` takes.
+    pub fn hash_of(&self, state: &[u32]) -> u64
+        requires { IsState (tasks.ranges self.now.task) state.now }
+        ensures { result ≡ S.state_hash self.now.spread state.now }
+    {
+        self.spread.hash_of(state)
+    }
+
+    /// The owner, given the number of owners, of the state in which the variables of these facts have the facts' values, and
+    /// the others those of `state`, of which `hash_of` gave `hash`.
+    pub fn owner_after(&self, state: &[u32], hash: u64, facts: &[Fact], owners: usize) -> usize
+        requires owners { 0 < owners }
+        requires state { IsState (tasks.ranges self.now.task) state.now }
+        requires hash { hash ≡ S.state_hash self.now.spread state.now }
+        requires facts { IsAssignment (tasks.ranges self.now.task) facts.now }
+        ensures value { result ≡ S.owner self.now.spread (with_values facts.now state.now) owners }
+        ensures below { result < owners }
+    {
+        self.spread.owner_after(state, hash, facts, owners)
     }
 
     /// Replaces the content of `found` by the numbers of the operators that apply in the state, in increasing order.

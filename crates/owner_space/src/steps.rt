@@ -1,10 +1,11 @@
 //! Steps of a task: what an operator does to a state.
 
 ghost use Rattle.std.specs.Prelude.{◌≡◌, length, Some, true};
-ghost use Rattle.fdr.specs.Tasks.{ranges, IsState, IsAssignment, applies_at, step};
+ghost use Rattle.fdr.specs.Tasks.{ranges, IsState, IsAssignment, is_goal_state, applies_at, step};
 ghost use Rattle.owner_space.specs.Steps.{effect_at};
 
 use fdr::{Fact, FdrTask};
+use packed::{Layout, StateForm};
 
 /// The effect of the operator with this number, which is empty if there is no such operator.
 pub fn effect_of(task: &FdrTask, operator: usize) -> &[Fact]
@@ -28,4 +29,20 @@ pub fn write_successor(task: &FdrTask, state: &[u32], operator: usize, values: &
     task.recall(); // a successor of a state is a state
     values.copy_from_slice(state);
     task.advance(operator, values);
+}
+
+/// Whether the state of a form is a goal state. It reads the values of the goal's variables, up to the first that the goal
+/// does not have.
+pub fn is_goal_form<F: StateForm + Drop>(task: &FdrTask, layout: &Layout, form: &F) -> bool
+    requires layout { layout.now ≡ ranges task.now }
+    requires fits { F.Fits (ranges task.now) }
+    requires form { F.IsForm (ranges task.now) form.now }
+    ensures { result ≡ is_goal_state task.now (F.values (ranges task.now) form.now) }
+{
+    for fact in task.goal() {
+        if form.value(layout, fact.variable) != fact.value {
+            return false;
+        }
+    }
+    true
 }

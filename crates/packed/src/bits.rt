@@ -33,7 +33,7 @@ fn words_of<const WORDS: usize>(layout: &Layout, state: &[u32]) -> [u64; WORDS]
 
 impl<const WORDS: usize> Bits<WORDS> {
     /// The number in the bits of a field.
-    fn value(&self, field: Field) -> u64
+    fn number_in(&self, field: Field) -> u64
         requires { spec.IsPlaced WORDS field }
         ensures { result ≡ spec.value_in self.now.words field }
     {
@@ -48,7 +48,7 @@ impl<const WORDS: usize> Bits<WORDS> {
         ensures values { spec.values_in self.new.words layout.now ≡ slice_set (spec.values_in self.old.words layout.now) fact.variable fact.value }
     {
         let field = layout.fields()[fact.variable];
-        let old = self.value(field).wrapping_shl(field.shift);
+        let old = self.number_in(field).wrapping_shl(field.shift);
         let new = (fact.value as u64).wrapping_shl(field.shift);
         self.words[field.word] = self.words[field.word] - old + new;
     }
@@ -71,7 +71,7 @@ impl<const WORDS: usize> Bits<WORDS> {
         ensures { IsTrue result ↔ IsState layout.now (spec.values_in self.now.words layout.now) }
     {
         for (variable, field) in layout.fields().iter().enumerate() {
-            if self.value(*field) >= layout.range(variable) as u64 {
+            if self.number_in(*field) >= layout.range(variable) as u64 {
                 return false;
             }
         }
@@ -86,7 +86,7 @@ impl<const WORDS: usize> Bits<WORDS> {
     {
         let mut words = [0; WORDS];
         for field in layout.fields() {
-            words[field.word] += self.value(*field).wrapping_shl(field.shift);
+            words[field.word] += self.number_in(*field).wrapping_shl(field.shift);
         }
         Bits { words }
     }
@@ -138,8 +138,12 @@ impl<const WORDS: usize> StateForm for Bits<WORDS> {
 
     fn unpack(&self, layout: &Layout, state: &mut [u32]) {
         for (variable, field) in layout.fields().iter().enumerate() {
-            state[variable] = self.value(*field) as u32;
+            state[variable] = self.number_in(*field) as u32;
         }
+    }
+
+    fn value(&self, layout: &Layout, variable: usize) -> u32 {
+        self.number_in(layout.fields()[variable]) as u32
     }
 
     fn copy(&self, alloc: Global) -> Result<Bits<WORDS>, AllocError> {

@@ -8,7 +8,7 @@ use std::hash::Hash;
 /// A form in which the states of a task are stored. The state can be read back from its form, and two forms are equal
 /// exactly if their states are.
 pub trait StateForm: Eq + Hash {
-    ghost use Rattle.std.specs.Prelude.{◌≡◌, ◌↔◌, ℕ, List, length, IsTrue, IfOk};
+    ghost use Rattle.std.specs.Prelude.{◌≡◌, ◌↔◌, ◌<◌, ℕ, List, length, slice_index, IsTrue, IfOk};
     ghost use Rattle.fdr.specs.Tasks.{IsState, IsAssignment, with_values};
 
     /// States over variables with these ranges have this form.
@@ -54,6 +54,13 @@ pub trait StateForm: Eq + Hash {
         requires values { IsState layout.now (values layout.now self.now) }
         requires len { length state.old ≡ length layout.now }
         ensures { state.new ≡ values layout.now self.now };
+
+    /// The value of one variable of the state. Allocates nothing.
+    fn value(&self, layout: &Layout, variable: usize) -> u32
+        requires fits { Fits layout.now }
+        requires values { IsState layout.now (values layout.now self.now) }
+        requires variable { variable < length layout.now }
+        ensures { result ≡ slice_index (values layout.now self.now) variable };
 
     /// Another form of the same state. Fails only if allocation fails.
     fn copy(&self, alloc: Global) -> Result<Self, AllocError>

@@ -78,6 +78,11 @@ impl StateForm for Plain {
         state.copy_from_slice(self.values.as_slice());
     }
 
+    fn value(&self, layout: &Layout, variable: usize) -> u32 {
+        let _ = layout;
+        self.values.as_slice()[variable]
+    }
+
     fn copy(&self, alloc: Global) -> Result<Plain, AllocError> {
         Ok(Plain {
             values: SmallVec::from_slice(alloc, self.values.as_slice())?,

@@ -1,10 +1,12 @@
 -- The places of variables' words.
 use Rattle.std.proofs.Common.{◌≡◌, ℕ, ◌+◌, ◌<◌, ◌≤◌, List, [], ◌∷◌, ◌++◌, length, map, take, sym, ap, ◌∙◌, arith}
-use Rattle.std.specs.Prelude.{slice_index, sum, fold, bit_xor}
+use Rattle.std.specs.Prelude.{slice_index, sum, fold, bit_xor, All}
 use Rattle.std.specs.List.{range_with_len}
 use Rattle.std.proofs.lemmas.List.FromFn.{get_or-map-range_with_len, map-range_with_len_more, length-map-range_with_len}
 use Rattle.std.proofs.lemmas.List.Sums.{sum_by_more, sum_by_more_le, fold_push}
-use Rattle.fdr.specs.Tasks.{IsState}
+use Rattle.std.proofs.lemmas.List.Elements.{All-weaker}
+use Rattle.fdr.specs.declared.fact.Fact.{Fact}
+use Rattle.fdr.specs.Tasks.{IsState, IsInRange}
 use Rattle.packed_spread.specs.Spreads.{firsts_of, word_of}
 
 -- the first places of the first n variables
@@ -41,14 +43,27 @@ pub as_many_firsts : (ranges firsts state : List ℕ) → firsts ≡ firsts_of r
     length firsts ≡ length state
 as_many_firsts ranges firsts state placed is = ap (λ (xs : List ℕ). length xs) placed ∙ firsts_count ranges ∙ sym is.as_long
 
+-- the word of a value of a variable is there
+place_exists : (ranges words firsts : List ℕ) → length words ≡ sum ranges → firsts ≡ firsts_of ranges →
+    (v value : ℕ) → v < length ranges → value < slice_index ranges v → slice_index firsts v + value < length words
+place_exists ranges words firsts long placed v value there below =
+    let begins : slice_index firsts v ≡ sum (take v ranges) =
+    ap (λ (xs : List ℕ). slice_index xs v) placed
+    ∙ get_or-map-range_with_len (λ (w : ℕ). sum (take w ranges)) 0 (length ranges) v v 0 there (omega arith) in
+    let within : sum (take v ranges) + slice_index ranges v ≤ sum ranges = sum_by_more_le (λ (x : ℕ). x) ranges v 0 there in
+    omega arith
+
 -- the words of a state's values are there
 pub word_exists : (ranges words firsts state : List ℕ) → length words ≡ sum ranges → firsts ≡ firsts_of ranges →
     IsState ranges state → (v : ℕ) → v < length firsts → slice_index firsts v + slice_index state v < length words
 word_exists ranges words firsts state long placed is v exists =
     let there : v < length ranges = omega (arith, as_many_firsts ranges firsts state placed is, is.as_long) in
-    let begins : slice_index firsts v ≡ sum (take v ranges) =
-    ap (λ (xs : List ℕ). slice_index xs v) placed
-    ∙ get_or-map-range_with_len (λ (w : ℕ). sum (take w ranges)) 0 (length ranges) v v 0 there (omega arith) in
-    let within : sum (take v ranges) + slice_index ranges v ≤ sum ranges = sum_by_more_le (λ (x : ℕ). x) ranges v 0 there in
-    let below = is.in_range v there in
-    omega arith
+    place_exists ranges words firsts long placed v (slice_index state v) there (is.in_range v there)
+
+-- and so are those of facts' values
+pub words_of_facts_exist : (ranges words firsts : List ℕ) (facts : List Fact) → length words ≡ sum ranges → firsts ≡ firsts_of ranges →
+    All (IsInRange ranges) facts → All (λ f. (f.variable < length firsts) × (slice_index firsts f.variable + f.value < length words)) facts
+words_of_facts_exist ranges words firsts facts long placed in_range =
+    let as_many : length firsts ≡ length ranges = ap (λ (xs : List ℕ). length xs) placed ∙ firsts_count ranges in
+    All-weaker (IsInRange ranges) (λ f. (f.variable < length firsts) × (slice_index firsts f.variable + f.value < length words))
+    (λ f ok. (omega (arith, as_many, ok.0), place_exists ranges words firsts long placed f.variable f.value ok.0 ok.1)) facts in_range

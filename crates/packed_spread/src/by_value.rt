@@ -1,9 +1,11 @@
 //! Owners by the value of one variable.
 
-ghost use Rattle.std.specs.Prelude.{◌≡◌};
+ghost use Rattle.std.specs.Prelude.{◌≡◌, ◌<◌, All, length};
+ghost use Rattle.fdr.specs.Tasks.{with_values};
+ghost use Rattle.packed_spread.specs.Spreads as spec;
 
 use crate::spread::Spread;
-use fdr::FdrTask;
+use fdr::{Fact, FdrTask};
 use std::marker::Model;
 
 /// The spread by which the owner of a state is the value of variable 0 modulo the number of owners, and 0 for a task
@@ -31,6 +33,25 @@ impl<'a> ByValue<'a> {
     }
 }
 
+/// The owner by the value of variable 0 in the state in which the variables of these facts have the facts' values, and the
+/// others those of `state`.
+fn value_owner_after(state: &[u32], facts: &[Fact], owners: usize) -> usize
+    requires facts { All (λ f. f.variable < length state.now) facts.now }
+    requires some { 0 < owners }
+    ensures { result ≡ spec.value_owner (with_values facts.now state.now) owners }
+{
+    if state.is_empty() {
+        return 0;
+    }
+    let mut value = state[0];
+    for fact in facts {
+        if fact.variable == 0 {
+            value = fact.value;
+        }
+    }
+    value as usize % owners
+}
+
 impl<'a> Spread for ByValue<'a> {
     ghost use Rattle.fdr.specs.Tasks as tasks;
     ghost use Rattle.packed_spread.specs.Spreads.{value_owner};
@@ -40,6 +61,8 @@ impl<'a> Spread for ByValue<'a> {
 
     ghost owner = { λ b. value_owner };
 
+    ghost state_hash = { λ _ _. 0 };
+
     ghost is_below = { λ b. value_owner_is_below };
 
     fn owner_of(&self, state: &[u32], owners: usize) -> usize {
@@ -47,5 +70,15 @@ impl<'a> Spread for ByValue<'a> {
             Some(value) => *value as usize % owners,
             None => 0,
         }
+    }
+
+    fn hash_of(&self, state: &[u32]) -> u64 {
+        let _ = state;
+        0 // the owner of a changed state is found without it
+    }
+
+    fn owner_after(&self, state: &[u32], hash: u64, facts: &[Fact], owners: usize) -> usize {
+        let _ = hash;
+        value_owner_after(state, facts, owners)
     }
 }

@@ -1,10 +1,12 @@
 //! The trait of spreads.
 
+use fdr::Fact;
+
 /// A rule that assigns each state of a task to one of several owners (Kishimoto, Fukunaga and Botea 2013). Owners are
 /// counted from 0.
 pub trait Spread {
     ghost use Rattle.std.specs.Prelude.{◌≡◌, ℕ, ◌<◌, List};
-    ghost use Rattle.fdr.specs.Tasks.{IsState};
+    ghost use Rattle.fdr.specs.Tasks.{IsState, IsAssignment, with_values};
 
     /// The number of values of each variable of the task.
     ghost ranges: { Self → List ℕ };
@@ -12,11 +14,29 @@ pub trait Spread {
     /// The owner of a state, given the number of owners.
     ghost owner: { Self → List ℕ → ℕ → ℕ };
 
+    /// A number of each state, by which the owners of states that differ from it in some variables are found sooner.
+    ghost state_hash: { Self → List ℕ → ℕ };
+
     /// The owner of a state of the task, given the number of owners. Allocates nothing.
     fn owner_of(&self, state: &[u32], owners: usize) -> usize
         requires some { 0 < owners }
         requires state { IsState (ranges self.now) state.now }
         ensures value { result ≡ owner self.now state.now owners }
+        ensures below { result < owners };
+
+    /// The number of a state of the task that `owner_after` takes. Allocates nothing.
+    fn hash_of(&self, state: &[u32]) -> u64
+        requires { IsState (ranges self.now) state.now }
+        ensures { result ≡ state_hash self.now state.now };
+
+    /// The owner, given the number of owners, of the state in which the variables of these facts have the facts' values, and
+    /// the others those of `state`, of which `hash_of` gave `hash`. Allocates nothing.
+    fn owner_after(&self, state: &[u32], hash: u64, facts: &[Fact], owners: usize) -> usize
+        requires some { 0 < owners }
+        requires state { IsState (ranges self.now) state.now }
+        requires hash { hash ≡ state_hash self.now state.now }
+        requires facts { IsAssignment (ranges self.now) facts.now }
+        ensures value { result ≡ owner self.now (with_values facts.now state.now) owners }
         ensures below { result < owners };
 
     /// The owner is below the number of owners.

@@ -1,12 +1,13 @@
 //! Owners by a hash of the state.
 
-ghost use Rattle.std.specs.Prelude.{◌≡◌, ℕ, ◌+◌, ◌<◌, length, slice_index, sum, IfOk};
+ghost use Rattle.std.specs.Prelude.{◌≡◌, ℕ, ◌+◌, ◌<◌, true, length, slice_index, sum, All, IfOk};
 ghost use Rattle.fdr.specs.Tasks as tasks;
+ghost use Rattle.fdr.specs.Tasks.{are_distinct, with_values};
 ghost use Rattle.packed_spread.specs.Spreads as spec;
 
 use crate::spread::Spread;
 use crate::words::words_of;
-use fdr::FdrTask;
+use fdr::{Fact, FdrTask};
 use std::alloc::{AllocError, Global};
 use std::marker::Model;
 
@@ -44,6 +45,25 @@ fn hash_of(words: &[u64], firsts: &[usize], state: &[u32]) -> u64
     hash
 }
 
+/// The hash of the state in which the variables of these facts have the facts' values, and the others those of `state`,
+/// whose hash is given: in place of the word of a variable's old value it has that of the new one.
+fn hash_after(words: &[u64], firsts: &[usize], state: &[u32], hash: u64, facts: &[Fact]) -> u64
+    requires long { length firsts.now ≡ length state.now }
+    requires hash { hash ≡ spec.hash words.now firsts.now state.now }
+    requires exist { (v : ℕ) → v < length firsts.now → slice_index firsts.now v + slice_index state.now v < length words.now }
+    requires facts { All (λ f. (f.variable < length firsts.now) × (slice_index firsts.now f.variable + f.value < length words.now)) facts.now }
+    requires distinct { are_distinct facts.now ≡ true }
+    ensures { result ≡ spec.hash words.now firsts.now (with_values facts.now state.now) }
+{
+    let mut changed = hash;
+    for fact in facts {
+        let first = firsts[fact.variable];
+        let old = words[first + state[fact.variable] as usize];
+        changed ^= old ^ words[first + fact.value as usize];
+    }
+    changed
+}
+
 impl<'a> Zobrist<'a> {
     /// The spread for the task, with a word of 8 bytes for each value of each variable. Fails only if allocation fails.
     pub fn new(alloc: Global, task: &'a FdrTask) -> Result<Zobrist<'a>, AllocError>
@@ -67,6 +87,8 @@ impl<'a> Spread for Zobrist<'a> {
 
     ghost owner = { zobrist_owner };
 
+    ghost state_hash = { λ z. spec.hash z.words (spec.firsts_of (tasks.ranges z.task)) };
+
     ghost is_below = { zobrist_owner_is_below };
 
     fn owner_of(&self, state: &[u32], owners: usize) -> usize {
@@ -75,5 +97,17 @@ impl<'a> Spread for Zobrist<'a> {
         }
         let hash = hash_of(&self.words, &self.firsts, state);
         (hash % owners as u64) as usize
+    }
+
+    fn hash_of(&self, state: &[u32]) -> u64 {
+        hash_of(&self.words, &self.firsts, state)
+    }
+
+    fn owner_after(&self, state: &[u32], hash: u64, facts: &[Fact], owners: usize) -> usize {
+        if owners == 1 {
+            return 0; // every hash modulo 1
+        }
+        let changed = hash_after(&self.words, &self.firsts, state, hash, facts);
+        (changed % owners as u64) as usize
     }
 }

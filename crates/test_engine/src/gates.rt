@@ -6,7 +6,7 @@ ghost use Rattle.std.specs.Prelude.{◌<◌};
 use crate::searches::space_for;
 use cost::Dist;
 use engine::{EngineFault, Gate, Open, Progress, Searched, Stop, search};
-use fdr::FdrTask;
+use fdr::{Fact, FdrTask};
 use owner::{Space, Ties};
 use packed::Plain;
 use packed_spread::{ByValue, Spread};
@@ -28,6 +28,21 @@ struct MeetingSpread<'a> {
     meeting: &'a Meeting,
 }
 
+impl<'a> MeetingSpread<'a> {
+    /// Comes to the meeting where the owner of state 4 or of state 3 is asked for.
+    fn come_for(&self, state: u32) {
+        match state {
+            4 => {
+                self.meeting.meet(true);
+            }
+            3 => {
+                self.meeting.meet(false);
+            }
+            _ => {}
+        }
+    }
+}
+
 impl<'a> Spread for MeetingSpread<'a> {
     ghost use Rattle.fdr.specs.Tasks as tasks;
     ghost use Rattle.packed_spread.specs.Spreads.{value_owner};
@@ -37,19 +52,28 @@ impl<'a> Spread for MeetingSpread<'a> {
 
     ghost owner = { λ _. value_owner };
 
+    ghost state_hash = { λ _ _. 0 };
+
     ghost is_below = { λ _. value_owner_is_below };
 
     fn owner_of(&self, state: &[u32], owners: usize) -> usize {
-        match state.first() {
-            Some(4) => {
-                self.meeting.meet(true);
-            }
-            Some(3) => {
-                self.meeting.meet(false);
-            }
-            _ => {}
+        if let Some(value) = state.first() {
+            self.come_for(*value);
         }
         self.by_value.owner_of(state, owners)
+    }
+
+    fn hash_of(&self, state: &[u32]) -> u64 {
+        self.by_value.hash_of(state)
+    }
+
+    fn owner_after(&self, state: &[u32], hash: u64, facts: &[Fact], owners: usize) -> usize {
+        for fact in facts {
+            if fact.variable == 0 {
+                self.come_for(fact.value);
+            }
+        }
+        self.by_value.owner_after(state, hash, facts, owners)
     }
 }
 

@@ -5,13 +5,13 @@ use Rattle.packed.proofs.bits.Bits.has_values_in_range.Goals as goal
 use Rattle.packed.proofs.bits.Bits.has_values_in_range.Goals.{After-range}
 
 -- the value that is compared
-value_is : (g : _) (c : After-range g) → get_or (spec.values_in c.args.self.now.words c.args.layout.now) c.loop-variable.variable 0 ≡ c.value.result
+value_is : (g : _) (c : After-range g) → get_or (spec.values_in c.args.self.now.words c.args.layout.now) c.loop-variable.variable 0 ≡ c.number_in.result
 value_is g c =
     let at = field_of g.row.WORDS c.args.layout.now c.fields-field-items.result.now c.loop-variable.variable c.requires.fits c.fields-field-items.ensures.limits c.fields-field-items.ensures.fields c.loop-variable-test.true in
-    value_at g.row.WORDS c.args.self.now.words c.args.layout.now c.loop-variable.variable _ at ∙ sym c.value.ensures
+    value_at g.row.WORDS c.args.self.now.words c.args.layout.now c.loop-variable.variable _ at ∙ sym c.number_in.ensures
 
-pub value-requires : goal.value-requires
-value-requires g c = (
+pub number_in-requires : goal.number_in-requires
+number_in-requires g c = (
   search rules,
   (field_of g.row.WORDS c.args.layout.now _ c.loop-variable.variable c.requires.fits c.fields-field-items.ensures.limits c.fields-field-items.ensures.fields c.loop-variable-test.true).placed,
 )
@@ -22,7 +22,7 @@ range-requires g c = omega (arith, c.loop-variable-test.true, ap length c.fields
 pub loop-variable-preserved : goal.loop-variable-preserved
 loop-variable-preserved g c =
     below_more _ _ c.loop-variable.invariant
-    (omega (arith, c.if-value-range.false, value_is g (goal.at.loop-variable-preserved g c).After-range, c.range.ensures))
+    (omega (arith, c.if-number_in-range.false, value_is g (goal.at.loop-variable-preserved g c).After-range, c.range.ensures))
 
 pub returns : goal.returns
 returns g c = (
@@ -35,10 +35,10 @@ returns g c = (
   λ _. search rules,
 )
 
-pub returns-then-value-range : goal.returns-then-value-range
-returns-then-value-range g c =
+pub returns-then-number_in-range : goal.returns-then-number_in-range
+returns-then-number_in-range g c =
     let within : c.loop-variable.variable < length c.args.layout.now =
     omega (arith, c.loop-variable-test.true, ap length c.fields-field-items.ensures.fields, length-fields c.args.layout.now) in (
       (λ no. search rules),
-      λ state. absurd (omega (arith, state.in_range c.loop-variable.variable within, c.if-value-range.true, value_is g (goal.at.returns-then-value-range g c).After-range, c.range.ensures)),
+      λ state. absurd (omega (arith, state.in_range c.loop-variable.variable within, c.if-number_in-range.true, value_is g (goal.at.returns-then-number_in-range g c).After-range, c.range.ensures)),
     )

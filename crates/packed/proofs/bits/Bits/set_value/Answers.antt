@@ -3,8 +3,8 @@ use Rattle.packed.proofs.Placing.{length-fields, field_of}
 use Rattle.packed.proofs.Changing.{written}
 use Rattle.packed.proofs.bits.Bits.set_value.Goals as goal
 
-pub value-requires : goal.value-requires
-value-requires g c =
+pub number_in-requires : goal.number_in-requires
+number_in-requires g c =
     let at = field_of g.row.WORDS c.args.layout.now c.fields.result.now c.args.fact.variable c.requires.form.fits c.fields.ensures.limits c.fields.ensures.fields
     (omega (arith, ap length c.fields.ensures.fields, length-fields c.args.layout.now, c.requires.fact.0)) in
     (search rules, at.placed)
@@ -39,7 +39,7 @@ overflow_sub-self g c =
     (omega (arith, ap length c.fields.ensures.fields, length-fields c.args.layout.now, c.requires.fact.0)) in
     let done = written g.row.WORDS c.args.self.now.words c.args.layout.now c.args.fact
     (get_or c.fields.result.now c.args.fact.variable (record { word = 0; shift = 0; width = 0 })) c.requires.form c.fields.ensures.limits c.requires.fact at
-    c.value.result c.wrapping_shl-old.result c.wrapping_shl-new.result c.value.ensures c.wrapping_shl-old.ensures c.wrapping_shl-new.ensures in
+    c.number_in.result c.wrapping_shl-old.result c.wrapping_shl-new.result c.number_in.ensures c.wrapping_shl-old.ensures c.wrapping_shl-new.ensures in
     done.within
 
 pub overflow_add-self : goal.overflow_add-self
@@ -48,7 +48,7 @@ overflow_add-self g c =
     (omega (arith, ap length c.fields.ensures.fields, length-fields c.args.layout.now, c.requires.fact.0)) in
     let done = written g.row.WORDS c.args.self.now.words c.args.layout.now c.args.fact
     (get_or c.fields.result.now c.args.fact.variable (record { word = 0; shift = 0; width = 0 })) c.requires.form c.fields.ensures.limits c.requires.fact at
-    c.value.result c.wrapping_shl-old.result c.wrapping_shl-new.result c.value.ensures c.wrapping_shl-old.ensures c.wrapping_shl-new.ensures in
+    c.number_in.result c.wrapping_shl-old.result c.wrapping_shl-new.result c.number_in.ensures c.wrapping_shl-old.ensures c.wrapping_shl-new.ensures in
     omega (arith, done.fits)
 
 pub returns-clause-form : goal.returns-clause-form
@@ -57,7 +57,7 @@ returns-clause-form g c =
     (omega (arith, ap length c.fields.ensures.fields, length-fields c.args.layout.now, c.requires.fact.0)) in
     let done = written g.row.WORDS c.args.self.now.words c.args.layout.now c.args.fact
     (get_or c.fields.result.now c.args.fact.variable (record { word = 0; shift = 0; width = 0 })) c.requires.form c.fields.ensures.limits c.requires.fact at
-    c.value.result c.wrapping_shl-old.result c.wrapping_shl-new.result c.value.ensures c.wrapping_shl-old.ensures c.wrapping_shl-new.ensures in
+    c.number_in.result c.wrapping_shl-old.result c.wrapping_shl-new.result c.number_in.ensures c.wrapping_shl-old.ensures c.wrapping_shl-new.ensures in
     done.form
 
 pub returns-clause-values : goal.returns-clause-values
@@ -66,5 +66,5 @@ returns-clause-values g c =
     (omega (arith, ap length c.fields.ensures.fields, length-fields c.args.layout.now, c.requires.fact.0)) in
     let done = written g.row.WORDS c.args.self.now.words c.args.layout.now c.args.fact
     (get_or c.fields.result.now c.args.fact.variable (record { word = 0; shift = 0; width = 0 })) c.requires.form c.fields.ensures.limits c.requires.fact at
-    c.value.result c.wrapping_shl-old.result c.wrapping_shl-new.result c.value.ensures c.wrapping_shl-old.ensures c.wrapping_shl-new.ensures in
+    c.number_in.result c.wrapping_shl-old.result c.wrapping_shl-new.result c.number_in.ensures c.wrapping_shl-old.ensures c.wrapping_shl-new.ensures in
     done.values

@@ -9,13 +9,13 @@ next : (g : _) (c : After-wrapping_shl g)
     → IsNext g.row.WORDS c.loop-field.words c.args.layout.now (spec.values_in c.args.self.now.words c.args.layout.now) c.loop-field.field-index (get_or c.fields-field-items.result.now c.loop-field.field-index (record { word = 0; shift = 0; width = 0 })) c.wrapping_shl.result
 next g c =
     let at = field_of g.row.WORDS c.args.layout.now c.fields-field-items.result.now c.loop-field.field-index c.requires.fits c.fields-field-items.ensures.limits c.fields-field-items.ensures.fields c.loop-field-test.true in
-    next_field g.row.WORDS c.loop-field.words c.args.layout.now (spec.values_in c.args.self.now.words c.args.layout.now) c.loop-field.field-index _ c.value.result c.wrapping_shl.result
+    next_field g.row.WORDS c.loop-field.words c.args.layout.now (spec.values_in c.args.self.now.words c.args.layout.now) c.loop-field.field-index _ c.number_in.result c.wrapping_shl.result
     c.fields-field-items.ensures.limits c.requires.state at c.loop-field.invariant
-    (c.value.ensures ∙ sym (value_at g.row.WORDS c.args.self.now.words c.args.layout.now c.loop-field.field-index _ at))
+    (c.number_in.ensures ∙ sym (value_at g.row.WORDS c.args.self.now.words c.args.layout.now c.loop-field.field-index _ at))
     c.wrapping_shl.ensures
 
-pub value-requires : goal.value-requires
-value-requires g c = (
+pub number_in-requires : goal.number_in-requires
+number_in-requires g c = (
   search rules,
   (field_of g.row.WORDS c.args.layout.now _ c.loop-field.field-index c.requires.fits c.fields-field-items.ensures.limits c.fields-field-items.ensures.fields c.loop-field-test.true).placed,
 )

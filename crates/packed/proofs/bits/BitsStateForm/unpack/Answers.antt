@@ -4,19 +4,19 @@ use Rattle.std.proofs.lemmas.List.Edits.{fill_by_more}
 use Rattle.packed.specs.Fields as spec
 use Rattle.packed.proofs.Placing.{field_of, value_at, length-fields, length-values_in}
 use Rattle.packed.proofs.bits.BitsStateForm.unpack.Goals as goal
-use Rattle.packed.proofs.bits.BitsStateForm.unpack.Goals.{After-value}
+use Rattle.packed.proofs.bits.BitsStateForm.unpack.Goals.{After-number_in}
 
 -- the value that is written
-value_is : (g : _) (c : After-value g) → c.value.result ≡ get_or (spec.values_in c.args.self.now.words c.args.layout.now) c.loop-variable.variable 0
+value_is : (g : _) (c : After-number_in g) → c.number_in.result ≡ get_or (spec.values_in c.args.self.now.words c.args.layout.now) c.loop-variable.variable 0
 value_is g c =
     let at = field_of g.row.WORDS c.args.layout.now c.fields-field-items.result.now c.loop-variable.variable c.requires.fits c.fields-field-items.ensures.limits c.fields-field-items.ensures.fields c.loop-variable-test.true in
-    c.value.ensures ∙ sym (value_at g.row.WORDS c.args.self.now.words c.args.layout.now c.loop-variable.variable _ at)
+    c.number_in.ensures ∙ sym (value_at g.row.WORDS c.args.self.now.words c.args.layout.now c.loop-variable.variable _ at)
 
-within : (g : _) (c : After-value g) → c.loop-variable.variable < length c.args.layout.now
+within : (g : _) (c : After-number_in g) → c.loop-variable.variable < length c.args.layout.now
 within g c = omega (arith, c.loop-variable-test.true, ap length c.fields-field-items.ensures.fields, length-fields c.args.layout.now)
 
-pub value-requires : goal.value-requires
-value-requires g c = (
+pub number_in-requires : goal.number_in-requires
+number_in-requires g c = (
   search rules,
   (field_of g.row.WORDS c.args.layout.now _ c.loop-variable.variable c.requires.fits c.fields-field-items.ensures.limits c.fields-field-items.ensures.fields c.loop-variable-test.true).placed,
 )
