@@ -1,12 +1,11 @@
 -- States as they lie in memory: what is found among them, and what writing does to their nodes.
-use Rattle.std.proofs.Common.{◌≡◌, ℕ, zero, suc, ◌+◌, ◌<◌, Bool, true, false, List, [], ◌∷◌, length, Some, None, position, refl, sym, ap, ◌∙◌, subst, arith, if◌then◌else◌}
+use Rattle.std.proofs.Common.{◌≡◌, ℕ, zero, suc, ◌+◌, ◌<◌, Bool, true, false, List, [], ◌∷◌, ◌++◌, length, Option, Some, None, position, refl, sym, ap, ◌∙◌, subst, arith, if◌then◌else◌}
 use Rattle.std.specs.Prelude.{slice_get, slice_set, All, IsTrue}
 use Rattle.std.specs.List.{position_from}
 use Rattle.std.specs.Map.{keys_of, values_of}
 use Rattle.std.specs.Ordering.{nat_cmp, partial_ordering_then, is_some_and, is_lt}
-use Rattle.std.proofs.lemmas.Bool.{cond_both}
 use Rattle.std.proofs.lemmas.Bool.Decides.{nat_tests}
-use Rattle.std.proofs.lemmas.List.{length-map}
+use Rattle.std.proofs.lemmas.List.{length-map, map-append}
 use Rattle.std.proofs.lemmas.List.Elements.{All-nil, All-cons, All-head, All-tail}
 use Rattle.std.proofs.lemmas.Iterator.Adapters.{position_from-zero}
 use Rattle.owner_theory.specs.Owners.{Node, same_state, rank_less}
@@ -17,10 +16,9 @@ use Rattle.closed.specs.declared.table.Entry.{Entry}
 use Rattle.closed.specs.declared.table.Outcome.{Outcome}
 use Rattle.closed.specs.declared.table.Outcome.TheVariants.{New, Better, Kept}
 use Rattle.closed.specs.declared.small_entry.SmallEntry.{SmallEntry}
-use Rattle.indexmap.specs.IndexMap.{insert_entry, set_value_at}
 use Rattle.closed.specs.Tables.{node_with, reached, outcome_from, outcome_of}
-use Rattle.closed.specs.Entries.{entry_in, nodes_of, with_entry}
-use Rattle.closed.proofs.Reached.{outcome_of-Better}
+use Rattle.closed.specs.Entries.{entry_in, nodes_of, with_entry, set_entry_at}
+use Rattle.closed.proofs.Reached.{outcome_of-New, outcome_of-Better}
 
 -- the comparison of ranks is that of nodes
 pub is_lt-rank_less : (x y : Rank) →
@@ -151,75 +149,68 @@ module _ {F : Type 0} (values : F → List ℕ) (IsForm : F → Type 0) (eq : F 
       ∙ ap (λ (k : ℕ). if rank_less m.cost m.steps found.entry.cost found.entry.steps then Better k else Kept)
       (let b = here in omega arith))
 
+  -- no entry has the key where the state is new
+  pub New-missing : (entries : List (F × SmallEntry)) (i : ℕ) → All (λ p. IsForm p.0) entries →
+      outcome_of (nodes_of values entries) m ≡ New i → position (eq key) (keys_of entries) ≡ None
+  New-missing entries i all new = go (position (eq key) (keys_of entries)) refl
+    where
+      go : (r : Option ℕ) → position (eq key) (keys_of entries) ≡ r → r ≡ None
+      go None h = refl
+      go (Some j) h =
+          let found = some_found entries 0 j all (sym (position_from-zero (eq key) (keys_of entries)) ∙ h) in
+          absurd (kept (rank_less m.cost m.steps found.entry.cost found.entry.steps) found.place (sym (found.outcome 0) ∙ new))
+        where
+          kept : (less : Bool) (place : ℕ) → (if less then Better (0 + place) else Kept) ≡ New i → ⊥
+          kept true place h = cc
+          kept false place h = cc
+
+-- what equals one of several forms is a form, if what equals a form is one
+module _ {F : Type 0} (IsForm : F → Type 0) (eq : F → F → Bool) (key : F)
+    (like : (p : F) → IsForm p → IsTrue (eq key p) → IsForm key) where
+  equals_some : (entries : List (F × SmallEntry)) (before i : ℕ) → All (λ p. IsForm p.0) entries →
+      position_from (eq key) before (keys_of entries) ≡ Some i → IsForm key
+  equals_some [] before i all h = absurd (cc)
+  equals_some (p ∷ ps) before i all h =
+      go (eq key p.0) refl (equals_some ps (before + 1) i (All-tail (λ q. IsForm q.0) p ps all)) h
+    where
+      go : (same : Bool) → eq key p.0 ≡ same →
+          (position_from (eq key) (before + 1) (keys_of ps) ≡ Some i → IsForm key) →
+          (if same then Some before else position_from (eq key) (before + 1) (keys_of ps)) ≡ Some i → IsForm key
+      go true e rest h = like p.0 (All-head (λ q. IsForm q.0) p ps all) e
+      go false e rest h = rest h
+
+  pub form-found : (entries : List (F × SmallEntry)) (i : ℕ) → All (λ p. IsForm p.0) entries →
+      position (eq key) (keys_of entries) ≡ Some i → IsForm key
+  form-found entries i all h = equals_some entries 0 i all (sym (position_from-zero (eq key) (keys_of entries)) ∙ h)
+
 -- ---- what writing does
 
-module _ {F : Type 0} (values : F → List ℕ) (IsForm : F → Type 0) (eq : F → F → Bool)
-    (compares : Compares values IsForm eq) (key : F) (form : IsForm key) (e : SmallEntry) where
-  inserted : (entries : List (F × SmallEntry)) (at i : ℕ) → All (λ p. IsForm p.0) entries →
-      outcome_from at (nodes_of values entries) (node_with (values key) (entry_in e)) ≡ New i →
-      nodes_of values (insert_entry eq entries key e) ≡ reached (nodes_of values entries) (node_with (values key) (entry_in e))
-  inserted [] at i all h = refl
-  inserted (p ∷ ps) at i all h =
-      go (eq key p.0) (rank_less e.cost e.steps p.1.cost p.1.steps) refl refl
-      (inserted ps (suc at) i (All-tail (λ q. IsForm q.0) p ps all))
-      (sym (outcome_is values IsForm eq compares key form new refl (eq key p.0) at p ps is refl) ∙ h)
-    where
-      is : IsForm p.0
-      is = All-head (λ q. IsForm q.0) p ps all
+-- a state that was not there and is appended is reached
+pub nodes_of-pushed : {F : Type 0} (values : F → List ℕ) (entries : List (F × SmallEntry)) (key : F) (e : SmallEntry) (state : List ℕ)
+    (i : ℕ) → values key ≡ state → outcome_of (nodes_of values entries) (node_with state (entry_in e)) ≡ New i →
+    nodes_of values (entries ++ (key, e) ∷ []) ≡ reached (nodes_of values entries) (node_with state (entry_in e))
+nodes_of-pushed {F = F} values entries key e state i same h =
+    map-append (λ (p : F × SmallEntry). node_with (values p.0) (entry_in p.1)) entries ((key, e) ∷ [])
+    ∙ ap (λ (s : List ℕ). nodes_of values entries ++ node_with s (entry_in e) ∷ []) same
+    ∙ sym (outcome_of-New (nodes_of values entries) (node_with state (entry_in e)) i h).appended
 
-      new : Node
-      new = node_with (values key) (entry_in e)
-
-      n : Node
-      n = node_with (values p.0) (entry_in p.1)
-
-      go : (same less : Bool) → eq key p.0 ≡ same → rank_less e.cost e.steps p.1.cost p.1.steps ≡ less →
-          (outcome_from (suc at) (nodes_of values ps) new ≡ New i →
-          nodes_of values (insert_entry eq ps key e) ≡ reached (nodes_of values ps) new) →
-          (if same then (if less then Better at else Kept) else outcome_from (suc at) (nodes_of values ps) new) ≡ New i →
-          nodes_of values (insert_entry eq (p ∷ ps) key e) ≡ reached (nodes_of values (p ∷ ps)) new
-      go true true s l rest h = absurd (cc)
-      go true false s l rest h = absurd (cc)
-      go false less s l rest h =
-          ap (λ (b : Bool). nodes_of values (if b then (p.0, e) ∷ ps else p ∷ insert_entry eq ps key e)) s
-          ∙ ap (λ (ns : List Node). n ∷ ns) (rest h)
-          ∙ sym
-          (ap
-          (λ (b : Bool).
-          if b
-          then (if rank_less new.cost new.steps n.cost n.steps then new ∷ nodes_of values ps else n ∷ nodes_of values ps)
-          else n ∷ reached (nodes_of values ps) new)
-          (same_state-eq values IsForm eq compares key form new refl p.0 is ∙ s))
-
-  -- a state that was not there and is put in is reached
-  pub nodes_of-insert_entry : (entries : List (F × SmallEntry)) (state : List ℕ) (i : ℕ) → All (λ p. IsForm p.0) entries →
-      values key ≡ state → outcome_of (nodes_of values entries) (node_with state (entry_in e)) ≡ New i →
-      nodes_of values (insert_entry eq entries key e) ≡ reached (nodes_of values entries) (node_with state (entry_in e))
-  nodes_of-insert_entry entries state i all same h =
-      inserted entries 0 i all
-      (ap (λ (s : List ℕ). outcome_of (nodes_of values entries) (node_with s (entry_in e))) same ∙ h)
-      ∙ ap (λ (s : List ℕ). reached (nodes_of values entries) (node_with s (entry_in e))) same
-
--- keys stay forms where one is put in
-pub All-insert_entry : {F : Type 0} (P : F → Type 0) (eq : F → F → Bool) (entries : List (F × SmallEntry)) (key : F)
-    (e : SmallEntry) → P key → All (λ p. P p.0) entries → All (λ p. P p.0) (insert_entry eq entries key e)
-All-insert_entry P eq [] key e here all = All-cons (λ p. P p.0) (key, e) [] here all
-All-insert_entry P eq (p ∷ ps) key e here all =
-    let first : P p.0 = All-head (λ q. P q.0) p ps all in
-    let rest : All (λ q. P q.0) ps = All-tail (λ q. P q.0) p ps all in
-    cond_both (eq key p.0) _ _ (λ es. All (λ q. P q.0) es)
-    (λ _. All-cons (λ q. P q.0) (p.0, e) ps first rest)
-    (λ _. All-cons (λ q. P q.0) p (insert_entry eq ps key e) first (All-insert_entry P eq ps key e here rest))
+-- keys stay forms where one is appended
+pub All-pushed : {F : Type 0} (P : F → Type 0) (entries : List (F × SmallEntry)) (key : F) (e : SmallEntry) → P key →
+    All (λ p. P p.0) entries → All (λ p. P p.0) (entries ++ (key, e) ∷ [])
+All-pushed P [] key e here all = All-cons (λ p. P p.0) (key, e) [] here all
+All-pushed P (p ∷ ps) key e here all =
+    All-cons (λ q. P q.0) p (ps ++ (key, e) ∷ []) (All-head (λ q. P q.0) p ps all)
+    (All-pushed P ps key e here (All-tail (λ q. P q.0) p ps all))
 
 -- and where a value is set
-pub All-set_value_at : {F : Type 0} (P : F → Type 0) (entries : List (F × SmallEntry)) (i : ℕ) (e : SmallEntry) →
-    All (λ p. P p.0) entries → All (λ p. P p.0) (set_value_at entries i e)
-All-set_value_at P [] i e all = all
-All-set_value_at P (p ∷ ps) zero e all =
+pub All-set_entry_at : {F : Type 0} (P : F → Type 0) (entries : List (F × SmallEntry)) (i : ℕ) (e : SmallEntry) →
+    All (λ p. P p.0) entries → All (λ p. P p.0) (set_entry_at entries i e)
+All-set_entry_at P [] i e all = all
+All-set_entry_at P (p ∷ ps) zero e all =
     All-cons (λ q. P q.0) (p.0, e) ps (All-head (λ q. P q.0) p ps all) (All-tail (λ q. P q.0) p ps all)
-All-set_value_at P (p ∷ ps) (suc i) e all =
-    All-cons (λ q. P q.0) p (set_value_at ps i e) (All-head (λ q. P q.0) p ps all)
-    (All-set_value_at P ps i e (All-tail (λ q. P q.0) p ps all))
+All-set_entry_at P (p ∷ ps) (suc i) e all =
+    All-cons (λ q. P q.0) p (set_entry_at ps i e) (All-head (λ q. P q.0) p ps all)
+    (All-set_entry_at P ps i e (All-tail (λ q. P q.0) p ps all))
 
 -- the values of forms are states
 pub All-states : {F : Type 0} (values : F → List ℕ) (IsForm : F → Type 0) (P : List ℕ → Type 0)
@@ -239,12 +230,12 @@ All-key P (p ∷ ps) zero k e all h =
     let same : p ≡ (k, e) = cc in subst (λ q. P q.0) same (All-head (λ q. P q.0) p ps all)
 All-key P (p ∷ ps) (suc i) k e all h = All-key P ps i k e (All-tail (λ q. P q.0) p ps all) h
 
-pub nodes_of-set_value_at : {F : Type 0} (values : F → List ℕ) (entries : List (F × SmallEntry)) (i : ℕ) (e : SmallEntry) →
-    nodes_of values (set_value_at entries i e) ≡ with_entry (nodes_of values entries) i (entry_in e)
-nodes_of-set_value_at values [] i e = refl
-nodes_of-set_value_at values (p ∷ ps) zero e = refl
-nodes_of-set_value_at values (p ∷ ps) (suc i) e =
-    ap (λ (ns : List Node). node_with (values p.0) (entry_in p.1) ∷ ns) (nodes_of-set_value_at values ps i e)
+pub nodes_of-set_entry_at : {F : Type 0} (values : F → List ℕ) (entries : List (F × SmallEntry)) (i : ℕ) (e : SmallEntry) →
+    nodes_of values (set_entry_at entries i e) ≡ with_entry (nodes_of values entries) i (entry_in e)
+nodes_of-set_entry_at values [] i e = refl
+nodes_of-set_entry_at values (p ∷ ps) zero e = refl
+nodes_of-set_entry_at values (p ∷ ps) (suc i) e =
+    ap (λ (ns : List Node). node_with (values p.0) (entry_in p.1) ∷ ns) (nodes_of-set_entry_at values ps i e)
 
 pub with_entry-at : (nodes : List Node) (i : ℕ) (n : Node) (e : Entry) → slice_get nodes i ≡ Some n →
     with_entry nodes i e ≡ slice_set nodes i (node_with n.state e)

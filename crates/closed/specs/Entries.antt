@@ -20,6 +20,12 @@ entry_in e =
 abbrev pub nodes_of : {F : Type 0} → (F → List ℕ) → List (F × SmallEntry) → List Node
 nodes_of values entries = map (λ p. node_with (values p.0) (entry_in p.1)) entries
 
+-- the rows with this entry at a place
+abbrev pub set_entry_at : {F : Type 0} → List (F × SmallEntry) → ℕ → SmallEntry → List (F × SmallEntry)
+set_entry_at [] i e = []
+set_entry_at (p ∷ ps) zero e = (p.0, e) ∷ ps
+set_entry_at (p ∷ ps) (suc i) e = p ∷ set_entry_at ps i e
+
 -- states with these ranges have the form, and all keys and the buffer are forms of such states
 pub record AreForms {F : Type 0} (Fits : List ℕ → Type 0) (IsForm : List ℕ → F → Type 0) (ranges : List ℕ)
     (entries : List (F × SmallEntry)) (sought : F) : Type 0 where

@@ -2,3 +2,4 @@ pub mod Tables
 pub mod Outcomes
 pub mod Limits
 pub mod Entries
+pub mod Rows

@@ -2,8 +2,10 @@
 //! Hart, Nilsson and Raphael 1968).
 #![tactic(auto)]
 
+mod index;
 mod laws;
 mod message;
+mod rows;
 mod small_entry;
 mod table;
 

@@ -1,19 +1,20 @@
 //! The table of reached states.
 
-ghost use Rattle.std.specs.Prelude.{◌≡◌, ℕ, ◌<◌, ◌≤◌, ◌==◌, ◌⊎◌, false, List, [], take, length, map, fold, Option, slice_get, slice_set, Some, IfOk, IfSome, IfNone, OnOk, OnErr, All};
+ghost use Rattle.std.specs.Prelude.{◌≡◌, ◌≢◌, IsTrue, ℕ, ◌<◌, ◌≤◌, ◌==◌, ◌⊎◌, false, List, [], take, length, map, fold, Option, slice_get, slice_set, position, Some, None, IfOk, IfSome, IfNone, OnOk, OnErr, All};
+ghost use Rattle.std.specs.Map.{keys_of};
 ghost use Rattle.fdr.specs.Tasks as tasks;
 ghost use Rattle.fdr.specs.Tasks.{IsState};
 ghost use Rattle.owner_theory.specs.Owners.{Node, marked};
 ghost use Rattle.closed.specs.declared.message.Parent.{Parent};
-ghost use Rattle.closed.specs.declared.table.Outcome.TheVariants.{New, Better};
+ghost use Rattle.closed.specs.declared.table.Outcome.TheVariants.{New, Better, Kept};
 ghost use Rattle.closed.specs.Tables.{reached, outcome_of, outcomes_of, node_with, fresh, arrival};
 ghost use Rattle.closed.specs.Limits.{IsPastEntry};
 ghost use Rattle.closed.specs.Entries.{entry_in, nodes_of, with_entry, taken_back, Notes};
 
 use crate::message::{Message, Parent};
+use crate::rows::Rows;
 use crate::small_entry::SmallEntry;
 use fdr::FdrTask;
-use indexmap::IndexMap;
 use openlist::Rank;
 use packed::{Layout, StateForm};
 use std::alloc::{AllocError, Global};
@@ -42,12 +43,15 @@ pub enum Outcome {
 }
 
 /// The states that were reached, in the order in which they were first reached, indexed by their forms. A contract sees
-/// the ranges of the task's variables and a node for each state. A table holds ranks of at most 2^32 - 1 steps, and
-/// parents whose place and operator are at most 2^32 - 1 and whose worker is at most 255.
+/// the ranges of the task's variables and a node for each state. A state takes the size of its form, 24 bytes for its entry and
+/// 12 to 24 bytes of the index.
+///
+/// A table holds at most 2,863,311,530 states, and refuses a further one as it does where allocation fails. It holds ranks of
+/// at most 2^32 - 1 steps, and parents whose place and operator are at most 2^32 - 1 and whose worker is at most 255.
 #[derive(Drop)]
 pub struct ClosedTable<F: StateForm + Drop> {
     layout: Layout,
-    entries: IndexMap<F, SmallEntry>,
+    rows: Rows<F>,
     /// A buffer for the form of the state that is looked up.
     sought: F,
 }
@@ -58,24 +62,22 @@ impl<F: StateForm + Drop> Model for ClosedTable<F> {
 
     ghost Value = { Table };
 
-    ghost view = { λ t. record { ranges = t.layout; nodes = nodes_of (F.values t.layout) t.entries.entries } };
+    ghost view = { λ t. record { ranges = t.layout; nodes = nodes_of (F.values t.layout) t.rows } };
 
-    ghost invariant = { λ t. AreForms F.Fits F.IsForm t.layout t.entries.entries t.sought };
+    ghost invariant = { λ t. AreForms F.Fits F.IsForm t.layout t.rows t.sought };
 }
 
-/// The outcome of reaching the state of a form at a rank, where the keys are forms of states with the same ranges.
-fn outcome_among<F: StateForm + Drop>(
-    entries: &IndexMap<F, SmallEntry>,
-    form: &F,
-    rank: Rank,
-) -> Outcome
-    ensures { (ranges : List ℕ) (parent : Option Parent) → F.IsForm ranges form.now →
-        All (λ p. F.IsForm ranges p.0) entries.now.entries →
-        result ≡ outcome_of (nodes_of (F.values ranges) entries.now.entries) (fresh (F.values ranges form.now) rank parent) }
+/// The outcome of reaching the state of a form at a rank, where the keys are forms of states with the same ranges. What equals
+/// none of them is new, also if it is no form of a state.
+fn outcome_among<F: StateForm + Drop>(rows: &Rows<F>, form: &F, rank: Rank) -> Outcome
+    ensures outcome { (ranges : List ℕ) (parent : Option Parent) → F.IsForm ranges form.now →
+        All (λ p. F.IsForm ranges p.0) rows.now →
+        result ≡ outcome_of (nodes_of (F.values ranges) rows.now) (fresh (F.values ranges form.now) rank parent) }
+    ensures form { result ≡ Kept → (ranges : List ℕ) → All (λ p. F.IsForm ranges p.0) rows.now → F.IsForm ranges form.now }
 {
-    match entries.get_index_of(form) {
-        None => Outcome::New(entries.len()),
-        Some(index) if rank < entries[index].rank() => Outcome::Better(index),
+    match rows.index_of(form) {
+        None => Outcome::New(rows.len()),
+        Some(index) if rank < rows.entry(index).rank() => Outcome::Better(index),
         Some(_) => Outcome::Kept,
     }
 }
@@ -83,27 +85,29 @@ fn outcome_among<F: StateForm + Drop>(
 /// Writes the outcome of reaching the state of a form. A new state is stored as a copy of the form. Fails only if allocation
 /// fails, which can happen only for a new state, and then leaves the entries as they were.
 fn write<F: StateForm + Drop>(
-    entries: &mut IndexMap<F, SmallEntry>,
+    rows: &mut Rows<F>,
     form: &F,
     entry: SmallEntry,
     outcome: Outcome,
 ) -> Result<(), AllocError>
-    requires { (i : ℕ) → outcome ≡ Better i → i < length entries.old.entries }
-    ensures keys { (ranges : List ℕ) → F.IsForm ranges form.now → All (λ p. F.IsForm ranges p.0) entries.old.entries →
-        All (λ p. F.IsForm ranges p.0) entries.new.entries }
-    ensures nodes { OnOk result ((ranges : List ℕ) → F.IsForm ranges form.now → All (λ p. F.IsForm ranges p.0) entries.old.entries →
-        outcome ≡ outcome_of (nodes_of (F.values ranges) entries.old.entries) (node_with (F.values ranges form.now) (entry_in entry)) →
-        nodes_of (F.values ranges) entries.new.entries ≡
-        reached (nodes_of (F.values ranges) entries.old.entries) (node_with (F.values ranges form.now) (entry_in entry))) }
-    ensures unchanged { OnErr result (entries.new.entries ≡ entries.old.entries) }
+    requires form { (ranges : List ℕ) × F.IsForm ranges form.now }
+    requires absent { (i : ℕ) → outcome ≡ New i → position (F.eq form.now) (keys_of rows.old) ≡ None }
+    requires within { (i : ℕ) → outcome ≡ Better i → i < length rows.old }
+    ensures keys { (ranges : List ℕ) → F.IsForm ranges form.now → All (λ p. F.IsForm ranges p.0) rows.old →
+        All (λ p. F.IsForm ranges p.0) rows.new }
+    ensures nodes { OnOk result ((ranges : List ℕ) → F.IsForm ranges form.now → All (λ p. F.IsForm ranges p.0) rows.old →
+        outcome ≡ outcome_of (nodes_of (F.values ranges) rows.old) (node_with (F.values ranges form.now) (entry_in entry)) →
+        nodes_of (F.values ranges) rows.new ≡
+        reached (nodes_of (F.values ranges) rows.old) (node_with (F.values ranges form.now) (entry_in entry))) }
+    ensures unchanged { OnErr result (rows.new ≡ rows.old) }
     ensures refused { OnErr result ((i : ℕ) × (outcome ≡ New i)) }
 {
     match outcome {
         Outcome::New(_) => {
-            let key = form.copy(*entries.allocator())?;
-            entries.insert(key, entry)?;
+            let key = form.copy(*rows.allocator())?;
+            rows.push(key, entry)?;
         }
-        Outcome::Better(index) => entries[index] = entry,
+        Outcome::Better(index) => rows.set_entry(index, entry),
         Outcome::Kept => {}
     }
     Ok(())
@@ -120,7 +124,7 @@ impl<F: StateForm + Drop> ClosedTable<F> {
         let sought = F::pack(alloc, &layout, task.initial())?;
         Ok(ClosedTable {
             layout,
-            entries: IndexMap::new(alloc),
+            rows: Rows::new(alloc)?,
             sought,
         })
     }
@@ -129,7 +133,7 @@ impl<F: StateForm + Drop> ClosedTable<F> {
     pub fn len(&self) -> usize
         ensures { result ≡ length self.now.nodes }
     {
-        self.entries.len()
+        self.rows.len()
     }
 
     /// Whether the table is empty.
@@ -145,14 +149,15 @@ impl<F: StateForm + Drop> ClosedTable<F> {
         ensures states { All (λ n. IsState self.now.ranges n.state) self.now.nodes }
         ensures fits { F.Fits self.now.ranges }
     {
-        let _ = self.entries.len();
+        let _ = self.rows.len();
     }
 
-    /// Makes room for this many further states. Fails only if allocation fails, and changes nothing in either case.
+    /// Makes room for this many further states. Fails only if allocation fails or a table cannot hold so many, and changes
+    /// nothing in either case.
     pub fn reserve(&mut self, more: usize) -> Result<(), AllocError>
         ensures { self.new ≡ self.old }
     {
-        self.entries.reserve(more)
+        self.rows.reserve(more)
     }
 
     /// The form of the state at that place, counted from 0, or `None` past the last place.
@@ -161,8 +166,8 @@ impl<F: StateForm + Drop> ClosedTable<F> {
             slice_get self.now.nodes index ≡ Some n → F.values self.now.ranges f.now ≡ n.state)) }
         ensures past { IfNone result (length self.now.nodes ≤ index) }
     {
-        let (form, _) = self.entries.get_index(index)?;
-        Some(form)
+        let row = self.rows.get(index)?;
+        Some(&row.0)
     }
 
     /// The entry of the state at that place, counted from 0.
@@ -170,7 +175,7 @@ impl<F: StateForm + Drop> ClosedTable<F> {
         requires { index < length self.now.nodes }
         ensures { (n : Node) → slice_get self.now.nodes index ≡ Some n → n ≡ node_with n.state result }
     {
-        self.entries[index].entry()
+        self.rows.entry(index).entry()
     }
 
     /// Writes the values of the state at that place, counted from 0, into `values`.
@@ -179,8 +184,8 @@ impl<F: StateForm + Drop> ClosedTable<F> {
         requires len { length values.old ≡ length self.now.ranges }
         ensures { (n : Node) → slice_get self.now.nodes index ≡ Some n → values.new ≡ n.state }
     {
-        let (state, _) = self.entries.get_index(index).unwrap();
-        state.unpack(&self.layout, values);
+        let row = self.rows.get(index).unwrap();
+        row.0.unpack(&self.layout, values);
     }
 
     /// Marks the state at that place as expanded at its rank.
@@ -190,7 +195,9 @@ impl<F: StateForm + Drop> ClosedTable<F> {
             self.new.nodes ≡ slice_set self.old.nodes index (marked n) }
         ensures ranges { self.new.ranges ≡ self.old.ranges }
     {
-        self.entries[index].expand();
+        let mut entry = self.rows.entry(index);
+        entry.expand();
+        self.rows.set_entry(index, entry);
     }
 
     /// Marks the state at that place as not expanded.
@@ -200,7 +207,9 @@ impl<F: StateForm + Drop> ClosedTable<F> {
             self.new.nodes ≡ slice_set self.old.nodes index (record n { expanded = false }) }
         ensures ranges { self.new.ranges ≡ self.old.ranges }
     {
-        self.entries[index].reopen();
+        let mut entry = self.rows.entry(index);
+        entry.reopen();
+        self.rows.set_entry(index, entry);
     }
 
     /// The outcome that reaching a state at a rank would have. Nothing changes but the buffer of the form that is sought.
@@ -210,7 +219,7 @@ impl<F: StateForm + Drop> ClosedTable<F> {
         ensures same { self.new ≡ self.old }
     {
         self.sought.repack(&self.layout, state);
-        outcome_among(&self.entries, &self.sought, rank)
+        outcome_among(&self.rows, &self.sought, rank)
     }
 
     /// Records that a state was reached, where `look` told the outcome. Fails only if allocation fails, which can happen
@@ -234,7 +243,7 @@ impl<F: StateForm + Drop> ClosedTable<F> {
             return Err(AllocError);
         };
         self.sought.repack(&self.layout, state);
-        write(&mut self.entries, &self.sought, entry, outcome)
+        write(&mut self.rows, &self.sought, entry, outcome)
     }
 
     /// The outcome that reaching the state of a form at a rank would have, as `look` gives it.
@@ -243,7 +252,18 @@ impl<F: StateForm + Drop> ClosedTable<F> {
         ensures { (parent : Option Parent) →
             result ≡ outcome_of self.now.nodes (fresh (F.values self.now.ranges form.now) rank parent) }
     {
-        outcome_among(&self.entries, form, rank)
+        outcome_among(&self.rows, form, rank)
+    }
+
+    /// Whether the state of this form is in the table at this rank or a lesser one, so that reaching it again would change
+    /// nothing. The form need not be that of a state.
+    pub fn knows(&self, form: &F, rank: Rank) -> bool
+        ensures known { IsTrue result → F.IsForm self.now.ranges form.now × ((parent : Option Parent) →
+            outcome_of self.now.nodes (fresh (F.values self.now.ranges form.now) rank parent) ≡ Kept) }
+        ensures unknown { result ≡ false → F.IsForm self.now.ranges form.now → (parent : Option Parent) →
+            outcome_of self.now.nodes (fresh (F.values self.now.ranges form.now) rank parent) ≢ Kept }
+    {
+        matches!(outcome_among(&self.rows, form, rank), Outcome::Kept)
     }
 
     /// Records that the state of a form was reached, where `look_form` told the outcome. Fails as `reach` does, and then
@@ -265,7 +285,7 @@ impl<F: StateForm + Drop> ClosedTable<F> {
         let Some(entry) = SmallEntry::of(rank, parent) else {
             return Err(AllocError);
         };
-        write(&mut self.entries, form, entry, outcome)
+        write(&mut self.rows, form, entry, outcome)
     }
 
     /// Records that a state was reached, and returns the outcome. Fails as `reach` does, and then leaves the table as it
@@ -301,7 +321,7 @@ impl<F: StateForm + Drop> ClosedTable<F> {
         ensures unchanged { OnErr result (replaced.new.items ≡ replaced.old.items) }
     {
         if let Outcome::Better(index) = outcome {
-            replaced.push((index, self.entries[index]))?;
+            replaced.push((index, self.rows.entry(index)))?;
         }
         Ok(())
     }
@@ -350,12 +370,12 @@ impl<F: StateForm + Drop> ClosedTable<F> {
         Ok(())
     }
 
-    /// Removes the states from place `len` on.
+    /// Removes the states from place `len` on. Where there are any, it takes time linear in the size of the table.
     fn truncate(&mut self, len: usize)
         ensures nodes { self.new.nodes ≡ take len self.old.nodes }
         ensures ranges { self.new.ranges ≡ self.old.ranges }
     {
-        self.entries.truncate(len);
+        self.rows.truncate(len);
     }
 
     /// Writes an entry back at that place, if there is a state.
@@ -363,8 +383,8 @@ impl<F: StateForm + Drop> ClosedTable<F> {
         ensures nodes { self.new.nodes ≡ with_entry self.old.nodes index (entry_in entry) }
         ensures ranges { self.new.ranges ≡ self.old.ranges }
     {
-        if index < self.entries.len() {
-            self.entries[index] = entry;
+        if index < self.rows.len() {
+            self.rows.set_entry(index, entry);
         }
     }
 
@@ -393,7 +413,7 @@ impl<F: StateForm + Drop> ClosedTable<F> {
         ensures unchanged { OnErr result (self.new ≡ self.old) }
     {
         outcomes.clear();
-        let mut replaced = Vec::new(*self.entries.allocator()); // takes memory only where a state is improved
+        let mut replaced = Vec::new(*self.rows.allocator()); // takes memory only where a state is improved
         let len = self.len();
         match self.reach_all(messages, outcomes, &mut replaced) {
             Ok(()) => Ok(()),

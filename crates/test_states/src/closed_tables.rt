@@ -78,6 +78,23 @@ fn reopens<F: StateForm + Drop>(rt: &impl Abort, table: &mut ClosedTable<F>, ind
     table.mark_open(index);
 }
 
+/// Checks whether a state is known at a rank.
+fn is_known<F: StateForm + Drop>(
+    rt: &impl Abort,
+    alloc: Global,
+    table: &ClosedTable<F>,
+    layout: &Layout,
+    state: &[u32],
+    rank: Rank,
+    expected: bool,
+)
+    requires { F.Fits layout.now }
+{
+    assert!(rt; layout.is_state(state), "a state");
+    let form = F::pack(alloc, layout, state).expect(rt, "memory");
+    assert_eq!(rt; table.knows(&form, rank), expected);
+}
+
 /// A state that is reached several times keeps the least rank.
 fn keeps_the_least_rank_in<F: StateForm + Drop, R: Abort>(
     rt: &R,
@@ -129,6 +146,9 @@ fn keeps_the_least_rank_in<F: StateForm + Drop, R: Abort>(
     );
     keeps(rt, &table, 0, rank(5, 2), 8, false);
     keeps(rt, &table, 1, rank(1, 1), 4, false);
+    is_known(rt, alloc, &table, layout, &state, rank(5, 2), true);
+    is_known(rt, alloc, &table, layout, &state, rank(5, 1), false);
+    is_known(rt, alloc, &table, layout, &[0, 0], rank(9, 9), false);
     Ok(())
 }
 

@@ -28,6 +28,9 @@ fn keeps_states<F: StateForm + Drop>(
     assert!(rt; form.is_form(layout), "a form of another state");
     form.unpack(layout, &mut values);
     assert_eq!(rt; values.as_slice(), second, "what was packed last");
+    for (variable, value) in second.iter().enumerate() {
+        assert_eq!(rt; form.value(layout, variable), *value, "one value of it");
+    }
     kept.unpack(layout, &mut values);
     assert_eq!(rt; values.as_slice(), first, "what was copied");
     form.repack(layout, first);

@@ -6,6 +6,6 @@ use Rattle.closed.proofs.table.ClosedTable.entry.Goals as goal
 
 pub returns : goal.returns
 returns g c n there =
-    node_at-value (g.F.StateForm.values c.self.inside.layout) c.self.inside.entries.entries c.args.index c.index.result.now n c.index.ensures
+    node_at-value (g.F.StateForm.values c.self.inside.layout) c.self.inside.rows c.args.index c.entry.result n c.entry.ensures
     (subst (λ (t : Table). slice_get t.nodes c.args.index ≡ Some n) (sym c.self.view_is) there)
-    ∙ ap (λ (e : Entry). node_with n.state e) (sym c.entry.ensures)
+    ∙ ap (λ (e : Entry). node_with n.state e) (sym c.entry-2.ensures)

@@ -2,13 +2,26 @@ use Rattle.std.proofs.Common.{sym, ap, ◌∙◌}
 use Rattle.closed.specs.Tables.{Table, fresh, outcome_of}
 use Rattle.closed.specs.Limits.{IsPastEntry}
 use Rattle.closed.proofs.Reached.{refused_new}
-use Rattle.closed.proofs.Entries.{Better-entry}
+use Rattle.closed.proofs.Entries.{Better-entry, New-missing, compares}
 use Rattle.closed.proofs.table.ClosedTable.reach.Goals as goal
 
-pub write-requires : goal.write-requires
-write-requires g c i better =
+pub write-requires-clause-form : goal.write-requires-clause-form
+write-requires-clause-form g c = (c.self.inside.layout, c.repack.ensures.form)
+
+pub write-requires-clause-absent : goal.write-requires-clause-absent
+write-requires-clause-absent g c i new =
+    let ranges = c.self.inside.layout in
+    let values = g.F.StateForm.values ranges in
     let m = fresh c.args.state.now c.args.rank c.args.parent in
-    Better-entry (g.F.StateForm.values c.self.inside.layout) c.self.inside.entries.entries m i
+    New-missing values (g.F.StateForm.IsForm ranges) g.F.PartialEq.eq
+    (compares values (g.F.StateForm.IsForm ranges) g.F.PartialEq.eq (g.met.F.StateForm.equal ranges) (g.met.F.StateForm.same ranges))
+    c.repack.new.self c.repack.ensures.form m c.repack.ensures.values c.self.inside.rows i c.self.invariant.keys
+    (ap (λ (t : Table). outcome_of t.nodes m) c.self.view_is ∙ sym c.requires.outcome ∙ new)
+
+pub write-requires-clause-within : goal.write-requires-clause-within
+write-requires-clause-within g c i better =
+    let m = fresh c.args.state.now c.args.rank c.args.parent in
+    Better-entry (g.F.StateForm.values c.self.inside.layout) c.self.inside.rows m i
     (ap (λ (t : Table). outcome_of t.nodes m) c.self.view_is ∙ sym c.requires.outcome ∙ better)
 
 pub returns-clause-refused : goal.returns-clause-refused

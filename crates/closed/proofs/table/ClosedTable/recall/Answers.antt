@@ -10,7 +10,7 @@ returns-clause-states g c =
     let ranges = c.self.inside.layout in
     subst (λ (t : Table). All (λ n. IsState t.ranges n.state) t.nodes) c.self.view_is
     (All-states (g.F.StateForm.values ranges) (g.F.StateForm.IsForm ranges) (IsState ranges) (g.met.F.StateForm.state ranges)
-    c.self.inside.entries.entries c.self.invariant.keys)
+    c.self.inside.rows c.self.invariant.keys)
 
 pub returns-clause-fits : goal.returns-clause-fits
 returns-clause-fits g c = subst (λ (t : Table). g.F.StateForm.Fits t.ranges) c.self.view_is c.self.invariant.fits

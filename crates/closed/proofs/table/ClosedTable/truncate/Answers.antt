@@ -8,7 +8,7 @@ use Rattle.closed.proofs.table.ClosedTable.truncate.Goals as goal
 pub returns-clause-nodes : goal.returns-clause-nodes
 returns-clause-nodes g c =
     let values = g.F.StateForm.values c.self.inside.layout in
-    ap (λ (es : List (g.row.F.Denot × SmallEntry)). nodes_of values es) c.truncate.ensures.entries
+    ap (λ (es : List (g.row.F.Denot × SmallEntry)). nodes_of values es) c.truncate.ensures
     ∙ sym
-    (take-map (λ (p : g.row.F.Denot × SmallEntry). node_with (values p.0) (entry_in p.1)) c.args.len c.self.inside.entries.entries)
+    (take-map (λ (p : g.row.F.Denot × SmallEntry). node_with (values p.0) (entry_in p.1)) c.args.len c.self.inside.rows)
     ∙ ap (λ (t : Table). take c.args.len t.nodes) c.self.view_is

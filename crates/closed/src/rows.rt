@@ -1,0 +1,132 @@
+//! Rows: the forms of states with their entries, and an index of them.
+
+ghost use Rattle.std.specs.Prelude.{◌≡◌, ◌<◌, [], ◌∷◌, ◌++◌, take, length, position, Some, None, slice_get, IfOk, IfSome, OnOk, OnErr};
+ghost use Rattle.std.specs.Option.{option_copied};
+ghost use Rattle.std.specs.Map.{keys_of, values_of};
+ghost use Rattle.closed.specs.Entries.{set_entry_at};
+
+use crate::index::{EMPTY, FIRST_SLOTS, add_rows, find, make_room, tag_of};
+use crate::small_entry::SmallEntry;
+use packed::StateForm;
+use slots::{Slot, add, home_of};
+use std::alloc::{AllocError, Global};
+use std::marker::Model;
+
+/// The forms of states, each beside its entry, with an index of the forms: open addressing, with 8 bytes for a slot, of which at
+/// most two thirds are taken. A look-up reads the slots from the home of the form's tag on, up to an empty one: most often side
+/// by side in memory. Then it reads the row whose slot has the same tag, hardly ever another one's.
+///
+/// No two forms are equal, and there are at most 2,863,311,530. In contracts its value is the list of the rows.
+#[derive(Drop)]
+pub(crate) struct Rows<F: StateForm + Drop> {
+    rows: Vec<(F, SmallEntry)>,
+    /// The slots of the rows' index, whose notes are the forms' tags.
+    slots: Vec<Slot<u32>>,
+}
+
+impl<F: StateForm + Drop> Model for Rows<F> {
+    ghost use Rattle.std.specs.Prelude.{List};
+    ghost use Rattle.closed.specs.declared.small_entry.SmallEntry.{SmallEntry};
+    ghost use Rattle.closed.specs.Rows.{AreIndexed};
+
+    ghost Value = { List (F × SmallEntry) };
+
+    ghost view = { λ r. r.rows.items };
+
+    ghost invariant = { λ r. AreIndexed F.eq F.hash_input r.rows.items r.slots.items };
+}
+
+impl<F: StateForm + Drop> Rows<F> {
+    /// No rows. Fails only if allocation fails.
+    pub(crate) fn new(alloc: Global) -> Result<Rows<F>, AllocError>
+        ensures { IfOk result (λ rows. rows ≡ []) }
+    {
+        Ok(Rows {
+            rows: Vec::new(alloc),
+            slots: vec![in alloc; EMPTY; FIRST_SLOTS]?,
+        })
+    }
+
+    /// The allocator.
+    pub(crate) fn allocator(&self) -> &Global {
+        self.rows.allocator()
+    }
+
+    /// The number of rows.
+    pub(crate) fn len(&self) -> usize
+        ensures len { result ≡ length self.now }
+    {
+        self.rows.len()
+    }
+
+    /// The place of the row with this form, counted from 0, or `None` if there is none.
+    pub(crate) fn index_of(&self, form: &F) -> Option<usize>
+        ensures index { result ≡ position (F.eq form.now) (keys_of self.now) }
+        ensures within { IfSome result (λ i. i < length self.now) }
+    {
+        find(&self.rows, &self.slots, form)
+    }
+
+    /// The row at that place, or `None` past the last place.
+    pub(crate) fn get(&self, index: usize) -> Option<&(F, SmallEntry)>
+        ensures { option_copied result ≡ slice_get self.now index }
+    {
+        self.rows.get(index)
+    }
+
+    /// The entry at that place.
+    pub(crate) fn entry(&self, index: usize) -> SmallEntry
+        requires { index < length self.now }
+        ensures { slice_get (values_of self.now) index ≡ Some result }
+    {
+        self.rows[index].1
+    }
+
+    /// Writes the entry at that place.
+    pub(crate) fn set_entry(&mut self, index: usize, entry: SmallEntry)
+        requires { index < length self.old }
+        ensures { self.new ≡ set_entry_at self.old index entry }
+    {
+        self.rows[index].1 = entry;
+    }
+
+    /// Makes room for this many further rows. Fails only if allocation fails or there would be too many rows, and changes
+    /// nothing in either case.
+    pub(crate) fn reserve(&mut self, more: usize) -> Result<(), AllocError>
+        ensures { self.new ≡ self.old }
+    {
+        let Some(count) = self.rows.len().checked_add(more) else {
+            return Err(AllocError);
+        };
+        make_room(&mut self.slots, count)?;
+        self.rows.reserve(more)
+    }
+
+    /// Appends a row whose form is in no row. Fails only if allocation fails or there are too many rows, and then leaves the
+    /// rows as they were.
+    pub(crate) fn push(&mut self, form: F, entry: SmallEntry) -> Result<(), AllocError>
+        requires { position (F.eq form) (keys_of self.old) ≡ None }
+        ensures pushed { OnOk result (self.new ≡ self.old ++ (form, entry) ∷ []) }
+        ensures unchanged { OnErr result (self.new ≡ self.old) }
+    {
+        make_room(&mut self.slots, self.rows.len() + 1)?;
+        let note = tag_of(&form);
+        let home = home_of(note, self.slots.len());
+        self.rows.push((form, entry))?;
+        let link = self.rows.len() as u32;
+        add(&mut self.slots, home, Slot { link, note });
+        Ok(())
+    }
+
+    /// Removes the rows from place `len` on. Where there are any, it takes time linear in the size of the table, since a slot
+    /// cannot be emptied alone: others are found past it. So it serves only to undo what was written before memory was refused.
+    pub(crate) fn truncate(&mut self, len: usize)
+        ensures { self.new ≡ take len self.old }
+    {
+        if len < self.rows.len() {
+            self.rows.truncate(len);
+            self.slots.fill(EMPTY);
+            add_rows(&self.rows, &mut self.slots);
+        }
+    }
+}

@@ -1,0 +1,8 @@
+//! Slots of an index with open addressing and linear probing.
+#![tactic(auto)]
+
+mod home;
+mod probing;
+
+pub use home::home_of;
+pub use probing::{Slot, add, slot_after};
