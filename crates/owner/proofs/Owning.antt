@@ -11,7 +11,7 @@ use Rattle.fdr.specs.Tasks.{ranges, IsState, is_goal_state}
 use Rattle.owner_theory.specs.Owners as machine
 use Rattle.owner_theory.specs.Owners.{At, list_at, SearchSpace, Node, Owner, f_value, node_of, improve, marked, took, treat, posted, first_node, start_owner}
 use Rattle.owner_theory.specs.Worlds.{no_open, idle, is_empty}
-use Rattle.owner_theory.proofs.Lists.{set_cases}
+use Rattle.owner_theory.proofs.Lists.{at_get, set_cases}
 use Rattle.owner_theory.proofs.Nodes.{improve_at, mark_at}
 use Rattle.openlist.specs.declared.entry.Rank.{Rank}
 use Rattle.openlist.specs.declared.entry.OpenEntry.{OpenEntry}
@@ -25,6 +25,7 @@ use Rattle.owner.specs.Owned.{OwnerOf, space_of, under, IsMessageTo, IsKept}
 use Rattle.owner.specs.Queues.{ReachedOf, message_at, h_of, IsLeast}
 use Rattle.owner.specs.Held.{IsOwner}
 use Rattle.owner.specs.Outboxes.{shown, withdrawn}
+use Rattle.closed.proofs.Reached.{outcome_of-Kept}
 use Rattle.owner.proofs.Outcomes.{reached_improves, kept_same}
 use Rattle.owner_outboxes.proofs.Withdrawing.{withdrawn_length, withdrawn_all}
 use Rattle.owner.proofs.Choosing.{no_open_some, both_false}
@@ -147,6 +148,27 @@ module _ {S : Type 0} (owner : S → List ℕ → ℕ → ℕ) (o : OwnerOf S) w
 
 -- ---- a successor is treated
 
+-- a state that is known at this rank or a lesser one, and is no goal state, is taken by doing nothing
+pub kept_takes : (space : SearchSpace) (o : Owner) (m : machine.Message) → outcome_of o.nodes (node_of m) ≡ Kept
+    → is_goal_state space.task m.state ≡ false → o ≡ took space o m
+kept_takes space o m kept goal =
+    λ j. record {
+      nodes = sym nodes j;
+      outboxes = o.outboxes;
+      bound = o.bound;
+      best = cond (sym goal j) (lesser o.best (Finite m.cost)) o.best;
+    }
+  where
+    nodes : improve o.nodes m ≡ o.nodes
+    nodes = sym (reached_improves o.nodes m) ∙ kept_same o.nodes (node_of m) kept
+
+-- and it is an owner's own where all the nodes are
+pub kept_is_own : (space : SearchSpace) (me : ℕ) (nodes : List Node) (m : Node) → ((i : ℕ) (n : Node) → At nodes i n → IsKept space me n)
+    → outcome_of nodes m ≡ Kept → space.owner_of m.state ≡ me
+kept_is_own space me nodes m each kept =
+    let told = outcome_of-Kept nodes m kept in
+    subst (λ (s : List ℕ). space.owner_of s ≡ me) told.state (each told.place told.node (at_get nodes told.place told.node told.there)).owner
+
 -- a state of its own that is known at this rank or a lesser one, and is no goal state, is treated by doing nothing
 pub kept_treats : (space : SearchSpace) (me : ℕ) (o : Owner) (m : machine.Message) → outcome_of o.nodes (node_of m) ≡ Kept
     → is_goal_state space.task m.state ≡ false → space.owner_of m.state ≡ me → o ≡ treat space me o m
@@ -155,20 +177,9 @@ kept_treats space me o m kept goal mine = sym (go (is_at_most o.bound (f_value s
     own : (space.owner_of m.state == me) ≡ true
     own = eq-eqb (space.owner_of m.state) me mine
 
-    nodes : improve o.nodes m ≡ o.nodes
-    nodes = sym (reached_improves o.nodes m) ∙ kept_same o.nodes (node_of m) kept
-
-    same : took space o m ≡ o
-    same = λ j. record {
-      nodes = nodes j;
-      outboxes = o.outboxes;
-      bound = o.bound;
-      best = cond (goal j) (lesser o.best (Finite m.cost)) o.best;
-    }
-
     go : (b : Bool) → cond b o (cond (space.owner_of m.state == me) (took space o m) (posted space o m)) ≡ o
     go true = refl
-    go false = (λ j. cond (own j) (took space o m) (posted space o m)) ∙ same
+    go false = (λ j. cond (own j) (took space o m) (posted space o m)) ∙ sym (kept_takes space o m kept goal)
 
 pub took_treats : (space : SearchSpace) (me : ℕ) (o : Owner) (m : machine.Message) → is_at_most o.bound (f_value space m.state m.cost) ≡ false
     → space.owner_of m.state ≡ me → took space o m ≡ treat space me o m

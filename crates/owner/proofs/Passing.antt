@@ -1,12 +1,11 @@
 -- Successors of which it is known that nothing changes when they are treated.
 use Rattle.std.proofs.Common.{◌≡◌, ℕ, zero, suc, ◌+◌, ◌<◌, Bool, true, false, ◌==◌, List, [], ◌∷◌, ◌++◌, length, map, get_or, take, Option, Some, None, All, refl, sym, ap, ◌∙◌, subst, arith, cond, true≢false, add-one}
-use Rattle.std.specs.Prelude.{slice_get, slice_index_or, option_and_then}
-use Rattle.std.specs.Option.{option_map_or}
+use Rattle.std.specs.Prelude.{slice_index_or}
 use Rattle.std.proofs.lemmas.Bool.Decides.{nat_tests}
 use Rattle.std.proofs.lemmas.List.{get_or-map, map_push, take_more}
 use Rattle.std.proofs.lemmas.List.Elements.{All-nil, All-cons, All-head, All-tail}
 use Rattle.cost.specs.Distances.{is_at_most}
-use Rattle.fdr.specs.Tasks.{FiniteDomainTask, Operator, applies, applies_at, cost_of, is_goal_state, successor, with_values, step}
+use Rattle.fdr.specs.Tasks.{cost_of, is_goal_state, step}
 use Rattle.owner_theory.specs.Owners.{SearchSpace, Message, Node, Owner, same_state, rank_less, node_of, improve, f_value, message_to, took, posted, treat}
 use Rattle.owner_theory.proofs.States.{same_state-true}
 use Rattle.closed.specs.declared.table.Outcome.{Outcome}
@@ -15,7 +14,6 @@ use Rattle.openlist.specs.declared.entry.Rank.{Rank}
 use Rattle.closed.specs.declared.message.Parent.{Parent}
 use Rattle.closed.specs.Tables.{fresh, outcome_from, outcome_of}
 use Rattle.owner.specs.declared.successors.Successor.{Successor}
-use Rattle.owner_space.specs.Steps.{effect_at}
 use Rattle.owner.specs.Successors.{ChangesNothing}
 use Rattle.owner.proofs.Owning.{kept_treats}
 
@@ -73,20 +71,7 @@ still_nothing space me o o' x m is h =
 pub nothing_treats : (space : SearchSpace) (me : ℕ) (o : Owner) (m : Message) → ChangesNothing space me o.nodes m → o ≡ treat space me o m
 nothing_treats space me o m h = kept_treats space me o m h.kept h.no_goal h.own
 
--- ---- operators that apply
-
--- an operator that applies leads to the state that has its effect's values
-pub steps_to : (T : FiniteDomainTask) (s : List ℕ) (o : ℕ) → applies_at T o s ≡ true → step T s o ≡ Some (with_values (effect_at T o) s)
-steps_to T s o = go (slice_get T.operators o)
-  where
-    chosen : (b : Bool) (t : List ℕ) → b ≡ true → cond b (Some t) None ≡ Some t
-    chosen true t e = refl
-    chosen false t e = absurd (true≢false (sym e))
-
-    go : (r : Option Operator) → option_map_or (λ op. applies op s) r false ≡ true
-        → option_and_then (λ op. cond (applies op s) (Some (successor op s)) None) r ≡ Some (with_values (option_map_or (λ op. op.effect) r []) s)
-    go None e = absurd (true≢false (sym e))
-    go (Some op) e = chosen (applies op s) (successor op s) e
+-- ---- states that an operator leads to
 
 pub same_some : {X : Type 0} (x y : X) → Some x ≡ Some y → x ≡ y
 same_some x y e = cc

@@ -80,7 +80,6 @@ fn try_to_expand<S: Spread + Drop, F: StateForm + Drop>(
         holdings,
         places.state(),
         operators,
-        &mut buffers.values,
         &mut buffers.successors,
     )?;
     look_up(

@@ -1,19 +1,21 @@
 //! What an owner has, without its buffers.
 
-ghost use Rattle.std.specs.Prelude.{◌≡◌, ◌≢◌, suc, ◌+◌, ◌<◌, ◌≤◌, ◌^◌, ◌++◌, ◌∷◌, [], ◌==◌, length, map, fold, All, slice_get, slice_set, Option, Some, None, true, false, is_some, if◌then◌else◌, IsTrue, ◌↔◌, IfOk, IfSome, IfNone, OnOk, OnErr};
+ghost use Rattle.std.specs.Prelude.{◌≡◌, ◌≢◌, ◌⊎◌, suc, ◌+◌, ◌<◌, ◌≤◌, ◌^◌, ◌++◌, ◌∷◌, [], ◌==◌, length, map, fold, All, slice_get, slice_set, Option, Some, None, true, false, is_some, if◌then◌else◌, IsTrue, ◌↔◌, IfOk, IfSome, IfNone, OnOk, OnErr};
 ghost use Rattle.std.specs.Option.{option_to_list};
 ghost use Rattle.cost.specs.Distances.{Distance, Infinite, is_at_most, lesser, Finite};
-ghost use Rattle.fdr.specs.Tasks.{ranges};
+ghost use Rattle.fdr.specs.Tasks.{ranges, is_goal_state};
 ghost use Rattle.owner_theory.specs.Owners.{At, Node, list_at, marked, improve, took, start_owner};
 ghost use Rattle.owner_theory.specs.Worlds.{idle, no_open, waiting};
 ghost use Rattle.openlist.specs.declared.entry.OpenEntry.{OpenEntry as EntryOf};
 ghost use Rattle.closed.specs.declared.message.Parent.{Parent};
-ghost use Rattle.closed.specs.Tables.{message_of, node_with, outcome_of, fresh};
+ghost use Rattle.closed.specs.declared.table.Outcome.TheVariants.{Kept};
+ghost use Rattle.closed.specs.Tables.{message_of, node_with, outcome_of, fresh, arrival};
 ghost use Rattle.owner_space.specs.Spaces.{searched};
 ghost use Rattle.owner.specs.Owned.{space_of, under, IsMessageTo, least_open};
 ghost use Rattle.owner.specs.Queues.{h_of, message_at, IsLeast};
 ghost use Rattle.owner.specs.Outboxes.{count_in_use, withdrawn};
 ghost use Rattle.owner.specs.Held.{IsOwner};
+ghost use Rattle.owner.specs.Successors.{ChangesNothing};
 ghost use Rattle.owner.specs.Batches.{IsBatch};
 
 use crate::batch::Batch;
@@ -22,7 +24,7 @@ use closed::{Entry, Message, Outcome, Parent};
 use cost::Dist;
 use openlist::{OpenEntry, Rank};
 use owner_outboxes::Outboxes;
-use owner_space::Space;
+use owner_space::{Space, is_goal_form};
 use packed::StateForm;
 use packed_spread::Spread;
 use std::alloc::{AllocError, Global};
@@ -156,6 +158,24 @@ impl<'a, S: Spread + Drop, F: StateForm + Drop> Holdings<'a, S, F> {
             result ≡ outcome_of self.now.nodes (fresh (F.values (ranges self.now.space.task) form.now) rank parent) }
     {
         self.reached.look_form(form, rank)
+    }
+
+    /// Whether it is known that nothing changes when the message is taken: its state was reached at its rank or a lesser one,
+    /// and is no goal state. The message need not be one for this owner.
+    pub(crate) fn knows(&self, message: &Message<F>) -> bool
+        ensures form { IsTrue result → F.IsForm (ranges self.now.space.task) message.now.state }
+        ensures known { IsTrue result →
+            ChangesNothing (space_of S.owner self.now) self.now.worker self.now.nodes (message_of (F.values (ranges self.now.space.task)) message.now) }
+        ensures unknown { result ≡ false → F.IsForm (ranges self.now.space.task) message.now.state →
+            (outcome_of self.now.nodes (arrival (F.values (ranges self.now.space.task)) message.now) ≢ Kept)
+            ⊎ (is_goal_state self.now.space.task (F.values (ranges self.now.space.task) message.now.state) ≡ true) }
+    {
+        if !self.reached.knows(&message.state, message.rank) {
+            return false;
+        }
+        self.reached.recall(); // states of the task have the form
+        let space = self.reached.space();
+        !is_goal_form(space.task(), space.layout(), &message.state)
     }
 
     /// Puts a message into the outbox for its state's owner, which is then the last of the receivers. Fails only if

@@ -1,13 +1,14 @@
 //! The owner of states.
 
-ghost use Rattle.std.specs.Prelude.{◌≡◌, ℕ, ◌<◌, ◌++◌, [], ◌==◌, length, map, slice_get, slice_set, Some, All, IfOk, IfErr, IfSome, IfNone, OnOk};
+ghost use Rattle.std.specs.Prelude.{◌≡◌, ◌≢◌, ◌⊎◌, true, false, IsTrue, ℕ, ◌<◌, ◌++◌, [], ◌==◌, length, map, slice_get, slice_set, Some, All, IfOk, IfErr, IfSome, IfNone, OnOk};
 ghost use Rattle.std.specs.Option.{option_to_list};
 ghost use Rattle.cost.specs.Distances.{Distance, Infinite};
-ghost use Rattle.fdr.specs.Tasks.{ranges, IsState};
+ghost use Rattle.fdr.specs.Tasks.{ranges, IsState, is_goal_state};
 ghost use Rattle.owner_theory.specs.Owners.{Node, list_at, took, start_owner};
 ghost use Rattle.owner_theory.specs.Worlds.{idle, waiting};
 ghost use Rattle.owner_theory.specs.Families.{IsSearchSpace, IsLowerBound};
-ghost use Rattle.closed.specs.Tables.{message_of, node_with};
+ghost use Rattle.closed.specs.declared.table.Outcome.TheVariants.{Kept};
+ghost use Rattle.closed.specs.Tables.{message_of, node_with, outcome_of, arrival};
 ghost use Rattle.owner_space.specs.Spaces.{searched};
 ghost use Rattle.owner.specs.Outboxes.{count_in_use};
 ghost use Rattle.owner.specs.Owned.{space_of, under, IsMessageTo, IsExpansion, IsRefusal, IsKept, least_open};
@@ -131,6 +132,19 @@ impl<'a, S: Spread + Drop, F: StateForm + Drop> Owner<'a, S, F> {
             Ok(()) => Ok(()),
             Err(error) => Err((message, error)),
         }
+    }
+
+    /// Whether the owner knows the message's state at the message's rank or a lesser one, and the state is no goal state: then
+    /// nothing changes when it takes the message. The message need not be one for this owner.
+    pub fn knows(&self, message: &Message<F>) -> bool
+        ensures state { IsTrue result → IsState (ranges self.now.space.task) (F.values (ranges self.now.space.task) message.now.state) }
+        ensures owner { IsTrue result → (space_of S.owner self.now).owner_of (F.values (ranges self.now.space.task) message.now.state) ≡ self.now.worker }
+        ensures nothing { IsTrue result → (bound : Distance) → under self.now bound ≡ took (space_of S.owner self.now) (under self.now bound) (message_of (F.values (ranges self.now.space.task)) message.now) }
+        ensures unknown { result ≡ false → F.IsForm (ranges self.now.space.task) message.now.state →
+            (outcome_of self.now.nodes (arrival (F.values (ranges self.now.space.task)) message.now) ≢ Kept)
+            ⊎ (is_goal_state self.now.space.task (F.values (ranges self.now.space.task) message.now.state) ≡ true) }
+    {
+        self.holdings.knows(message)
     }
 
     /// Expands the next node whose f-value is below `bound`, the bound that the owner has seen last: the node of least f,

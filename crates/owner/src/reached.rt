@@ -1,12 +1,13 @@
 //! The states that an owner has reached, and which of them it expands next.
 
-ghost use Rattle.std.specs.Prelude.{◌≡◌, ℕ, ◌<◌, ◌≤◌, ◌^◌, ◌++◌, ◌∷◌, [], length, map, fold, slice_get, slice_set, Some, List, All, Option, IfOk, OnOk, OnErr, IfSome, IfNone, IsTrue};
+ghost use Rattle.std.specs.Prelude.{◌≡◌, ◌≢◌, false, ℕ, ◌<◌, ◌≤◌, ◌^◌, ◌++◌, ◌∷◌, [], length, map, fold, slice_get, slice_set, Some, List, All, Option, IfOk, OnOk, OnErr, IfSome, IfNone, IsTrue};
 ghost use Rattle.std.specs.List.Sorted.{IsPermutation};
 ghost use Rattle.cost.specs.Distances.{Distance, Finite, ◌+ᵈ◌};
 ghost use Rattle.fdr.specs.Tasks.{ranges, IsState};
 ghost use Rattle.owner_theory.specs.Owners.{At, Node, marked};
 ghost use Rattle.openlist.specs.declared.entry.OpenEntry.{OpenEntry as EntryOf};
 ghost use Rattle.closed.specs.declared.message.Parent.{Parent};
+ghost use Rattle.closed.specs.declared.table.Outcome.TheVariants.{Kept};
 ghost use Rattle.closed.specs.Tables.{reached, outcome_of, outcomes_of, fresh, node_with, arrival};
 ghost use Rattle.owner_space.specs.Turned.{turned};
 ghost use Rattle.owner.specs.Queues.{added, HasWords, h_of, IsCurrent, AreQueued, IsQueue, IsLeast, HasNoneOpen};
@@ -280,5 +281,17 @@ impl<'a, S: Spread + Drop, F: StateForm + Drop> Reached<'a, S, F> {
             result ≡ outcome_of self.now.nodes (fresh (F.values (ranges self.now.space.task) form.now) rank parent) }
     {
         self.table.look_form(form, rank)
+    }
+
+    /// Whether the state of this form was reached at this rank or a lesser one, so that reaching it again would change
+    /// nothing. The form need not be that of a state.
+    pub(crate) fn knows(&self, form: &F, rank: Rank) -> bool
+        ensures form { IsTrue result → F.IsForm (ranges self.now.space.task) form.now }
+        ensures known { IsTrue result → (parent : Option Parent) →
+            outcome_of self.now.nodes (fresh (F.values (ranges self.now.space.task) form.now) rank parent) ≡ Kept }
+        ensures unknown { result ≡ false → F.IsForm (ranges self.now.space.task) form.now → (parent : Option Parent) →
+            outcome_of self.now.nodes (fresh (F.values (ranges self.now.space.task) form.now) rank parent) ≢ Kept }
+    {
+        self.table.knows(form, rank)
     }
 }

@@ -15,7 +15,7 @@ use crate::holdings::Holdings;
 use closed::Outcome;
 use fdr::FdrTask;
 use openlist::{OpenEntry, Rank};
-use owner_space::{effect_of, write_successor};
+use owner_space::{effect_of, is_goal_form};
 use packed::StateForm;
 use packed_spread::Spread;
 use std::alloc::{AllocError, Global};
@@ -59,30 +59,31 @@ pub(crate) fn rank_after(task: &FdrTask, rank: Rank, operator: usize) -> Rank
     }
 }
 
-/// The successor, by one operator, of a state of this form; `values` is a buffer. Fails only if allocation fails.
+/// The successor, by one operator, of the state of this form, of which the spread gives this hash: it is made of what the
+/// operator changes, and its values are not written. Fails only if allocation fails.
 fn make_successor<S: Spread + Drop, F: StateForm + Drop>(
     alloc: Global,
     holdings: &Holdings<'_, S, F>,
     form: &F,
     state: &[u32],
+    hash: u64,
     operator: usize,
-    values: &mut [u32],
 ) -> Result<Successor<F>, AllocError>
     requires form { F.IsForm (ranges holdings.now.space.task) form.now }
     requires values { F.values (ranges holdings.now.space.task) form.now ≡ state.now }
     requires state { IsState (ranges holdings.now.space.task) state.now }
-    requires buffer { length values.old ≡ length state.now }
+    requires hash { hash ≡ S.state_hash holdings.now.space.spread state.now }
     requires applies { applies_at holdings.now.space.task operator state.now ≡ true }
     ensures operator { IfOk result (λ s. s.operator ≡ operator) }
     ensures made { IfOk result (IsSuccessor F.IsForm F.values (space_of S.owner holdings.now) state.now) }
 {
-    holdings.recall(); // the owner is one of several
+    holdings.recall(); // the owner is one of several, and states of the task have the form
     let space = holdings.space();
     let task = space.task();
-    write_successor(task, state, operator, values);
-    let owner = space.owner_of(values, holdings.owners());
-    let is_goal = task.is_goal(values);
-    let made = form.changed(alloc, space.layout(), effect_of(task, operator))?;
+    let effect = effect_of(task, operator);
+    let owner = space.owner_after(state, hash, effect, holdings.owners());
+    let made = form.changed(alloc, space.layout(), effect)?;
+    let is_goal = is_goal_form(task, space.layout(), &made);
     Ok(Successor {
         operator,
         state: made,
@@ -91,27 +92,27 @@ fn make_successor<S: Spread + Drop, F: StateForm + Drop>(
     })
 }
 
-/// Replaces the content of `successors` by the successors, by these operators in their order, of a state; `values` is a
-/// buffer. Fails only if allocation fails.
+/// Replaces the content of `successors` by the successors, by these operators in their order, of a state. Fails only if
+/// allocation fails.
 pub(crate) fn make_successors<S: Spread + Drop, F: StateForm + Drop>(
     alloc: Global,
     holdings: &Holdings<'_, S, F>,
     state: &[u32],
     operators: &[usize],
-    values: &mut [u32],
     successors: &mut Vec<Successor<F>>,
 ) -> Result<(), AllocError>
     requires state { IsState (ranges holdings.now.space.task) state.now }
-    requires buffer { length values.old ≡ length state.now }
     requires apply { All (λ o. applies_at holdings.now.space.task o state.now ≡ true) operators.now }
     ensures operators { OnOk result (map (λ s. s.operator) successors.new.items ≡ operators.now) }
     ensures each { OnOk result (All (IsSuccessor F.IsForm F.values (space_of S.owner holdings.now) state.now) successors.new.items) }
 {
     successors.clear();
     holdings.recall(); // states of the task have the form
-    let form = F::pack(alloc, holdings.space().layout(), state)?;
+    let space = holdings.space();
+    let form = F::pack(alloc, space.layout(), state)?;
+    let hash = space.hash_of(state);
     for &operator in operators {
-        let successor = make_successor(alloc, holdings, &form, state, operator, values)?;
+        let successor = make_successor(alloc, holdings, &form, state, hash, operator)?;
         successors.push(successor)?;
     }
     Ok(())

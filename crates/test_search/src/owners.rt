@@ -4,7 +4,7 @@ ghost use Rattle.std.specs.Prelude.{◌≡◌, length};
 
 use cost::Dist;
 use fdr::FdrTask;
-use owner::{Owner, OwnerFault, Parent, Rank, Space, Ties};
+use owner::{Message, Owner, OwnerFault, Parent, Rank, Space, Ties};
 use packed::{Plain, StateForm};
 use packed_spread::{ByValue, Spread};
 use scp::make_columns;
@@ -235,7 +235,14 @@ fn hand_over<'a, S: Spread + Drop>(
         panic!(rt; "a message")
     };
     assert_eq!(rt; message.rank, Rank { cost: 1, steps: 1 });
+    let again = Message {
+        state: message.state.copy(alloc)?,
+        rank: message.rank,
+        parent: message.parent,
+    };
+    assert!(rt; !second.knows(&message), "a new state");
     assert!(rt; second.take(message).is_ok(), "memory");
+    assert!(rt; second.knows(&again), "a state that was taken");
     has_one_state(rt, &second, dist(1));
     has_handed_out(rt, &mut first);
     Ok(())

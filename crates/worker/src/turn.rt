@@ -12,14 +12,15 @@ use packed::StateForm;
 use packed_spread::Spread;
 use std::alloc::AllocError;
 
-/// Whether the worker takes another turn: not where nothing is counted as left to do, or the round was ended.
-fn next_turn(board: &Board, seat: &mut Seat) -> Turn
+/// Whether a worker takes another turn: not where nothing is counted as left to do, or the round was ended. A worker that is not at
+/// rest is counted itself, and does not look at the units, which other workers change all the time.
+fn next_turn(board: &Board, seat: &mut Seat, is_resting: bool) -> Turn
     requires { IsSeatOf board.now seat.old }
     ensures turn { result ≢ Turn.Misfit }
     ensures seat { IsSeatOf board.now seat.new }
     ensures view { view seat.new ≡ view seat.old }
 {
-    if board.halted(seat) || board.count(seat) == 0 {
+    if board.halted(seat) || (is_resting && board.count(seat) == 0) {
         Turn::Last
     } else {
         Turn::Next
@@ -78,6 +79,6 @@ impl<'a, S: Spread + Drop, F: StateForm + Drop> Worker<'a, S, F> {
         self.offer(board, seat);
         self.send_each();
         self.count_taken(board, seat);
-        Ok(next_turn(board, seat))
+        Ok(next_turn(board, seat, self.resting))
     }
 }

@@ -192,6 +192,10 @@ impl<'a, S: Spread + Drop, F: StateForm + Drop> Worker<'a, S, F> {
         let Some(message) = pop(&mut self.ins, from) else {
             return Ok(Received::Nothing);
         };
+        if self.owner.knows(&message) {
+            self.taken += 1; // nothing changes when the owner takes it
+            return Ok(Received::Taken);
+        }
         let owners = self.outs.len();
         if !is_for(
             self.owner.space(),
@@ -228,6 +232,13 @@ impl<'a, S: Spread + Drop, F: StateForm + Drop> Worker<'a, S, F> {
         let posted = self.owner.expand(self.bound)?;
         self.uncounted = posted_by(posted);
         Ok(posted)
+    }
+
+    /// The number of messages that it has taken and not yet subtracted from the units.
+    pub fn taken(&self) -> u64
+        ensures { result ≡ self.now.taken }
+    {
+        self.taken
     }
 
     /// The number of workers.

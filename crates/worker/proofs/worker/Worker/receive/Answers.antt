@@ -1,4 +1,4 @@
-use Rattle.std.proofs.Common.{◌≡◌, ◌∙◌, true, false, ap, sym, subst, length, arith, add-one}
+use Rattle.std.proofs.Common.{◌≡◌, ◌∙◌, refl, true, false, ap, sym, subst, length, arith, add-one}
 use Rattle.fdr.specs.Tasks.{ranges}
 use Rattle.owner_theory.specs.Owners.{fits}
 use Rattle.closed.specs.Tables.{message_of}
@@ -6,7 +6,7 @@ use Rattle.owner.specs.Spaces.{SpaceOf}
 use Rattle.owner.specs.Owned.{OwnerOf, space_of}
 use Rattle.worker.specs.Workers.{WorkerOf, misfits_of, received_from}
 use Rattle.worker.proofs.Rows.{put_again}
-use Rattle.worker.proofs.Fits.{unfit_as_read, fits_as_read}
+use Rattle.worker.proofs.Fits.{unfit_as_read, fits_as_read, fits_here}
 use Rattle.worker.proofs.Steps.{sets_aside, takes_one, holds}
 use Rattle.worker.proofs.Working.{counted, nothing_received, set_aside, received_one, with_owner}
 use Rattle.worker.proofs.worker.Worker.receive.Goals as goal
@@ -17,6 +17,27 @@ invariant_of-self g c = (
   c.self.invariant.1,
   nothing_received g.S.Spread.owner g.F.StateForm.values _ c.pop.new.ins.items c.in_default.ensures.same.len (c.in_default.ensures.none _) c.self.invariant.2,
 )
+
+pub invariant_of-self-then-knows : goal.invariant_of-self-then-knows
+invariant_of-self-then-knows g c =
+    let o = c.self.inside.owner in
+    let m = message_of (g.F.StateForm.values (ranges o.space.task)) c.in-Some.message in (
+      c.self.invariant.0,
+      c.self.invariant.1,
+      counted g.S.Spread.owner g.F.StateForm.values _ _ _ _
+          (received_one g.S.Spread.owner g.F.StateForm.values _ o _ c.pop.new.ins.items c.args.from m refl c.self.invariant.2
+          (fits_here (space_of g.S.Spread.owner o) o.worker m (c.knows.ensures.state c.if-knows.true) (c.knows.ensures.owner c.if-knows.true))
+          (c.knows.ensures.nothing c.if-knows.true) refl refl c.in-Some.ensures.same.len (c.in-Some.ensures.some _)),
+    )
+
+pub returns-then-knows-clause-received : goal.returns-then-knows-clause-received
+returns-then-knows-clause-received g c =
+    let o = c.self.inside.owner in
+    rw (← c.self.view_is)
+    (takes_one g.F.StateForm.values g.S.Spread.owner _ o _ c.pop.new.ins.items c.args.from _
+    (message_of (g.F.StateForm.values (ranges o.space.task)) c.in-Some.message) refl
+    (c.knows.ensures.nothing c.if-knows.true) refl refl refl
+    (add-one c.self.inside.taken) c.in-Some.ensures.same (c.pop.ensures.fewer _) (c.in-Some.ensures.some _))
 
 pub invariant_of-self-then-not-is_for : goal.invariant_of-self-then-not-is_for
 invariant_of-self-then-not-is_for g c =
