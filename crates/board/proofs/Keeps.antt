@@ -23,30 +23,30 @@ SeatState = Me (Unit {0}) View
 at_three : (P : ℕ → ℕ → ℕ → Type 0) {a b c a' b' c' : ℕ} → a ≡ a' → b ≡ b' → c ≡ c' → P a' b' c' → P a b c
 at_three P p q r t = let Q : ℕ × ℕ × ℕ → Type 0 = λ z. P z.0 z.1 z.2 in subst Q (λ i. (sym p i, sym q i, sym r i)) t
 
-bound_set : (s : TableState) (n id : ℕ) (me : SeatState) (w : View) → length s.words ≡ 3
-    → HoldsWord n (get_or s.words 1 0) (get_or s.words 2 0) (set s.views id w) → IsRuled (stepped s 0 n id me.1 w keeps)
+bound_set : (s : TableState) (n id : ℕ) (me : SeatState) (w : View) → length s.words ≡ 17
+    → HoldsWord n (get_or s.words 16 0) (get_or s.words 1 0) (set s.views id w) → IsRuled (stepped s 0 n id me.1 w keeps)
 bound_set s n id me w wide h = (
   length-set s.words 0 n ∙ wide,
   at_three (λ a b c. Holds a b c (set s.views id w)) (get_or-set_same s.words 0 n 0 (omega arith))
-      (get_or-set_other s.words 0 1 n 0 (λ e. absurd (omega arith))) (get_or-set_other s.words 0 2 n 0 (λ e. absurd (omega arith)))
+      (get_or-set_other s.words 0 16 n 0 (λ e. absurd (omega arith))) (get_or-set_other s.words 0 1 n 0 (λ e. absurd (omega arith)))
       (from_words _ _ _ (set s.views id w) h),
 )
 
-units_set : (s : TableState) (n id : ℕ) (me : SeatState) (w : View) → length s.words ≡ 3
-    → HoldsWord (get_or s.words 0 0) n (get_or s.words 2 0) (set s.views id w) → IsRuled (stepped s 1 n id me.1 w keeps)
+units_set : (s : TableState) (n id : ℕ) (me : SeatState) (w : View) → length s.words ≡ 17
+    → HoldsWord (get_or s.words 0 0) n (get_or s.words 1 0) (set s.views id w) → IsRuled (stepped s 16 n id me.1 w keeps)
 units_set s n id me w wide h = (
+  length-set s.words 16 n ∙ wide,
+  at_three (λ a b c. Holds a b c (set s.views id w)) (get_or-set_other s.words 16 0 n 0 (λ e. absurd (omega arith)))
+      (get_or-set_same s.words 16 n 0 (omega arith)) (get_or-set_other s.words 16 1 n 0 (λ e. absurd (omega arith)))
+      (from_words _ _ _ (set s.views id w) h),
+)
+
+stop_set : (s : TableState) (n id : ℕ) (me : SeatState) (w : View) → length s.words ≡ 17
+    → HoldsWord (get_or s.words 0 0) (get_or s.words 16 0) n (set s.views id w) → IsRuled (stepped s 1 n id me.1 w keeps)
+stop_set s n id me w wide h = (
   length-set s.words 1 n ∙ wide,
   at_three (λ a b c. Holds a b c (set s.views id w)) (get_or-set_other s.words 1 0 n 0 (λ e. absurd (omega arith)))
-      (get_or-set_same s.words 1 n 0 (omega arith)) (get_or-set_other s.words 1 2 n 0 (λ e. absurd (omega arith)))
-      (from_words _ _ _ (set s.views id w) h),
-)
-
-stop_set : (s : TableState) (n id : ℕ) (me : SeatState) (w : View) → length s.words ≡ 3
-    → HoldsWord (get_or s.words 0 0) (get_or s.words 1 0) n (set s.views id w) → IsRuled (stepped s 2 n id me.1 w keeps)
-stop_set s n id me w wide h = (
-  length-set s.words 2 n ∙ wide,
-  at_three (λ a b c. Holds a b c (set s.views id w)) (get_or-set_other s.words 2 0 n 0 (λ e. absurd (omega arith)))
-      (get_or-set_other s.words 2 1 n 0 (λ e. absurd (omega arith))) (get_or-set_same s.words 2 n 0 (omega arith))
+      (get_or-set_other s.words 1 16 n 0 (λ e. absurd (omega arith))) (get_or-set_same s.words 1 n 0 (omega arith))
       (from_words _ _ _ (set s.views id w) h),
 )
 
@@ -171,10 +171,10 @@ fewer : (u k : ℕ) (t t' : ℤ) → k < 2 ^ 64 → t' ≡ t -ℤ pos k → IsMo
 fewer u k t t' small e (up, down, m) =
     let d = div-add-mod' (u + (2 ^ 64 - k)) (2 ^ 64) in (up + (u + (2 ^ 64 - k)) / 2 ^ 64, down + 1, omega (arith, ints))
 
-pub add_keeps : (slots id : ℕ) (me : SeatState) (k : ℕ) → 0 < me.0.parts → Allows IsRuled slots id me 1 (λ n. (n + k) % 2 ^ 64) (adds (step slots 1 k 0 none) me)
+pub add_keeps : (slots id : ℕ) (me : SeatState) (k : ℕ) → 0 < me.0.parts → Allows IsRuled slots id me 16 (λ n. (n + k) % 2 ^ 64) (adds (step slots 16 k 0 none) me)
 add_keeps slots id me k live s (wide, rule) _ at _ =
     let is = to_words _ _ _ s.views rule in
-    let b : ℕ = get_or s.words 0 0 in let u : ℕ = get_or s.words 1 0 in let w = with_share me.0 (me.0.share +ℤ pos k) in
+    let b : ℕ = get_or s.words 0 0 in let u : ℕ = get_or s.words 16 0 in let w = with_share me.0 (me.0.share +ℤ pos k) in
     let below : b ≤ word_of me.0.offered = bound_at b _ _ s.views id me.0 is at in let f = is.fair id me.0 at in
     let sum = share_set s.views id me.0 w at in let e : total_share (set s.views id w) ≡ total_share s.views +ℤ pos k = omega (arith, ints) in (
       w,
@@ -187,10 +187,10 @@ add_keeps slots id me k live s (wide, rule) _ at _ =
     )
 
 pub sub_keeps : (slots id : ℕ) (me : SeatState) (k : ℕ) → 0 < me.0.parts → k < 2 ^ 64
-    → Allows IsRuled slots id me 1 (λ n. (n + (2 ^ 64 - k)) % 2 ^ 64) (subtracts (step slots 1 k 0 none) me)
+    → Allows IsRuled slots id me 16 (λ n. (n + (2 ^ 64 - k)) % 2 ^ 64) (subtracts (step slots 16 k 0 none) me)
 sub_keeps slots id me k live small s (wide, rule) _ at _ =
     let is = to_words _ _ _ s.views rule in
-    let b : ℕ = get_or s.words 0 0 in let u : ℕ = get_or s.words 1 0 in let w = with_share me.0 (me.0.share -ℤ pos k) in
+    let b : ℕ = get_or s.words 0 0 in let u : ℕ = get_or s.words 16 0 in let w = with_share me.0 (me.0.share -ℤ pos k) in
     let below : b ≤ word_of me.0.offered = bound_at b _ _ s.views id me.0 is at in let f = is.fair id me.0 at in
     let sum = share_set s.views id me.0 w at in let e : total_share (set s.views id w) ≡ total_share s.views -ℤ pos k = omega (arith, ints) in (
       w,
@@ -209,23 +209,23 @@ again b u h h' vs id v rule at flag =
     subst (HoldsWord b u h') (sym (set_again vs id v at))
     record { least = is.least; counted = is.counted; flag = flag; whole = is.whole; fair = is.fair }
 
-pub count_keeps : (slots id : ℕ) (me : SeatState) → Allows IsRuled slots id me 1 (λ n. n) (stays (step slots 1 0 0 none) me)
+pub count_keeps : (slots id : ℕ) (me : SeatState) → Allows IsRuled slots id me 16 (λ n. n) (stays (step slots 16 0 0 none) me)
 count_keeps slots id me s (wide, is) _ at _ =
-    (me.0, keeps, tt, units_set s (get_or s.words 1 0) id me me.0 wide (again _ _ _ _ s.views id me.0 is at is.flag), refl)
+    (me.0, keeps, tt, units_set s (get_or s.words 16 0) id me me.0 wide (again _ _ _ _ s.views id me.0 is at is.flag), refl)
 
 flagged : (n : ℕ) → n < 2 → bit_or n 1 < 2
 flagged zero h = omega arith
 flagged (suc zero) h = omega arith
 flagged (suc (suc n)) h = absurd (omega arith)
 
-pub halt_keeps : (slots id : ℕ) (me : SeatState) → Allows IsRuled slots id me 2 (λ n. bit_or n 1) (stays (step slots 2 1 0 none) me)
+pub halt_keeps : (slots id : ℕ) (me : SeatState) → Allows IsRuled slots id me 1 (λ n. bit_or n 1) (stays (step slots 1 1 0 none) me)
 halt_keeps slots id me s (wide, is) _ at _ =
-    let h : ℕ = get_or s.words 2 0 in
+    let h : ℕ = get_or s.words 1 0 in
     (me.0, keeps, tt, stop_set s (bit_or h 1) id me me.0 wide (again _ _ _ _ s.views id me.0 is at (flagged h is.flag)), refl)
 
-pub halted_keeps : (slots id : ℕ) (me : SeatState) → Allows IsRuled slots id me 2 (λ n. n) (finds_flag (step slots 2 0 0 none) me)
+pub halted_keeps : (slots id : ℕ) (me : SeatState) → Allows IsRuled slots id me 1 (λ n. n) (finds_flag (step slots 1 0 0 none) me)
 halted_keeps slots id me s (wide, is) _ at _ =
-    (me.0, keeps, tt, stop_set s (get_or s.words 2 0) id me me.0 wide (again _ _ _ _ s.views id me.0 is at is.flag), (refl, is.flag))
+    (me.0, keeps, tt, stop_set s (get_or s.words 1 0) id me me.0 wide (again _ _ _ _ s.views id me.0 is at is.flag), (refl, is.flag))
 
 -- ---- seats are cut and joined
 pub split_keeps : (id : ℕ) (v : View) → 2 ≤ v.parts → Splits IsRuled id v (kept_part v) (new_part v)
@@ -315,14 +315,14 @@ pub record IsLast (v : View) (bound units : ℕ) : Type 0 where
   pub counted : IsModulo units v.share
 
 pub closes : (ws : List ℕ) (xs : List (Unit {0})) (id : ℕ) (v : View) (bound units : ℕ) → Final (Seen IsRuled id v) ws xs → v.parts ≡ all_parts
-    → get_elem? ws 0 ≡ some bound → get_elem? ws 1 ≡ some units → IsLast v bound units
+    → get_elem? ws 0 ≡ some bound → get_elem? ws 16 ≡ some units → IsLast v bound units
 closes ws xs id v bound units (s, ((wide, rule), at), same, _, _) all first second =
     let is = to_words _ _ _ s.views rule in
     let f = is.fair id v at in
     let only = alone _ s.views id v is.fair at (is.whole ∙ sym all) in
     let o : least_word s.views ≡ word_of v.offered = only.0 in
     let b : get_or s.words 0 0 ≡ bound = ap (λ (l : List ℕ). get_or l 0 0) same ∙ read_at ws 0 bound first in
-    let u : get_or s.words 1 0 ≡ units = ap (λ (l : List ℕ). get_or l 1 0) same ∙ read_at ws 1 units second in
+    let u : get_or s.words 16 0 ≡ units = ap (λ (l : List ℕ). get_or l 16 0) same ∙ read_at ws 16 units second in
     let l = is.least in let seen = f.seen in
     let word : bound ≡ word_of v.offered = omega (arith, b, o, l) in
     let P : ℕ × ℤ → Type 0 = λ z. IsModulo z.0 z.1 in

@@ -84,5 +84,6 @@ pub record Holds (bound units stop : ℕ) (views : List View) : Type 0 where
   pub whole : total_parts views ≡ all_parts
   pub fair : (id : ℕ) (v : View) → get_elem? views id ≡ some v → IsFair (least (map (λ w. w.offered) views)) v
 
+-- word 0 is the bound, word 16 the units, and word 1 the flag; nothing is said of the others
 abbrev pub IsRuled : State (Unit {0}) View → Type 0
-IsRuled s = (length s.words ≡ 3) × Holds (slice_index s.words 0) (slice_index s.words 1) (slice_index s.words 2) s.views
+IsRuled s = (length s.words ≡ 17) × Holds (slice_index s.words 0) (slice_index s.words 16) (slice_index s.words 1) s.views

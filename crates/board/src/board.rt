@@ -8,7 +8,7 @@ ghost use Rattle.board.specs.Seats.{IsSeatOf, view};
 use crate::distances::{distance_at, word_of};
 use crate::steps::{Adds, FindsFlag, Halves, Looks, Offers, Stays, Subtracts};
 use crate::views::View;
-use crate::words::{BOUND, Board, STOP, UNITS};
+use crate::words::{BOUND, Board, FIRST_WORDS, STOP, UNITS};
 use atomic_table::Table;
 use cost::Dist;
 use std::alloc::{AllocError, Global};
@@ -22,7 +22,7 @@ impl Board {
     pub fn new(alloc: Global) -> Result<(Board, Seat), AllocError>
         ensures { IfOk result (λ r. IsSeatOf r.0 r.1 × (view r.1 ≡ first_view)) }
     {
-        let (table, seat) = Table::of_words(alloc, &[u64::MAX, 0, 0], &())?;
+        let (table, seat) = Table::of_words(alloc, &FIRST_WORDS, &())?;
         Ok((Board { table }, seat))
     }
 
@@ -37,12 +37,15 @@ impl Board {
         distance_at(self.table.shared.load::<Looks>(seat, BOUND))
     }
 
-    /// Lowers the bound to this cost, if it is above it, in one atomic step.
+    /// Lowers the bound to this cost, if it is above it, in one atomic step. To offer an infinite cost takes none.
     pub fn offer(&self, seat: &mut Seat, cost: Dist)
         requires { IsSeatOf self.now seat.old }
         ensures seat { IsSeatOf self.now seat.new }
         ensures view { view seat.new ≡ with_offered (view seat.old) (lesser (view seat.old).offered cost) }
     {
+        if cost.get().is_none() {
+            return; // no bound is above it
+        }
         self.table
             .shared
             .fetch_min::<Offers>(seat, BOUND, word_of(cost));

@@ -13,7 +13,7 @@ use Rattle.worker.specs.Turns.{chained, ReceivesFrom, SendsTo, HasTaken, HasNoth
 use Rattle.worker.proofs.Rows.{outs_through, ins_through, outs_same, ins_same}
 use Rattle.engine_round.specs.declared.fault.TurnFault.{TurnFault}
 use Rattle.engine_round.specs.declared.fault.TurnFault.TheVariants.{Owner, Gate}
-use Rattle.engine_round.specs.Turns.{MayStop, IsSameWorker, IsSeated, IsAtWork, IsTurnFault, WorkedOf, HasKept, HasWorked}
+use Rattle.engine_round.specs.Turns.{MayStop, IsSameWorker, IsSeated, IsRelaying, IsAtWork, IsTurnFault, WorkedOf, HasKept, HasWorked}
 
 lesser_more : (x y z a b : Distance) → y ≡ lesser x a → z ≡ lesser y b → z ≡ lesser x (lesser a b)
 lesser_more x y z a b e f = f ∙ (ap (λ d. lesser d b) e ∙ lesser_assoc x a b)
@@ -251,6 +251,9 @@ module _ {S F : Type 0} where
     misfits = ap (λ (x : WorkerOf S F). x.misfits) e ∙ none;
   }
 
+  pub relaying : (b : Board) (s : BoardSeat) (old : WorkerOf S F) (t : BoardSeat) (w : WorkerOf S F) → IsAtWork b s old t w → IsRelaying b s old t w
+  relaying b s old t w is = record { seat = is.seat; same = is.same; seated = is.seated; uncounted = is.uncounted; misfits = is.misfits }
+
   module _ (owner : S → List ℕ → ℕ → ℕ) (values : List ℕ → F → List ℕ) (may_stop : MayStop) (b : Board) (s : BoardSeat) (old : WorkerOf S F) where
     turned_misfits : (w x : WorkerOf S F) (u v : View) → HasTurned owner values w x u v → x.misfits ≡ w.misfits
     turned_misfits w x u v t =
@@ -299,7 +302,7 @@ module _ {S F : Type 0} where
         }
 
     -- the last turn ends with a message that does not fit
-    pub stopped_turn : (seat t : BoardSeat) (w x : WorkerOf S F) → IsAtWork b s old seat w → IsSeatOf b t → x.uncounted ≡ 0
+    pub stopped_turn : (seat t : BoardSeat) (w x : WorkerOf S F) → IsRelaying b s old seat w → IsSeatOf b t → x.uncounted ≡ 0
         → view t ≡ view seat → HasStopped owner values w x → HasWorked owner values may_stop b s old (record { worker = x; seat = t; fault = None })
     stopped_turn seat t w x is there uncounted view_is stopped = record {
       seat = there;

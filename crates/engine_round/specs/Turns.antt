@@ -9,7 +9,7 @@ use Rattle.owner.specs.Owned.{IsRefusal}
 use Rattle.worker.specs.Workers.{WorkerOf, AreSameOuts, AreSameIns}
 use Rattle.worker.specs.declared.outcome.Received.{Received}
 use Rattle.worker.specs.declared.outcome.Received.TheVariants.{Taken, Nothing, SetAside}
-use Rattle.worker.specs.Turns.{HasReceivedEach, HasLooked, HasTurned, HasStopped, HasHeldBack, IsTurnRefusal}
+use Rattle.worker.specs.Turns.{HasReceivedEach, HasLooked, HasTurned, HasStopped, HasHeldBack, HasCounted, IsTurnRefusal}
 use Rattle.engine_round.specs.declared.gate.Stop.{Stop}
 use Rattle.engine_round.specs.declared.fault.TurnFault.{TurnFault}
 use Rattle.engine_round.specs.declared.fault.TurnFault.TheVariants.{Owner, Gate}
@@ -38,7 +38,15 @@ pub record IsSeated {S F : Type 0} (old new : WorkerOf S F) (before after : View
 -- ---- a worker between the turns of a round
 
 -- it has a seat at the board; it is the same worker as before, what it has read and offered since then, its seat has; and no message is left to
--- be added to the units, to be subtracted from them, or aside
+-- be added to the units, or aside
+pub record IsRelaying {S F : Type 0} (b : Board) (s : BoardSeat) (old : WorkerOf S F) (t : BoardSeat) (w : WorkerOf S F) : Type 0 where
+  pub seat : IsSeatOf b t
+  pub same : IsSameWorker old w
+  pub seated : IsSeated old w (view s) (view t)
+  pub uncounted : w.uncounted ≡ 0
+  pub misfits : w.misfits ≡ []
+
+-- and no message that it has taken is left to be subtracted from the units
 pub record IsAtWork {S F : Type 0} (b : Board) (s : BoardSeat) (old : WorkerOf S F) (t : BoardSeat) (w : WorkerOf S F) : Type 0 where
   pub seat : IsSeatOf b t
   pub same : IsSameWorker old w
@@ -53,25 +61,34 @@ HasReceivedAll owner values old new Taken = HasReceivedEach owner values old new
 HasReceivedAll owner values old new Nothing = HasReceivedEach owner values old new true
 HasReceivedAll owner values old new SetAside = HasReceivedEach owner values old new false
 
--- a message was set aside while the worker was at work, and nothing was done after that
+-- what the worker has taken was subtracted from the units, or nothing was done
+abbrev pub CountsOrNot : {S F : Type 0} → (S → List ℕ → ℕ → ℕ) → WorkerOf S F → WorkerOf S F → View → View → Type 0
+CountsOrNot owner old new before after = HasCounted owner old new before after ⊎ ((new ≡ old) × (after ≡ before))
+
+-- a message was set aside while the worker relayed messages, and nothing was done after that
 pub record HasRelayedAside {S F : Type 0} (owner : S → List ℕ → ℕ → ℕ) (values : List ℕ → F → List ℕ) (b : Board) (s : BoardSeat) (old : WorkerOf S F) (t : BoardSeat) (w : WorkerOf S F)
     : Type 0 where
   pub seat : BoardSeat
   pub worker : WorkerOf S F
-  pub before : IsAtWork b s old seat worker
+  pub before : IsRelaying b s old seat worker
   pub stopped : HasStopped owner values worker w
   pub unseen : view t ≡ view seat
 
--- the owner could not take a message while the worker was at work, and nothing was done after that: the worker holds the message
+-- the owner could not take a message while the worker relayed messages, and nothing was done after that: the worker holds the message
 pub record HasRelayedBack {S F : Type 0} (owner : S → List ℕ → ℕ → ℕ) (values : List ℕ → F → List ℕ) (b : Board) (s : BoardSeat) (old : WorkerOf S F) (t : BoardSeat) (w : WorkerOf S F)
     : Type 0 where
   pub seat : BoardSeat
   pub worker : WorkerOf S F
-  pub before : IsAtWork b s old seat worker
+  pub before : IsRelaying b s old seat worker
   pub held : HasHeldBack owner values worker w
   pub unseen : view t ≡ view seat
 
--- messages were sent and received between two turns: the worker is at work, or a message was set aside
+-- messages were sent and received between two turns, or a message was set aside
+abbrev pub HasPassedOn : {S F : Type 0} → (S → List ℕ → ℕ → ℕ) → (List ℕ → F → List ℕ) → Board → BoardSeat → WorkerOf S F → BoardSeat → WorkerOf S F → Bool → Type 0
+HasPassedOn owner values b s old t w true = IsRelaying b s old t w
+HasPassedOn owner values b s old t w false = HasRelayedAside owner values b s old t w
+
+-- messages were sent and received between two turns, and what was taken is counted: the worker is at work, or a message was set aside
 abbrev pub HasRelayed : {S F : Type 0} → (S → List ℕ → ℕ → ℕ) → (List ℕ → F → List ℕ) → Board → BoardSeat → WorkerOf S F → BoardSeat → WorkerOf S F → Bool → Type 0
 HasRelayed owner values b s old t w true = IsAtWork b s old t w
 HasRelayed owner values b s old t w false = HasRelayedAside owner values b s old t w

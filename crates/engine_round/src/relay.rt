@@ -1,9 +1,9 @@
 //! What a worker does between turns: it sends and receives, and expands nothing.
 
-ghost use Rattle.std.specs.Prelude.{◌≡◌, [], length, IfOk, IfErr};
-ghost use Rattle.board.specs.Seats.{IsSeatOf};
+ghost use Rattle.std.specs.Prelude.{◌≡◌, ◌+◌, ◌<◌, ◌^◌, [], length, IfOk, IfErr};
+ghost use Rattle.board.specs.Seats.{IsSeatOf, view};
 ghost use Rattle.worker.specs.Turns.{chained, SendsTo, HasHeldBack};
-ghost use Rattle.engine_round.specs.Turns.{HasReceivedAll, HasRelayed, HasRelayedBack};
+ghost use Rattle.engine_round.specs.Turns.{CountsOrNot, HasReceivedAll, HasPassedOn, HasRelayed, HasRelayedBack};
 
 use board::{Board, Seat};
 use packed::StateForm;
@@ -18,6 +18,9 @@ const PASSES: u32 = 1024;
 /// How often between two turns a worker lets others run because rings are full. A receiver that does not run at all, or whose table
 /// grows, holds up no sender for longer: its messages wait in their outbox.
 const WAITS: u32 = 2;
+
+/// How many messages a worker takes, at least, before it subtracts them from the units where it goes on to take more.
+const MUCH: u64 = 64;
 
 /// Sends at most one message over each link. Returns whether one was sent. Allocates nothing.
 fn send_each<'a, S: Spread + Drop, F: StateForm + Drop>(worker: &mut Worker<'a, S, F>) -> bool
@@ -38,7 +41,7 @@ fn receive_each<'a, S: Spread + Drop, F: StateForm + Drop>(
     worker: &mut Worker<'a, S, F>,
 ) -> Result<Received, AllocError>
     requires none_aside { worker.old.misfits ≡ [] }
-    requires none_taken { worker.old.taken ≡ 0 }
+    requires countable { worker.old.taken + length worker.old.ins < 2 ^ 64 }
     ensures received { IfOk result (HasReceivedAll S.owner F.values worker.old worker.new) }
     ensures held { IfErr result (λ _. HasHeldBack S.owner F.values worker.old worker.new) }
 {
@@ -57,10 +60,63 @@ fn receive_each<'a, S: Spread + Drop, F: StateForm + Drop>(
     }
 }
 
-/// Sends the messages that stand in outboxes and takes those that are in the rings, until there are none, and counts what was taken.
-/// Where a ring is full it lets other threads run, so that the receiver takes the messages before more nodes are expanded; but it
-/// goes on after `WAITS` times, and ends after `PASSES` passes over the links. Returns false if a message was set aside, after which nothing
-/// more is done. Fails only if allocation fails, and then the worker holds the message that could not be taken, and nothing more is done.
+/// Subtracts what the worker has taken from the units, if that is much. All workers change the units, so a step on them takes as long as
+/// treating a message does.
+fn count_much<'a, S: Spread + Drop, F: StateForm + Drop>(
+    board: &Board,
+    seat: &mut Seat,
+    worker: &mut Worker<'a, S, F>,
+)
+    requires { IsSeatOf board.now seat.old }
+    ensures seat { IsSeatOf board.now seat.new }
+    ensures counted { CountsOrNot S.owner worker.old worker.new (view seat.old) (view seat.new) }
+    ensures countable { worker.new.taken + length worker.new.ins < 2 ^ 64 }
+{
+    let more = worker.workers() as u64; // as many as it takes before it comes here again, at most
+    if worker.taken() >= MUCH || worker.taken() > u64::MAX - more {
+        worker.count_taken(board, seat);
+    }
+}
+
+/// Sends the messages that stand in outboxes and takes those that are in the rings, until there are none. Where a ring is full it lets
+/// other threads run, so that the receiver takes the messages before more nodes are expanded; but it goes on after `WAITS` times, and
+/// ends after `PASSES` passes over the links. Returns false if a message was set aside, after which nothing more is done. Fails only if
+/// allocation fails, and then the worker holds the message that could not be taken, and nothing more is done.
+fn pass_on<'a, S: Spread + Drop, F: StateForm + Drop>(
+    board: &Board,
+    seat: &mut Seat,
+    worker: &mut Worker<'a, S, F>,
+) -> Result<bool, AllocError>
+    requires seat { IsSeatOf board.now seat.old }
+    requires none_aside { worker.old.misfits ≡ [] }
+    requires none_uncounted { worker.old.uncounted ≡ 0 }
+    ensures seat { IsSeatOf board.now seat.new }
+    ensures passed { IfOk result (HasPassedOn S.owner F.values board.now seat.old worker.old seat.new worker.new) }
+    ensures held { IfErr result (λ _. HasRelayedBack S.owner F.values board.now seat.old worker.old seat.new worker.new) }
+    ensures none_uncounted { worker.new.uncounted ≡ 0 }
+{
+    let mut waits = 0;
+    for _ in 0..PASSES {
+        count_much(board, seat, worker);
+        let sent = send_each(worker);
+        let received = receive_each(worker)?;
+        if let Received::SetAside = received {
+            return Ok(false);
+        }
+        if sent || received == Received::Taken {
+            continue;
+        }
+        if worker.owner().outboxes_in_use() == 0 || waits >= WAITS {
+            return Ok(true);
+        }
+        waits += 1;
+        thread::yield_now();
+    }
+    Ok(true)
+}
+
+/// Passes messages on, as `pass_on` does, and counts what was taken. Returns false if a message was set aside, after which nothing more
+/// is done. Fails only if allocation fails, and then the worker holds the message that could not be taken, and nothing more is done.
 pub(crate) fn relay<'a, S: Spread + Drop, F: StateForm + Drop>(
     board: &Board,
     seat: &mut Seat,
@@ -69,31 +125,14 @@ pub(crate) fn relay<'a, S: Spread + Drop, F: StateForm + Drop>(
     requires seat { IsSeatOf board.now seat.old }
     requires none_aside { worker.old.misfits ≡ [] }
     requires none_uncounted { worker.old.uncounted ≡ 0 }
-    requires none_taken { worker.old.taken ≡ 0 }
     ensures seat { IsSeatOf board.now seat.new }
     ensures relayed { IfOk result (HasRelayed S.owner F.values board.now seat.old worker.old seat.new worker.new) }
     ensures held { IfErr result (λ _. HasRelayedBack S.owner F.values board.now seat.old worker.old seat.new worker.new) }
     ensures none_uncounted { worker.new.uncounted ≡ 0 }
 {
-    let mut waits = 0;
-    for _ in 0..PASSES {
-        let sent = send_each(worker);
-        let received = receive_each(worker)?;
-        if let Received::SetAside = received {
-            return Ok(false);
-        }
-        worker.count_taken(board, seat);
-        if sent || received == Received::Taken {
-            continue;
-        }
-        if worker.owner().outboxes_in_use() == 0 {
-            break;
-        }
-        if waits >= WAITS {
-            break;
-        }
-        waits += 1;
-        thread::yield_now();
+    if !pass_on(board, seat, worker)? {
+        return Ok(false);
     }
+    worker.count_taken(board, seat);
     Ok(true)
 }

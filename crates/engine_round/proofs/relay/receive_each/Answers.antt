@@ -19,7 +19,7 @@ receive-requires-clause-none_aside g c = (receives_keep g.S.Spread.owner g.F.Sta
 pub receive-requires-clause-countable : goal.receive-requires-clause-countable
 receive-requires-clause-countable g c =
     let kept = receives_keep g.S.Spread.owner g.F.StateForm.values _ _ _ c.loop-from.invariant in
-    omega (arith, kept.taken, c.requires.none_taken)
+    omega (arith, kept.taken, c.requires.countable, c.workers-from-end.ensures.ins)
 
 pub returns-in_err-received-clause-held : goal.returns-in_err-received-clause-held
 returns-in_err-received-clause-held g c =

@@ -5,7 +5,7 @@ use Rattle.worker.specs.declared.outcome.Turn.{Turn}
 use Rattle.worker.specs.Turns.{IsTurn}
 use Rattle.engine_round.specs.Turns.{HasRelayed}
 use Rattle.engine_round.proofs.Relays.{at_work, still_at_work, aside_turn}
-use Rattle.engine_round.proofs.Kept.{one_turn, last_turn, stopped_turn, refused_turn}
+use Rattle.engine_round.proofs.Kept.{relaying, one_turn, last_turn, stopped_turn, refused_turn}
 use Rattle.engine_round.proofs.work.take_step.Goals as goal
 
 pub relay-requires-clause-none_aside : goal.relay-requires-clause-none_aside
@@ -52,7 +52,8 @@ returns-in-Ok-Misfit-clause-stepped g c =
     let end = subst (λ (t : Turn). IsTurn {F = g.row.F.Denot} g.S.Spread.owner g.F.StateForm.values c.args.worker.now c.take_turn.new.worker (view c.args.seat.now) (view c.take_turn.new.seat) t)
     c.in-Ok-Misfit.field-0-is c.in-Ok-Misfit.ensures.turned in
     stopped_turn g.S.Spread.owner g.F.StateForm.values (g.G.Gate.may_stop c.args.gate.now) c.args.board.now c.args.seat.now c.args.worker.now c.args.seat.now c.halt-in-Ok-Misfit.new.seat c.args.worker.now c.take_turn.new.worker
-    (at_work c.args.board.now c.args.seat.now c.args.worker.now c.requires.seat c.requires.none_uncounted c.requires.none_taken c.requires.none_aside)
+    (relaying c.args.board.now c.args.seat.now c.args.worker.now c.args.seat.now c.args.worker.now
+    (at_work c.args.board.now c.args.seat.now c.args.worker.now c.requires.seat c.requires.none_uncounted c.requires.none_taken c.requires.none_aside))
     c.halt-in-Ok-Misfit.ensures.seat c.take_turn.ensures.none_uncounted (c.halt-in-Ok-Misfit.ensures.view ∙ end.1) end.0
 
 pub returns-in-Err-clause-fault : goal.returns-in-Err-clause-fault
