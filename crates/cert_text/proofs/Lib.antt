@@ -1,5 +1,7 @@
 pub mod PieceLaws
 pub mod NumberLaws
+pub mod LeadingNumbers
+pub mod PlainEntries
 pub mod AtomLaws
 pub mod RowLaws
 pub mod Repeating

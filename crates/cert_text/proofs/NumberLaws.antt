@@ -18,10 +18,10 @@ digits_alike [] n m e = ap Some e
 digits_alike (d ∷ ds) n m e =
     by_digit (is_digit d) n m (digits_after (n * 10 + (d - 48)) ds) (digits_after (m * 10 + (d - 48)) ds) (digits_alike ds (n * 10 + (d - 48)) (m * 10 + (d - 48)) (omega arith))
 
-is_digit_by : (d : ℕ) → 48 ≤ d → d ≤ 57 → is_digit d ≡ true
+pub is_digit_by : (d : ℕ) → 48 ≤ d → d ≤ 57 → is_digit d ≡ true
 is_digit_by d low high = grind (arith, nat_tests)
 
-by_more : (b : Bool) (x : Option ℕ) → b ≡ true → cond b x None ≡ x
+pub by_more : (b : Bool) (x : Option ℕ) → b ≡ true → cond b x None ≡ x
 by_more true x e = refl
 by_more false x e = absurd cc
 

@@ -2,3 +2,4 @@ pub mod Spelling
 pub mod Pieces
 pub mod Reading
 pub mod Cursors
+pub mod Leading

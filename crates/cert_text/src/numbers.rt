@@ -3,6 +3,7 @@
 ghost use Rattle.std.specs.Prelude.{◌≡◌, ◌∷◌, ◌++◌, [], ◌≤◌, ◌<◌, ◌^◌, ◌-◌, option_map, map, min, OnOk, IfSome};
 ghost use Rattle.cert_text.specs.Reading.{Gives, numbered, digits_after, number, number_in, share_in, numbers_in, distance_in, distances_in, shares_in, increases_from, is_increasing};
 ghost use Rattle.cert_text.specs.Cursors.{left};
+ghost use Rattle.cert_text.specs.Leading.{BeginsWithNumber, IsFirstNumber};
 
 use crate::fault::CertFault;
 use crate::words::Words;
@@ -54,6 +55,59 @@ pub(crate) fn number_within(word: &[u8], least: u64, end: u64) -> Option<u64>
             }
         }
         None => None,
+    }
+}
+
+/// The number that the first digits of a text spell, in decimal without leading zeros, and how many digits these are. `None` if
+/// there are none, if the number has a leading zero, or if it is not below `end`.
+#[tactic(auto, using(crate::proofs::LeadingNumbers::one_more_digit), unfolding(crate::specs::Reading::digits_after))]
+fn leading_number(bytes: &[u8], end: u64) -> Option<(u64, usize)>
+    requires some { 0 < end }
+    requires few { end ≤ 2 ^ 60 }
+    ensures { IfSome result (λ x. BeginsWithNumber end x.0 x.1 bytes.now) }
+{
+    let mut value = 0;
+    let mut count = 0;
+    while count < bytes.len() && b'0' <= bytes[count] && bytes[count] <= b'9' {
+        value = value * 10 + u64::from(bytes[count] - b'0');
+        if end <= value {
+            return None;
+        }
+        count += 1;
+    }
+    if count == 0 || (1 < count && bytes[0] == b'0') {
+        return None;
+    }
+    Some((value, count))
+}
+
+/// The number that the next word spells, if it is below `end`, and the words after it. `None` if no word remains, or if the next
+/// one spells no such number. Each byte is read once.
+pub(crate) fn first_number(words: Words<'_>, end: u64) -> Option<(u64, Words<'_>)>
+    requires some { 0 < end }
+    requires few { end ≤ 2 ^ 60 }
+    ensures { IfSome result (λ x. IsFirstNumber end x.0 (left words.entry) (left x.1)) }
+{
+    if words.done {
+        return None;
+    }
+    let (number, count) = leading_number(words.rest, end)?;
+    let (_, behind) = words.rest.split_at(count);
+    match behind {
+        [] => Some((
+            number,
+            Words {
+                rest: behind,
+                done: true,
+            },
+        )),
+        [separator, rest @ ..] => {
+            if *separator == b' ' {
+                Some((number, Words { rest, done: false }))
+            } else {
+                None
+            }
+        }
     }
 }
 

@@ -1,6 +1,6 @@
 //! The lines of atoms, variables, tables and states.
 
-ghost use Rattle.std.specs.Prelude.{◌≡◌, ◌<◌, ◌^◌, map, IfOk};
+ghost use Rattle.std.specs.Prelude.{◌≡◌, ℕ, ◌<◌, ◌^◌, map, Ok, IfOk, IfSome};
 ghost use Rattle.std.specs.List.{list_all};
 ghost use Rattle.cert_text.specs.Pieces.{pieces};
 ghost use Rattle.cert_text.specs.Reading.{Gives, is_printed, is_atom_word, atom_of, variable_of, pattern_of, row_of, is_domain, shares_of, values_of, entry_of, has_width};
@@ -12,12 +12,12 @@ use crate::fault::CertFault;
 use crate::forms::{counted_line, headed_line};
 use crate::lines::Lines;
 use crate::numbers::{
-    distances, increases, number_within, operators_increase, read_numbers, shares,
+    distances, first_number, increases, number_within, operators_increase, read_numbers, shares,
 };
 use crate::words::Words;
 use abstraction_domain::ClassRow;
 use cert_value::{AtomVariable, Share, Values, Version};
-use std::alloc::Global;
+use std::alloc::{AllocError, Global};
 
 /// The end of the numbers of variables, operators and values, and of most counts: 2^32.
 pub(crate) const SHORT: u64 = 1 << 32;
@@ -193,6 +193,32 @@ fn fits_width(words: Option<usize>, width: Option<usize>) -> bool
     }
 }
 
+/// The cost of a state, whose values replace the content of `state`, as `entry_line` gives it: if the line has no fault, and the
+/// cost is below 2^60. It reads each byte once. Fails only if allocation fails.
+#[tactic(auto, using(crate::proofs::PlainEntries::entry_is, crate::proofs::PlainEntries::one_more_word, crate::proofs::PlainEntries::one_more_number), unfolding(crate::specs::Reading::filled_behind, crate::specs::Reading::numbers_behind))]
+fn plain_entry(
+    line: &[u8],
+    width: Option<usize>,
+    state: &mut Vec<u32>,
+) -> Result<Option<u64>, AllocError>
+    ensures { IfOk result (λ found. IfSome found (λ cost. (number : ℕ) → entry_of width number (pieces 32 line.now) ≡ Ok (record { cost = cost; state = state.new.items }))) }
+{
+    state.clear();
+    let Some((cost, behind)) = first_number(Words::new(line), 1 << 60) else {
+        return Ok(None);
+    };
+    let mut rest = behind;
+    while let Some((value, behind)) = first_number(rest, SHORT) {
+        state.push(value as u32)?;
+        rest = behind;
+    }
+    if rest.done && fits_width(Some(state.len() + 1), width) {
+        Ok(Some(cost))
+    } else {
+        Ok(None)
+    }
+}
+
 /// The cost of a state. Its values replace the content of `state`.
 #[tactic(auto, unfolding(crate::specs::Reading::entry_of))]
 pub(crate) fn entry_line(
@@ -203,6 +229,9 @@ pub(crate) fn entry_line(
 ) -> Result<u64, CertFault>
     ensures { Gives (λ cost. record { cost = cost; state = state.new.items }) result (entry_of width number (pieces 32 line.now)) }
 {
+    if let Some(cost) = plain_entry(line, width, state)? {
+        return Ok(cost);
+    }
     let words = Words::new(line);
     if !fits_width(words.filled(), width) {
         return Err(CertFault::Expected(number));

@@ -59,8 +59,8 @@ fn first_from_starts<
     first_of(&found)
 }
 
-/// The first violation among this many places, which are cut in pieces of about the same number of places: one for each processor, and
-/// one alone where there are few places. Threads search the pieces side by side. `find` gives the first violation of a piece, from the
+/// The first violation among this many places, which are cut in pieces of about the same number of places: four for each processor, at
+/// most 64, and one alone where there are few places. Threads search the pieces side by side. `find` gives the first violation of a piece, from the
 /// place `start` on and before `end`. The violation does not depend on how many pieces there are.
 ///
 /// Fails if `find` does for a piece and for none before it finds a violation, or if allocation fails.

@@ -14,13 +14,20 @@ const MAX_PIECES: usize = 64;
 /// The least work for which another thread is worth its start, in places of a weight of 1.
 const WORK_OF_A_THREAD: usize = 4096;
 
-/// How many pieces so much work is cut in: one for each processor, but no more than it is worth.
+/// How many pieces there are for each processor. The places of some pieces take longer than those of others, so with one piece each
+/// some processors would have nothing to do at the end.
+const PIECES_OF_A_PROCESSOR: usize = 4;
+
+/// How many pieces so much work is cut in: some for each processor, but no more than it is worth.
 pub(crate) fn piece_count(rt: &impl Threads, work: usize) -> usize
     ensures some { 0 < result }
     ensures few { result ≤ 64 }
 {
     let processors = thread::available_parallelism(rt).map_or(1, NonZeroUsize::get);
-    processors.min(work / WORK_OF_A_THREAD).clamp(1, MAX_PIECES)
+    processors
+        .saturating_mul(PIECES_OF_A_PROCESSOR)
+        .min(work / WORK_OF_A_THREAD)
+        .clamp(1, MAX_PIECES)
 }
 
 /// Where `pieces` pieces of about the same number of places begin. Fails only if allocation fails.

@@ -58,15 +58,22 @@ fn raise(greatest: &mut [u32], state: &[u32])
     }
 }
 
-/// Raises the numbers to the greatest value of each variable. `state` is a buffer for the values of one state.
-fn raise_to_all(closed: &ClosedList, greatest: &mut [u32], state: &mut [u32])
+/// How many states, at most, are looked at for the greatest values.
+const MAX_SAMPLES: usize = 4096;
+
+/// Raises the numbers to the greatest value of each variable in states that are taken from all over the list. `state` is a buffer for
+/// the values of one state.
+fn raise_to_samples(closed: &ClosedList, greatest: &mut [u32], state: &mut [u32])
     requires buffer { All (λ e. length e.state ≡ length state.old) closed.now }
     requires greatest { length greatest.old ≡ length state.old }
     ensures { length state.new ≡ length state.old }
 {
-    for place in 0..closed.len() {
+    let apart = closed.len().div_ceil(MAX_SAMPLES).max(1);
+    let mut place = 0usize;
+    while place < closed.len() {
         closed.copy_state(place, state);
         raise(greatest, state);
+        place = place.saturating_add(apart);
     }
 }
 
@@ -129,7 +136,7 @@ impl<'a> ClosedIndex<'a> {
         }
         let mut state = closed.buffer(alloc)?;
         let mut greatest = vec![in alloc; 0; state.len()]?;
-        raise_to_all(closed, &mut greatest, &mut state);
+        raise_to_samples(closed, &mut greatest, &mut state);
         let mut slots = vec![in alloc; Slot::EMPTY; slot_count(closed.len())]?;
         let multipliers = multipliers(alloc, &greatest, slots.len())?;
         fill(closed, &multipliers, &mut slots, &mut state);
