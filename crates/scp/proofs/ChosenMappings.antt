@@ -12,7 +12,7 @@ pub from_map : {X Y : Type 0} (P : Y → Type 0) (f : X → Y) (xs : List X) →
 from_map P f [] all = All-nil (λ x. P (f x))
 from_map P f (x ∷ xs) all = All-cons (λ x. P (f x)) x xs (All-head P (f x) (map f xs) all) (from_map P f xs (All-tail P (f x) (map f xs) all))
 
-within : (task : FiniteDomainTask) (limit more : ℕ) (m : Mapping) → limit ≤ more → IsMappingWithin task limit m → IsMappingWithin task more m
+pub within : (task : FiniteDomainTask) (limit more : ℕ) (m : Mapping) → limit ≤ more → IsMappingWithin task limit m → IsMappingWithin task more m
 within task limit more m l is = record { mapping = is.mapping; within = omega (arith, l, is.within); some = is.some; numbered = is.numbered }
 
 pub each_mapping : (task : FiniteDomainTask) (limit : ℕ) → limit ≤ 2 ^ 24 → (mappings : List KeptMapping) → AreMappings task limit (map mapping_of mappings)

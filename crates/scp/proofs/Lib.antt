@@ -6,3 +6,4 @@ pub mod ChosenMappings
 pub mod CostPartitioned
 pub mod PlaceLaws
 pub mod JoinedColumns
+pub mod OrderLaws

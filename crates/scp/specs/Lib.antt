@@ -1,2 +1,3 @@
 pub mod Partitions
 pub mod Places
+pub mod Orders
