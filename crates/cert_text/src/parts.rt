@@ -193,8 +193,8 @@ fn fits_width(words: Option<usize>, width: Option<usize>) -> bool
     }
 }
 
-/// The cost of a state, whose values replace the content of `state`, as `entry_line` gives it: if the line has no fault, and the
-/// cost is below 2^60. It reads each byte once. Fails only if allocation fails.
+/// The cost of a state, whose values replace the content of `state`, as `entry_line` gives it. `None` if the line has a fault, which
+/// is not told, or if the cost is 2^60 or more. It reads each byte once. Fails only if allocation fails.
 #[tactic(auto, using(crate::proofs::PlainEntries::entry_is, crate::proofs::PlainEntries::one_more_word, crate::proofs::PlainEntries::one_more_number), unfolding(crate::specs::Reading::filled_behind, crate::specs::Reading::numbers_behind))]
 fn plain_entry(
     line: &[u8],
