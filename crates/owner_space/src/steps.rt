@@ -31,8 +31,8 @@ pub fn write_successor(task: &FdrTask, state: &[u32], operator: usize, values: &
     task.advance(operator, values);
 }
 
-/// Whether the state of a form is a goal state. It reads the values of the goal's variables, up to the first that the goal
-/// does not have.
+/// Whether the state of a form is a goal state. It reads the values of the goal's variables, up to the first that is not the
+/// goal's.
 pub fn is_goal_form<F: StateForm + Drop>(task: &FdrTask, layout: &Layout, form: &F) -> bool
     requires layout { layout.now ≡ ranges task.now }
     requires fits { F.Fits (ranges task.now) }
