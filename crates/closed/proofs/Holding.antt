@@ -1,56 +1,23 @@
 -- Places and tags as they lie in slots: what adding one does, and what stays where all are added to other slots.
-use Rattle.std.proofs.Common.{◌≡◌, ◌≢◌, ◌⊎◌, ℕ, zero, suc, ◌+◌, ◌-◌, ◌<◌, ◌≤◌, cond, eqb, List, [], ◌∷◌, ◌++◌, length, get_or, set, take, drop, replicate, Some, inl, inr, refl, sym, ap, ◌∙◌, subst, arith}
+use Rattle.std.proofs.Common.{◌≡◌, ◌≢◌, ◌⊎◌, ℕ, zero, suc, ◌+◌, ◌-◌, ◌<◌, ◌≤◌, cond, eqb, List, [], ◌∷◌, ◌++◌, length, get_or, take, drop, Some, inl, inr, sym, ap, ◌∙◌, subst, arith}
 use Rattle.std.specs.Prelude.{slice_get}
-use Rattle.std.proofs.lemmas.Bool.{cond-true, cond-false, cases_lt, cases_eq, eq-eqb, ne_eqb}
-use Rattle.std.proofs.lemmas.List.{length-set, length-map, length-drop, length-replicate, map-set, get_or_past, take_all, drop_all, append-nil}
-use Rattle.std.proofs.lemmas.List.Sums.{sum_by-cons, sum_by-take-drop, count_by-le-length, count_by_more_yes, count_by_more_no}
+use Rattle.std.proofs.lemmas.Bool.{cases_lt, cases_eq, eq-eqb, ne_eqb}
+use Rattle.std.proofs.lemmas.List.{length-map, length-drop, get_or_past, take_all, drop_all, append-nil}
+use Rattle.std.proofs.lemmas.List.Sums.{sum_by-take-drop, count_by-le-length, count_by_more_yes, count_by_more_no}
 use Rattle.std.proofs.lemmas.Option.{slice_get_within, slice_get-get_or}
 use Rattle.slots.specs.declared.probing.Slot.{Slot}
 use Rattle.slots.specs.Slots.{links_of, empties, probed, home_of, IsFoundAfter, AddsSlot}
-use Rattle.slots.proofs.Probes.{link_read, probed_below, empties_fewer, stays_found, found_there}
+use Rattle.slots.proofs.Probes.{link_read}
+use Rattle.slots.proofs.Added.{none_taken, length_added, found_still, found_now, read_now}
 use Rattle.std.specs.Hash.{HashWrites}
 use Rattle.closed.specs.declared.small_entry.SmallEntry.{SmallEntry}
 use Rattle.closed.specs.Rows.{tag_of, tags_of, HasTag, IsAmongFirst, Holds}
-
--- ---- lists
-
-pub get_set-same : {X : Type 0} (xs : List X) (i : ℕ) (x : X) → i < length xs → slice_get (set xs i x) i ≡ Some x
-get_set-same [] i x l = absurd (omega (arith, l))
-get_set-same (y ∷ ys) zero x l = refl
-get_set-same (y ∷ ys) (suc i) x l = get_set-same ys i x (omega (arith, l))
-
-pub get_set-other : {X : Type 0} (xs : List X) (i k : ℕ) (x : X) → k ≢ i → slice_get (set xs i x) k ≡ slice_get xs k
-get_set-other [] i k x other = refl
-get_set-other (y ∷ ys) zero zero x other = absurd (other refl)
-get_set-other (y ∷ ys) zero (suc k) x other = refl
-get_set-other (y ∷ ys) (suc i) zero x other = refl
-get_set-other (y ∷ ys) (suc i) (suc k) x other = get_set-other ys i k x (λ e. other (ap suc e))
 
 -- ---- empty slots
 
 -- 1 for the link of an empty slot
 abbrev counted : ℕ → ℕ
 counted link = cond (eqb link 0) 1 0
-
--- where as many are empty as there are, each is
-all_empty : (links : List ℕ) → empties links ≡ length links → (k : ℕ) → get_or links k 0 ≡ 0
-all_empty [] all k = refl
-all_empty (link ∷ links) all k = go (cases_eq link 0) k (all_empty links)
-  where
-    few : empties links ≤ length links
-    few = count_by-le-length (λ l. eqb l 0) links
-
-    cons : empties (link ∷ links) ≡ counted link + empties links
-    cons = sum_by-cons counted link links
-
-    go : (link ≡ 0) ⊎ (link ≡ 0 → ⊥) → (k : ℕ) → (empties links ≡ length links → (i : ℕ) → get_or links i 0 ≡ 0) → get_or (link ∷ links) k 0 ≡ 0
-    go (inl e) zero rest = e
-    go (inl e) (suc k) rest =
-        let one : counted link ≡ 1 = cond-true (eqb link 0) 1 0 (eq-eqb link 0 e) in
-        rest (omega (arith, all, cons, one)) k
-    go (inr n) k rest =
-        let none : counted link ≡ 0 = cond-false (eqb link 0) 1 0 (ne_eqb link 0 n) in
-        absurd (omega (arith, all, cons, none, few))
 
 -- the number of empty slots among the first ones, and among all
 pub empties_behind : (links : List ℕ) (k : ℕ) → k ≤ length links → empties links + k ≤ empties (take k links) + length links
@@ -75,72 +42,35 @@ pub holds_none : (In : ℕ → ℕ → Type 0) (slots : List (Slot ℕ)) → ((p
 holds_none In slots none all =
     record {
       found = λ place tag is. absurd (none place tag is);
-      only = λ k slot read taken.
-          absurd (taken (sym (link_read slots k slot read) ∙ all_empty (links_of slots) (all ∙ sym (length-map slots (λ s. s.link))) k));
+      only = λ k slot read taken. absurd (taken (none_taken slots all k slot read));
     }
 
 -- one slot is added
-module _ (slots new : List (Slot ℕ)) (home place : ℕ) (slot : Slot ℕ) (inside : home < length slots) (links : slot.link ≡ place + 1)
-    (adds : AddsSlot home slot slots new) where
-  abbrev steps : ℕ
-  steps = adds.0
+pub holds_added : (slots new : List (Slot ℕ)) (home place : ℕ) (slot : Slot ℕ) → home < length slots → slot.link ≡ place + 1 → AddsSlot home slot slots new → (In : ℕ → ℕ → Type 0) → Holds In slots
+    → home ≡ home_of slot.note (length slots) → Holds (λ p t. In p t ⊎ ((p ≡ place) × (t ≡ slot.note))) new
+holds_added slots new home place slot inside links adds In holds at_home =
+    record { found = found; only = λ k s read. only k s read (read_now slots new home place slot inside links adds k s read) }
+  where
+    size : length new ≡ length slots
+    size = length_added slots new home place slot inside links adds
 
-  long : length (links_of slots) ≡ length slots
-  long = length-map slots (λ s. s.link)
+    found : (p t : ℕ) → In p t ⊎ ((p ≡ place) × (t ≡ slot.note)) → (s : ℕ) × IsFoundAfter (links_of new) (home_of t (length new)) p s
+    found p t (inl is) =
+        let before = holds.found p t is in (
+          before.0,
+          subst (λ (n : ℕ). IsFoundAfter (links_of new) (home_of t n) p before.0) (sym size)
+              (found_still slots new home place slot inside links adds (home_of t (length slots)) p before.0 before.1),
+        )
+    found p t (inr (is_place, is_note)) =
+        let there : home ≡ home_of t (length new) = at_home ∙ ap (λ (m : ℕ). home_of m (length slots)) (sym is_note) ∙ ap (home_of t) (sym size) in (
+          adds.0,
+          subst (λ (q : ℕ). IsFoundAfter (links_of new) (home_of t (length new)) q adds.0) (sym is_place)
+              (subst (λ (h : ℕ). IsFoundAfter (links_of new) h place adds.0) there (found_now slots new home place slot inside links adds)),
+        )
 
-  abbrev at : ℕ
-  at = probed (length (links_of slots)) home steps
-
-  same_at : probed (length slots) home steps ≡ at
-  same_at = ap (λ (n : ℕ). probed n home steps) (sym long)
-
-  becomes : new ≡ set slots at slot
-  becomes = adds.2 ∙ ap (λ (k : ℕ). set slots k slot) same_at
-
-  links_become : links_of new ≡ set (links_of slots) at slot.link
-  links_become = ap links_of becomes ∙ map-set (λ s. s.link) slots at slot
-
-  below : at < length (links_of slots)
-  below = probed_below (length (links_of slots)) home steps (omega (arith, inside, long)) adds.1.within
-
-  full : slot.link ≢ 0
-  full = λ z. absurd (omega (arith, links, z))
-
-  pub length_added : length new ≡ length slots
-  length_added = ap length becomes ∙ length-set slots at slot
-
-  pub empties_added : empties (links_of slots) ≡ empties (links_of new) + 1
-  empties_added =
-      let fewer = empties_fewer (links_of slots) at slot.link below adds.1.free full in
-      let now = ap empties links_become in
-      omega (arith, fewer, now)
-
-  pub holds_added : (In : ℕ → ℕ → Type 0) → Holds In slots → home ≡ home_of slot.note (length slots) → Holds (λ p t. In p t ⊎ ((p ≡ place) × (t ≡ slot.note))) new
-  holds_added In holds at_home = record { found = found; only = λ k s read. only k s read (cases_eq k at) }
-    where
-      moved : (p t s : ℕ) → IsFoundAfter (set (links_of slots) at slot.link) (home_of t (length slots)) p s → IsFoundAfter (links_of new) (home_of t (length new)) p s
-      moved p t s is =
-          subst (λ (n : ℕ). IsFoundAfter (links_of new) (home_of t n) p s) (sym length_added)
-          (subst (λ (ls : List ℕ). IsFoundAfter ls (home_of t (length slots)) p s) (sym links_become) is)
-
-      found : (p t : ℕ) → In p t ⊎ ((p ≡ place) × (t ≡ slot.note)) → (s : ℕ) × IsFoundAfter (links_of new) (home_of t (length new)) p s
-      found p t (inl is) =
-          let before = holds.found p t is in
-          (before.0, moved p t before.0 (stays_found (links_of slots) at slot.link below adds.1.free full (home_of t (length slots)) p before.0 before.1))
-      found p t (inr (is_place, is_note)) =
-          let there = found_there (links_of slots) home steps p slot.link (omega (arith, inside, long)) adds.1 (links ∙ ap (λ (n : ℕ). n + 1) (sym is_place)) in
-          (steps, moved p t steps (subst (λ (h : ℕ). IsFoundAfter (set (links_of slots) at slot.link) h p steps) (at_home ∙ ap (λ (n : ℕ). home_of n (length slots)) (sym is_note)) there))
-
-      only : (k : ℕ) (s : Slot ℕ) → slice_get new k ≡ Some s → (k ≡ at) ⊎ (k ≡ at → ⊥) → s.link ≢ 0 → In (s.link - 1) s.note ⊎ ((s.link - 1 ≡ place) × (s.note ≡ slot.note))
-      only k s read (inl e) taken =
-          let there : slice_get new k ≡ Some slot =
-          ap (λ (xs : List (Slot ℕ)). slice_get xs k) becomes ∙ ap (slice_get (set slots at slot)) e ∙ get_set-same slots at slot (omega (arith, below, long)) in
-          let same : s ≡ slot = cc in
-          inr (omega (arith, ap (λ (x : Slot ℕ). x.link) same, links), ap (λ (x : Slot ℕ). x.note) same)
-      only k s read (inr other) taken =
-          let there : slice_get slots k ≡ Some s =
-          sym (get_set-other slots at k slot other) ∙ ap (λ (xs : List (Slot ℕ)). slice_get xs k) (sym becomes) ∙ read in
-          inl (holds.only k s there taken)
+    only : (k : ℕ) (s : Slot ℕ) → slice_get new k ≡ Some s → (s ≡ slot) ⊎ (slice_get slots k ≡ Some s) → s.link ≢ 0 → In (s.link - 1) s.note ⊎ ((s.link - 1 ≡ place) × (s.note ≡ slot.note))
+    only k s read (inl same) taken = inr (omega (arith, ap (λ (x : Slot ℕ). x.link) same, links), ap (λ (x : Slot ℕ). x.note) same)
+    only k s read (inr before) taken = inl (holds.only k s before taken)
 
 -- ---- slots that are taken, added to others one after another
 
@@ -235,17 +165,6 @@ holds_moved tags old new was = holds_alike (IsAmongFirst (length old) old) (HasT
 -- a slot without a row
 abbrev pub empty : Slot ℕ
 empty = record { link = 0; note = 0 }
-
--- slots without a row are empty
-pub empties_replicate : (n : ℕ) → empties (links_of (replicate n empty)) ≡ n
-empties_replicate zero = refl
-empties_replicate (suc n) =
-    let more : empties (links_of (replicate (suc n) empty)) ≡ 1 + empties (links_of (replicate n empty)) =
-    sum_by-cons counted 0 (links_of (replicate n empty)) in
-    more ∙ omega (arith, empties_replicate n)
-
-pub empties_filled : (slots : List (Slot ℕ)) (n : ℕ) → slots ≡ replicate n empty → empties (links_of slots) ≡ length slots
-empties_filled slots n is = ap (λ (ss : List (Slot ℕ)). empties (links_of ss)) is ∙ empties_replicate n ∙ sym (ap length is ∙ length-replicate n empty)
 
 -- what a vector has after all its items were written
 pub whole : {X : Type 0} (new old : List X) (n : ℕ) → length new ≡ length old → n ≡ length old → take n (new ++ drop (length new) old) ≡ new

@@ -1,5 +1,5 @@
 -- Rows and their index: how a form is looked up, and what writes do.
-use Rattle.std.proofs.Common.{◌≡◌, ◌≢◌, ◌⊎◌, ℕ, zero, suc, ◌+◌, ◌-◌, ◌<◌, ◌≤◌, ◌^◌, Bool, true, false, cond, List, [], ◌∷◌, ◌++◌, length, get_or, take, replicate, Some, None, position, inl, inr, refl, sym, ap, ◌∙◌, subst, arith}
+use Rattle.std.proofs.Common.{◌≡◌, ◌≢◌, ◌⊎◌, ℕ, zero, suc, ◌+◌, ◌-◌, ◌<◌, ◌≤◌, ◌^◌, Bool, true, false, cond, List, [], ◌∷◌, ◌++◌, length, take, replicate, Some, None, position, inl, inr, refl, sym, ap, ◌∙◌, subst, arith}
 use Rattle.std.specs.Prelude.{slice_get, slice_set, IsTrue}
 use Rattle.std.specs.List.{position_from}
 use Rattle.std.specs.Map.{keys_of}
@@ -11,11 +11,12 @@ use Rattle.std.proofs.lemmas.Option.{same_Some, slice_get_within}
 use Rattle.std.proofs.lemmas.Iterator.Adapters.{position_from-zero}
 use Rattle.slots.specs.declared.probing.Slot.{Slot}
 use Rattle.slots.specs.Slots.{links_of, empties, link_after, probed, home_of, IsFoundAfter, AddsSlot}
-use Rattle.slots.proofs.Probes.{link_read}
+use Rattle.slots.proofs.Probes.{link_there}
 use Rattle.closed.specs.declared.small_entry.SmallEntry.{SmallEntry}
 use Rattle.closed.specs.Entries.{set_entry_at}
 use Rattle.closed.specs.Rows.{tag_of, tags_of, room_in, HasTag, Holds, AreIndexed}
-use Rattle.closed.proofs.Holding.{empty, empties_filled, holds_none, holds_alike, holds_added, empties_added, length_added, tag_read}
+use Rattle.closed.proofs.Holding.{empty, holds_none, holds_alike, holds_added, tag_read}
+use Rattle.slots.proofs.Added.{empties_filled, empties_added, length_added}
 
 -- ---- lists
 
@@ -114,8 +115,7 @@ module _ {F : Type 0} (eq : F → F → Bool) (writes : F → HashWrites) (laws 
 
   -- the link that was read
   pub link_is : (steps : ℕ) (slot : Slot ℕ) → slice_get slots (probed (length slots) home steps) ≡ Some slot → link steps ≡ slot.link
-  link_is steps slot read =
-      ap (λ (n : ℕ). get_or (links_of slots) (probed n home steps) 0) (length-map slots (λ s. s.link)) ∙ link_read slots (probed (length slots) home steps) slot read
+  link_is steps slot read = link_there slots home steps slot read
 
   -- the slot this many steps after the home of the form is taken, and its row has another form
   pub record IsMissed (j : ℕ) : Type 0 where
@@ -215,8 +215,8 @@ module _ {F : Type 0} (eq : F → F → Bool) (writes : F → HashWrites) where
             some = some;
             few = few;
             room = omega arith;
-            count = omega (arith, empties_filled slots n is);
-            holds = holds_none (HasTag []) slots (λ place tag has. absurd (cc)) (empties_filled slots n is);
+            count = omega (arith, empties_filled empty refl slots n is);
+            holds = holds_none (HasTag []) slots (λ place tag has. absurd (cc)) (empties_filled empty refl slots n is);
             distinct = λ i j p q h. absurd (cc);
           }
 

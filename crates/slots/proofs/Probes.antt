@@ -2,7 +2,7 @@
 use Rattle.std.proofs.Common.{◌≡◌, ◌≢◌, ◌⊎◌, ℕ, suc, ◌+◌, ◌-◌, ◌<◌, ◌≤◌, cond, eqb, ltb, List, [], ◌∷◌, length, get_or, set, Some, inl, inr, refl, sym, ap, ◌∙◌, arith}
 use Rattle.std.specs.Prelude.{slice_get}
 use Rattle.std.proofs.lemmas.Bool.{cond-true, cond-false, cases_lt, lt-ltb, le-ltb, eq-eqb, ne_eqb}
-use Rattle.std.proofs.lemmas.List.{get_or-set_same, get_or-set_other, length-set, get_or-map}
+use Rattle.std.proofs.lemmas.List.{get_or-set_same, get_or-set_other, length-set, length-map, get_or-map}
 use Rattle.std.proofs.lemmas.List.Sums.{sum_by-set}
 use Rattle.std.proofs.lemmas.Option.{slice_get_within, get_or_from_slice_get}
 use Rattle.slots.specs.declared.probing.Slot.{Slot}
@@ -13,6 +13,13 @@ pub link_read : {N : Type 0} (slots : List (Slot N)) (k : ℕ) (slot : Slot N) �
 link_read {N = N} slots k slot read =
     get_or-map (λ s. s.link) slots k slot 0 (slice_get_within slots k slot read)
     ∙ ap (λ (s : Slot N). s.link) (get_or_from_slice_get slots k slot slot read)
+
+-- and of one that is as many steps after the home
+pub link_there : {N : Type 0} (slots : List (Slot N)) (home steps : ℕ) (slot : Slot N) → slice_get slots (probed (length slots) home steps) ≡ Some slot
+    → link_after (links_of slots) home steps ≡ slot.link
+link_there {N = N} slots home steps slot read =
+    ap (λ (n : ℕ). get_or (links_of slots) (probed n home steps) 0) (length-map slots (λ s. s.link))
+    ∙ link_read slots (probed (length slots) home steps) slot read
 
 -- each slot is reached
 probed_before : (size home k : ℕ) → home ≤ k → k < size → probed size home (k - home) ≡ k

@@ -3,7 +3,8 @@ use Rattle.std.proofs.lemmas.List.{length-map}
 use Rattle.std.proofs.lemmas.Option.{slice_get_read}
 use Rattle.slots.specs.declared.probing.Slot.{Slot}
 use Rattle.closed.specs.Rows.{tag_of, tags_of, HasTag}
-use Rattle.closed.proofs.Holding.{IsTagBelow, holds_none, holds_added, empties_added, tag_added, tags_all, tag_read}
+use Rattle.slots.proofs.Added.{empties_added}
+use Rattle.closed.proofs.Holding.{IsTagBelow, holds_none, holds_added, tag_added, tags_all, tag_read}
 use Rattle.closed.proofs.index.add_rows.Goals as goal
 
 pub loop-place-init : goal.loop-place-init

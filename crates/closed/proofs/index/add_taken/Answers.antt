@@ -5,7 +5,8 @@ use Rattle.std.proofs.lemmas.Option.{slice_get-get_or}
 use Rattle.slots.specs.declared.probing.Slot.{Slot}
 use Rattle.slots.specs.Slots.{links_of, empties}
 use Rattle.closed.specs.Rows.{IsAmongFirst, Holds}
-use Rattle.closed.proofs.Holding.{holds_none, holds_added, empties_added, empties_behind, first_added, first_empty, count_full, count_empty}
+use Rattle.slots.proofs.Added.{empties_added}
+use Rattle.closed.proofs.Holding.{holds_none, holds_added, empties_behind, first_added, first_empty, count_full, count_empty}
 use Rattle.closed.proofs.index.add_taken.Goals as goal
 use Rattle.closed.proofs.index.add_taken.Goals.{then-slot-ne0, else-slot-ne0}
 

@@ -1,13 +1,14 @@
-use Rattle.std.proofs.Common.{◌≡◌, ℕ, List, length, replicate, ap, sym, ◌∙◌, subst, arith}
+use Rattle.std.proofs.Common.{◌≡◌, ℕ, List, length, replicate, ap, sym, ◌∙◌, subst, arith, refl}
 use Rattle.slots.specs.declared.probing.Slot.{Slot}
+use Rattle.slots.proofs.Added.{empties_filled}
 use Rattle.closed.specs.Rows.{HasTag, IsAmongFirst, Holds}
-use Rattle.closed.proofs.Holding.{empty, is_empty, empties_filled, holds_moved, whole}
+use Rattle.closed.proofs.Holding.{empty, is_empty, holds_moved, whole}
 use Rattle.closed.proofs.index.make_room.Goals as goal
 
 pub add_taken-requires-clause-empty : goal.add_taken-requires-clause-empty
 add_taken-requires-clause-empty c =
     let items : c.in_ok-grown.grown.items ≡ replicate c.in-Some.count empty = c.in_ok-grown.ensures.items_if_clones_equal is_empty in
-    empties_filled c.deref_mut.result.now c.in-Some.count (c.deref_mut.ensures.value ∙ items)
+    empties_filled empty refl c.deref_mut.result.now c.in-Some.count (c.deref_mut.ensures.value ∙ items)
 
 pub returns-clause-holds : goal.returns-clause-holds
 returns-clause-holds c tags was =

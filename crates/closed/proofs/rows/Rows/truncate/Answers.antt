@@ -1,14 +1,15 @@
-use Rattle.std.proofs.Common.{List, ◌≡◌, ◌+◌, length, take, sym, ap, ◌∙◌, subst, arith}
+use Rattle.std.proofs.Common.{List, ◌≡◌, ◌+◌, length, take, sym, ap, ◌∙◌, subst, arith, refl}
 use Rattle.slots.specs.Slots.{links_of, empties}
 use Rattle.closed.specs.declared.small_entry.SmallEntry.{SmallEntry}
 use Rattle.closed.specs.Rows.{tags_of, HasTag, Holds, AreIndexed}
-use Rattle.closed.proofs.Holding.{is_empty, empties_filled, whole}
+use Rattle.slots.proofs.Added.{empties_filled}
+use Rattle.closed.proofs.Holding.{empty, is_empty, whole}
 use Rattle.closed.proofs.Indexing.{indexed_taken}
 use Rattle.closed.proofs.rows.Rows.truncate.Goals as goal
 
 pub add_rows-requires-clause-empty : goal.add_rows-requires-clause-empty
 add_rows-requires-clause-empty g c =
-    empties_filled c.deref_mut.result.now c.self.inside.slots.len (c.deref_mut.ensures.value ∙ c.fill.ensures.items is_empty)
+    empties_filled empty refl c.deref_mut.result.now c.self.inside.slots.len (c.deref_mut.ensures.value ∙ c.fill.ensures.items is_empty)
 
 pub invariant_of-self : goal.invariant_of-self
 invariant_of-self g c =
