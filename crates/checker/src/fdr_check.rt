@@ -66,7 +66,7 @@ fn closed_violation<R: Threads + Sync>(
     if let Some(state) = first_closed_violation(rt, alloc, task, certificate)? {
         return Ok(Some(state));
     }
-    let coverage = Coverage::new(alloc, task, certificate)?;
+    let coverage = Coverage::new(rt, alloc, task, certificate)?;
     covering_violation(rt, alloc, task, certificate, &coverage)
 }
 

@@ -1,6 +1,6 @@
 pub mod Hashing
-pub mod Probing
 pub mod Indexing
+pub mod Parts
 pub mod StateLaws
 pub mod FirstPlaces
 pub mod Saturation

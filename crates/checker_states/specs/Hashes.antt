@@ -1,5 +1,7 @@
--- The hash of a state, and what is taken of it: the slot from which the state is looked for, and a tag.
+-- The hash of a state, and what is taken of it: the part of an index in which the state is looked for, the number that leads to its
+-- home there, and a tag.
 use Rattle.std.specs.Prelude.{ℕ, ◌+◌, ◌*◌, ◌/◌, ◌%◌, ◌^◌, List, [], ◌∷◌}
+use Rattle.slots.specs.Slots.{home_of}
 
 -- the hash with one more value, times a multiplier
 unfoldable pub mixed : ℕ → ℕ → ℕ → ℕ
@@ -14,9 +16,13 @@ hash_from hash (multiplier ∷ multipliers) (value ∷ values) = hash_from (mixe
 abbrev pub hash_of : List ℕ → List ℕ → ℕ
 hash_of multipliers state = hash_from 0 multipliers state
 
--- the slot from which a state with this hash is looked for, where there are this many slots
-unfoldable pub home_of : ℕ → ℕ → ℕ
-home_of hash slots = hash / 2 ^ 32 * slots / 2 ^ 32
+-- the part of an index in which a state with this hash is looked for, where there are this many parts
+abbrev pub part_of : ℕ → ℕ → ℕ
+part_of hash parts = home_of (hash / 2 ^ 32) parts
+
+-- the number that leads to the home of a state with this hash in its part
+unfoldable pub number_of : ℕ → ℕ → ℕ
+number_of hash parts = hash / 2 ^ 32 * parts % 2 ^ 32
 
 -- the tag of a state with this hash
 unfoldable pub tag_of : ℕ → ℕ

@@ -1,26 +1,43 @@
--- Slots that index a closed list.
-use Rattle.std.specs.Prelude.{◌≡◌, ◌≢◌, ℕ, ◌+◌, ◌-◌, ◌<◌, ◌≤◌, ◌^◌, List, length, slice_get}
-use Rattle.std.specs.Option.{option_map_or}
+-- An index of a closed list, in parts: slots that lead to the places of those states whose hashes lead to the part.
+use Rattle.std.specs.Prelude.{◌≡◌, ◌≢◌, ℕ, ◌-◌, ◌<◌, ◌≤◌, ◌^◌, min, List, length, slice_get, Vec, Some}
+use Rattle.std.specs.Global.{Global}
 use Rattle.cert_value.specs.Certificates.{Entry}
-use Rattle.checker_states.specs.declared.slots.Slot.{Slot}
-use Rattle.checker_states.specs.Hashes.{hash_of, home_of}
-use Rattle.checker_states.specs.Slots.{slot_with, slot_at, empty, empties, IsFoundAfter}
+use Rattle.slots.specs.declared.probing.Slot.{Slot}
+use Rattle.slots.specs.Slots.{links_of, home_of, IsFoundAfter}
+use Rattle.checker_states.specs.declared.note.Note.{Note}
+use Rattle.checker_states.specs.Hashes.{hash_of, part_of, number_of, tag_of}
 
--- the home of the state at a place
-abbrev pub home_at : List ℕ → List Entry → ℕ → ℕ → ℕ
-home_at multipliers closed size i = option_map_or (λ e. home_of (hash_of multipliers e.state) size) (slice_get closed i) 0
+-- what a slot notes of a state with this hash and cost
+abbrev pub note_of : ℕ → ℕ → Note
+note_of hash cost = record { tag = tag_of hash; cost = min cost 65535 }
 
--- the slot of the state at a place
-abbrev pub slot_for : List ℕ → List Entry → ℕ → Slot
-slot_for multipliers closed i = option_map_or (λ e. slot_with i (hash_of multipliers e.state) e.cost) (slice_get closed i) empty
+-- a slot without a state
+abbrev pub empty : Slot Note
+empty = record { link = 0; note = record { tag = 0; cost = 0 } }
 
--- each of the first n places of the list is found from the home of its state, every slot that is taken is that of one of
--- them, and the others are empty
-pub record IndexesTo (n : ℕ) (multipliers : List ℕ) (closed : List Entry) (slots : List Slot) : Type 0 where
+-- the place is found in these slots of a part, of this many parts, from the home of the state
+abbrev pub IsIn : List (Slot Note) → ℕ → ℕ → ℕ → Type 0
+IsIn slots parts hash place = (steps : ℕ) × IsFoundAfter (links_of slots) (home_of (number_of hash parts) (length slots)) place steps
+
+-- the slot is that of a place before the end, with a note of the state there
+abbrev pub IsNoted : List ℕ → List Entry → ℕ → Slot Note → Type 0
+IsNoted multipliers closed end slot =
+    (e : Entry) × (slot.link ≤ end) × (slice_get closed (slot.link - 1) ≡ Some e) × (slot.note ≡ note_of (hash_of multipliers e.state) e.cost)
+
+-- each place before the end whose state belongs to the part is found, and every slot that is taken is that of such a place
+pub record IndexesPart (parts part : ℕ) (multipliers : List ℕ) (closed : List Entry) (end : ℕ) (slots : List (Slot Note)) : Type 0 where
+  pub found : (i : ℕ) (e : Entry) → i < end → slice_get closed i ≡ Some e → part_of (hash_of multipliers e.state) parts ≡ part →
+      IsIn slots parts (hash_of multipliers e.state) i
+  pub noted : (k : ℕ) (slot : Slot Note) → slice_get slots k ≡ Some slot → slot.link ≢ 0 → IsNoted multipliers closed end slot
+
+-- these slots are those of a part: there is one at least, and they lead to all places of the part
+pub record IsPart (parts part : ℕ) (multipliers : List ℕ) (closed : List Entry) (slots : List (Slot Note)) : Type 0 where
   pub some : 0 < length slots
   pub few : length slots < 2 ^ 32
-  pub room : length closed ≤ length slots
-  pub empties : n + empties slots ≡ length slots
-  pub found : (i : ℕ) → i < n → (steps : ℕ) × IsFoundAfter slots (home_at multipliers closed (length slots) i) i steps
-  pub noted : (k : ℕ) → (slot_at slots k).link ≢ 0 → slot_at slots k ≡ slot_for multipliers closed ((slot_at slots k).link - 1)
-  pub linked : (k : ℕ) → (slot_at slots k).link ≤ n
+  pub holds : IndexesPart parts part multipliers closed (length closed) slots
+
+-- parts that lead to all places of the closed list
+pub record IndexesTo (multipliers : List ℕ) (closed : List Entry) (parts : List (Vec (Slot Note) Global)) : Type 0 where
+  pub some : 0 < length parts
+  pub few : length parts < 2 ^ 32
+  pub each : (part : ℕ) (slots : Vec (Slot Note) Global) → slice_get parts part ≡ Some slots → IsPart (length parts) part multipliers closed slots.items

@@ -1,5 +1,4 @@
 pub mod Hashes
-pub mod Slots
 pub mod Lists
 pub mod Indexes
 pub mod Places

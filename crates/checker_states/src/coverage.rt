@@ -61,9 +61,10 @@ impl<'a> Model for Coverage<'a> {
 }
 
 impl<'a> Coverage<'a> {
-    /// Prepares the closed list of the certificate, which must meet the clause C4. Fails only if allocation fails, or if the list has
-    /// 2^32 states or more, as no text has.
-    pub fn new(
+    /// Prepares the closed list of the certificate, which must meet the clause C4. Threads make the index of a long list side by side.
+    /// Fails only if allocation fails, or if the list has 2^32 states or more, as no text has.
+    pub fn new<R: Threads + Sync>(
+        rt: &R,
         alloc: Global,
         task: &'a FdrTask,
         certificate: &'a Certificate,
@@ -77,7 +78,7 @@ impl<'a> Coverage<'a> {
         Ok(Coverage {
             task,
             certificate,
-            index: ClosedIndex::new(alloc, certificate.closed())?,
+            index: ClosedIndex::new(rt, alloc, certificate.closed())?,
             generator: SuccessorGenerator::new(alloc, task)?,
             heuristic: Heuristic::new(alloc, task, certificate)?,
         })

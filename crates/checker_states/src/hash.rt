@@ -3,6 +3,7 @@
 ghost use Rattle.std.specs.Prelude.{◌≡◌, ◌<◌, ◌^◌};
 ghost use Rattle.checker_states.specs.Hashes as spec;
 
+use slots::home_of;
 use std::alloc::{AllocError, Global};
 
 /// 2^64 divided by the golden ratio, by which the numbers that are scrambled differ.
@@ -85,16 +86,25 @@ pub(crate) fn hash_of(multipliers: &[u64], state: &[u32]) -> u64
     hash
 }
 
-/// The home of a hash: its upper half times the number of slots, divided by 2^32. So the numbers of upper halves that lead
-/// to two slots differ by at most one.
-#[tactic(auto, unfolding(crate::specs::Hashes::home_of))]
-pub(crate) fn home_of(hash: u64, slots: usize) -> usize
-    requires some { 0 < slots }
-    requires few { slots < 2 ^ 32 }
-    ensures value { result ≡ spec.home_of hash slots }
-    ensures below { result < slots }
+/// The part of an index in which a state with this hash is looked for, where there are this many parts: by the upper half of the hash,
+/// as `home_of` finds a slot. So homes that lie side by side are mostly in one part.
+pub(crate) fn part_of(hash: u64, parts: usize) -> usize
+    requires some { 0 < parts }
+    requires few { parts < 2 ^ 32 }
+    ensures value { result ≡ spec.part_of hash parts }
+    ensures below { result < parts }
 {
-    (hash / HALF * slots as u64 / HALF) as usize
+    home_of((hash / HALF) as u32, parts)
+}
+
+/// The number that leads to the home of a state with this hash in its part: what is left of the upper half of the hash where that told
+/// the part.
+#[tactic(auto, unfolding(crate::specs::Hashes::number_of))]
+pub(crate) fn number_of(hash: u64, parts: usize) -> u32
+    requires { parts < 2 ^ 32 }
+    ensures { result ≡ spec.number_of hash parts }
+{
+    (hash / HALF * parts as u64 % HALF) as u32
 }
 
 /// The tag of a state with this hash: the lower bits.

@@ -1,33 +1,45 @@
 //! The index of a closed list.
 
-ghost use Rattle.std.specs.Prelude.{◌≡◌, ◌≢◌, ◌-◌, ◌<◌, ◌≤◌, ◌^◌, nat_le, false, length, slice_get, All, IfOk};
+ghost use Rattle.std.specs.Prelude.{◌≡◌, ◌≢◌, ◌-◌, ◌<◌, ◌≤◌, ◌^◌, nat_le, map, false, Ok, All, length, slice_get, IfOk};
 ghost use Rattle.std.specs.Option.{option_map_or};
 ghost use Rattle.checker_clauses.specs.Clauses.{is_listed};
 ghost use Rattle.checker_states.specs.Hashes as hashes;
-ghost use Rattle.checker_states.specs.Indexes.{IndexesTo, slot_for};
+ghost use Rattle.checker_states.specs.Indexes.{IndexesTo, IsNoted, IsPart};
 ghost use Rattle.checker_states.specs.Lists.{lists};
 
-use crate::hash::{hash_of, home_of, multipliers, tag_of};
-use crate::slots::{MAX_SHORT_COST, Slot, add, slot_after};
+use crate::hash::{hash_of, multipliers, number_of, part_of, tag_of};
+use crate::note::{MAX_SHORT_COST, Note};
+use crate::part::{part_slots, slot_count};
 use cert_value::ClosedList;
+use slots::{Slot, home_of, slot_after};
 use std::alloc::{AllocError, Global};
 use std::marker::Model;
+use std::num::NonZeroUsize;
+use std::thread;
+use std::thread::Threads;
+
+/// The greatest number of parts. Each is made by a thread that hashes all states, so more of them take more time together.
+const MAX_PARTS: usize = 16;
+
+/// The least number of states for which another thread is worth its start.
+const STATES_OF_A_THREAD: usize = 4096;
 
 /// An index of a closed list by the values of its states. It takes 16 bytes for each state, in two slots. A usual hash map
 /// would store each state a second time, as its key. In contracts its value is the closed list.
 ///
-/// A look-up hashes the state once and reads the slots from its home on, up to an empty one: one and a half on average, side
-/// by side, where the state is listed, and two and a half where it is not. It compares the state with those of slots with the
-/// same tag alone, so hardly ever with another one, and with all states if they were chosen so that their hashes collide.
+/// Its slots are in parts, which threads fill side by side; the upper bits of a state's hash tell its part. A look-up hashes the state
+/// once and reads the slots of the part from the state's home on, up to an empty one: one and a half on average, side by side, where the
+/// state is listed, and two and a half where it is not. It compares the state with those of slots with the same tag alone, so hardly ever
+/// with another one, and with all states if they were chosen so that their hashes collide.
 #[derive(Drop)]
 pub struct ClosedIndex<'a> {
     closed: &'a ClosedList,
     multipliers: Vec<u64>,
-    slots: Vec<Slot>,
+    parts: Vec<Vec<Slot<Note>>>,
 }
 
 impl<'a> Model for ClosedIndex<'a> {
-    ghost use Rattle.std.specs.Prelude.{List, length};
+    ghost use Rattle.std.specs.Prelude.{List};
     ghost use Rattle.cert_value.specs.Certificates.{Entry};
     ghost use Rattle.checker_states.specs.Indexes.{IndexesTo};
 
@@ -35,17 +47,7 @@ impl<'a> Model for ClosedIndex<'a> {
 
     ghost view = { λ index. index.closed.now };
 
-    ghost invariant = { λ index. IndexesTo (length index.closed.now) index.multipliers.items index.closed.now index.slots.items };
-}
-
-/// The number of slots for this many states: two for each, but at least one and fewer than 2^32.
-fn slot_count(places: usize) -> usize
-    requires { places < 2 ^ 32 }
-    ensures some { 0 < result }
-    ensures few { result < 2 ^ 32 }
-    ensures room { places ≤ result }
-{
-    places.saturating_mul(2).clamp(1, u32::MAX as usize)
+    ghost invariant = { λ index. IndexesTo index.multipliers.items index.closed.now index.parts.items };
 }
 
 /// Raises each number to that of the state, if that is greater.
@@ -77,29 +79,76 @@ fn raise_to_samples(closed: &ClosedList, greatest: &mut [u32], state: &mut [u32]
     }
 }
 
-/// Adds every state. `state` is a buffer for the values of one state.
-fn fill(closed: &ClosedList, multipliers: &[u64], slots: &mut [Slot], state: &mut [u32])
-    requires none { IndexesTo 0 multipliers.now closed.now slots.old }
-    requires state { All (λ e. length e.state ≡ length state.old) closed.now }
-    ensures { IndexesTo (length closed.now) multipliers.now closed.now slots.new }
+/// A multiplier for each variable. Fails only if allocation fails.
+fn multipliers_for(alloc: Global, closed: &ClosedList) -> Result<Vec<u64>, AllocError>
+    requires { length closed.now < 2 ^ 32 }
 {
-    for place in 0..closed.len() {
-        closed.copy_state(place, state);
-        let hash = hash_of(multipliers, state);
-        let home = home_of(hash, slots.len());
-        add(slots, home, Slot::new(place, hash, closed.cost(place)));
+    let mut state = closed.buffer(alloc)?;
+    let mut greatest = vec![in alloc; 0; state.len()]?;
+    raise_to_samples(closed, &mut greatest, &mut state);
+    multipliers(alloc, &greatest, slot_count(closed.len()))
+}
+
+/// How many parts the index of this many states has: one for each processor, but no more than are worth a thread.
+fn part_count(rt: &impl Threads, states: usize) -> usize
+    ensures some { 0 < result }
+    ensures few { result < 2 ^ 32 }
+{
+    thread::available_parallelism(rt)
+        .map_or(1, NonZeroUsize::get)
+        .min(states / STATES_OF_A_THREAD)
+        .clamp(1, MAX_PARTS)
+}
+
+/// The parts, if memory ran out in none. Fails too if allocation fails.
+fn all_made(
+    alloc: Global,
+    made: Vec<Result<Vec<Slot<Note>>, AllocError>>,
+) -> Result<Vec<Vec<Slot<Note>>>, AllocError>
+    ensures { IfOk result (λ parts. map Ok parts.items ≡ made.items) }
+{
+    let mut parts = Vec::with_capacity(alloc, made.len())?;
+    for part in made {
+        parts.push(part?)?;
     }
+    Ok(parts)
+}
+
+/// The slots of each part, which threads fill side by side. Fails only if allocation fails.
+fn parts_side_by_side<R: Threads + Sync>(
+    rt: &R,
+    alloc: Global,
+    closed: &ClosedList,
+    multipliers: &[u64],
+    parts: usize,
+) -> Result<Vec<Vec<Slot<Note>>>, AllocError>
+    requires some { 0 < parts }
+    requires few { parts < 2 ^ 32 }
+    requires places { length closed.now < 2 ^ 32 }
+    ensures { IfOk result (λ made. IndexesTo multipliers.now closed.now made.items) }
+{
+    let made = thread::map_indices(
+        rt,
+        alloc,
+        parts,
+        &|part: usize| -> Result<Vec<Slot<Note>>, AllocError>
+            requires some { 0 < parts }
+            requires few { parts < 2 ^ 32 }
+            requires places { length closed.now < 2 ^ 32 }
+            ensures { IfOk result (λ slots. IsPart parts part multipliers.entry.now closed.entry.now slots.items) }
+        { part_slots(alloc, closed, multipliers, part, parts) },
+    )?;
+    all_made(alloc, made)
 }
 
 /// Whether the state at the place of a slot has at most this cost. Costs that are too great for the slot are looked up.
-fn costs_at_most(closed: &ClosedList, multipliers: &[u64], slot: Slot, cost: u64) -> bool
+fn costs_at_most(closed: &ClosedList, multipliers: &[u64], slot: Slot<Note>, cost: u64) -> bool
     requires taken { slot.link ≢ 0 }
-    requires slot { slot ≡ slot_for multipliers.now closed.now (slot.link - 1) }
-    requires place { slot.link ≤ length closed.now }
+    requires noted { IsNoted multipliers.now closed.now (length closed.now) slot }
     ensures { result ≡ option_map_or (λ e. nat_le e.cost cost) (slice_get closed.now (slot.link - 1)) false }
 {
-    if slot.cost < MAX_SHORT_COST {
-        u64::from(slot.cost) <= cost
+    if slot.note.cost < MAX_SHORT_COST {
+        u64::from(slot.note.cost) <= cost
     } else {
         closed.cost(slot.link as usize - 1) <= cost
     }
@@ -109,41 +158,70 @@ fn costs_at_most(closed: &ClosedList, multipliers: &[u64], slot: Slot, cost: u64
 fn lists_at(
     closed: &ClosedList,
     multipliers: &[u64],
-    slot: Slot,
+    slot: Slot<Note>,
     tag: u16,
     state: &[u32],
     cost: u64,
 ) -> bool
     requires taken { slot.link ≢ 0 }
-    requires slot { slot ≡ slot_for multipliers.now closed.now (slot.link - 1) }
-    requires place { slot.link ≤ length closed.now }
+    requires noted { IsNoted multipliers.now closed.now (length closed.now) slot }
     requires tag { tag ≡ hashes.tag_of (hashes.hash_of multipliers.now state.now) }
     ensures { result ≡ option_map_or (lists state.now cost) (slice_get closed.now (slot.link - 1)) false }
 {
-    slot.tag == tag
+    slot.note.tag == tag
         && closed.has_state(slot.link as usize - 1, state)
         && costs_at_most(closed, multipliers, slot, cost)
 }
 
+/// Whether the state with this hash is found in the slots of its part with at most this cost.
+fn is_found(
+    closed: &ClosedList,
+    multipliers: &[u64],
+    slots: &[Slot<Note>],
+    parts: usize,
+    hash: u64,
+    state: &[u32],
+    cost: u64,
+) -> bool
+    requires parts { parts < 2 ^ 32 }
+    requires hash { hash ≡ hashes.hash_of multipliers.now state.now }
+    requires part { IsPart parts (hashes.part_of hash parts) multipliers.now closed.now slots.now }
+    ensures { result ≡ is_listed closed.now state.now cost }
+{
+    let tag = tag_of(hash);
+    let home = home_of(number_of(hash, parts), slots.len());
+    for steps in 0..slots.len() {
+        let slot = slot_after(slots, home, steps);
+        if slot.link == 0 {
+            return false;
+        }
+        if lists_at(closed, multipliers, slot, tag, state, cost) {
+            return true;
+        }
+    }
+    false
+}
+
 impl<'a> ClosedIndex<'a> {
-    /// Makes the index of the list, in linear time. Fails only if allocation fails, or if there are 2^32 states or more,
-    /// whose index would take 64 GiB.
-    pub fn new(alloc: Global, closed: &'a ClosedList) -> Result<ClosedIndex<'a>, AllocError>
+    /// Makes the index of the list, in linear time, by as many threads as there are processors where the list is long. Fails only if
+    /// allocation fails, or if there are 2^32 states or more, whose index would take 64 GiB.
+    pub fn new<R: Threads + Sync>(
+        rt: &R,
+        alloc: Global,
+        closed: &'a ClosedList,
+    ) -> Result<ClosedIndex<'a>, AllocError>
         ensures { IfOk result (λ index. index ≡ closed.now) }
     {
         if closed.len() > u32::MAX as usize {
             return Err(AllocError);
         }
-        let mut state = closed.buffer(alloc)?;
-        let mut greatest = vec![in alloc; 0; state.len()]?;
-        raise_to_samples(closed, &mut greatest, &mut state);
-        let mut slots = vec![in alloc; Slot::EMPTY; slot_count(closed.len())]?;
-        let multipliers = multipliers(alloc, &greatest, slots.len())?;
-        fill(closed, &multipliers, &mut slots, &mut state);
+        let multipliers = multipliers_for(alloc, closed)?;
+        let count = part_count(rt, closed.len());
+        let parts = parts_side_by_side(rt, alloc, closed, &multipliers, count)?;
         Ok(ClosedIndex {
             closed,
             multipliers,
-            slots,
+            parts,
         })
     }
 
@@ -152,17 +230,16 @@ impl<'a> ClosedIndex<'a> {
         ensures { result ≡ is_listed self.now state.now cost }
     {
         let hash = hash_of(&self.multipliers, state);
-        let home = home_of(hash, self.slots.len());
-        let tag = tag_of(hash);
-        for steps in 0..self.slots.len() {
-            let slot = slot_after(&self.slots, home, steps);
-            if slot.link == 0 {
-                return false;
-            }
-            if lists_at(self.closed, &self.multipliers, slot, tag, state, cost) {
-                return true;
-            }
-        }
-        false
+        let parts = self.parts.len();
+        let slots = &self.parts[part_of(hash, parts)];
+        is_found(
+            self.closed,
+            &self.multipliers,
+            slots,
+            parts,
+            hash,
+            state,
+            cost,
+        )
     }
 }

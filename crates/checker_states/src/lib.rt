@@ -6,7 +6,8 @@ mod coverage;
 mod goals;
 mod hash;
 mod index;
-mod slots;
+mod note;
+mod part;
 mod states;
 
 pub use coverage::Coverage;

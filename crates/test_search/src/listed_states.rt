@@ -42,7 +42,7 @@ fn lists_the_four(rt: &impl Abort, index: &ClosedIndex<'_>) {
 #[test]
 fn finds_listed_states(rt: HostRuntime) {
     let closed = four_states(&rt, rt.alloc());
-    let index = ClosedIndex::new(rt.alloc(), &closed).expect(&rt, "memory");
+    let index = ClosedIndex::new(&rt, rt.alloc(), &closed).expect(&rt, "memory");
     lists_the_four(&rt, &index);
 }
 
@@ -55,7 +55,7 @@ fn lists_a_state_of_no_values(rt: &impl Abort, index: &ClosedIndex<'_>) {
 fn finds_states_of_no_values(rt: HostRuntime) {
     let mut closed = ClosedList::new(rt.alloc());
     closed.push(4, &[]).expect(&rt, "memory");
-    let index = ClosedIndex::new(rt.alloc(), &closed).expect(&rt, "memory");
+    let index = ClosedIndex::new(&rt, rt.alloc(), &closed).expect(&rt, "memory");
     lists_a_state_of_no_values(&rt, &index);
 }
 

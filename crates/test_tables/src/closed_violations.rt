@@ -39,7 +39,7 @@ fn uncovered<R: Threads + Sync>(
     requires tables { IsMet task.now certificate.now 4 }
     requires closed { IsMet task.now certificate.now 5 }
 {
-    let coverage = Coverage::new(alloc, task, certificate)?;
+    let coverage = Coverage::new(rt, alloc, task, certificate)?;
     if let Some(violation) = coverage.start_violation() {
         return Ok(Some(violation));
     }
