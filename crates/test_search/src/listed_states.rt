@@ -4,6 +4,7 @@ use cert_value::ClosedList;
 use checker_states::ClosedIndex;
 use std::alloc::Global;
 use std::process::Abort;
+use std::thread::Threads;
 
 /// Four states of two values, of which two are the same.
 fn four_states(rt: &impl Abort, alloc: Global) -> ClosedList {
@@ -60,9 +61,9 @@ fn finds_states_of_no_values(rt: HostRuntime) {
 }
 
 /// Whether the state of no values is listed in the list of no states.
-fn is_listed_among_none(rt: &impl Abort, alloc: Global) -> bool {
+fn is_listed_among_none<R: Abort + Threads + Sync>(rt: &R, alloc: Global) -> bool {
     let closed = ClosedList::new(alloc);
-    let index = ClosedIndex::new(alloc, &closed).expect(rt, "memory");
+    let index = ClosedIndex::new(rt, alloc, &closed).expect(rt, "memory");
     index.is_listed(&[], 9)
 }
 
