@@ -8,7 +8,7 @@ use Rattle.std.proofs.lemmas.Bool.{cases_lt}
 use Rattle.std.proofs.lemmas.Bool.Decides.{nat_tests}
 use Rattle.std.proofs.lemmas.List.{length-map}
 use Rattle.std.proofs.lemmas.List.Elements.{All-append, All-cons, All-nil, All-tail, Contains-append_left}
-use Rattle.std.proofs.lemmas.List.Sorted.{All-permutation, IsPermutation-append_right, IsPermutation-middle, IsPermutation-refl, IsPermutation-sym, IsPermutation-trans}
+use Rattle.std.proofs.lemmas.List.Sorted.{All-permutation, IsPermutation-refl}
 use Rattle.std.proofs.lemmas.List.Sums.{length-filter, sum_by-cons}
 use Rattle.openlist.specs.declared.entry.OpenEntry.{OpenEntry}
 use Rattle.openlist.specs.declared.row.TheConstants.{FAR}
@@ -33,14 +33,6 @@ pub entries_beside-same : (before after : Row) (far far' : List OpenEntry) → H
     IsPermutation (row_entries 0 before ++ far) (row_entries 0 after ++ far')
 entries_beside-same before after far far' same same_far =
     rw (row_entries-same 0 before after same, same_far) (IsPermutation-refl (row_entries 0 before ++ far))
-
--- an entry more among those of great f is one more beside the row
-pub far_pushed : (x : OpenEntry) (row far far' : List OpenEntry) → IsPermutation (x ∷ far) far' →
-    IsPermutation (x ∷ (row ++ far)) (row ++ far')
-far_pushed x row far far' pushed =
-    IsPermutation-trans (x ∷ (row ++ far)) (row ++ x ∷ far) (row ++ far')
-    (IsPermutation-sym (row ++ x ∷ far) (x ∷ (row ++ far)) (IsPermutation-middle row x far))
-    (IsPermutation-append_right row (x ∷ far) far' pushed)
 
 -- a push among the entries of great f, and a pop, leave only such entries there
 pub far_after_push : (r : Result (Unit {0}) AllocError) (x : OpenEntry) (far far' : List OpenEntry) →

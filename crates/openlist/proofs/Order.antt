@@ -12,8 +12,6 @@ use Rattle.std.proofs.lemmas.List.Elements.{All-nil, All-cons, All-contains}
 use Rattle.std.proofs.lemmas.List.Sorted.{All-permutation}
 use Rattle.openlist.specs.declared.entry.Rank.{Rank}
 use Rattle.openlist.specs.declared.entry.OpenEntry.{OpenEntry}
-use Rattle.openlist.specs.declared.bucket.BucketEntry.{BucketEntry}
-use Rattle.openlist.specs.BucketLists.{with_f}
 use Rattle.openlist.specs.OpenLists.{comes_first, IsFirst, entry_of}
 
 abbrev pub rank_cmp : Rank → Rank → Ordering
@@ -92,22 +90,6 @@ IsFirst-unique x y xs member first member' first' =
     comes_first-antisym x y
     (All-contains (λ z. comes_first x z ≡ true) xs y first member')
     (All-contains (λ z. comes_first y z ≡ true) xs x first' member)
-
--- what the derived comparison of a bucket's entries answers
-abbrev pub bucket_cmp : BucketEntry → BucketEntry → Ordering
-bucket_cmp x y = ordering_then (rank_cmp x.rank y.rank) (nat_cmp x.index y.index)
-
-with_f-comes_first : (f : ℕ) (x y : BucketEntry) → is_lt (bucket_cmp y x) ≡ false →
-    comes_first (with_f f x) (with_f f y) ≡ true
-with_f-comes_first f x y h = grind (arith, nat_tests)
-
--- what the greatest element of a bucket's heap of reversed entries is
-pub IsFirst-bucket : (f : ℕ) (x : Reverse BucketEntry) (xs : List (Reverse BucketEntry)) →
-    IsUpperBound (λ a b. bucket_cmp b.0 a.0) x xs → IsFirst (with_f f x.0) (map (with_f f) (map (λ r. r.0) xs))
-IsFirst-bucket f x [] h = All-nil (λ y. comes_first (with_f f x.0) y ≡ true)
-IsFirst-bucket f x (y ∷ ys) h =
-    All-cons (λ z. comes_first (with_f f x.0) z ≡ true) (with_f f y.0) (map (with_f f) (map (λ r. r.0) ys))
-    (with_f-comes_first f x.0 y.0 h.0) (IsFirst-bucket f x ys h.1)
 
 -- an entry of a lower f comes first
 pub lower_f-comes_first : (x y : OpenEntry) → x.f < y.f → comes_first x y ≡ true

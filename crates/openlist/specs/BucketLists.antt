@@ -8,8 +8,8 @@ use Rattle.openlist.specs.declared.bucket.BucketEntry.{BucketEntry}
 use Rattle.openlist.specs.declared.row.TheConstants.{FAR}
 use Rattle.openlist.specs.Heaps.{Held}
 
--- a bucket: its entries, in the heap's own order, how many more entries fit without an allocation, and for how many the last
--- call of reserve has asked
+-- a bucket: its entries, those of the run and then those of the heap in the heap's own order, how many more entries fit
+-- without an allocation whichever part they go to, and for how many the last call of reserve has asked
 pub record BucketHeld : Type 0 where
   pub entries : List BucketEntry
   pub spare : ℕ

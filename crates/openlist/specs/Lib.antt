@@ -1,3 +1,4 @@
 pub mod BucketLists
 pub mod Heaps
 pub mod OpenLists
+pub mod Runs

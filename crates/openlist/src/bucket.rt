@@ -1,13 +1,18 @@
 //! The entries of one f-value.
 
-ghost use Rattle.std.specs.Prelude.{◌≡◌, ◌+◌, ◌-◌, ◌^◌, ◌<◌, ◌≤◌, ◌↔◌, min, [], ◌∷◌, map, Contains, IsTrue, IsOk, IfSome, IfNone, OnOk, OnErr};
+ghost use Rattle.std.specs.Prelude.{◌≡◌, ◌+◌, ◌-◌, ◌^◌, ◌<◌, ◌≤◌, ◌↔◌, min, [], ◌∷◌, ◌++◌, map, Contains, IsTrue, IsFalse, IsOk, IfSome, IfNone, OnOk, OnErr};
+ghost use Rattle.std.specs.BinaryHeap.{IsHeap, IsUpperBound, heap_items, heap_len};
 ghost use Rattle.std.specs.List.Sorted.{IsPermutation};
+ghost use Rattle.std.specs.VecDeque.{deque_len};
+ghost use Rattle.std.specs.declared.cmp.Reverse.{Reverse};
+ghost use Rattle.openlist.specs.declared.bucket.BucketEntry.{BucketEntry};
 ghost use Rattle.openlist.specs.OpenLists.{IsFirst};
+ghost use Rattle.openlist.specs.Runs.{IsBefore, IsRun, Leads};
 
 use crate::entry::{OpenEntry, Rank};
 use std::alloc::{AllocError, Global};
 use std::cmp::Reverse;
-use std::collections::BinaryHeap;
+use std::collections::{BinaryHeap, VecDeque};
 use std::marker::Model;
 
 /// An entry of a bucket: an open entry without its f-value, which is the same for all entries of the bucket.
@@ -19,30 +24,39 @@ pub struct BucketEntry {
     pub index: usize,
 }
 
-/// The entries of one f-value, as a binary heap by rank and then by place. A bucket does not know its f-value: callers
-/// pass it along.
+/// The entries of one f-value, ordered by rank and then by place. A bucket does not know its f-value: callers pass it along.
+///
+/// A bucket has two parts, a run and a binary heap. As long as the heap is empty, an entry that comes after all entries of the
+/// run, or before all of them, goes to that end of the run: its push and its pop take constant time on average and touch
+/// neighbouring memory. Any other entry goes into the heap, where a push or a pop takes time logarithmic in the number of
+/// entries there: where entries do not come in order, the ends of the run are not looked at for each. The first entry of the
+/// bucket is the first of the run or the first of the heap.
 #[derive(Drop)]
 pub struct Bucket {
-    /// The entries, reversed: a binary heap gives its greatest element, and the first entry is the least one.
+    /// Entries in their order: each comes before the next or is equal to it.
+    run: VecDeque<BucketEntry>,
+    /// The other entries, reversed: a binary heap gives its greatest element, and the first entry is the least one.
     heap: BinaryHeap<Reverse<BucketEntry>>,
     /// For how many entries the last call of `reserve` of the open list has asked so far.
     asked: usize,
 }
 
 impl Model for Bucket {
-    ghost use Rattle.std.specs.Prelude.{◌-◌, map};
+    ghost use Rattle.std.specs.Prelude.{◌-◌, ◌++◌, map, min};
     ghost use Rattle.std.specs.BinaryHeap.{IsHeap, heap_capacity, heap_items, heap_len};
+    ghost use Rattle.std.specs.VecDeque.{deque_capacity, deque_len};
     ghost use Rattle.openlist.specs.BucketLists.{BucketHeld};
+    ghost use Rattle.openlist.specs.Runs.{IsRun};
 
     ghost Value = { BucketHeld };
 
     ghost view = { λ it. record {
-      entries = map (λ r. r.0) (heap_items it.heap);
-      spare = heap_capacity it.heap - heap_len it.heap;
+      entries = it.run.items ++ map (λ r. r.0) (heap_items it.heap);
+      spare = min (deque_capacity it.run - deque_len it.run) (heap_capacity it.heap - heap_len it.heap);
       asked = it.asked;
     } };
 
-    ghost invariant = { λ it. IsHeap ⟦<Reverse<BucketEntry> as Ord>⟧.cmp (heap_items it.heap) };
+    ghost invariant = { λ it. IsRun it.run.items × IsHeap ⟦<Reverse<BucketEntry> as Ord>⟧.cmp (heap_items it.heap) };
 }
 
 impl Bucket {
@@ -53,6 +67,7 @@ impl Bucket {
         ensures { result.entries ≡ [] }
     {
         Bucket {
+            run: VecDeque::new(alloc),
             heap: BinaryHeap::new(alloc),
             asked: 0,
         }
@@ -62,7 +77,7 @@ impl Bucket {
     pub fn is_empty(&self) -> bool
         ensures { IsTrue result ↔ (self.now.entries ≡ []) }
     {
-        self.heap.is_empty()
+        self.run.is_empty() && self.heap.is_empty()
     }
 
     /// Begins to count how many entries `reserve` asks for.
@@ -72,7 +87,7 @@ impl Bucket {
         self.asked = 0;
     }
 
-    /// Makes room for as many entries as were asked for, and one more. Fails only if allocation fails.
+    /// Makes room for as many entries as were asked for, and one more, in both parts. Fails only if allocation fails.
     pub fn reserve_one_more(&mut self) -> Result<(), AllocError>
         ensures entries { self.new.entries ≡ self.old.entries }
         ensures asked { self.new.asked ≡ min (self.old.asked + 1) (2 ^ 64 - 1) }
@@ -80,6 +95,7 @@ impl Bucket {
         ensures room { OnOk result (self.new.asked ≤ self.new.spare) }
     {
         self.asked = self.asked.saturating_add(1);
+        self.run.reserve(self.asked)?;
         self.heap.reserve(self.asked)
     }
 
@@ -91,11 +107,18 @@ impl Bucket {
         ensures succeeds { 0 < self.old.spare → IsOk result }
         ensures room { self.old.spare ≤ self.new.spare + 1 }
     {
-        self.heap.push(Reverse(BucketEntry {
+        let added = BucketEntry {
             rank: entry.rank,
             index: entry.index,
-        }))?;
-        Ok(())
+        };
+        let in_order = self.heap.is_empty();
+        if in_order && fits_at_back(&self.run, &added) {
+            Ok(self.run.push_back(added)?)
+        } else if in_order && fits_at_front(&self.run, &added) {
+            Ok(self.run.push_front(added)?)
+        } else {
+            Ok(self.heap.push(Reverse(added))?)
+        }
     }
 
     /// Removes and returns the first entry of the bucket of this f-value, or returns `None` if it is empty.
@@ -108,8 +131,13 @@ impl Bucket {
         ensures empty { IfNone result (self.new.entries ≡ []) }
         ensures room { self.old.spare ≤ self.new.spare }
     {
-        let Reverse(entry) = self.heap.pop()?;
-        Some(entry.with_f(f))
+        if is_run_first(&self.run, &self.heap) {
+            let entry = self.run.pop_front()?;
+            Some(entry.with_f(f))
+        } else {
+            let Reverse(entry) = self.heap.pop()?;
+            Some(entry.with_f(f))
+        }
     }
 
     /// The first entry of the bucket of this f-value, or `None` if it is empty.
@@ -119,8 +147,54 @@ impl Bucket {
         ensures first { IfSome result (λ e. IsFirst e (map (with_f f) self.now.entries)) }
         ensures none { IfNone result (self.now.entries ≡ []) }
     {
-        let Reverse(entry) = self.heap.peek()?;
-        Some(entry.with_f(f))
+        if is_run_first(&self.run, &self.heap) {
+            let entry = self.run.front()?;
+            Some(entry.with_f(f))
+        } else {
+            let Reverse(entry) = self.heap.peek()?;
+            Some(entry.with_f(f))
+        }
+    }
+}
+
+/// Whether the run is still in order with the entry at its back.
+fn fits_at_back(run: &VecDeque<BucketEntry>, entry: &BucketEntry) -> bool
+    requires { IsRun run.now.items }
+    ensures { IsTrue result → IsRun (run.now.items ++ entry.now ∷ []) }
+{
+    match run.back() {
+        Some(last) => last <= entry,
+        None => true,
+    }
+}
+
+/// Whether the run is still in order with the entry at its front.
+fn fits_at_front(run: &VecDeque<BucketEntry>, entry: &BucketEntry) -> bool
+    requires { IsRun run.now.items }
+    ensures { IsTrue result → IsRun (entry.now ∷ run.now.items) }
+{
+    match run.front() {
+        Some(first) => entry <= first,
+        None => true,
+    }
+}
+
+/// Whether the run has an entry and its first one comes before the heap's entries or is equal to the first of them.
+fn is_run_first(run: &VecDeque<BucketEntry>, heap: &BinaryHeap<Reverse<BucketEntry>>) -> bool
+    requires run { IsRun run.now.items }
+    requires heap { IsHeap ⟦<Reverse<BucketEntry> as Ord>⟧.cmp (heap_items heap.now) }
+    ensures run_filled { IsTrue result → 0 < deque_len run.now }
+    ensures run_first { IsTrue result → Leads run.now.items (map (λ r. r.0) (heap_items heap.now)) }
+    ensures heap_filled { IsFalse result → 0 < deque_len run.now → 0 < heap_len heap.now }
+    ensures heap_first { IsFalse result → (r : Reverse BucketEntry) →
+        IsUpperBound ⟦<Reverse<BucketEntry> as Ord>⟧.cmp r (heap_items heap.now) → IsBefore r.0 run.now.items }
+{
+    let Some(first) = run.front() else {
+        return false;
+    };
+    match heap.peek() {
+        Some(Reverse(least)) => first <= least,
+        None => true,
     }
 }
 

@@ -10,10 +10,10 @@ use crate::row::{begin_reserve, bucket_of, count_far, first_filled, push_near, r
 use std::alloc::{AllocError, Global};
 use std::marker::Model;
 
-/// An open list as a row of buckets by f (Dial 1969), each a binary heap, with one heap for all entries of f 65536 and
-/// above.
+/// An open list as a row of buckets by f (Dial 1969), each a run beside a binary heap, with one heap for all entries of f
+/// 65536 and above.
 ///
-/// A push or a pop takes time logarithmic in the number of entries of the same f. A pop also passes the empty buckets from
+/// A push or a pop takes at most time logarithmic in the number of entries of the same f. A pop also passes the empty buckets from
 /// the place of the last pop, or of a push below that, to the first bucket that has an entry; `least` passes them without
 /// moving the place. So while no push is below the last f that was popped, all pops together pass each bucket once.
 ///

@@ -4,7 +4,8 @@ use Rattle.std.proofs.lemmas.List.Sorted.{IsPermutation-append_left, IsPermutati
 use Rattle.std.proofs.lemmas.Result.{on_err_weaker, on_ok_weaker}
 use Rattle.openlist.specs.declared.row.TheConstants.{FAR}
 use Rattle.openlist.specs.BucketLists.{has_room_in_fewer, row_entries, row_of}
-use Rattle.openlist.proofs.BucketLaws.{entries_beside-same, far_after_push, far_count-from_room, far_pushed, HasRoomFor-far_cons, on_err_from}
+use Rattle.openlist.proofs.BucketLaws.{entries_beside-same, far_after_push, far_count-from_room, HasRoomFor-far_cons, on_err_from}
+use Rattle.openlist.proofs.Runs.{IsPermutation-pushed_beside}
 use Rattle.openlist.proofs.buckets.BucketsOpenList.push.Goals as goal
 
 pub invariant_of-self : goal.invariant_of-self
@@ -18,7 +19,7 @@ invariant_of-self c = record {
 pub returns-in_default-clause-pushed : goal.returns-in_default-clause-pushed
 returns-in_default-clause-pushed c =
     rw (← c.self.view_is)
-    (on_ok_weaker c.push.result (far_pushed c.args.entry (row_entries 0 (row_of c.self.inside.row.items)) _ _)
+    (on_ok_weaker c.push.result (IsPermutation-pushed_beside c.args.entry (row_entries 0 (row_of c.self.inside.row.items)) _ _)
     c.push.ensures.pushed)
 
 pub returns-in_default-clause-unchanged : goal.returns-in_default-clause-unchanged

@@ -1,0 +1,22 @@
+-- Entries of one bucket in their order.
+use Rattle.std.specs.Prelude.{Bool, true, ◌≡◌, ◌&&◌, ◌||◌, nat_le, List, [], ◌∷◌, All}
+use Rattle.openlist.specs.declared.bucket.BucketEntry.{BucketEntry}
+use Rattle.openlist.specs.OpenLists.{is_lower, is_same_rank}
+
+-- the first entry comes before the second or is equal to it: by rank, then by place
+abbrev pub comes_before : BucketEntry → BucketEntry → Bool
+comes_before x y = is_lower x.rank y.rank || (is_same_rank x.rank y.rank && nat_le x.index y.index)
+
+-- the entry comes before each of these entries or is equal to it
+abbrev pub IsBefore : BucketEntry → List BucketEntry → Type 0
+IsBefore x ys = All (λ y. comes_before x y ≡ true) ys
+
+-- the first of the entries, if there is one, comes before each of the others or is equal to it
+abbrev pub Leads : List BucketEntry → List BucketEntry → Type 0
+Leads [] ys = Unit {0}
+Leads (x ∷ xs) ys = IsBefore x ys
+
+-- the entries are in their order: each comes before those after it or is equal to them
+abbrev pub IsRun : List BucketEntry → Type 0
+IsRun [] = Unit {0}
+IsRun (x ∷ xs) = IsBefore x xs × IsRun xs
