@@ -116,13 +116,29 @@ pub(crate) fn make_room(slots: &mut Vec<Slot<u32>>, rows: usize) -> Result<(), A
     Ok(())
 }
 
+/// The link of the slot at the home of the form, or of the next one, if that slot has the form's tag, and else 0: most often
+/// that of the form's row, if it has one.
+pub(crate) fn lead_to<F: Hash>(slots: &[Slot<u32>], form: &F) -> u32
+    requires some { 0 < length slots.now }
+    requires few { length slots.now < 2 ^ 32 }
+{
+    let tag = tag_of(form);
+    let size = slots.len();
+    let home = home_of(tag, size);
+    let first = slot_after(slots, home, 0);
+    let second = slot_after(slots, home, size.min(2) - 1);
+    if first.note == tag {
+        first.link
+    } else if second.note == tag {
+        second.link
+    } else {
+        0
+    }
+}
+
 /// The place of the row with this form, counted from 0, or `None` if there is none. Forms are compared only where the tags are
 /// equal.
-pub(crate) fn find<F: Hash>(
-    rows: &[(F, SmallEntry)],
-    slots: &[Slot<u32>],
-    form: &F,
-) -> Option<usize>
+fn find<F: Hash>(rows: &[(F, SmallEntry)], slots: &[Slot<u32>], form: &F) -> Option<usize>
     requires { AreIndexed F.eq F.hash_input rows.now slots.now }
     ensures index { result ≡ position (F.eq form.now) (keys_of rows.now) }
     ensures within { IfSome result (λ i. i < length rows.now) }
@@ -140,4 +156,22 @@ pub(crate) fn find<F: Hash>(
         }
     }
     None
+}
+
+/// What `find` gives. The row of this link is looked at first, if there is one: no slot is read where it has the form.
+pub(crate) fn find_led<F: Hash>(
+    rows: &[(F, SmallEntry)],
+    slots: &[Slot<u32>],
+    form: &F,
+    link: u32,
+) -> Option<usize>
+    requires { AreIndexed F.eq F.hash_input rows.now slots.now }
+    ensures index { result ≡ position (F.eq form.now) (keys_of rows.now) }
+    ensures within { IfSome result (λ i. i < length rows.now) }
+{
+    let index = (link as usize).wrapping_sub(1);
+    match rows.get(index) {
+        Some(row) if *form == row.0 => Some(index),
+        _ => find(rows, slots, form),
+    }
 }

@@ -5,12 +5,24 @@ ghost use Rattle.std.specs.Option.{option_copied};
 ghost use Rattle.std.specs.Map.{keys_of, values_of};
 ghost use Rattle.closed.specs.Entries.{set_entry_at};
 
-use crate::index::{EMPTY, FIRST_SLOTS, add_rows, find, make_room, tag_of};
+use crate::index::{EMPTY, FIRST_SLOTS, add_rows, find_led, lead_to, make_room, tag_of};
 use crate::small_entry::SmallEntry;
 use packed::StateForm;
 use slots::{Slot, add, home_of};
 use std::alloc::{AllocError, Global};
 use std::marker::Model;
+
+/// Where slots of the index lead, as they were read before a form is looked up. What a look-up gives does not depend on it.
+#[derive(Clone, Copy, Debug, PartialEq, Eq)]
+pub struct Lead {
+    /// The place of a row plus one, or 0 for no row.
+    link: u32,
+}
+
+impl Lead {
+    /// A lead to no row.
+    pub const NONE: Lead = Lead { link: 0 };
+}
 
 /// The forms of states, each beside its entry, with an index of the forms: open addressing, with 8 bytes for a slot, of which at
 /// most two thirds are taken. A look-up reads the slots from the home of the form's tag on, up to an empty one: most often side
@@ -59,12 +71,19 @@ impl<F: StateForm + Drop> Rows<F> {
         self.rows.len()
     }
 
-    /// The place of the row with this form, counted from 0, or `None` if there is none.
-    pub(crate) fn index_of(&self, form: &F) -> Option<usize>
+    /// Where the slots at the form's home lead.
+    pub(crate) fn lead(&self, form: &F) -> Lead {
+        Lead {
+            link: lead_to(&self.slots, form),
+        }
+    }
+
+    /// The place of the row with this form, counted from 0, or `None` if there is none, whatever the lead.
+    pub(crate) fn index_of(&self, form: &F, lead: Lead) -> Option<usize>
         ensures index { result ≡ position (F.eq form.now) (keys_of self.now) }
         ensures within { IfSome result (λ i. i < length self.now) }
     {
-        find(&self.rows, &self.slots, form)
+        find_led(&self.rows, &self.slots, form, lead.link)
     }
 
     /// The row at that place, or `None` past the last place.

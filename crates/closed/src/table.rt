@@ -12,7 +12,7 @@ ghost use Rattle.closed.specs.Limits.{IsPastEntry};
 ghost use Rattle.closed.specs.Entries.{entry_in, nodes_of, with_entry, taken_back, Notes};
 
 use crate::message::{Message, Parent};
-use crate::rows::Rows;
+use crate::rows::{Lead, Rows};
 use crate::small_entry::SmallEntry;
 use fdr::FdrTask;
 use openlist::Rank;
@@ -69,13 +69,13 @@ impl<F: StateForm + Drop> Model for ClosedTable<F> {
 
 /// The outcome of reaching the state of a form at a rank, where the keys are forms of states with the same ranges. What equals
 /// none of them is new, also if it is no form of a state.
-fn outcome_among<F: StateForm + Drop>(rows: &Rows<F>, form: &F, rank: Rank) -> Outcome
+fn outcome_among<F: StateForm + Drop>(rows: &Rows<F>, form: &F, rank: Rank, lead: Lead) -> Outcome
     ensures outcome { (ranges : List ℕ) (parent : Option Parent) → F.IsForm ranges form.now →
         All (λ p. F.IsForm ranges p.0) rows.now →
         result ≡ outcome_of (nodes_of (F.values ranges) rows.now) (fresh (F.values ranges form.now) rank parent) }
     ensures form { result ≡ Kept → (ranges : List ℕ) → All (λ p. F.IsForm ranges p.0) rows.now → F.IsForm ranges form.now }
 {
-    match rows.index_of(form) {
+    match rows.index_of(form, lead) {
         None => Outcome::New(rows.len()),
         Some(index) if rank < rows.entry(index).rank() => Outcome::Better(index),
         Some(_) => Outcome::Kept,
@@ -219,7 +219,7 @@ impl<F: StateForm + Drop> ClosedTable<F> {
         ensures same { self.new ≡ self.old }
     {
         self.sought.repack(&self.layout, state);
-        outcome_among(&self.rows, &self.sought, rank)
+        outcome_among(&self.rows, &self.sought, rank, Lead::NONE)
     }
 
     /// Records that a state was reached, where `look` told the outcome. Fails only if allocation fails, which can happen
@@ -252,7 +252,23 @@ impl<F: StateForm + Drop> ClosedTable<F> {
         ensures { (parent : Option Parent) →
             result ≡ outcome_of self.now.nodes (fresh (F.values self.now.ranges form.now) rank parent) }
     {
-        outcome_among(&self.rows, form, rank)
+        self.look_led(form, rank, Lead::NONE)
+    }
+
+    /// Reads the slots of the index in which the look-up of a form begins, and tells where they lead. Where many forms are to be
+    /// looked up, all their leads are read first, since the processor waits for one read of memory if the next depends on it,
+    /// and here none does.
+    pub fn lead(&self, form: &F) -> Lead {
+        self.rows.lead(form)
+    }
+
+    /// What `look_form` gives, whatever the lead. With the form's lead a look-up mostly reads one row and no slot.
+    pub fn look_led(&self, form: &F, rank: Rank, lead: Lead) -> Outcome
+        requires { F.IsForm self.now.ranges form.now }
+        ensures { (parent : Option Parent) →
+            result ≡ outcome_of self.now.nodes (fresh (F.values self.now.ranges form.now) rank parent) }
+    {
+        outcome_among(&self.rows, form, rank, lead)
     }
 
     /// Whether the state of this form is in the table at this rank or a lesser one, so that reaching it again would change
@@ -263,7 +279,8 @@ impl<F: StateForm + Drop> ClosedTable<F> {
         ensures unknown { result ≡ false → F.IsForm self.now.ranges form.now → (parent : Option Parent) →
             outcome_of self.now.nodes (fresh (F.values self.now.ranges form.now) rank parent) ≢ Kept }
     {
-        matches!(outcome_among(&self.rows, form, rank), Outcome::Kept)
+        let outcome = outcome_among(&self.rows, form, rank, Lead::NONE);
+        matches!(outcome, Outcome::Kept)
     }
 
     /// Records that the state of a form was reached, where `look_form` told the outcome. Fails as `reach` does, and then

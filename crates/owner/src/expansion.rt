@@ -13,6 +13,7 @@ ghost use Rattle.owner.specs.Batches.{ArePosted};
 use crate::batch::{Batch, place_unknown};
 use crate::holdings::Holdings;
 use crate::successors::{Successor, look_up, make_successors};
+use closed::Lead;
 use cost::Dist;
 use openlist::OpenEntry;
 use packed::StateForm;
@@ -26,6 +27,8 @@ pub(crate) struct Buffers<F: StateForm + Drop> {
     /// The values of a successor.
     values: Vec<u32>,
     successors: Vec<Successor<F>>,
+    /// Where the look-up of each successor begins.
+    leads: Vec<Lead>,
     /// For each successor whether it is known that nothing changes when it is treated.
     known: Vec<bool>,
     batch: Batch<F>,
@@ -39,6 +42,7 @@ impl<F: StateForm + Drop> Buffers<F> {
         Ok(Buffers {
             values: vec![in alloc; 0; width]?,
             successors: Vec::new(alloc),
+            leads: Vec::new(alloc),
             known: Vec::new(alloc),
             batch: Batch::new(alloc),
         })
@@ -74,7 +78,7 @@ fn try_to_expand<S: Spread + Drop, F: StateForm + Drop>(
     ensures places { places.new ≡ places.old }
     ensures buffer { length buffers.new.values.items ≡ length buffers.old.values.items }
 {
-    buffers.batch.clear(holdings.best());
+    buffers.batch.clear(holdings.best);
     make_successors(
         alloc,
         holdings,
@@ -87,6 +91,7 @@ fn try_to_expand<S: Spread + Drop, F: StateForm + Drop>(
         next,
         places.state(),
         &buffers.successors,
+        &mut buffers.leads,
         &mut buffers.known,
     )?;
     place_unknown(

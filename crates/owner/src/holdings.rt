@@ -1,6 +1,6 @@
 //! What an owner has, without its buffers.
 
-ghost use Rattle.std.specs.Prelude.{◌≡◌, ◌≢◌, ◌⊎◌, suc, ◌+◌, ◌<◌, ◌≤◌, ◌^◌, ◌++◌, ◌∷◌, [], ◌==◌, length, map, fold, All, slice_get, slice_set, Option, Some, None, true, false, is_some, if◌then◌else◌, IsTrue, ◌↔◌, IfOk, IfSome, IfNone, OnOk, OnErr};
+ghost use Rattle.std.specs.Prelude.{◌≡◌, ◌≢◌, ◌⊎◌, suc, ◌+◌, ◌<◌, ◌≤◌, ◌^◌, ◌++◌, ◌∷◌, [], ◌==◌, length, map, fold, All, slice_set, Option, Some, None, true, false, is_some, if◌then◌else◌, IsTrue, ◌↔◌, IfOk, IfSome, IfNone, OnOk, OnErr};
 ghost use Rattle.std.specs.Option.{option_to_list};
 ghost use Rattle.cost.specs.Distances.{Distance, Infinite, is_at_most, lesser, Finite};
 ghost use Rattle.fdr.specs.Tasks.{ranges, is_goal_state};
@@ -9,18 +9,18 @@ ghost use Rattle.owner_theory.specs.Worlds.{idle, no_open, waiting};
 ghost use Rattle.openlist.specs.declared.entry.OpenEntry.{OpenEntry as EntryOf};
 ghost use Rattle.closed.specs.declared.message.Parent.{Parent};
 ghost use Rattle.closed.specs.declared.table.Outcome.TheVariants.{Kept};
-ghost use Rattle.closed.specs.Tables.{message_of, node_with, outcome_of, fresh, arrival};
+ghost use Rattle.closed.specs.Tables.{message_of, outcome_of, fresh, arrival};
 ghost use Rattle.owner_space.specs.Spaces.{searched};
 ghost use Rattle.owner.specs.Owned.{space_of, under, IsMessageTo, least_open};
 ghost use Rattle.owner.specs.Queues.{h_of, message_at, IsLeast};
-ghost use Rattle.owner.specs.Outboxes.{count_in_use, withdrawn};
+ghost use Rattle.owner.specs.Outboxes.{withdrawn};
 ghost use Rattle.owner.specs.Held.{IsOwner};
 ghost use Rattle.owner.specs.Successors.{ChangesNothing};
 ghost use Rattle.owner.specs.Batches.{IsBatch};
 
 use crate::batch::Batch;
 use crate::reached::Reached;
-use closed::{Entry, Message, Outcome, Parent};
+use closed::{Lead, Message, Outcome, Parent};
 use cost::Dist;
 use openlist::{OpenEntry, Rank};
 use owner_outboxes::Outboxes;
@@ -36,10 +36,10 @@ use std::marker::Model;
 #[derive(Drop)]
 pub(crate) struct Holdings<'a, S: Spread + Drop, F: StateForm + Drop> {
     worker: usize,
-    reached: Reached<'a, S, F>,
-    outboxes: Outboxes<F>,
-    best: Dist,
-    expansions: u64,
+    pub(crate) reached: Reached<'a, S, F>,
+    pub(crate) outboxes: Outboxes<F>,
+    pub(crate) best: Dist,
+    pub(crate) expansions: u64,
 }
 
 impl<'a, S: Spread + Drop, F: StateForm + Drop> Model for Holdings<'a, S, F> {
@@ -151,13 +151,13 @@ impl<'a, S: Spread + Drop, F: StateForm + Drop> Holdings<'a, S, F> {
         Ok(())
     }
 
-    /// The outcome that reaching the state of a form at a rank would have.
-    pub(crate) fn look_form(&self, form: &F, rank: Rank) -> Outcome
+    /// The outcome that reaching the state of a form at a rank would have, whatever the lead.
+    pub(crate) fn look_led(&self, form: &F, rank: Rank, lead: Lead) -> Outcome
         requires { F.IsForm (ranges self.now.space.task) form.now }
         ensures { (parent : Option Parent) →
             result ≡ outcome_of self.now.nodes (fresh (F.values (ranges self.now.space.task) form.now) rank parent) }
     {
-        self.reached.look_form(form, rank)
+        self.reached.look_led(form, rank, lead)
     }
 
     /// Whether it is known that nothing changes when the message is taken: its state was reached at its rank or a lesser one,
@@ -279,12 +279,6 @@ impl<'a, S: Spread + Drop, F: StateForm + Drop> Holdings<'a, S, F> {
         }
     }
 
-    pub(crate) fn best(&self) -> Dist
-        ensures { result ≡ self.now.best }
-    {
-        self.best
-    }
-
     pub(crate) fn worker(&self) -> usize
         ensures { result ≡ self.now.worker }
     {
@@ -297,23 +291,11 @@ impl<'a, S: Spread + Drop, F: StateForm + Drop> Holdings<'a, S, F> {
         self.reached.space()
     }
 
-    pub(crate) fn expansions(&self) -> u64
-        ensures { result ≡ self.now.expansions }
-    {
-        self.expansions
-    }
-
     pub(crate) fn outbox(&self, to: usize) -> &VecDeque<Message<F>>
         requires { to < length self.now.outboxes }
         ensures { map (message_of (F.values (ranges self.now.space.task))) result.now.items ≡ list_at self.now.outboxes to }
     {
         self.outboxes.outbox(to)
-    }
-
-    pub(crate) fn outboxes_in_use(&self) -> usize
-        ensures { result ≡ count_in_use self.now.outboxes }
-    {
-        self.outboxes.in_use()
     }
 
     /// The number of owners.
@@ -327,27 +309,6 @@ impl<'a, S: Spread + Drop, F: StateForm + Drop> Holdings<'a, S, F> {
         ensures { result ≡ waiting self.now.outboxes }
     {
         self.outboxes.messages()
-    }
-
-    pub(crate) fn len(&self) -> usize
-        ensures { result ≡ length self.now.nodes }
-    {
-        self.reached.len()
-    }
-
-    pub(crate) fn entry(&self, index: usize) -> Entry
-        requires { index < length self.now.nodes }
-        ensures { (n : Node) → slice_get self.now.nodes index ≡ Some n → n ≡ node_with n.state result }
-    {
-        self.reached.entry(index)
-    }
-
-    pub(crate) fn copy_state(&self, index: usize, state: &mut [u32])
-        requires index { index < length self.now.nodes }
-        requires len { length state.old ≡ length self.now.space.task.value_names }
-        ensures { (n : Node) → slice_get self.now.nodes index ≡ Some n → state.new ≡ n.state }
-    {
-        self.reached.copy_state(index, state)
     }
 
     /// What holds of every owner: the type's invariant, stated as a contract.

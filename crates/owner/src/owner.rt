@@ -80,7 +80,7 @@ fn read_state<S: Spread + Drop, F: StateForm + Drop>(
     ensures state { (n : Node) → slice_get holdings.now.nodes index ≡ Some n → state.new.items ≡ n.state }
     ensures len { length state.new.items ≡ length state.old.items }
 {
-    holdings.copy_state(index, state)
+    holdings.reached.copy_state(index, state)
 }
 
 impl<'a, S: Spread + Drop, F: StateForm + Drop> Owner<'a, S, F> {
@@ -208,7 +208,7 @@ impl<'a, S: Spread + Drop, F: StateForm + Drop> Owner<'a, S, F> {
     pub fn best_goal(&self) -> Dist
         ensures { result ≡ self.now.best }
     {
-        self.holdings.best()
+        self.holdings.best
     }
 
     /// The least f-value of the nodes that are not expanded, infinite if there is none. Allocates nothing.
@@ -238,7 +238,7 @@ impl<'a, S: Spread + Drop, F: StateForm + Drop> Owner<'a, S, F> {
     pub fn outboxes_in_use(&self) -> usize
         ensures { result ≡ count_in_use self.now.outboxes }
     {
-        self.holdings.outboxes_in_use()
+        self.holdings.outboxes.in_use()
     }
 
     /// The number of messages in all outboxes.
@@ -252,7 +252,7 @@ impl<'a, S: Spread + Drop, F: StateForm + Drop> Owner<'a, S, F> {
     pub fn expansions(&self) -> u64
         ensures { result ≡ self.now.expansions }
     {
-        self.holdings.expansions()
+        self.holdings.expansions
     }
 
     /// The space that it searches.
@@ -266,7 +266,7 @@ impl<'a, S: Spread + Drop, F: StateForm + Drop> Owner<'a, S, F> {
     pub fn len(&self) -> usize
         ensures { result ≡ length self.now.nodes }
     {
-        self.holdings.len()
+        self.holdings.reached.len()
     }
 
     /// The entry of the state at that place, counted from 0.
@@ -274,7 +274,7 @@ impl<'a, S: Spread + Drop, F: StateForm + Drop> Owner<'a, S, F> {
         requires { index < length self.now.nodes }
         ensures { (n : Node) → slice_get self.now.nodes index ≡ Some n → n ≡ node_with n.state result }
     {
-        self.holdings.entry(index)
+        self.holdings.reached.entry(index)
     }
 
     /// Writes the values of the state at that place, counted from 0, into `state`.
@@ -283,7 +283,7 @@ impl<'a, S: Spread + Drop, F: StateForm + Drop> Owner<'a, S, F> {
         requires len { length state.old ≡ length self.now.space.task.value_names }
         ensures { (n : Node) → slice_get self.now.nodes index ≡ Some n → state.new ≡ n.state }
     {
-        self.holdings.copy_state(index, state)
+        self.holdings.reached.copy_state(index, state)
     }
 
     /// What holds of every owner, the type's invariant stated as a contract: the space is a search space whose heuristic

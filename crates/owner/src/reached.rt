@@ -12,7 +12,7 @@ ghost use Rattle.closed.specs.Tables.{reached, outcome_of, outcomes_of, fresh, n
 ghost use Rattle.owner_space.specs.Turned.{turned};
 ghost use Rattle.owner.specs.Queues.{added, HasWords, h_of, IsCurrent, AreQueued, IsQueue, IsLeast, HasNoneOpen};
 
-use closed::{ClosedTable, Entry, Message, Outcome, Parent};
+use closed::{ClosedTable, Entry, Lead, Message, Outcome, Parent};
 use cost::Dist;
 use openlist::{Buckets, OpenEntry, OpenList, Rank};
 use owner_space::{Space, Ties};
@@ -274,13 +274,18 @@ impl<'a, S: Spread + Drop, F: StateForm + Drop> Reached<'a, S, F> {
         self.table.copy_state(index, state)
     }
 
-    /// The outcome that reaching the state of a form at a rank would have.
-    pub(crate) fn look_form(&self, form: &F, rank: Rank) -> Outcome
+    /// Where the look-up of a form begins.
+    pub(crate) fn lead(&self, form: &F) -> Lead {
+        self.table.lead(form)
+    }
+
+    /// The outcome that reaching the state of a form at a rank would have, whatever the lead.
+    pub(crate) fn look_led(&self, form: &F, rank: Rank, lead: Lead) -> Outcome
         requires { F.IsForm (ranges self.now.space.task) form.now }
         ensures { (parent : Option Parent) →
             result ≡ outcome_of self.now.nodes (fresh (F.values (ranges self.now.space.task) form.now) rank parent) }
     {
-        self.table.look_form(form, rank)
+        self.table.look_led(form, rank, lead)
     }
 
     /// Whether the state of this form was reached at this rank or a lesser one, so that reaching it again would change

@@ -12,7 +12,7 @@ ghost use Rattle.owner.specs.Held.{IsSmallStep};
 ghost use Rattle.owner.specs.Successors.{IsSuccessor, AreKnown};
 
 use crate::holdings::Holdings;
-use closed::Outcome;
+use closed::{Lead, Outcome};
 use fdr::FdrTask;
 use openlist::{OpenEntry, Rank};
 use owner_space::{effect_of, is_goal_form};
@@ -118,12 +118,33 @@ pub(crate) fn make_successors<S: Spread + Drop, F: StateForm + Drop>(
     Ok(())
 }
 
+/// Replaces the content of `leads` by where the look-up of each successor begins that is this owner's. They are read one after
+/// the other, so that the processor loads them at once. Fails only if allocation fails.
+fn read_leads<S: Spread + Drop, F: StateForm + Drop>(
+    holdings: &Holdings<'_, S, F>,
+    successors: &[Successor<F>],
+    leads: &mut Vec<Lead>,
+) -> Result<(), AllocError>
+    ensures { OnOk result (length leads.new.items ≡ length successors.now) }
+{
+    leads.clear();
+    for successor in successors {
+        leads.push(if successor.owner == holdings.worker() {
+            holdings.reached.lead(&successor.state)
+        } else {
+            Lead::NONE
+        })?;
+    }
+    Ok(())
+}
+
 /// Whether nothing changes when this successor, of a state with this rank, is treated: its state is the owner's own and no
-/// goal state, and is known at the successor's rank or a lesser one.
+/// goal state, and is known at the successor's rank or a lesser one. That is so whatever the lead.
 fn changes_nothing<S: Spread + Drop, F: StateForm + Drop>(
     holdings: &Holdings<'_, S, F>,
     rank: Rank,
     successor: &Successor<F>,
+    lead: Lead,
 ) -> bool
     requires form { F.IsForm (ranges holdings.now.space.task) successor.now.state }
     requires small { IsSmallStep holdings.now.space.task rank successor.now.operator }
@@ -135,20 +156,21 @@ fn changes_nothing<S: Spread + Drop, F: StateForm + Drop>(
         return false;
     }
     let rank = rank_after(holdings.space().task(), rank, successor.operator);
-    match holdings.look_form(&successor.state, rank) {
+    match holdings.look_led(&successor.state, rank, lead) {
         Outcome::Kept => true,
         _ => false,
     }
 }
 
 /// Replaces the content of `known` by whether nothing changes when the successor is treated, for each successor of the node
-/// at this place, whose state is given with its rank. They are looked up one after the other, so that the processor loads
-/// their entries at once. Fails only if allocation fails.
+/// at this place, whose state is given with its rank. All slots are read, and then all entries, in each case one after the
+/// other, so that the processor loads them at once; `leads` is a buffer. Fails only if allocation fails.
 pub(crate) fn look_up<S: Spread + Drop, F: StateForm + Drop>(
     holdings: &Holdings<'_, S, F>,
     next: OpenEntry,
     state: &[u32],
     successors: &[Successor<F>],
+    leads: &mut Vec<Lead>,
     known: &mut Vec<bool>,
 ) -> Result<(), AllocError>
     requires each { All (IsSuccessor F.IsForm F.values (space_of S.owner holdings.now) state.now) successors.now }
@@ -156,9 +178,10 @@ pub(crate) fn look_up<S: Spread + Drop, F: StateForm + Drop>(
     ensures as_many { OnOk result (length known.new.items ≡ length successors.now) }
     ensures known { OnOk result (AreKnown (space_of S.owner holdings.now) holdings.now.worker next.index (fresh state.now next.rank None) holdings.now.nodes (map (λ s. s.operator) successors.now) known.new.items) }
 {
+    read_leads(holdings, successors, leads)?;
     known.clear();
     for place in 0..successors.len() {
-        known.push(changes_nothing(holdings, next.rank, &successors[place]))?;
+        known.push(changes_nothing(holdings, next.rank, &successors[place], leads[place]))?;
     }
     Ok(())
 }

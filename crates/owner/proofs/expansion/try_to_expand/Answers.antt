@@ -103,6 +103,6 @@ returns-clause-treated g c = λ n at.
     taken_pending values h0 c.place_unknown.new.holdings c.expand_next.new.self c.place_unknown.new.batch _ _ c.place_unknown.ensures.posted bound i n _ (new_is g c n at)
     ∙ (c.in_ok-place_unknown.ensures.treated nodes known
     ∙ (ap (λ o. treat_all space me o (filter_map by os))
-    (empty_pending values h0 c.clear.new.self bound i n c.clear.ensures.own (c.clear.ensures.best ∙ c.best.ensures))
+    (empty_pending values h0 c.clear.new.self bound i n c.clear.ensures.own (c.clear.ensures.best ∙ ap (λ h. h.best) c.holdings.view_is))
     ∙ ap (λ (l : List ℕ). treat_all space me (mark_node (under h0 bound) i n) (filter_map by l))
     (ap (λ (l : List (Successor g.row.F.Denot)). map (λ s. s.operator) l) c.deref-2.ensures.value ∙ c.in_ok-make_successors.ensures.operators)))
