@@ -45,7 +45,7 @@ fn searched<'a, R: Threads + Wait + Clock + Sync>(
     requires workers { 1 ≤ amounts.workers }
 {
     let columns = columns_within(rt, alloc, task, amounts.table)?;
-    let spread = Zobrist::new(alloc, task)?;
+    let spread = Zobrist::projected(alloc, task)?;
     let space: Space<'a, Zobrist<'a>> = Space::new(
         alloc,
         task,

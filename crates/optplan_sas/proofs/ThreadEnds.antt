@@ -1,5 +1,5 @@
 -- What is found at the end of a search by threads is found of its task.
-use Rattle.std.proofs.Common.{◌≡◌, ℕ, inl, inr, ap, subst, ◌∙◌}
+use Rattle.std.proofs.Common.{◌≡◌, ℕ, inl, inr, sym, ap, subst, ◌∙◌}
 use Rattle.fdr.specs.Tasks.{FiniteDomainTask}
 use Rattle.cert_value.specs.Certificates.{Kind}
 use Rattle.packed_spread.specs.Spreads as spread
@@ -14,10 +14,14 @@ use Rattle.engine.specs.declared.fault.EngineFault.TheVariants as engine
 use Rattle.optplan_sas.specs.Choices.{Choices}
 use Rattle.optplan_sas.specs.Faults.{fault_of_engine}
 use Rattle.optplan_sas.specs.Findings.{IsFinding, IsFound}
-use Rattle.optplan_sas.specs.Searches.{IsSpaceFor, EndsByThreads, IsRefusedByThreads}
+use Rattle.optplan_sas.specs.Searches.{IsThreadedSpace, EndsByThreads, IsRefusedByThreads}
 use Rattle.optplan_sas.specs.declared.found.Found.{Found}
 
-module _ (choices : Choices) (may_stop : MayStop) (task : FiniteDomainTask) (kind : Kind) (space : SpaceOf spread.Zobrist) (is_space : IsSpaceFor task choices space)
+-- a space of a task is one of its own task
+pub of_own_task : (task : FiniteDomainTask) (choices : Choices) (space : SpaceOf spread.Zobrist) → IsThreadedSpace task choices space → IsThreadedSpace space.task choices space
+of_own_task task choices space is = subst (λ (t : FiniteDomainTask). IsThreadedSpace t choices space) (sym is.task_is) is
+
+module _ (choices : Choices) (may_stop : MayStop) (task : FiniteDomainTask) (kind : Kind) (space : SpaceOf spread.Zobrist) (is_space : IsThreadedSpace task choices space)
     (n : ℕ) (n_is : n ≡ choices.workers)
   where
     same_task : (e : EndOf spread.Zobrist) → e.space ≡ space → e.space.task ≡ task

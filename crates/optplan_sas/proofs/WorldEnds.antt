@@ -12,7 +12,7 @@ use Rattle.netcore.specs.Worlds.{WorldOf, IsRun, IsRunRefusal, left_in}
 use Rattle.optplan_sas.specs.Choices.{Choices}
 use Rattle.optplan_sas.specs.Findings.{IsFinding, IsFound}
 use Rattle.optplan_sas.specs.Schedules.{IsSimulated, IsSimulationRefusal}
-use Rattle.optplan_sas.specs.Searches.{IsSpaceFor, end_of, EndsAfter, EndsBySeed, IsRefusedAfter, IsRefusedBySeed}
+use Rattle.optplan_sas.specs.Searches.{IsSimulatedSpace, end_of, EndsAfter, EndsBySeed, IsRefusedAfter, IsRefusedBySeed}
 use Rattle.optplan_sas.specs.declared.fault.SearchFault.TheVariants.{TotalTooLarge}
 use Rattle.optplan_sas.specs.declared.found.Found.{Found}
 
@@ -25,7 +25,7 @@ pub record IsEndOfWorld {S : Type 0} (w : WorldOf S) (e : EndOf S) : Type 0 wher
 is_end_of : {S : Type 0} (w : WorldOf S) (e : EndOf S) → IsEndOfWorld w e → e ≡ end_of w
 is_end_of w e is = λ i. record { space = is.space i; owners = is.owners i; left = is.left i }
 
-module _ (choices : Choices) (task : FiniteDomainTask) (kind : Kind) (space : SpaceOf spread.Zobrist) (is_space : IsSpaceFor task choices space)
+module _ (choices : Choices) (task : FiniteDomainTask) (kind : Kind) (space : SpaceOf spread.Zobrist) (is_space : IsSimulatedSpace task choices space)
     (n : ℕ) (n_is : n ≡ choices.workers)
   where
     same_task : (w : WorldOf spread.Zobrist) (e : EndOf spread.Zobrist) → w.space ≡ space → IsEndOfWorld w e → e.space.task ≡ task

@@ -1,8 +1,9 @@
 -- Where a search for a task may end, and why it may be refused: by a list of steps, by steps that are drawn, and by threads.
-use Rattle.std.specs.Prelude.{◌≡◌, ℕ, ◌⊎◌, List}
-use Rattle.fdr.specs.Tasks.{FiniteDomainTask}
+use Rattle.std.specs.Prelude.{◌≡◌, ℕ, ◌⊎◌, List, sum}
+use Rattle.fdr.specs.Tasks.{FiniteDomainTask, ranges}
 use Rattle.packed_spread.specs.Spreads as spread
-use Rattle.packed_spread.specs.Spreads.{zobrist_owner}
+use Rattle.packed_spread.specs.Spreads.{zobrist_owner, splitmix_words}
+use Rattle.packed_spread.specs.Projections.{projected_words}
 use Rattle.owner.specs.Spaces.{SpaceOf}
 use Rattle.owner.specs.declared.fault.OwnerFault.TheVariants as owner_fault
 use Rattle.extract.specs.Ends.{EndOf}
@@ -17,11 +18,20 @@ use Rattle.optplan_sas.specs.Schedules.{IsSimulated, IsSimulationRefusal}
 use Rattle.optplan_sas.specs.declared.fault.SearchFault.{SearchFault}
 use Rattle.optplan_sas.specs.declared.fault.SearchFault.TheVariants.{OutOfMemory, TotalTooLarge, Gate}
 
--- a space of the task, with this limit, this order among nodes of the same f-value, and the states spread by a hash
-pub record IsSpaceFor (task : FiniteDomainTask) (choices : Choices) (space : SpaceOf spread.Zobrist) : Type 0 where
+-- a space of the task, with this limit, this order among nodes of the same f-value, and the states spread by a hash of these words
+pub record IsSpaceFor (task : FiniteDomainTask) (choices : Choices) (words : List ℕ) (space : SpaceOf spread.Zobrist) : Type 0 where
   pub task_is : space.task ≡ task
+  pub spread_is : space.spread ≡ record { task = task; words = words }
   pub limit_is : space.limit ≡ choices.limit
   pub ties_are : space.ties ≡ choices.ties
+
+-- a space of a search by one thread, where all variables are hashed
+abbrev pub IsSimulatedSpace : FiniteDomainTask → Choices → SpaceOf spread.Zobrist → Type 0
+IsSimulatedSpace task choices space = IsSpaceFor task choices (splitmix_words 1 (sum (ranges task))) space
+
+-- a space of a search by threads, where the variables of a projection are hashed
+abbrev pub IsThreadedSpace : FiniteDomainTask → Choices → SpaceOf spread.Zobrist → Type 0
+IsThreadedSpace task choices space = IsSpaceFor task choices (projected_words task) space
 
 -- the end that a world is
 abbrev pub end_of : {S : Type 0} → WorldOf S → EndOf S
@@ -32,14 +42,14 @@ end_of w = record { space = w.space; owners = w.owners; left = left_in w }
 -- the end of the world of the chosen number of owners after these steps, or before one of them that its owner's limit does not allow
 abbrev pub EndsAfter : Choices → List WorldStep → FiniteDomainTask → EndOf spread.Zobrist → Type 0
 EndsAfter choices steps task e =
-    (space : SpaceOf spread.Zobrist) × IsSpaceFor task choices space
+    (space : SpaceOf spread.Zobrist) × IsSimulatedSpace task choices space
     × ((w : WorldOf spread.Zobrist) × IsRun zobrist_owner space choices.workers steps w × (e ≡ end_of w))
 
 -- a step is refused as its total is too large, or memory ran out
 abbrev pub IsRefusedAfter : Choices → List WorldStep → FiniteDomainTask → SearchFault → Type 0
 IsRefusedAfter choices steps task OutOfMemory = Unit {0}
 IsRefusedAfter choices steps task TotalTooLarge =
-    (space : SpaceOf spread.Zobrist) × IsSpaceFor task choices space
+    (space : SpaceOf spread.Zobrist) × IsSimulatedSpace task choices space
     × IsRunRefusal zobrist_owner space choices.workers steps owner_fault.TotalTooLarge
 IsRefusedAfter choices steps task (Gate worker turn) = ⊥
 
@@ -48,14 +58,14 @@ IsRefusedAfter choices steps task (Gate worker turn) = ⊥
 -- the end of the world of the chosen number of owners after steps that are drawn from the seed, at most as many as the options allow
 abbrev pub EndsBySeed : Choices → ℕ → FiniteDomainTask → EndOf spread.Zobrist → Type 0
 EndsBySeed choices seed task e =
-    (space : SpaceOf spread.Zobrist) × IsSpaceFor task choices space
+    (space : SpaceOf spread.Zobrist) × IsSimulatedSpace task choices space
     × ((w : WorldOf spread.Zobrist) × IsSimulated zobrist_owner space choices.workers seed choices.steps w × (e ≡ end_of w))
 
 -- a step that is drawn from the seed is refused as its total is too large, or memory ran out
 abbrev pub IsRefusedBySeed : Choices → ℕ → FiniteDomainTask → SearchFault → Type 0
 IsRefusedBySeed choices seed task OutOfMemory = Unit {0}
 IsRefusedBySeed choices seed task TotalTooLarge =
-    (space : SpaceOf spread.Zobrist) × IsSpaceFor task choices space
+    (space : SpaceOf spread.Zobrist) × IsSimulatedSpace task choices space
     × IsSimulationRefusal zobrist_owner space choices.workers seed owner_fault.TotalTooLarge
 IsRefusedBySeed choices seed task (Gate worker turn) = ⊥
 
@@ -69,7 +79,7 @@ no_stop worker turn stop = ⊥
 -- difference
 abbrev pub EndsByThreads : Choices → MayStop → FiniteDomainTask → EndOf spread.Zobrist → Type 0
 EndsByThreads choices may_stop task e =
-    (space : SpaceOf spread.Zobrist) × IsSpaceFor task choices space
+    (space : SpaceOf spread.Zobrist) × IsThreadedSpace task choices space
     × (IsSearched {F = Unit {0}} zobrist_owner may_stop space choices.workers (Settled e)
     ⊎ IsSearched {F = Unit {0}} zobrist_owner may_stop space choices.workers (Stopped e))
 
@@ -77,8 +87,8 @@ EndsByThreads choices may_stop task e =
 abbrev pub IsRefusedByThreads : Choices → MayStop → FiniteDomainTask → SearchFault → Type 0
 IsRefusedByThreads choices may_stop task OutOfMemory = Unit {0}
 IsRefusedByThreads choices may_stop task TotalTooLarge =
-    (space : SpaceOf spread.Zobrist) × IsSpaceFor task choices space
+    (space : SpaceOf spread.Zobrist) × IsThreadedSpace task choices space
     × IsSearchFault zobrist_owner may_stop space choices.workers engine.TotalTooLarge
 IsRefusedByThreads choices may_stop task (Gate worker turn) =
-    (space : SpaceOf spread.Zobrist) × IsSpaceFor task choices space
+    (space : SpaceOf spread.Zobrist) × IsThreadedSpace task choices space
     × IsSearchFault zobrist_owner may_stop space choices.workers (engine.Gate worker turn)

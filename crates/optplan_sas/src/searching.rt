@@ -4,7 +4,7 @@ ghost use Rattle.std.specs.Prelude.{◌≡◌, IfOk, IfErr};
 ghost use Rattle.cert_value.specs.Views.{kind_of};
 ghost use Rattle.fdr.specs.Tasks.{ranges};
 ghost use Rattle.optplan_sas.specs.Findings.{IsFinding};
-ghost use Rattle.optplan_sas.specs.Searches.{IsSpaceFor, EndsAfter, IsRefusedAfter, EndsBySeed, IsRefusedBySeed, EndsByThreads, IsRefusedByThreads};
+ghost use Rattle.optplan_sas.specs.Searches.{IsSpaceFor, IsSimulatedSpace, IsThreadedSpace, EndsAfter, IsRefusedAfter, EndsBySeed, IsRefusedBySeed, EndsByThreads, IsRefusedByThreads};
 
 use crate::fault::SearchFault;
 use crate::found::{Found, found_by};
@@ -24,20 +24,47 @@ use std::sync::Wait;
 use std::thread::Threads;
 use std::time::Clock;
 
-/// The search space for a task: columns of tables of the size that the options allow, and a spread of the states by a
-/// hash. Fails only if allocation fails.
+/// The search space for a task: columns of tables of the size that the options allow, and this spread of the states. Fails
+/// only if allocation fails.
 fn space_for<'a, R: Threads + Sync>(
     rt: &R,
     alloc: Global,
     task: &'a FdrTask,
     options: &Options,
+    spread: Zobrist<'a>,
 ) -> Result<Space<'a, Zobrist<'a>>, AllocError>
-    ensures { IfOk result (IsSpaceFor task.now options.now) }
+    requires { spread.task ≡ task.now }
+    ensures { IfOk result (IsSpaceFor task.now options.now spread.entry.words) }
 {
     let columns = choose_columns(rt, alloc, task, options.table())?;
-    let spread = Zobrist::new(alloc, task)?;
     let (limit, ties) = (options.limit(), options.ties());
     Space::new(alloc, task, columns, spread, limit, ties)
+}
+
+/// The search space of a search by one thread, whose states are spread by a hash of all variables. Fails only if allocation
+/// fails.
+fn simulated_space<'a, R: Threads + Sync>(
+    rt: &R,
+    alloc: Global,
+    task: &'a FdrTask,
+    options: &Options,
+) -> Result<Space<'a, Zobrist<'a>>, AllocError>
+    ensures { IfOk result (IsSimulatedSpace task.now options.now) }
+{
+    space_for(rt, alloc, task, options, Zobrist::new(alloc, task)?)
+}
+
+/// The search space of a search by threads, whose states are spread by a hash of the variables that seldom change, so that
+/// few messages are sent. Fails only if allocation fails.
+fn threaded_space<'a, R: Threads + Sync>(
+    rt: &R,
+    alloc: Global,
+    task: &'a FdrTask,
+    options: &Options,
+) -> Result<Space<'a, Zobrist<'a>>, AllocError>
+    ensures { IfOk result (IsThreadedSpace task.now options.now) }
+{
+    space_for(rt, alloc, task, options, Zobrist::projected(alloc, task)?)
 }
 
 /// The finding after these steps of a world of owners, as `found_after` returns it, whose states have the form `F`.
@@ -49,7 +76,7 @@ fn after_steps<'a, F: StateForm + Drop>(
     kind: CertificateKind,
 ) -> Result<Found, SearchFault>
     requires fits { F.Fits (ranges space.now.task) }
-    requires space { IsSpaceFor space.now.task options.now space.now }
+    requires space { IsSimulatedSpace space.now.task options.now space.now }
     ensures found { IfOk result (IsFinding space.now.task (kind_of kind) (EndsAfter options.now steps.now space.now.task)) }
     ensures refused { IfErr result (IsRefusedAfter options.now steps.now space.now.task) }
 {
@@ -71,7 +98,7 @@ fn by_seed<'a, O: Observer, F: StateForm + Drop>(
     observer: &O,
 ) -> Result<Found, SearchFault>
     requires fits { F.Fits (ranges space.now.task) }
-    requires space { IsSpaceFor space.now.task options.now space.now }
+    requires space { IsSimulatedSpace space.now.task options.now space.now }
     ensures found { IfOk result (IsFinding space.now.task (kind_of kind) (EndsBySeed options.now seed space.now.task)) }
     ensures refused { IfErr result (IsRefusedBySeed options.now seed space.now.task) }
 {
@@ -100,7 +127,7 @@ fn by_threads<'a, R: Threads + Wait + Clock + Sync, G: Gate + Sync, F: StateForm
     gate: &G,
 ) -> Result<Found, SearchFault>
     requires fits { F.Fits (ranges space.now.task) }
-    requires space { IsSpaceFor space.now.task options.now space.now }
+    requires space { IsThreadedSpace space.now.task options.now space.now }
     ensures found { IfOk result (IsFinding space.now.task (kind_of kind) (EndsByThreads options.now (G.may_stop gate.now) space.now.task)) }
     ensures refused { IfErr result (IsRefusedByThreads options.now (G.may_stop gate.now) space.now.task) }
 {
@@ -122,7 +149,7 @@ fn after_steps_in_smallest_form<'a>(
     steps: &[WorldStep],
     kind: CertificateKind,
 ) -> Result<Found, SearchFault>
-    requires { IsSpaceFor space.now.task options.now space.now }
+    requires { IsSimulatedSpace space.now.task options.now space.now }
     ensures found { IfOk result (IsFinding space.now.task (kind_of kind) (EndsAfter options.now steps.now space.now.task)) }
     ensures refused { IfErr result (IsRefusedAfter options.now steps.now space.now.task) }
 {
@@ -141,7 +168,7 @@ fn by_seed_in_smallest_form<'a, O: Observer>(
     kind: CertificateKind,
     observer: &O,
 ) -> Result<Found, SearchFault>
-    requires { IsSpaceFor space.now.task options.now space.now }
+    requires { IsSimulatedSpace space.now.task options.now space.now }
     ensures found { IfOk result (IsFinding space.now.task (kind_of kind) (EndsBySeed options.now seed space.now.task)) }
     ensures refused { IfErr result (IsRefusedBySeed options.now seed space.now.task) }
 {
@@ -160,7 +187,7 @@ fn by_threads_in_smallest_form<'a, R: Threads + Wait + Clock + Sync, G: Gate + S
     kind: CertificateKind,
     gate: &G,
 ) -> Result<Found, SearchFault>
-    requires { IsSpaceFor space.now.task options.now space.now }
+    requires { IsThreadedSpace space.now.task options.now space.now }
     ensures found { IfOk result (IsFinding space.now.task (kind_of kind) (EndsByThreads options.now (G.may_stop gate.now) space.now.task)) }
     ensures refused { IfErr result (IsRefusedByThreads options.now (G.may_stop gate.now) space.now.task) }
 {
@@ -186,7 +213,7 @@ pub fn found_after<'a, R: Threads + Sync>(
     ensures found { IfOk result (IsFinding task.now (kind_of kind) (EndsAfter options.now steps.now task.now)) }
     ensures refused { IfErr result (IsRefusedAfter options.now steps.now task.now) }
 {
-    let space: Space<'a, Zobrist<'a>> = space_for(rt, alloc, task, options)?;
+    let space: Space<'a, Zobrist<'a>> = simulated_space(rt, alloc, task, options)?;
     after_steps_in_smallest_form(alloc, &space, options, steps, kind)
 }
 
@@ -207,7 +234,7 @@ pub fn found_by_seed<'a, R: Threads + Sync, O: Observer>(
     ensures found { IfOk result (IsFinding task.now (kind_of kind) (EndsBySeed options.now seed task.now)) }
     ensures refused { IfErr result (IsRefusedBySeed options.now seed task.now) }
 {
-    let space: Space<'a, Zobrist<'a>> = space_for(rt, alloc, task, options)?;
+    let space: Space<'a, Zobrist<'a>> = simulated_space(rt, alloc, task, options)?;
     by_seed_in_smallest_form(alloc, &space, options, seed, kind, observer)
 }
 
@@ -227,6 +254,6 @@ pub fn found_by_threads<'a, R: Threads + Wait + Clock + Sync, G: Gate + Sync>(
     ensures found { IfOk result (IsFinding task.now (kind_of kind) (EndsByThreads options.now (G.may_stop gate.now) task.now)) }
     ensures refused { IfErr result (IsRefusedByThreads options.now (G.may_stop gate.now) task.now) }
 {
-    let space: Space<'a, Zobrist<'a>> = space_for(rt, alloc, task, options)?;
+    let space: Space<'a, Zobrist<'a>> = threaded_space(rt, alloc, task, options)?;
     by_threads_in_smallest_form(rt, alloc, &space, options, kind, gate)
 }

@@ -1,3 +1,4 @@
 pub mod Changes
 pub mod Drawing
 pub mod Places
+pub mod Projecting

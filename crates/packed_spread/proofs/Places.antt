@@ -13,7 +13,7 @@ use Rattle.packed_spread.specs.Spreads.{firsts_of, word_of}
 abbrev pub firsts_below : List ℕ → ℕ → List ℕ
 firsts_below ranges n = map (λ v. sum (take v ranges)) (range_with_len 0 n)
 
-firsts_count : (ranges : List ℕ) → length (firsts_of ranges) ≡ length ranges
+pub firsts_count : (ranges : List ℕ) → length (firsts_of ranges) ≡ length ranges
 firsts_count ranges = length-map-range_with_len (λ (v : ℕ). sum (take v ranges)) 0 (length ranges)
 
 -- a variable's words follow those before
@@ -43,15 +43,21 @@ pub as_many_firsts : (ranges firsts state : List ℕ) → firsts ≡ firsts_of r
     length firsts ≡ length state
 as_many_firsts ranges firsts state placed is = ap (λ (xs : List ℕ). length xs) placed ∙ firsts_count ranges ∙ sym is.as_long
 
+pub first_is : (ranges firsts : List ℕ) → firsts ≡ firsts_of ranges → (v : ℕ) → v < length ranges → slice_index firsts v ≡ sum (take v ranges)
+first_is ranges firsts placed v there =
+    ap (λ (xs : List ℕ). slice_index xs v) placed
+    ∙ get_or-map-range_with_len (λ (w : ℕ). sum (take w ranges)) 0 (length ranges) v v 0 there (omega arith)
+
+-- the words of a variable are there
+pub words_exist : (ranges words firsts : List ℕ) → length words ≡ sum ranges → firsts ≡ firsts_of ranges →
+    (v : ℕ) → v < length ranges → slice_index firsts v + slice_index ranges v ≤ length words
+words_exist ranges words firsts long placed v there =
+    omega (arith, long, first_is ranges firsts placed v there, sum_by_more_le (λ (x : ℕ). x) ranges v 0 there)
+
 -- the word of a value of a variable is there
 place_exists : (ranges words firsts : List ℕ) → length words ≡ sum ranges → firsts ≡ firsts_of ranges →
     (v value : ℕ) → v < length ranges → value < slice_index ranges v → slice_index firsts v + value < length words
-place_exists ranges words firsts long placed v value there below =
-    let begins : slice_index firsts v ≡ sum (take v ranges) =
-    ap (λ (xs : List ℕ). slice_index xs v) placed
-    ∙ get_or-map-range_with_len (λ (w : ℕ). sum (take w ranges)) 0 (length ranges) v v 0 there (omega arith) in
-    let within : sum (take v ranges) + slice_index ranges v ≤ sum ranges = sum_by_more_le (λ (x : ℕ). x) ranges v 0 there in
-    omega arith
+place_exists ranges words firsts long placed v value there below = omega (arith, words_exist ranges words firsts long placed v there)
 
 -- the words of a state's values are there
 pub word_exists : (ranges words firsts state : List ℕ) → length words ≡ sum ranges → firsts ≡ firsts_of ranges →

@@ -1,3 +1,4 @@
 pub mod Drawn
 pub mod OwnerLaws
+pub mod Projections
 pub mod Spreads

@@ -4,11 +4,12 @@
 
 mod by_value;
 mod laws;
+mod projection;
 mod spread;
 mod words;
 mod zobrist;
 
 pub use by_value::ByValue;
-pub use laws::worked_examples;
+pub use laws::{worked_examples, worked_projections};
 pub use spread::Spread;
 pub use zobrist::Zobrist;

@@ -1,10 +1,12 @@
 //! One word for each value of each variable.
 
-ghost use Rattle.std.specs.Prelude.{◌≡◌, ◌+◌, length, sum, IfOk, OnOk};
+ghost use Rattle.std.specs.Prelude.{◌≡◌, ◌+◌, ◌<◌, ◌≤◌, length, sum, IfOk, OnOk};
 ghost use Rattle.fdr.specs.Tasks.{ranges};
 ghost use Rattle.packed_spread.specs.Drawn.{IsDrawn};
+ghost use Rattle.packed_spread.specs.Projections.{cleared, cleared_unless, projected, projected_words};
 ghost use Rattle.packed_spread.specs.Spreads as spec;
 
+use crate::projection::projection_of;
 use fdr::FdrTask;
 use rand_core::{Rng, SeedableRng};
 use rand_xoshiro::SplitMix64;
@@ -45,5 +47,57 @@ pub(crate) fn words_of(alloc: Global, task: &FdrTask) -> Result<Words, AllocErro
         firsts.push(words.len())?;
         draw(&mut generator, task.range(variable), &mut words)?;
     }
+    Ok(Words { words, firsts })
+}
+
+/// Puts 0 in the places of `count` words from `first` on.
+fn clear(words: &mut [u64], first: usize, count: usize)
+    requires { first + count ≤ length words.old }
+    ensures { words.new ≡ cleared words.old first count }
+{
+    for value in 0..count {
+        words[first + value] = 0;
+    }
+}
+
+/// Puts 0 in the places of the words of a variable, unless it is chosen. The places of variables' first words are given.
+fn clear_unless_chosen(
+    task: &FdrTask,
+    chosen: &[usize],
+    variable: usize,
+    firsts: &[usize],
+    words: &mut [u64],
+)
+    requires variable { variable < length task.now.value_names }
+    requires words { length words.old ≡ sum (ranges task.now) }
+    requires firsts { firsts.now ≡ spec.firsts_of (ranges task.now) }
+    ensures words { words.new ≡ cleared_unless (ranges task.now) chosen.now words.old variable }
+{
+    if !chosen.contains(&variable) {
+        clear(words, firsts[variable], task.range(variable));
+    }
+}
+
+/// Puts 0 in the places of the words of all variables that are not chosen. The places of variables' first words are given.
+fn clear_others(task: &FdrTask, chosen: &[usize], firsts: &[usize], words: &mut [u64])
+    requires words { length words.old ≡ sum (ranges task.now) }
+    requires firsts { firsts.now ≡ spec.firsts_of (ranges task.now) }
+    ensures words { words.new ≡ projected (ranges task.now) chosen.now words.old }
+    ensures long { length words.new ≡ length words.old }
+{
+    for variable in 0..task.variable_count() {
+        clear_unless_chosen(task, chosen, variable, firsts, words);
+    }
+}
+
+/// The words of the spread by the projection of a task: those of `words_of` for the variables of the projection, and 0 for each
+/// value of the others. Fails only if allocation fails.
+pub(crate) fn projected_words_of(alloc: Global, task: &FdrTask) -> Result<Words, AllocError>
+    ensures words { IfOk result (λ made. made.words.items ≡ projected_words task.now) }
+    ensures firsts { IfOk result (λ made. made.firsts.items ≡ spec.firsts_of (ranges task.now)) }
+{
+    let chosen = projection_of(alloc, task)?;
+    let Words { mut words, firsts } = words_of(alloc, task)?;
+    clear_others(task, &chosen, &firsts, &mut words);
     Ok(Words { words, firsts })
 }

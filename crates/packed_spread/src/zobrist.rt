@@ -3,10 +3,11 @@
 ghost use Rattle.std.specs.Prelude.{◌≡◌, ℕ, ◌+◌, ◌<◌, true, length, slice_index, sum, All, IfOk};
 ghost use Rattle.fdr.specs.Tasks as tasks;
 ghost use Rattle.fdr.specs.Tasks.{are_distinct, with_values};
+ghost use Rattle.packed_spread.specs.Projections.{projected_words};
 ghost use Rattle.packed_spread.specs.Spreads as spec;
 
 use crate::spread::Spread;
-use crate::words::words_of;
+use crate::words::{projected_words_of, words_of};
 use fdr::{Fact, FdrTask};
 use std::alloc::{AllocError, Global};
 use std::marker::Model;
@@ -71,6 +72,24 @@ impl<'a> Zobrist<'a> {
         ensures words { IfOk result (λ z. z.words ≡ spec.splitmix_words 1 (sum (tasks.ranges task.now))) }
     {
         let made = words_of(alloc, task)?;
+        Ok(Zobrist {
+            task,
+            words: made.words,
+            firsts: made.firsts,
+        })
+    }
+
+    /// The spread for the task by a hash of some variables alone: those that operators seldom change, as many as tell 2^20 states
+    /// apart, or a quarter of all if that is less. Most successors then have the owner of their parent, so that workers send one another few messages (Burns, Lemons,
+    /// Ruml and Zhou 2010; Jinnai and Fukunaga 2017). The word of each value of another variable is 0.
+    ///
+    /// How often operators change a variable is estimated: each counts as often as it applies if a variable has each of its values
+    /// equally often. Fails only if allocation fails.
+    pub fn projected(alloc: Global, task: &'a FdrTask) -> Result<Zobrist<'a>, AllocError>
+        ensures task { IfOk result (λ z. z.task ≡ task.now) }
+        ensures words { IfOk result (λ z. z.words ≡ projected_words task.now) }
+    {
+        let made = projected_words_of(alloc, task)?;
         Ok(Zobrist {
             task,
             words: made.words,

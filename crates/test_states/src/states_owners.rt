@@ -2,12 +2,12 @@
 
 ghost use Rattle.fdr.specs.Tasks.{IsState, IsAssignment};
 
-use fdr::Fact;
+use fdr::{Fact, Operator};
 use packed_spread::{ByValue, Spread, Zobrist};
-use std::alloc::Global;
+use std::alloc::{AllocError, Global};
 use std::process::Abort;
 use std::test::Fail;
-use test_tasks::{fact, states, task};
+use test_tasks::{fact, operator, states, task};
 
 /// The owner of the state among seven.
 fn owner_of_seven<S: Spread>(spread: &S, state: &[u32]) -> usize
@@ -90,4 +90,52 @@ fn owners_of_changed_states(rt: HostRuntime) -> Result<(), Fail> {
     owned_after(&rt, rt.alloc(), &[1, 0], &[fact(1, 2)], 0, 1)?;
     owned_after(&rt, rt.alloc(), &[1, 2], &[fact(1, 0), fact(0, 0)], 5, 0)?;
     owned_after(&rt, rt.alloc(), &[0, 0], &[], 5, 0)
+}
+
+/// Operators of which the most change the last of three variables, some the one before, and none the first.
+fn last_changes_most(alloc: Global) -> Result<Vec<Operator>, AllocError> {
+    let mut operators = Vec::new(alloc);
+    operators.push(operator(alloc, &[fact(2, 0)], &[fact(2, 1)])?)?;
+    operators.push(operator(alloc, &[fact(2, 1), fact(0, 0)], &[fact(2, 0)])?)?;
+    operators.push(operator(alloc, &[fact(1, 0)], &[fact(1, 1)])?)?;
+    Ok(operators)
+}
+
+/// An operator that changes the first variable, and applies in all states; and one that changes the last, and applies in a
+/// quarter.
+fn first_changes_most(alloc: Global) -> Result<Vec<Operator>, AllocError> {
+    let mut operators = Vec::new(alloc);
+    operators.push(operator(alloc, &[], &[fact(0, 1)])?)?;
+    operators.push(operator(alloc, &[fact(2, 0)], &[fact(2, 3)])?)?;
+    Ok(operators)
+}
+
+/// Checks that the state has this owner among seven by a hash of the variables that these operators seldom change, where three
+/// variables have 2, 3 and 4 values: as many variables as tell 6 of the 24 states apart.
+fn owned_by_projection(
+    rt: &impl Abort,
+    alloc: Global,
+    operators: Vec<Operator>,
+    state: &[u32],
+    owner: usize,
+) -> Result<(), Fail> {
+    let task = task(alloc, &[2, 3, 4], state, &[], operators)?.ok_or("a task")?;
+    let spread = Zobrist::projected(alloc, &task)?;
+    assert_eq!(rt;
+        owner_of_seven(&spread, task.initial()),
+        owner,
+        "by the projection"
+    );
+    Ok(())
+}
+
+#[test]
+fn owners_by_projections(rt: HostRuntime) -> Result<(), Fail> {
+    let alloc = rt.alloc();
+    owned_by_projection(&rt, alloc, last_changes_most(alloc)?, &[0, 0, 0], 5)?;
+    owned_by_projection(&rt, alloc, last_changes_most(alloc)?, &[0, 0, 3], 5)?;
+    owned_by_projection(&rt, alloc, last_changes_most(alloc)?, &[1, 2, 1], 0)?;
+    owned_by_projection(&rt, alloc, first_changes_most(alloc)?, &[0, 0, 0], 2)?;
+    owned_by_projection(&rt, alloc, first_changes_most(alloc)?, &[1, 0, 0], 2)?;
+    owned_by_projection(&rt, alloc, first_changes_most(alloc)?, &[1, 2, 1], 0)
 }

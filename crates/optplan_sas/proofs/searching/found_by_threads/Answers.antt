@@ -4,7 +4,12 @@ use Rattle.fdr.specs.Tasks.{FiniteDomainTask}
 use Rattle.cert_value.specs.Views.{kind_of}
 use Rattle.optplan_sas.specs.Findings.{IsFinding}
 use Rattle.optplan_sas.specs.Searches.{EndsByThreads, IsRefusedByThreads}
+use Rattle.optplan_sas.proofs.ThreadEnds.{of_own_task}
 use Rattle.optplan_sas.proofs.searching.found_by_threads.Goals as goal
+
+pub by_threads_in_smallest_form-requires-after_bounds : goal.by_threads_in_smallest_form-requires-after_bounds
+by_threads_in_smallest_form-requires-after_bounds g c κs within =
+    of_own_task c.args.task.now c.args.options.now c.in_ok-space.space c.in_ok-space.ensures
 
 pub returns-clause-found : goal.returns-clause-found
 returns-clause-found g c =
