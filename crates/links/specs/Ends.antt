@@ -24,6 +24,10 @@ received i = but_returned (Ring.received i.consumer) i.returned
 abbrev pub known : {F : Type 0} → In F → List (Message F)
 known i = option_to_list i.returned ++ Ring.known_items i.consumer
 
+-- the number of messages for which the ring has room
+abbrev pub capacity : {F : Type 0} → In F → ℕ
+capacity i = Ring.consumer_capacity i.consumer
+
 -- the message was taken last, and none is given back
 pub record WasTakenLast {F : Type 0} (i : In F) (message : Message F) : Type 0 where
   pub before : List (Message F)
@@ -41,10 +45,11 @@ SameOut a b = Ring.SameProducer a.producer b.producer
 abbrev pub SameIn : {F : Type 0} → In F → In F → Type 0
 SameIn a b = Ring.SameConsumer a.consumer b.consumer
 
--- the two ends of a link with room for a number of messages, its capacity, over which nothing was sent
-pub record IsFresh {F : Type 0} (capacity : ℕ) (o : Out F) (i : In F) : Type 0 where
+-- the two ends of a link with room for a number of messages, over which nothing was sent
+pub record IsFresh {F : Type 0} (messages : ℕ) (o : Out F) (i : In F) : Type 0 where
   pub ends : AreEnds o i
-  pub room_is : room o ≡ capacity
+  pub room_is : room o ≡ messages
+  pub capacity_is : capacity i ≡ messages
   pub sent_none : sent o ≡ []
   pub received_none : received i ≡ []
   pub known_none : known i ≡ []

@@ -69,10 +69,10 @@ impl<F: StateForm + Drop> Out<F> {
 }
 
 impl<F: StateForm + Drop> In<F> {
-    ghost use Rattle.std.specs.Prelude.{◌≡◌, ◌+◌, ◌<◌, ◌≤◌, ◌++◌, ◌∷◌, [], length, IfSome, IfNone, IsSome};
+    ghost use Rattle.std.specs.Prelude.{◌≡◌, ◌+◌, ◌<◌, ◌≤◌, ◌++◌, ◌∷◌, [], length, ◌↔◌, IsTrue, IfSome, IfNone, IsSome};
     ghost use mathlib.Core.List.{IsPrefix};
     ghost use Rattle.links.specs.Ranks.{HasSmallRank};
-    ghost use Rattle.links.specs.Ends.{received, known, SameIn, WasTakenLast};
+    ghost use Rattle.links.specs.Ends.{received, known, capacity, SameIn, WasTakenLast};
 
     /// Takes the message that was given back, or else the oldest one of the ring, or returns `None` if it finds the ring empty, which
     /// cannot happen while a message is known to be left. Allocates nothing.
@@ -93,6 +93,20 @@ impl<F: StateForm + Drop> In<F> {
             Ok(message) => Some(message),
             Err(_) => None,
         }
+    }
+
+    /// For how many messages the ring has room.
+    pub fn capacity(&self) -> usize
+        ensures { result ≡ capacity self.now }
+    {
+        self.consumer.capacity()
+    }
+
+    /// Whether no message is known to be left to take. It does not look at what was sent since it looked last, which is the sender's word.
+    pub fn knows_none(&self) -> bool
+        ensures { IsTrue result ↔ (length (known self.now) ≡ 0) }
+    {
+        self.returned.is_none() && self.consumer.cached_slots() == 0
     }
 
     /// Gives back the message that was taken last; it is the next that `pop` returns. Allocates nothing.
