@@ -1,6 +1,9 @@
 -- Steps one after the other, one for each link.
-use Rattle.std.proofs.Common.{◌≡◌, ℕ, zero, suc, ◌+◌, ◌≤◌, inl, inr, ⊎_elim, Bool, true, false, List, length, refl, sym, ap, ◌∙◌, subst, add-one, arith}
+use Rattle.std.proofs.Common.{◌≡◌, ℕ, zero, suc, ◌+◌, ◌≤◌, inl, inr, ⊎_elim, Bool, true, false, List, Option, length, refl, sym, ap, ◌∙◌, subst, add-one, arith, pos, ◌+ℤ◌, ◌-ℤ◌}
+use Rattle.std.proofs.lemmas.Int.{ints}
+use Rattle.cost.specs.Distances.{lesser}
 use Rattle.board.specs.declared.views.View.{View}
+use Rattle.board.specs.Rule.{with_offered, with_share}
 use Rattle.owner.specs.declared.fault.OwnerFault.{OwnerFault}
 use Rattle.owner.specs.declared.fault.OwnerFault.TheVariants.{OutOfMemory, TotalTooLarge, LimitReached}
 use Rattle.owner.specs.Owned.{IsRefusal}
@@ -9,7 +12,8 @@ use Rattle.worker.specs.declared.outcome.Received.TheVariants.{Taken, Nothing, S
 use Rattle.worker.specs.declared.outcome.Turn.{Turn}
 use Rattle.worker.specs.declared.outcome.Turn.TheVariants.{Next, Last, Misfit}
 use Rattle.worker.specs.Workers.{WorkerOf}
-use Rattle.worker.specs.Turns.{chained, HasReceived, ReceivesFrom, SendsOrNot, SendsTo, HasTaken, HasNothingTaken, HasSent, HasNotSent, HasLooked, IsExpandRefusal, HasAdded, HasOffered, HasCounted, HasTurned, HasStopped, HasHeldBack, HasRefused, IsTurn, IsTurnRefusal}
+use Rattle.worker.specs.Turns.{chained, HasReceived, ReceivesFrom, SendsOrNot, SendsTo, HasTaken, HasNothingTaken, HasSent, HasNotSent, HasLooked, HasExpanded, IsExpandRefusal, HasOffered, HasCounted, HasTurned, HasStopped, HasHeldBack, HasRefused, IsTurn, IsTurnRefusal, wakes, comes_to_rest, one_if}
+use Rattle.worker.specs.Counts.{HasBalanced, HasRested}
 
 pub one_more : {W : Type 0} (R : ℕ → W → W → Type 0) (k : ℕ) (a b c : W) → chained R k a b → R k b c → chained R (k + 1) a c
 one_more R k a b c before step = subst (λ n. chained R n a c) (sym (add-one k)) (b, before, step)
@@ -25,6 +29,8 @@ pub record KeepsReceiving {S F : Type 0} (a b : WorkerOf S F) (count : ℕ) : Ty
 pub record KeepsSending {S F : Type 0} (a b : WorkerOf S F) : Type 0 where
   pub outs : length b.outs ≡ length a.outs
   pub uncounted : b.uncounted ≡ a.uncounted
+  pub taken : b.taken ≡ a.taken
+  pub wakes : wakes b ≡ wakes a
 
 module _ {S F : Type 0} (owner : S → List ℕ → ℕ → ℕ) (values : List ℕ → F → List ℕ) where
   pub was_received : (from : ℕ) (a b : WorkerOf S F) (r : Received) → (r ≡ SetAside → ⊥) → HasReceived owner values from a b r → ReceivesFrom owner values from a b
@@ -79,19 +85,31 @@ module _ {S F : Type 0} (values : List ℕ → F → List ℕ) where
 
   send_keeps : (to : ℕ) (a b : WorkerOf S F) → SendsTo values to a b → KeepsSending a b
   send_keeps to a b has = ⊎_elim
-      (λ (t : HasSent values to a b). record { outs = t.ends.len; uncounted = ap (λ (w : WorkerOf S F). w.uncounted) t.worker })
-      (λ (t : HasNotSent values to a b). record { outs = t.ends.len; uncounted = ap (λ (w : WorkerOf S F). w.uncounted) t.worker })
+      (λ (t : HasSent values to a b). record {
+        outs = t.ends.len;
+        uncounted = ap (λ (w : WorkerOf S F). w.uncounted) t.worker;
+        taken = ap (λ (w : WorkerOf S F). w.taken) t.worker;
+        wakes = ap (λ (w : WorkerOf S F). wakes w) t.worker;
+      })
+      (λ (t : HasNotSent values to a b). record {
+        outs = t.ends.len;
+        uncounted = ap (λ (w : WorkerOf S F). w.uncounted) t.worker;
+        taken = ap (λ (w : WorkerOf S F). w.taken) t.worker;
+        wakes = ap (λ (w : WorkerOf S F). wakes w) t.worker;
+      })
       has
 
   pub sends_keep : (k : ℕ) (a b : WorkerOf S F) → chained (SendsTo values) k a b → KeepsSending a b
   sends_keep zero a b same = record {
     outs = ap (λ (w : WorkerOf S F). length w.outs) same;
     uncounted = ap (λ (w : WorkerOf S F). w.uncounted) same;
+    taken = ap (λ (w : WorkerOf S F). w.taken) same;
+    wakes = ap (λ (w : WorkerOf S F). wakes w) same;
   }
   sends_keep (suc k) a b (m, before, step) =
       let p : KeepsSending a m = sends_keep k a m before in
       let q : KeepsSending m b = send_keeps k m b step in
-      record { outs = q.outs ∙ p.outs; uncounted = q.uncounted ∙ p.uncounted }
+      record { outs = q.outs ∙ p.outs; uncounted = q.uncounted ∙ p.uncounted; taken = q.taken ∙ p.taken; wakes = q.wakes ∙ p.wakes }
 
 -- ---- a turn
 module _ {S F : Type 0} (owner : S → List ℕ → ℕ → ℕ) (values : List ℕ → F → List ℕ) where
@@ -101,12 +119,57 @@ module _ {S F : Type 0} (owner : S → List ℕ → ℕ → ℕ) (values : List 
   as_turn old new u v Misfit other turned = absurd (other refl)
 
   -- once the messages in outboxes are added, none is uncounted
-  pub counted_uncounted : (expanded added offered sent new : WorkerOf S F) (u v x y : View) → HasAdded expanded added u v
-      → HasOffered added offered v x → chained (SendsTo values) (length offered.outs) offered sent → HasCounted owner sent new x y → new.uncounted ≡ 0
-  counted_uncounted expanded added offered sent new u v x y adds offers sends counts =
-      ap (λ (w : WorkerOf S F). w.uncounted) counts.worker
+  pub balanced_uncounted : (expanded added offered sent new : WorkerOf S F) (u v x y : View) → HasBalanced expanded added u v
+      → HasOffered added offered v x → chained (SendsTo values) (length offered.outs) offered sent → HasRested owner sent new x y → new.uncounted ≡ 0
+  balanced_uncounted expanded added offered sent new u v x y balances offers sends rests =
+      ap (λ (w : WorkerOf S F). w.uncounted) rests.worker
       ∙ ((sends_keep values (length offered.outs) offered sent sends).uncounted
-      ∙ (ap (λ (w : WorkerOf S F). w.uncounted) offers.worker ∙ ap (λ (w : WorkerOf S F). w.uncounted) adds.worker))
+      ∙ (ap (λ (w : WorkerOf S F). w.uncounted) offers.worker ∙ ap (λ (w : WorkerOf S F). w.uncounted) balances.worker))
+
+  -- to add what was posted and to subtract what was taken at once, and to rest at the end, is to add, and to count all the rest at the end
+  counted_at_once : (added offered sent new : WorkerOf S F) (expanded : WorkerOf S F) (v x y z : View) → HasBalanced expanded added v x → HasOffered added offered x y
+      → chained (SendsTo values) (length offered.outs) offered sent → HasRested owner sent new y z
+      → let before : View = with_share v (v.share +ℤ pos expanded.uncounted) in
+      HasCounted owner sent new (with_offered before (lesser before.offered added.owner.best)) z
+  counted_at_once added offered sent new expanded v x y z balances offers sends rests =
+      let kept = sends_keep values (length offered.outs) offered sent sends in
+      let taken : sent.taken ≡ expanded.taken = kept.taken ∙ (ap (λ (w : WorkerOf S F). w.taken) offers.worker ∙ ap (λ (w : WorkerOf S F). w.taken) balances.worker) in
+      let woken : one_if (wakes sent) ≡ one_if (wakes expanded) = ap one_if (kept.wakes ∙ (ap (λ (w : WorkerOf S F). wakes w) offers.worker ∙ ap (λ (w : WorkerOf S F). wakes w) balances.worker)) in
+      let after : View = with_share v (((v.share +ℤ pos (one_if (wakes expanded))) +ℤ pos expanded.uncounted) -ℤ pos expanded.taken) in
+      let before : View = with_share v (v.share +ℤ pos expanded.uncounted) in
+      record {
+        view = rests.view
+            ∙ (ap (λ (w : View). with_share w (w.share -ℤ pos (one_if (comes_to_rest owner sent)))) offers.view
+            ∙ (ap (λ (w : View). with_share (with_offered w (lesser w.offered added.owner.best)) (w.share -ℤ pos (one_if (comes_to_rest owner sent)))) balances.view
+            ∙ ap (with_share (with_offered before (lesser before.offered added.owner.best))) (omega (arith, ints, taken, woken))));
+        worker = rests.worker;
+      }
+
+  pub turned : (old received looked expanded added offered sent new : WorkerOf S F) (posted : Option ℕ) (u v x y z : View)
+      → chained (ReceivesFrom owner values) (length old.ins) old received → HasLooked received looked u v → HasExpanded owner looked expanded posted
+      → HasBalanced expanded added v x → HasOffered added offered x y → chained (SendsTo values) (length offered.outs) offered sent → HasRested owner sent new y z
+      → HasTurned owner values old new u z
+  turned old received looked expanded added offered sent new posted u v x y z receives looks expands balances offers sends rests =
+      let before : View = with_share v (v.share +ℤ pos expanded.uncounted) in
+      record {
+        received = received;
+        receives = receives;
+        looked = looked;
+        view_looked = v;
+        looks = looks;
+        expanded = expanded;
+        posted = posted;
+        expands = expands;
+        added = added;
+        view_added = before;
+        adds = record { view = refl; worker = balances.worker };
+        offered = offered;
+        view_offered = with_offered before (lesser before.offered added.owner.best);
+        offers = record { view = refl; worker = offers.worker };
+        sent = sent;
+        sends = sends;
+        counts = counted_at_once added offered sent new expanded v x y z balances offers sends rests;
+      }
 
   -- the owner refused to expand
   pub refused_uncounted : (old new : WorkerOf S F) (fault : OwnerFault) → IsExpandRefusal owner old new fault → new.uncounted ≡ old.uncounted

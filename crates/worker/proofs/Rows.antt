@@ -146,15 +146,20 @@ empty_if : {X : Type 0} (xs : List X) → (0 < length xs → ⊥) → xs ≡ []
 empty_if [] none = refl
 empty_if (x ∷ xs) none = absurd (none (omega arith))
 
--- a link that was found empty was not known to hold a message
-pub none_known : {F : Type 0} (r : Option (MessageOf F)) (is : List (In F)) (k : ℕ) (i : In F) → k < length is → i ≡ get_or is k i
-    → (0 < length (known i) → IsSome r) → IfNone r ((x : In _) → slice_get is k ≡ Some x → known x ≡ [])
-none_known {F = F} None is k i lt at has = λ x there.
+-- no message of the link at a place is known to be left, where none is of the end that is read there
+pub none_at : {F : Type 0} (is : List (In F)) (k : ℕ) (i : In F) → k < length is → i ≡ get_or is k i → (0 < length (known i) → ⊥)
+    → (x : In F) → slice_get is k ≡ Some x → known x ≡ []
+none_at {F} is k i lt at none x there =
     let same : i ≡ x = some_in i x (sym (slice_get-get_or is k i lt ∙ ap Some (sym at)) ∙ there) in
-    subst (λ (y : In _). known y ≡ []) same (empty_if (known i) (λ p. true≢false (sym (has p))))
+    subst (λ (y : In F). known y ≡ []) same (empty_if (known i) none)
   where
     some_in : (a b : In F) → Some a ≡ Some b → a ≡ b
     some_in a b e = cc
+
+-- a link that was found empty was not known to hold a message
+pub none_known : {F : Type 0} (r : Option (MessageOf F)) (is : List (In F)) (k : ℕ) (i : In F) → k < length is → i ≡ get_or is k i
+    → (0 < length (known i) → IsSome r) → IfNone r ((x : In F) → slice_get is k ≡ Some x → known x ≡ [])
+none_known None is k i lt at has = none_at is k i lt at (λ p. true≢false (sym (has p)))
 none_known (Some m) is k i lt at has = tt
 
 pub was_ok : {A E : Type 0} (r : Result A E) (P : Type 0) → IsOk r → OnOk r P → P

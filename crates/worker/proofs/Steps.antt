@@ -14,7 +14,7 @@ use Rattle.owner.specs.declared.fault.OwnerFault.TheVariants.{OutOfMemory, Total
 use Rattle.owner.specs.Owned.{OwnerOf, space_of, under, IsExpansion, IsRefusal}
 use Rattle.worker.specs.Workers.{WorkerOf, values_in, sent_to, received_from, known_from, AreSameOuts, AreSameIns}
 use Rattle.worker.specs.Turns.{HasLooked, HasOffered, HasExpanded, IsExpandRefusal, posted_by, HasSent, HasNotSent, HasTaken, HasNothingTaken, HasSetAside, HasHeld, wakes, comes_to_rest}
-use Rattle.worker.proofs.Rows.{outs_through, ins_through, put_again}
+use Rattle.worker.proofs.Rows.{outs_through, ins_through, ins_same, put_again}
 
 -- a fault leaves the owner as it was
 pub refused_same : {S : Type 0} (owner : S → List ℕ → ℕ → ℕ) (bound : Distance) (o p : OwnerOf S) (fault : OwnerFault) → IsRefusal owner bound o p fault → p ≡ o
@@ -108,6 +108,10 @@ module _ {S F : Type 0} (values : List ℕ → F → List ℕ) where
   pub takes_nothing : (w : WorkerOf S F) (ins : List (In F)) (from : ℕ) → ((i : In F) → slice_get w.ins from ≡ Some i → known i ≡ [])
       → AreSameIns w.ins ins → ((u : ℕ) → received_from (values_in values w) ins u ≡ received_from (values_in values w) w.ins u) → HasNothingTaken values from w (record w { ins = ins })
   takes_nothing w ins from why same kept = record { why = why; link = kept; ends = same; worker = refl }
+
+  -- a link that was not known to hold a message is not looked at
+  pub passes_over : (w : WorkerOf S F) (from : ℕ) → ((i : In F) → slice_get w.ins from ≡ Some i → known i ≡ []) → HasNothingTaken values from w w
+  passes_over w from why = takes_nothing w w.ins from why (ins_same w.ins) (λ u. refl)
 
   pub sets_aside : (owner : S → List ℕ → ℕ → ℕ) (w : WorkerOf S F) (ins : List (In F)) (from : ℕ) (m : Message)
       → fits (space_of owner w.owner) w.owner.worker m ≡ false → AreSameIns w.ins ins

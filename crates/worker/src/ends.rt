@@ -49,6 +49,14 @@ pub(crate) fn pop<F: StateForm + Drop>(ins: &mut Vec<In<F>>, from: usize) -> Opt
     ins[from].pop()
 }
 
+/// Whether no message from that worker is known to be left to take. It does not look at what was sent since it looked last.
+pub(crate) fn knows_none<F: StateForm + Drop>(ins: &[In<F>], from: usize) -> bool
+    requires { from < length ins.now }
+    ensures { IsTrue result → (i : InOf F) → slice_get ins.now from ≡ Some i → known i ≡ [] }
+{
+    ins[from].knows_none()
+}
+
 /// Gives back the message that was taken last from that worker. Allocates nothing.
 pub(crate) fn give_back<F: StateForm + Drop>(ins: &mut Vec<In<F>>, from: usize, message: Message<F>)
     requires within { from < length ins.old.items }

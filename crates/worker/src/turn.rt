@@ -4,6 +4,7 @@ ghost use Rattle.std.specs.Prelude.{◌≡◌, ◌≢◌, [], length, IfOk, IfEr
 ghost use Rattle.board.specs.Seats.{IsSeatOf, view};
 ghost use Rattle.worker.specs.Turns.{chained, SendsTo, HasReceivedEach, HasHeldBack, IsTurn, IsTurnRefusal};
 
+use crate::ends::knows_none;
 use crate::outcome::{Received, Turn};
 use crate::worker::Worker;
 use board::{Board, Seat};
@@ -28,15 +29,20 @@ fn next_turn(board: &Board, seat: &mut Seat, is_resting: bool) -> Turn
 }
 
 impl<'a, S: Spread + Drop, F: StateForm + Drop> Worker<'a, S, F> {
-    /// Takes at most one message from each link. Returns false if one was set aside, after which it takes no more. Fails only if
-    /// allocation fails, and then the worker holds the message that could not be taken, and has taken none after it.
+    /// Takes at most one message from each link: in some turns from those only that are known to hold one. Returns false if one was set
+    /// aside, after which it takes no more. Fails only if allocation fails, and then the worker holds the message that could not be taken,
+    /// and has taken none after it.
     fn receive_each(&mut self) -> Result<bool, AllocError>
         requires none_aside { self.old.misfits ≡ [] }
         requires none_taken { self.old.taken ≡ 0 }
         ensures received { IfOk result (HasReceivedEach S.owner F.values self.old self.new) }
         ensures refused { IfErr result (λ _. HasHeldBack S.owner F.values self.old self.new) }
     {
+        let looks = self.looks();
         for from in 0..self.workers() {
+            if !looks && knows_none(&self.ins, from) {
+                continue;
+            }
             if let Received::SetAside = self.receive(from)? {
                 return Ok(false);
             }
@@ -54,9 +60,10 @@ impl<'a, S: Spread + Drop, F: StateForm + Drop> Worker<'a, S, F> {
         }
     }
 
-    /// One turn, in this order: it takes at most one message from each link, reads the bound, expands at most one node, adds the
-    /// messages that this put into outboxes to the units, offers its best goal, sends at most one message over each link, and
-    /// subtracts what it has taken from the units. A message that is not for its owner ends the turn.
+    /// One turn, in this order: it takes at most one message from each link, in some turns only where one is known to be left; reads the
+    /// bound, expands at most one node, adds the messages that this put into outboxes to the units and subtracts those that it has taken,
+    /// offers its best goal, sends at most one message over each link, and counts itself among the units no longer where it comes to
+    /// rest. A message that is not for its owner ends the turn.
     ///
     /// A fault leaves the worker as it was after it read the bound; where memory ran out for a message, the worker holds it and it
     /// still counts as pending. A caller that goes on after a fault calls `count_taken` first.
@@ -75,10 +82,10 @@ impl<'a, S: Spread + Drop, F: StateForm + Drop> Worker<'a, S, F> {
         }
         self.look(board, seat);
         let _posted = self.expand()?;
-        self.add_posted(board, seat);
+        self.balance(board, seat);
         self.offer(board, seat);
         self.send_each();
-        self.count_taken(board, seat);
+        self.rest(board, seat);
         Ok(next_turn(board, seat, self.resting))
     }
 }

@@ -44,6 +44,8 @@ pub struct Worker<'a, S: Spread + Drop, F: StateForm + Drop> {
     pub(crate) uncounted: u64,
     /// The number of messages that it has taken and not yet subtracted from the units.
     pub(crate) taken: u64,
+    /// How often it has counted, in turns and after them, since it last was to look at what others had sent; 0 where it is to look.
+    pub(crate) turns: u32,
 }
 
 impl<'a, S: Spread + Drop, F: StateForm + Drop> Model for Worker<'a, S, F> {
@@ -134,6 +136,7 @@ impl<'a, S: Spread + Drop, F: StateForm + Drop> Worker<'a, S, F> {
             resting: false,
             uncounted: 0,
             taken: 0,
+            turns: 0,
         })
     }
 

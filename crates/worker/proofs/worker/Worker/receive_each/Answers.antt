@@ -1,8 +1,10 @@
-use Rattle.std.proofs.Common.{◌∙◌, subst, arith, refl}
+use Rattle.std.proofs.Common.{◌∙◌, ap, inr, length, slice_get, subst, arith, refl}
 use Rattle.std.proofs.lemmas.Result.{err_from_is_err_and}
 use Rattle.worker.specs.declared.outcome.Received.{Received}
+use Rattle.worker.specs.Workers.{WorkerOf}
 use Rattle.worker.specs.Turns.{HasReceived, ReceivesFrom}
 use Rattle.worker.proofs.Chains.{one_more, was_received, receives_keep}
+use Rattle.worker.proofs.Steps.{passes_over}
 use Rattle.worker.proofs.worker.Worker.receive_each.Goals as goal
 
 pub loop-from-init : goal.loop-from-init
@@ -48,3 +50,15 @@ pub loop-from-preserved : goal.loop-from-preserved
 loop-from-preserved g c =
     one_more (ReceivesFrom g.S.Spread.owner g.F.StateForm.values) _ _ _ _ c.loop-from.invariant
     (was_received g.S.Spread.owner g.F.StateForm.values _ _ _ _ c.in_default.not-SetAside c.in_ok-receive.ensures.received)
+
+pub knows_none-requires : goal.knows_none-requires
+knows_none-requires g c =
+    let kept = receives_keep g.S.Spread.owner g.F.StateForm.values _ _ _ c.loop-from.invariant in
+    let read = ap length c.deref.ensures.value ∙ ap (λ (w : WorkerOf g.row.S.Denot g.row.F.Denot). length w.ins) c.self-in-loop-from.view_is in
+    omega (arith, read, kept.ins, c.workers-from-end.ensures.ins)
+
+pub loop-from-preserved-then-knows_none : goal.loop-from-preserved-then-knows_none
+loop-from-preserved-then-knows_none g c =
+    let read = c.deref.ensures.value ∙ ap (λ (w : WorkerOf g.row.S.Denot g.row.F.Denot). w.ins) c.self-in-loop-from.view_is in
+    one_more (ReceivesFrom g.S.Spread.owner g.F.StateForm.values) _ _ _ _ c.loop-from.invariant
+    (inr (passes_over g.F.StateForm.values c.loop-from.self c.loop-from.from (λ i at. c.knows_none.ensures c.if-knows_none.true i (ap (λ is. slice_get is c.loop-from.from) read ∙ at))))

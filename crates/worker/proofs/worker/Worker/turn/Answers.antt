@@ -3,8 +3,9 @@ use Rattle.std.proofs.lemmas.Result.{err_from_is_err_and}
 use Rattle.board.specs.declared.views.View.{View}
 use Rattle.board.specs.Seats.{view}
 use Rattle.worker.specs.Workers.{WorkerOf}
-use Rattle.worker.specs.Turns.{HasReceivedEach, HasCounted}
-use Rattle.worker.proofs.Chains.{receives_keep, stopped_uncounted, as_turn, counted_uncounted, refused_uncounted, refused_turn, held_uncounted, held_turn}
+use Rattle.worker.specs.Turns.{HasReceivedEach}
+use Rattle.worker.specs.Counts.{HasRested}
+use Rattle.worker.proofs.Chains.{receives_keep, stopped_uncounted, as_turn, balanced_uncounted, refused_uncounted, refused_turn, held_uncounted, held_turn, turned}
 use Rattle.worker.proofs.worker.Worker.turn.Goals as goal
 
 pub returns-then-not-branch-clause-none_uncounted : goal.returns-then-not-branch-clause-none_uncounted
@@ -52,29 +53,14 @@ returns-in_err-_posted-clause-none_uncounted g c =
 pub returns-clause-turned : goal.returns-clause-turned
 returns-clause-turned g c =
     as_turn g.S.Spread.owner g.F.StateForm.values _ _ _ _ c.next_turn.result c.next_turn.ensures.turn
-    (record {
-      received = c.receive_each.new.self;
-      receives = subst (λ (all : Bool). HasReceivedEach g.S.Spread.owner g.F.StateForm.values c.args.self.now c.receive_each.new.self all) c.if-not-branch.false
-          c.in_ok-receive_each.ensures.received;
-      looked = c.look.new.self;
-      view_looked = view c.look.new.seat;
-      looks = c.look.ensures.looked;
-      expanded = c.expand.new.self;
-      posted = c.in_ok-_posted._posted;
-      expands = c.in_ok-_posted.ensures.expanded;
-      added = c.add_posted.new.self;
-      view_added = view c.add_posted.new.seat;
-      adds = c.add_posted.ensures.added;
-      offered = c.offer.new.self;
-      view_offered = view c.offer.new.seat;
-      offers = c.offer.ensures.offered;
-      sent = c.send_each.new.self;
-      sends = c.send_each.ensures;
-      counts = subst (λ (v : View). HasCounted g.S.Spread.owner c.send_each.new.self c.count_taken.new.self (view c.offer.new.seat) v)
-          (sym c.next_turn.ensures.view) c.count_taken.ensures.counted;
-    })
+    (turned g.S.Spread.owner g.F.StateForm.values _ c.receive_each.new.self c.look.new.self c.expand.new.self c.balance.new.self c.offer.new.self c.send_each.new.self _
+    c.in_ok-_posted._posted _ (view c.look.new.seat) (view c.balance.new.seat) (view c.offer.new.seat) _
+    (subst (λ (all : Bool). HasReceivedEach g.S.Spread.owner g.F.StateForm.values c.args.self.now c.receive_each.new.self all) c.if-not-branch.false
+    c.in_ok-receive_each.ensures.received)
+    c.look.ensures.looked c.in_ok-_posted.ensures.expanded c.balance.ensures.balanced c.offer.ensures.offered c.send_each.ensures
+    (subst (λ (v : View). HasRested g.S.Spread.owner c.send_each.new.self c.rest.new.self (view c.offer.new.seat) v) (sym c.next_turn.ensures.view) c.rest.ensures.rested))
 
 pub returns-clause-none_uncounted : goal.returns-clause-none_uncounted
 returns-clause-none_uncounted g c =
-    counted_uncounted g.S.Spread.owner g.F.StateForm.values _ _ _ _ _ _ _ _ _ c.add_posted.ensures.added c.offer.ensures.offered c.send_each.ensures
-    c.count_taken.ensures.counted
+    balanced_uncounted g.S.Spread.owner g.F.StateForm.values _ _ _ _ _ _ _ _ _ c.balance.ensures.balanced c.offer.ensures.offered c.send_each.ensures
+    c.rest.ensures.rested
