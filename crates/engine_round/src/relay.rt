@@ -12,8 +12,12 @@ use std::alloc::AllocError;
 use std::thread;
 use worker::{Received, Worker};
 
-/// The most passes over the links between two turns.
+/// The most passes over the links after a turn.
 const PASSES: u32 = 1024;
+
+/// A worker that is not at rest relays messages after one of so many turns, so that they come and go several at a time: what other workers
+/// write is read from their caches a line at a time.
+const TURNS_A_RELAY: u64 = 16;
 
 /// How often between two turns a worker lets others run because rings are full. A receiver that does not run at all, or whose table
 /// grows, holds up no sender for longer: its messages wait in their outbox.
@@ -78,14 +82,24 @@ fn count_much<'a, S: Spread + Drop, F: StateForm + Drop>(
     }
 }
 
+/// The most passes over the links after the turn of that number: none after most turns of a worker that is not at rest.
+fn passes_after(turn: u64, is_resting: bool) -> u32 {
+    if is_resting || turn % TURNS_A_RELAY == 0 {
+        PASSES
+    } else {
+        0
+    }
+}
+
 /// Sends the messages that stand in outboxes and takes those that are in the rings, until there are none. Where a ring is full it lets
 /// other threads run, so that the receiver takes the messages before more nodes are expanded; but it goes on after `WAITS` times, and
-/// ends after `PASSES` passes over the links. Returns false if a message was set aside, after which nothing more is done. Fails only if
+/// ends after `passes` passes over the links. Returns false if a message was set aside, after which nothing more is done. Fails only if
 /// allocation fails, and then the worker holds the message that could not be taken, and nothing more is done.
 fn pass_on<'a, S: Spread + Drop, F: StateForm + Drop>(
     board: &Board,
     seat: &mut Seat,
     worker: &mut Worker<'a, S, F>,
+    passes: u32,
 ) -> Result<bool, AllocError>
     requires seat { IsSeatOf board.now seat.old }
     requires none_aside { worker.old.misfits ≡ [] }
@@ -96,7 +110,7 @@ fn pass_on<'a, S: Spread + Drop, F: StateForm + Drop>(
     ensures none_uncounted { worker.new.uncounted ≡ 0 }
 {
     let mut waits = 0;
-    for _ in 0..PASSES {
+    for _ in 0..passes {
         count_much(board, seat, worker);
         let sent = send_each(worker);
         let received = receive_each(worker)?;
@@ -115,12 +129,13 @@ fn pass_on<'a, S: Spread + Drop, F: StateForm + Drop>(
     Ok(true)
 }
 
-/// Passes messages on, as `pass_on` does, and counts what was taken. Returns false if a message was set aside, after which nothing more
+/// Passes messages on after the turn of that number, as `pass_on` does, and counts what was taken. Returns false if a message was set aside, after which nothing more
 /// is done. Fails only if allocation fails, and then the worker holds the message that could not be taken, and nothing more is done.
 pub(crate) fn relay<'a, S: Spread + Drop, F: StateForm + Drop>(
     board: &Board,
     seat: &mut Seat,
     worker: &mut Worker<'a, S, F>,
+    turn: u64,
 ) -> Result<bool, AllocError>
     requires seat { IsSeatOf board.now seat.old }
     requires none_aside { worker.old.misfits ≡ [] }
@@ -130,7 +145,8 @@ pub(crate) fn relay<'a, S: Spread + Drop, F: StateForm + Drop>(
     ensures held { IfErr result (λ _. HasRelayedBack S.owner F.values board.now seat.old worker.old seat.new worker.new) }
     ensures none_uncounted { worker.new.uncounted ≡ 0 }
 {
-    if !pass_on(board, seat, worker)? {
+    let passes = passes_after(turn, worker.is_resting());
+    if !pass_on(board, seat, worker, passes)? {
         return Ok(false);
     }
     worker.count_taken(board, seat);

@@ -65,9 +65,10 @@ fn take_turn<'a, S: Spread + Drop, F: StateForm + Drop, G: Gate>(
     worker.turn(board, seat).map_err(TurnFault::Owner)
 }
 
-/// Takes a turn, and relays messages behind it where another is to follow. Where none is to follow, the round is ended for all workers,
-/// unless nothing is counted as left to do. Returns whether another turn is to follow. `number` is the worker's, and `turn` that of the
-/// turn in the round. Fails with the fault that ends the worker's turns.
+/// Takes a turn, and relays messages behind it where another is to follow, unless the worker is at work and others are to be relayed later
+/// with them. Where none is to follow, the round is ended for all workers, unless nothing is counted as left to do. Returns whether
+/// another turn is to follow. `number` is the worker's, and `turn` that of the turn in the round. Fails with the fault that ends the
+/// worker's turns.
 fn take_step<'a, S: Spread + Drop, F: StateForm + Drop, G: Gate>(
     board: &Board,
     seat: &mut Seat,
@@ -86,7 +87,7 @@ fn take_step<'a, S: Spread + Drop, F: StateForm + Drop, G: Gate>(
         (record { worker = worker.new; seat = seat.new; fault = Some fault })) }
 {
     match take_turn(board, seat, number, worker, gate, turn) {
-        Ok(Turn::Next) => match relay(board, seat, worker) {
+        Ok(Turn::Next) => match relay(board, seat, worker, turn) {
             Ok(true) => Ok(true),
             Ok(false) => {
                 board.halt(seat);
