@@ -65,10 +65,9 @@ fn take_turn<'a, S: Spread + Drop, F: StateForm + Drop, G: Gate>(
     worker.turn(board, seat).map_err(TurnFault::Owner)
 }
 
-/// Takes a turn, and relays messages behind it where another is to follow, unless the worker is at work and others are to be relayed later
-/// with them. Where none is to follow, the round is ended for all workers, unless nothing is counted as left to do. Returns whether
-/// another turn is to follow. `number` is the worker's, and `turn` that of the turn in the round. Fails with the fault that ends the
-/// worker's turns.
+/// Takes a turn. Where another is to follow, it relays messages behind it if they are to be relayed after the turn of that number. Where
+/// none is to follow, the round is ended for all workers, unless nothing is counted as left to do. Returns whether another turn is to
+/// follow. `number` is the worker's, and `turn` that of the turn in the round. Fails with the fault that ends the worker's turns.
 fn take_step<'a, S: Spread + Drop, F: StateForm + Drop, G: Gate>(
     board: &Board,
     seat: &mut Seat,

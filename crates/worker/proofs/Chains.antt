@@ -135,7 +135,6 @@ module _ {S F : Type 0} (owner : S → List ℕ → ℕ → ℕ) (values : List 
       let kept = sends_keep values (length offered.outs) offered sent sends in
       let taken : sent.taken ≡ expanded.taken = kept.taken ∙ (ap (λ (w : WorkerOf S F). w.taken) offers.worker ∙ ap (λ (w : WorkerOf S F). w.taken) balances.worker) in
       let woken : one_if (wakes sent) ≡ one_if (wakes expanded) = ap one_if (kept.wakes ∙ (ap (λ (w : WorkerOf S F). wakes w) offers.worker ∙ ap (λ (w : WorkerOf S F). wakes w) balances.worker)) in
-      let after : View = with_share v (((v.share +ℤ pos (one_if (wakes expanded))) +ℤ pos expanded.uncounted) -ℤ pos expanded.taken) in
       let before : View = with_share v (v.share +ℤ pos expanded.uncounted) in
       record {
         view = rests.view

@@ -98,8 +98,8 @@ impl<'a, S: Spread + Drop, F: StateForm + Drop> Worker<'a, S, F> {
         self.uncounted = 0;
     }
 
-    /// Ends the counting of a turn, in which the messages that were taken are subtracted already: it no longer counts among the units where
-    /// it comes to rest.
+    /// Ends the counting, where the messages that were taken are subtracted already: it no longer counts among the units where it comes to
+    /// rest, and is one time nearer to where it looks at its links.
     pub(crate) fn rest(&mut self, board: &Board, seat: &mut Seat)
         requires { IsSeatOf board.now seat.old }
         ensures seat { IsSeatOf board.now seat.new }
