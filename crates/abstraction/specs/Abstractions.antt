@@ -3,8 +3,8 @@ use Rattle.std.specs.Prelude.{◌≡◌, ℕ, ◌<◌, ◌≤◌, Bool, true, fa
 use Rattle.cost.specs.Distances.{Distance, Finite, ◌≤ᵈ◌, ◌+ᵈ◌}
 use Rattle.fdr.specs.Tasks.{FiniteDomainTask, ranges, IsState, step, is_goal_state}
 
--- the abstract states are the numbers below the size; `transition i o` is the abstract state to which operator o leads
--- from i, if it has a transition there; an operator that does not touch the abstraction leads to no other abstract
+-- the abstract states are the numbers below the size; `transition i o` is the abstract state that operator o reaches
+-- from i, if it has a transition there; an operator that does not affect the abstraction reaches no other abstract
 -- state
 pub record Abstraction : Type 0 where
   pub size : ℕ

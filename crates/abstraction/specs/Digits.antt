@@ -34,7 +34,7 @@ pub record IsDigitBelow (size : ℕ) (d : Digit) : Type 0 where
   pub range : 0 < d.range
   pub within : d.range * d.weight ≤ size
 
--- the digits of the pattern's variables, in their order, where the first has this weight
+-- the digits of the pattern's variables, in their order, the first of them with the weight `weight`
 abbrev pub digits_from : List ℕ → ℕ → List ℕ → List Digit
 digits_from ranges weight [] = []
 digits_from ranges weight (p ∷ ps) =

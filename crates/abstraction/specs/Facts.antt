@@ -1,4 +1,4 @@
--- What the facts of a condition or an effect say of one variable.
+-- The value that the facts of a condition or an effect have for one variable.
 use Rattle.std.specs.Prelude.{ℕ, List, Option, option_map, nat_eq}
 use Rattle.std.specs.List.{find}
 use Rattle.fdr.specs.declared.fact.Fact.{Fact}

@@ -26,7 +26,7 @@ pub positive : (i r q : ℕ) → i < r * q → 0 < r
 positive i zero q h = absurd (omega arith)
 positive i (suc r) q h = omega arith
 
--- the value at a place after a write
+-- the value at an index after a write
 read_set : (s : List ℕ) (p x v : ℕ) → v < length s → slice_index (slice_set s p x) v ≡ cond (eqb p v) x (slice_index s v)
 read_set s p x v l =
     cond_both (eqb p v) x (slice_index s v) (λ y. slice_index (slice_set s p x) v ≡ y)

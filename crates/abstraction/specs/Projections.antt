@@ -36,14 +36,14 @@ agrees ranges (p ∷ ps) i f =
 abbrev pub value_after : List Fact → ℕ → ℕ → ℕ
 value_after effect v x = fold (λ y f. if f.variable == v then f.value else y) x effect
 
--- the abstract state to which the effect leads
+-- the abstract state after the effect
 abbrev pub index_after : List ℕ → List ℕ → ℕ → List Fact → ℕ
 index_after ranges [] i effect = 0
 index_after ranges (p ∷ ps) i effect =
     value_after effect p (i % slice_index ranges p)
     + slice_index ranges p * index_after ranges ps (i / slice_index ranges p) effect
 
--- the abstract state to which the operator leads, if its precondition agrees with the abstract state
+-- the abstract state that the operator reaches, if its precondition agrees with the abstract state
 abbrev pub transition_of : List ℕ → List ℕ → ℕ → Operator → Option ℕ
 transition_of ranges pattern i op =
     if list_all (agrees ranges pattern i) op.precondition then Some (index_after ranges pattern i op.effect)
@@ -76,7 +76,7 @@ pub record Projection : Type 0 where
   pub exist : AllExist (ranges task) pattern
   pub small : size_of (ranges task) pattern ≤ 2 ^ 24
 
--- the first place in the pattern whose variable does not exist; else too many abstract states
+-- the first index in the pattern whose variable does not exist; else too many abstract states
 abbrev pub IsFaultOf : FiniteDomainTask → List ℕ → ProjectionFault → Type 0
 IsFaultOf task pattern OutOfMemory = Unit {0}
 IsFaultOf task pattern (UnknownVariable k) =

@@ -7,7 +7,7 @@ use Rattle.std.proofs.lemmas.Bool.{cases_eq}
 use Rattle.fdr.specs.declared.fact.Fact.{Fact}
 use Rattle.fdr.specs.Tasks.{FiniteDomainTask, Operator, ranges, IsTask, IsState, IsOperator, IsInRange, applies, successor, with_values, step, state_after, LeadsToGoal, is_goal_state}
 
--- what holds of each element holds of the element at a place
+-- what holds of each element holds of the element at an index
 pub found : {X : Type 0} (P : X → Type 0) (xs : List X) (i : ℕ) → All P xs → IfSome (slice_get xs i) P
 found P [] i all = tt
 found P (x ∷ xs) zero all = All-head P x xs all

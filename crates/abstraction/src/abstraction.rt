@@ -25,19 +25,19 @@ pub trait Abstraction {
         ensures value { result ≡ (abstraction self.now).index state.now }
         ensures below { result < (abstraction self.now).size };
 
-    /// Returns the abstract state to which the operator with this number leads from an abstract state, or `None` if the
+    /// Returns the abstract state that the operator with this number reaches from an abstract state, or `None` if the
     /// operator does not exist or has no transition there.
     fn transition(&self, abstract_state: usize, operator: usize) -> Option<usize>
         requires { abstract_state < (abstraction self.now).size }
         ensures value { result ≡ (abstraction self.now).transition abstract_state operator }
         ensures below { IfSome result (λ next. next < (abstraction self.now).size) };
 
-    /// Whether the operator with this number may lead from an abstract state to a different one. If it does not touch
-    /// the abstraction, each of its transitions leads from an abstract state to itself.
+    /// Returns whether the operator with this number affects the abstraction: whether it may reach a different abstract
+    /// state. If it does not, each of its transitions is from an abstract state to itself.
     fn touches(&self, operator: usize) -> bool
         ensures { result ≡ (abstraction self.now).touches operator };
 
-    /// Whether an abstract state is an abstract goal.
+    /// Returns whether an abstract state is an abstract goal.
     fn is_goal(&self, abstract_state: usize) -> bool
         requires { abstract_state < (abstraction self.now).size }
         ensures { result ≡ (abstraction self.now).is_goal abstract_state };

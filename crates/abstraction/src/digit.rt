@@ -23,7 +23,7 @@ impl Digit {
         abstract_state / self.weight % self.range
     }
 
-    /// Returns the abstract state in which the variable has another value, and all others keep theirs.
+    /// Returns the abstract state in which the variable has another value, and all others are unchanged.
     pub(crate) fn with_value(self, abstract_state: usize, value: usize) -> usize
         requires digit { IsDigitBelow (2 ^ 24) self }
         requires state { abstract_state < 2 ^ 24 }

@@ -7,7 +7,7 @@ use std::alloc::AllocError;
 pub enum ProjectionFault {
     /// Memory ran out.
     OutOfMemory,
-    /// The pattern names a variable that the task does not have. The number is the first such place in the pattern,
+    /// The pattern names a variable that the task does not have. The number is the first such index in the pattern,
     /// counted from 0.
     UnknownVariable(usize),
     /// The projection has more than 2^24 abstract states.

@@ -1,4 +1,4 @@
-//! Laws of abstractions, for every task. Each function states one in its contract; its body is empty.
+//! Laws of abstractions, for every task.
 
 ghost use Rattle.std.specs.Prelude.{◌≡◌, ℕ, List, All};
 ghost use Rattle.cost.specs.Distances.{Finite, ◌≤ᵈ◌};
@@ -17,7 +17,7 @@ pub fn projection_is_abstraction()
 {}
 
 /// Proves that the heuristic of cost-partitioned columns is admissible: its value is at most the cost of every sequence
-/// of operators that leads from the state to a goal state (Seipp, Keller and Helmert 2020).
+/// of operators that reaches a goal state from the state (Seipp, Keller and Helmert 2020).
 pub fn heuristic_is_lower_bound()
     ensures { (task : FiniteDomainTask) (columns : List (List Table)) (state plan : List ℕ) →
         IsTask task → All (IsColumn task) columns → IsState (ranges task) state → LeadsToGoal task state plan →

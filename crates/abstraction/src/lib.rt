@@ -1,4 +1,4 @@
-//! Abstractions of finite-domain tasks, and the lower bounds on plan costs that their tables give.
+//! Abstractions of finite-domain tasks, and the lower bounds on plan costs by their tables.
 #![tactic(auto)]
 
 mod abstraction;

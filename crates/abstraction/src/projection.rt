@@ -55,7 +55,7 @@ impl<'a> Model for Projection<'a> {
         (p.size ≡ spec.size_of (ranges p.task.now) p.pattern.items) };
 }
 
-/// The first place in the pattern that names a variable that the task does not have, counted from 0.
+/// Returns the first index in the pattern whose variable the task does not have, counted from 0.
 fn first_unknown(task: &FdrTask, pattern: &[usize]) -> Option<usize>
     ensures unknown { IfSome result (λ k. IsFaultOf task.now pattern.now (ProjectionFault.UnknownVariable k)) }
     ensures exist { IfNone result (AllExist (ranges task.now) pattern.now) }
@@ -68,7 +68,7 @@ fn first_unknown(task: &FdrTask, pattern: &[usize]) -> Option<usize>
     None
 }
 
-/// The place of a variable in a pattern, if the pattern has it.
+/// Returns the index of a variable in a pattern, if the pattern has it.
 fn place_of(pattern: &[usize], variable: usize) -> Option<usize>
     requires { IsStrictlyIncreasing pattern.now }
     ensures found { IfSome result (λ k. (k < length pattern.now) × (slice_index pattern.now k ≡ variable)) }
@@ -80,14 +80,14 @@ fn place_of(pattern: &[usize], variable: usize) -> Option<usize>
     }
 }
 
-/// Whether one of the facts is on the variable.
+/// Returns whether one of the facts is on the variable.
 fn names_variable(facts: &[Fact], variable: usize) -> bool
     ensures { result ≡ names_variable facts.now variable }
 {
     facts.iter().any(|fact| fact.variable == variable)
 }
 
-/// Returns whether an effect is on one of these variables, which are places in a state.
+/// Returns whether an effect is on one of these variables.
 pub fn is_on_any(effect: &[Fact], variables: &[usize]) -> bool
     ensures { result ≡ list_any (names_variable effect.now) variables.now }
 {
@@ -96,7 +96,7 @@ pub fn is_on_any(effect: &[Fact], variables: &[usize]) -> bool
         .any(|variable| names_variable(effect, *variable))
 }
 
-/// The digits of the pattern's variables, and the number of abstract states.
+/// Returns the digits of the pattern's variables, and the number of abstract states.
 fn digits_of(
     alloc: Global,
     task: &FdrTask,
@@ -128,8 +128,8 @@ fn digits_of(
     Ok((digits, size))
 }
 
-/// Returns the abstract state of a state in the projection of a task to a pattern of its variables, of which the digits are
-/// given: the sum of the values of these variables, each times the weight of its digit.
+/// Returns the abstract state of a state in the projection of a task to a pattern, whose digits are `digits`: the sum
+/// of the values of the pattern's variables, each times the weight of its digit.
 pub fn projected_index(task: &FdrTask, pattern: &[usize], digits: &[Digit], state: &[u32]) -> usize
     requires task { IsTask task.now }
     requires exist { AllExist (ranges task.now) pattern.now }
@@ -150,7 +150,7 @@ pub fn projected_index(task: &FdrTask, pattern: &[usize], digits: &[Digit], stat
 impl<'a> Projection<'a> {
     /// Makes the projection of the task to the pattern, whose variables must be strictly increasing.
     ///
-    /// Fails with the first place in the pattern whose variable does not exist; else if there are more than 2^24
+    /// Fails with the first index in the pattern whose variable does not exist; else if there are more than 2^24
     /// abstract states; or if allocation fails.
     pub fn new(
         alloc: Global,
@@ -199,7 +199,7 @@ impl<'a> Projection<'a> {
         &self.digits
     }
 
-    /// The digit of a variable, if the pattern has it.
+    /// Returns the digit of a variable, if the pattern has it.
     fn digit(&self, variable: usize) -> Option<Digit>
         ensures digit { result ≡ digit_of (ranges self.now.task) self.now.pattern variable }
         ensures below { IfSome result (IsDigitBelow (2 ^ 24)) }
@@ -211,7 +211,7 @@ impl<'a> Projection<'a> {
         }
     }
 
-    /// Whether the fact holds in the abstract state, or its variable is not in the pattern.
+    /// Returns whether the fact holds in the abstract state, or its variable is not in the pattern.
     fn agrees(&self, abstract_state: usize, fact: Fact) -> bool
         ensures { result ≡ spec.agrees (ranges self.now.task) self.now.pattern abstract_state fact }
     {
@@ -221,14 +221,14 @@ impl<'a> Projection<'a> {
         }
     }
 
-    /// Whether each fact agrees with the abstract state.
+    /// Returns whether each fact agrees with the abstract state.
     fn all_agree(&self, abstract_state: usize, facts: &[Fact]) -> bool
         ensures { result ≡ list_all (spec.agrees (ranges self.now.task) self.now.pattern abstract_state) facts.now }
     {
         facts.iter().all(|fact| self.agrees(abstract_state, *fact))
     }
 
-    /// The abstract state with the value of the fact, if the pattern has its variable, and else the same.
+    /// Returns the abstract state with the value of the fact, if the pattern has its variable, and else the same.
     fn with_fact(&self, abstract_state: usize, fact: Fact) -> usize
         requires state { abstract_state < size_of (ranges self.now.task) self.now.pattern }
         requires fact { IsInRange (ranges self.now.task) fact }
@@ -241,7 +241,7 @@ impl<'a> Projection<'a> {
         }
     }
 
-    /// The abstract state to which the effect leads.
+    /// Returns the abstract state after the effect.
     fn index_after(&self, abstract_state: usize, effect: &[Fact]) -> usize
         requires state { abstract_state < size_of (ranges self.now.task) self.now.pattern }
         requires effect { All (IsInRange (ranges self.now.task)) effect.now }

@@ -16,7 +16,7 @@ use Rattle.abstraction.specs.Steps.{found, at_some}
 use Rattle.abstraction_domain.specs.Rows.{Row, class_count}
 use Rattle.abstraction_domain.specs.Domains.{variables, class_of, class_counts, class_state, class_fact, class_facts, class_operator, domain, IsFit}
 
--- the value at a place after a write
+-- the value at an index after a write
 read_set : (s : List ℕ) (p x v : ℕ) → p < length s → slice_index (slice_set s p x) v ≡ cond (eqb p v) x (slice_index s v)
 read_set s p x v l =
     cond_both (eqb p v) x (slice_index s v) (λ y. slice_index (slice_set s p x) v ≡ y)
@@ -29,7 +29,7 @@ class_below_count [] x l = absurd (omega arith)
 class_below_count (c ∷ cs) zero l = omega arith
 class_below_count (c ∷ cs) (suc x) l = omega (arith, class_below_count cs x (omega arith))
 
--- the number of classes of a variable, and n where there is no row
+-- the number of classes of a variable, and n if it has no row
 abbrev pub count_of : List Row → ℕ → ℕ → ℕ
 count_of [] v n = n
 count_of (r ∷ rs) v n = cond (eqb r.variable v) (class_count r.classes) (count_of rs v n)
@@ -148,7 +148,7 @@ module _ (ranges : List ℕ) where
         class_after fs (slice_set s f.variable f.value) longer (All-tail (IsInRange ranges) f fs all)
         ∙ ap (with_values (class_facts rows fs)) (class_set s f.variable f.value long here)
 
--- names of values where only their number counts
+-- names of values of which only the number matters
 abbrev blank : ℕ → List (List ℕ)
 blank n = replicate n []
 

@@ -1,6 +1,6 @@
--- The domain abstraction of a task by classes of values (Hernádvölgyi and Holte 2000; Kreft, Büchner, Sievers and Helmert
--- 2023): each value of a variable that has a row is replaced by its class, in states, in conditions and in effects, and
--- what comes of this is projected to the variables of the rows.
+-- The domain abstraction of a task by classes of values (Hernádvölgyi and Holte 2000; Kreft, Büchner, Sievers and
+-- Helmert 2023): each value of a variable that has a row is replaced by its class, in states, in conditions and in
+-- effects, and the result is projected to the variables of the rows.
 use Rattle.std.specs.Prelude.{◌≡◌, ℕ, ◌+◌, ◌*◌, ◌^◌, ◌<◌, ◌≤◌, ◌==◌, if◌then◌else◌, false, List, [], ◌∷◌, length, take, map, option_and_then, slice_get, slice_index, slice_index_or, slice_set, All}
 use Rattle.std.specs.List.{list_all, range_with_len}
 use Rattle.std.specs.Option.{option_map_or}
@@ -45,7 +45,7 @@ abbrev pub class_operator : List Row → Operator → Operator
 class_operator rows op =
     record op { precondition = class_facts rows op.precondition; effect = class_facts rows op.effect }
 
--- the domain abstraction: index, transitions, touching operators and abstract goals are those of the projection to the
+-- the domain abstraction: index, transitions, affecting operators and abstract goals are those of the projection to the
 -- variables of the rows, with classes for values and numbers of classes for ranges
 abbrev pub domain : FiniteDomainTask → List Row → Abstraction
 domain task rows =
@@ -77,7 +77,7 @@ pub record Domain : Type 0 where
 abbrev pub counts_in : Domain → List ℕ
 counts_in d = class_counts d.rows (ranges d.task)
 
--- where there is no row
+-- the default for an index without a row
 abbrev pub no_row : Row
 no_row = record { variable = 0; classes = [] }
 
@@ -103,8 +103,8 @@ abbrev pub identity_rows : List ℕ → List ℕ → List Row
 identity_rows ranges pattern =
     map (λ v. record { variable = v; classes = range_with_len 0 (slice_index ranges v) }) pattern
 
--- two abstractions have the same abstract states, transitions, touching operators and abstract goals, and the same index of
--- each state
+-- two abstractions have the same abstract states, transitions, affecting operators and abstract goals, and the same
+-- index of each state
 pub record AreSame (ranges : List ℕ) (a b : Abstraction) : Type 0 where
   pub size : a.size ≡ b.size
   pub index : (s : List ℕ) → IsState ranges s → a.index s ≡ b.index s

@@ -16,12 +16,12 @@ pub record IsLeastAbsent (xs : List ℕ) (c : ℕ) : Type 0 where
   pub absent : Contains xs c → ⊥
   pub below : (d : ℕ) → d < c → Contains xs d
 
--- the class at the place is one that stood earlier, or the least number that did not
+-- the class at index `k` occurs earlier, or is the least number that does not
 abbrev pub IsNumberedAt : List ℕ → ℕ → Type 0
 IsNumberedAt classes k =
     Contains (take k classes) (slice_index classes k) ⊎ IsLeastAbsent (take k classes) (slice_index classes k)
 
--- the classes are numbered in the order in which they first stand in the row
+-- the classes are numbered in the order of their first occurrences in the row
 abbrev pub AreNumbered : List ℕ → Type 0
 AreNumbered classes = (k : ℕ) → k < length classes → IsNumberedAt classes k
 
@@ -33,7 +33,7 @@ numbered_from n (c ∷ cs) = nat_le c n && numbered_from (max n (c + 1)) cs
 abbrev pub are_numbered : List ℕ → Bool
 are_numbered classes = numbered_from 0 classes
 
--- the first place whose class is not numbered so
+-- the first index whose class is not numbered so
 pub record IsFirstMisnumbered (classes : List ℕ) (k : ℕ) : Type 0 where
   pub within : k < length classes
   pub before : (j : ℕ) → j < k → IsNumberedAt classes j

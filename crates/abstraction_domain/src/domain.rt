@@ -20,9 +20,9 @@ use std::marker::Model;
 /// The greatest number of abstract states of a domain abstraction.
 const MAX_SIZE: usize = 16_777_216;
 
-/// The domain abstraction of a task by rows of classes (Hernádvölgyi and Holte 2000). An abstract state is an assignment
-/// of classes to the variables of the rows. Its number is the sum of these classes, each times the product of the numbers
-/// of classes of the rows before its own.
+/// The domain abstraction of a task by rows of classes (Hernádvölgyi and Holte 2000). An abstract state is an
+/// assignment of classes to the variables of the rows. Its number is the sum of these classes, each times the product
+/// of the numbers of classes of the rows before its own.
 #[derive(Drop)]
 pub struct DomainAbstraction<'a> {
     task: &'a FdrTask,
@@ -59,7 +59,7 @@ impl<'a> Model for DomainAbstraction<'a> {
         (d.size ≡ (spec.domain d.task.now d.rows.items).size) };
 }
 
-/// Whether the variables of the rows are strictly increasing, as those of a domain abstraction must be.
+/// Returns whether the variables of the rows are strictly increasing, as those of a domain abstraction must be.
 pub fn are_increasing(rows: &[ClassRow]) -> bool
     ensures { IsTrue result ↔ IsStrictlyIncreasing (variables rows.now) }
 {
@@ -71,7 +71,8 @@ pub fn are_increasing(rows: &[ClassRow]) -> bool
     true
 }
 
-/// Whether each row fits the task: it has a class for each value of its variable. Fails with the first row that does not.
+/// Checks that each row fits the task: it has a class for each value of its variable. Fails with the first row that
+/// does not.
 fn check_rows(task: &FdrTask, rows: &[ClassRow]) -> Result<(), DomainFault>
     ensures fit { OnOk result (All (IsFit (ranges task.now)) rows.now) }
     ensures fault { IfErr result (λ fault. IsFaultOf task.now rows.now fault) }
@@ -89,7 +90,7 @@ fn check_rows(task: &FdrTask, rows: &[ClassRow]) -> Result<(), DomainFault>
     Ok(())
 }
 
-/// The positions of the classes of the rows' variables in an abstract state, and the number of abstract states.
+/// Returns the positions of the classes of the rows' variables in an abstract state, and the number of abstract states.
 fn digits_of(
     alloc: Global,
     task: &FdrTask,
@@ -122,7 +123,7 @@ fn digits_of(
     Ok((digits, size))
 }
 
-/// A list of the same rows, and the list of their variables. Fails only if allocation fails.
+/// Returns copies of the rows, and the list of their variables.
 fn copies_of(alloc: Global, rows: &[ClassRow]) -> Result<(Vec<ClassRow>, Vec<usize>), AllocError>
     ensures rows { IfOk result (λ made. made.0.items ≡ rows.now) }
     ensures variables { IfOk result (λ made. made.1.items ≡ variables rows.now) }
@@ -137,7 +138,7 @@ fn copies_of(alloc: Global, rows: &[ClassRow]) -> Result<(Vec<ClassRow>, Vec<usi
     Ok((copies, variables))
 }
 
-/// The place of a variable in strictly increasing variables, if it is there.
+/// Returns the index of a variable in strictly increasing variables, if it is there.
 fn place_of(variables: &[usize], variable: usize) -> Option<usize>
     requires { IsStrictlyIncreasing variables.now }
     ensures found { IfSome result (λ k. (k < length variables.now) × (slice_index variables.now k ≡ variable)) }
@@ -149,7 +150,7 @@ fn place_of(variables: &[usize], variable: usize) -> Option<usize>
     }
 }
 
-/// The abstract state in which the variable of the digit has another class, and all others keep theirs.
+/// Returns the abstract state in which the variable of the digit has another class, and all others are unchanged.
 fn with_class(digit: Digit, abstract_state: usize, class: usize) -> usize
     requires digit { IsDigitBelow (2 ^ 24) digit }
     requires state { abstract_state < 2 ^ 24 }
@@ -159,8 +160,8 @@ fn with_class(digit: Digit, abstract_state: usize, class: usize) -> usize
     abstract_state - digit.value(abstract_state) * digit.weight + class * digit.weight
 }
 
-/// Returns the abstract state of a state in the domain abstraction of a task by rows, of which the digits are given: the sum
-/// of the classes of the values of their variables, each times the weight of its digit.
+/// Returns the abstract state of a state in the domain abstraction of a task by rows, whose digits are `digits`: the
+/// sum of the classes of the values of the rows' variables, each times the weight of its digit.
 pub fn class_index(task: &FdrTask, rows: &[ClassRow], digits: &[Digit], state: &[u32]) -> usize
     requires task { IsTask task.now }
     requires increasing { IsStrictlyIncreasing (variables rows.now) }
@@ -190,12 +191,12 @@ pub struct ClassDigit {
 }
 
 impl<'a> DomainAbstraction<'a> {
-    /// Makes the domain abstraction of the task by the rows, whose variables must be strictly increasing. It keeps a copy of
-    /// the rows.
+    /// Makes the domain abstraction of the task by the rows, whose variables must be strictly increasing. It stores a
+    /// copy of the rows.
     ///
-    /// Fails with the first place of a row that does not fit the task: its variable does not exist, or else it does not
-    /// have a class for each of the variable's values and no more; else if there are more than 2^24 abstract states; or if
-    /// allocation fails.
+    /// Fails with the index of the first row that does not fit the task: its variable does not exist, or else it does
+    /// not have exactly one class for each of the variable's values; else if there are more than 2^24 abstract states;
+    /// or if allocation fails.
     pub fn new(
         alloc: Global,
         task: &'a FdrTask,
@@ -248,8 +249,8 @@ impl<'a> DomainAbstraction<'a> {
         &self.digits
     }
 
-    /// Returns the fact with the class of its value, or the fact itself if its variable has no row. The domain abstraction
-    /// does to facts what the projection to the variables does to the facts that this makes of them.
+    /// Returns the fact with the class of its value, or the fact itself if its variable has no row. The domain
+    /// abstraction treats a fact as the projection to the variables treats the resulting fact.
     pub fn class_fact(&self, fact: Fact) -> Fact
         requires { IsInRange (ranges self.now.task) fact }
         ensures { result ≡ class_fact self.now.rows fact }
@@ -263,8 +264,8 @@ impl<'a> DomainAbstraction<'a> {
         }
     }
 
-    /// Returns the class of the fact's value, and the position of the variable's class in an abstract state, or `None` if
-    /// the variable has no row.
+    /// Returns the class of the fact's value, and the position of the variable's class in an abstract state, or `None`
+    /// if the variable has no row.
     pub fn class_digit(&self, fact: Fact) -> Option<ClassDigit>
         requires { IsInRange (ranges self.now.task) fact }
         ensures digit { option_map (λ found. found.digit) result ≡ digit_of (counts_in self.now) (variables self.now.rows) fact.variable }
@@ -281,7 +282,7 @@ impl<'a> DomainAbstraction<'a> {
         }
     }
 
-    /// Whether the fact's class is that of the abstract state, or its variable has no row.
+    /// Returns whether the fact's class is that of the abstract state, or its variable has no row.
     fn agrees(&self, abstract_state: usize, fact: Fact) -> bool
         requires { IsInRange (ranges self.now.task) fact }
         ensures { result ≡ projections.agrees (counts_in self.now) (variables self.now.rows) abstract_state
@@ -293,7 +294,7 @@ impl<'a> DomainAbstraction<'a> {
         }
     }
 
-    /// Whether each fact's class agrees with the abstract state.
+    /// Returns whether each fact's class agrees with the abstract state.
     fn all_agree(&self, abstract_state: usize, facts: &[Fact]) -> bool
         requires { All (IsInRange (ranges self.now.task)) facts.now }
         ensures { result ≡ list_all (projections.agrees (counts_in self.now) (variables self.now.rows) abstract_state)
@@ -307,7 +308,7 @@ impl<'a> DomainAbstraction<'a> {
         true
     }
 
-    /// The abstract state with the class of the fact, if its variable has a row, and else the same.
+    /// Returns the abstract state with the class of the fact, if its variable has a row, and else the same.
     fn with_fact(&self, abstract_state: usize, fact: Fact) -> usize
         requires state { abstract_state < size_of (counts_in self.now) (variables self.now.rows) }
         requires fact { IsInRange (ranges self.now.task) fact }
@@ -320,7 +321,7 @@ impl<'a> DomainAbstraction<'a> {
         }
     }
 
-    /// The abstract state to which the effect leads.
+    /// Returns the abstract state after the effect.
     fn index_after(&self, abstract_state: usize, effect: &[Fact]) -> usize
         requires state { abstract_state < size_of (counts_in self.now) (variables self.now.rows) }
         requires effect { All (IsInRange (ranges self.now.task)) effect.now }

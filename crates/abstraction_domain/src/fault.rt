@@ -2,14 +2,14 @@
 
 use std::alloc::AllocError;
 
-/// Why rows of classes have no domain abstraction. Places are counted from 0.
+/// Why rows of classes have no domain abstraction. Indices are counted from 0.
 #[derive(Clone, Copy, Debug, PartialEq, Eq)]
 pub enum DomainFault {
     /// Memory ran out.
     OutOfMemory,
-    /// The row at this place is on a variable that the task does not have. Each row before it fits the task.
+    /// The row at this index is on a variable that the task does not have. Each row before it fits the task.
     UnknownVariable(usize),
-    /// The row at this place does not have a class for each value of its variable and no more. Each row before it fits
+    /// The row at this index does not have exactly one class for each value of its variable. Each row before it fits
     /// the task.
     WrongRange(usize),
     /// There are more than 2^24 abstract states, and each row fits the task.

@@ -1,4 +1,4 @@
-//! Domain abstractions of finite-domain tasks: values that are in one class are not told apart.
+//! Domain abstractions of finite-domain tasks: values in one class are not distinguished.
 #![tactic(auto)]
 
 mod domain;

@@ -6,9 +6,9 @@ ghost use Rattle.abstraction_domain.specs.Rows as spec;
 use std::alloc::{AllocError, Global};
 use std::marker::Model;
 
-/// A variable, and the class of each of its values, in the order of the values. Values in one class are not told apart.
-/// The classes are numbered in the order in which they first stand in the row: each is one that stood earlier, or the
-/// least number that did not.
+/// A variable, and the class of each of its values, in the order of the values. Values in one class are not
+/// distinguished. The classes are numbered in the order of their first occurrences in the row: each is one that occurs
+/// earlier, or the least number that does not.
 #[derive(Drop)]
 pub struct ClassRow {
     variable: usize,
@@ -27,17 +27,17 @@ impl Model for ClassRow {
     ghost invariant = { λ r. (r.class_count ≡ spec.class_count r.classes.items) × spec.AreNumbered r.classes.items };
 }
 
-/// Classes that are not numbered in the order in which they first stand in their row.
+/// Classes that are not numbered in the order of their first occurrences in their row.
 #[derive(Debug, Drop)]
 pub struct ClassFault {
-    /// The first place whose class is neither one that stood earlier nor the least number that did not, counted from 0.
+    /// The first index whose class neither occurs earlier nor is the least number that does not, counted from 0.
     pub place: usize,
     /// The classes that were refused.
     pub classes: Vec<u32>,
 }
 
-/// The number of classes, or the first place whose class is neither one that stood earlier nor the least number that did
-/// not.
+/// Returns the number of classes, or as an error the first index whose class neither occurs earlier nor is the least
+/// number that does not.
 fn counted(classes: &[u32]) -> Result<usize, usize>
     ensures count { IfOk result (λ n. n ≡ spec.class_count classes.now) }
     ensures numbered { OnOk result (spec.AreNumbered classes.now) }
@@ -59,8 +59,8 @@ fn counted(classes: &[u32]) -> Result<usize, usize>
 impl ClassRow {
     /// Makes a row of the classes of the values of a variable. It may be empty.
     ///
-    /// Fails with the first place whose class is neither one that stood earlier in the row nor the least number that did
-    /// not, and gives the classes back.
+    /// Fails with the first index whose class neither occurs earlier in the row nor is the least number that does not,
+    /// and returns the classes.
     pub fn new(variable: usize, classes: Vec<u32>) -> Result<ClassRow, ClassFault>
         ensures row { IfOk result (λ r. r ≡ record { variable = variable; classes = classes.items }) }
         ensures numbered { OnOk result (spec.AreNumbered classes.items) }
@@ -107,7 +107,7 @@ impl ClassRow {
         self.classes[value as usize] as usize
     }
 
-    /// Returns a second row with the same variable and classes. Fails only if allocation fails.
+    /// Returns a copy of the row.
     pub fn copied(&self, alloc: Global) -> Result<ClassRow, AllocError>
         ensures { IfOk result (λ r. r ≡ self.now) }
     {

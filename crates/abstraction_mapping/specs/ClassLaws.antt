@@ -1,4 +1,5 @@
--- The abstraction by a mapping is a projection to its variables, with classes for values and numbers of classes for ranges.
+-- The abstraction by a mapping is a projection to its variables, with classes for values and numbers of classes for
+-- ranges.
 use Rattle.std.proofs.Common.{◌≡◌, ℕ, Bool, true, false, List, [], ◌∷◌, Option, Some, None, refl, ap, cond}
 use Rattle.std.specs.Prelude.{nat_eq, option_and_then, option_map, slice_get}
 use Rattle.std.specs.List.{find, list_all}
@@ -58,7 +59,7 @@ pub increasing_in : (a : TableAbstraction) → IsStrictlyIncreasing (variables_o
 increasing_in (table.Projection p) = p.increasing
 increasing_in (table.Domain d) = d.increasing
 
--- the classes of the values of an assignment are one
+-- an assignment with classes for values is an assignment
 pub classes_assigned : (a : TableAbstraction) (facts : List Fact) → IsAssignment (ranges (task_in a)) facts → IsAssignment (counts_in a) (facts_by (mapping_in a) facts)
 classes_assigned (table.Projection p) facts ok = ok
 classes_assigned (table.Domain d) facts ok = class_assignment (ranges d.task) d.rows d.fit facts ok

@@ -1,4 +1,4 @@
--- What a mapping gives that passes the test of a task: its variables are strictly increasing, the task has what it keeps,
+-- Consequences of the test of a mapping for a task: its variables are strictly increasing, the mapping fits the task,
 -- and the abstraction by it is an abstraction of the task with at most 2^24 abstract states.
 use Rattle.std.proofs.Common.{◌≡◌, ℕ, zero, suc, ◌<◌, ◌≤◌, ◌^◌, true, List, [], ◌∷◌, length, arith, add-one, ltb-true, leb-true, eqb-true}
 use Rattle.std.specs.Prelude.{All, nat_lt}

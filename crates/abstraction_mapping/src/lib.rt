@@ -1,5 +1,5 @@
-//! Abstraction mappings: what a table of lower bounds keeps of a state, and the abstraction of a task that this defines.
-//! What is written over this crate's types by the laws of abstractions alone serves each kind of mapping.
+//! Abstraction mappings: what a table of lower bounds distinguishes of a state, and the abstraction of a task that this
+//! defines. Code over this crate's types that relies only on the laws of abstractions works for each kind of mapping.
 #![tactic(auto)]
 
 mod mapping;

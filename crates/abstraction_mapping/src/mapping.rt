@@ -6,7 +6,7 @@ ghost use Rattle.abstraction_mapping.specs.Views as kept;
 use abstraction_domain::ClassRow;
 use std::alloc::{AllocError, Global};
 
-/// What a table keeps of a state. In contracts its value is a `Mapping`.
+/// What a table distinguishes of a state. In contracts its value is a `Mapping`.
 #[derive(Drop)]
 pub enum Mapping {
     /// The values of the variables of a pattern, by their numbers (Culberson and Schaeffer 1998).
@@ -15,7 +15,7 @@ pub enum Mapping {
     Domains(Vec<ClassRow>),
 }
 
-/// Copies of rows. Fails only if allocation fails.
+/// Returns copies of the rows.
 fn copied_rows(alloc: Global, rows: &[ClassRow]) -> Result<Vec<ClassRow>, AllocError>
     ensures { IfOk result (λ copies. copies.items ≡ rows.now) }
 {
@@ -26,7 +26,7 @@ fn copied_rows(alloc: Global, rows: &[ClassRow]) -> Result<Vec<ClassRow>, AllocE
     Ok(copies)
 }
 
-/// Whether the rows are the same.
+/// Returns whether the rows are the same.
 fn are_same(rows: &[ClassRow], others: &[ClassRow]) -> bool
     ensures same { result ≡ true → rows.now ≡ others.now }
     ensures different { result ≡ false → rows.now ≢ others.now }
@@ -45,7 +45,7 @@ fn are_same(rows: &[ClassRow], others: &[ClassRow]) -> bool
 }
 
 impl Mapping {
-    /// Returns a second mapping with the same content. Fails only if allocation fails.
+    /// Returns a copy of the mapping.
     pub fn copied(&self, alloc: Global) -> Result<Mapping, AllocError>
         ensures { IfOk result (λ copy. kept.mapping_of copy ≡ kept.mapping_of self.now) }
     {

@@ -23,7 +23,7 @@ pub enum TableAbstraction<'a> {
     Domain(DomainAbstraction<'a>),
 }
 
-/// Whether the numbers are strictly increasing.
+/// Returns whether the numbers are strictly increasing.
 fn is_increasing(numbers: &[u32]) -> bool
     ensures { result ≡ spec.is_increasing numbers.now }
 {
@@ -40,7 +40,7 @@ fn is_increasing(numbers: &[u32]) -> bool
     true
 }
 
-/// The variables as places in a state. Fails only if allocation fails.
+/// Returns the variables of the pattern as indices into a state.
 fn places_of(alloc: Global, pattern: &[u32]) -> Result<Vec<usize>, AllocError>
     ensures { IfOk result (λ places. places.items ≡ pattern.now) }
 {
@@ -51,7 +51,7 @@ fn places_of(alloc: Global, pattern: &[u32]) -> Result<Vec<usize>, AllocError>
     Ok(places)
 }
 
-/// The projection to a pattern, or `None` if there is none. Fails only if allocation fails.
+/// Returns the projection to a pattern, or `None` if there is none.
 fn projection_to<'a>(
     alloc: Global,
     task: &'a FdrTask,
@@ -72,7 +72,7 @@ fn projection_to<'a>(
     }
 }
 
-/// The domain abstraction by rows, or `None` if there is none. Fails only if allocation fails.
+/// Returns the domain abstraction by rows, or `None` if there is none.
 fn domain_by<'a>(
     alloc: Global,
     task: &'a FdrTask,
@@ -93,9 +93,9 @@ fn domain_by<'a>(
 }
 
 impl<'a> TableAbstraction<'a> {
-    /// Makes the abstraction of the task by the mapping. Returns `None` where the task has no such abstraction: the
-    /// variables are not strictly increasing, one of them does not exist, a row does not have a class for each value of its
-    /// variable and no more, or there are more than 2^24 abstract states. Fails only if allocation fails.
+    /// Makes the abstraction of the task by the mapping. Returns `None` if the task has no such abstraction: the
+    /// variables are not strictly increasing, one of them does not exist, a row does not have exactly one class for
+    /// each value of its variable, or there are more than 2^24 abstract states.
     pub fn new(
         alloc: Global,
         task: &'a FdrTask,
@@ -121,7 +121,7 @@ impl<'a> TableAbstraction<'a> {
         }
     }
 
-    /// Returns the variables of which the abstraction keeps something, strictly increasing.
+    /// Returns the variables of the pattern or of the rows, strictly increasing.
     pub fn variables(&self) -> &[usize]
         ensures { result.now ≡ variables_of (mapping_in self.now) }
     {
@@ -141,7 +141,7 @@ impl<'a> TableAbstraction<'a> {
         }
     }
 
-    /// Returns the fact, with the class of its value where the variable has a row.
+    /// Returns the fact, with the class of its value if the variable has a row.
     pub fn class_fact(&self, fact: Fact) -> Fact
         requires { IsInRange (ranges (task_in self.now)) fact }
         ensures { result ≡ fact_by (mapping_in self.now) fact }

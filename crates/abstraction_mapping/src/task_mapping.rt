@@ -14,8 +14,8 @@ use fdr::FdrTask;
 use std::alloc::{AllocError, Global};
 use std::marker::Model;
 
-/// A mapping of a task, with which the abstract states of its states are computed. It has no transitions and no goals, which
-/// `TableAbstraction` has. In contracts its value is the task and the mapping.
+/// A mapping of a task, which computes the abstract states of its states. It has no transitions and no goals, unlike
+/// `TableAbstraction`. In contracts its value is the task and the mapping.
 #[derive(Drop)]
 pub struct TaskMapping<'a> {
     task: &'a FdrTask,
@@ -51,7 +51,7 @@ impl<'a> Model for TaskMapping<'a> {
 }
 
 impl<'a> TaskMapping<'a> {
-    /// Joins a mapping, of which it makes a copy, and its task. Fails only if allocation fails.
+    /// Joins a task and a copy of the mapping.
     pub fn new(
         alloc: Global,
         task: &'a FdrTask,
@@ -84,7 +84,7 @@ impl<'a> TaskMapping<'a> {
         self.size
     }
 
-    /// Returns whether it is of this mapping.
+    /// Returns whether its mapping is this one.
     pub fn is_of(&self, mapping: &Mapping) -> bool
         ensures same { result ≡ true → self.now.mapping ≡ mapping_of mapping.now }
         ensures different { result ≡ false → self.now.mapping ≢ mapping_of mapping.now }
@@ -106,7 +106,8 @@ impl<'a> TaskMapping<'a> {
         }
     }
 
-    /// Returns whether the operator with this number may lead from an abstract state to a different one.
+    /// Returns whether the operator with this number affects the abstraction: whether it may reach a different abstract
+    /// state.
     pub fn touches(&self, operator: usize) -> bool
         ensures { result ≡ (abstraction_for self.now).touches operator }
     {

@@ -1,4 +1,4 @@
-//! Searches a task by workers in threads, for the benchmark of the engine: `bench_engine TASK WORKERS RING TABLE LIMIT`.
+//! Searches a task with threads, for the benchmark of the engine: `bench_engine TASK WORKERS RING TABLE LIMIT`.
 #![tactic(auto)]
 
 mod report;
@@ -24,8 +24,8 @@ use std::time::Clock;
 /// The greatest number of workers.
 const MAX_WORKERS: usize = 64;
 
-/// The size of a search: the number of workers, the number of messages for which a link has room, the greatest number of
-/// abstract states of a table, and the greatest number of nodes that each worker expands.
+/// The size of a search: the number of workers, the capacity of a link in messages, the greatest number of abstract
+/// states of a table, and the greatest number of nodes that each worker expands.
 #[derive(Clone, Copy)]
 struct Amounts {
     workers: usize,
@@ -34,7 +34,7 @@ struct Amounts {
     limit: u64,
 }
 
-/// The report of the search of a task.
+/// Returns the report of the search of a task.
 fn searched<'a, R: Threads + Wait + Clock + Sync>(
     rt: &R,
     alloc: Global,
@@ -57,7 +57,7 @@ fn searched<'a, R: Threads + Wait + Clock + Sync>(
     searched_in_smallest_form(rt, alloc, &space, amounts.workers, amounts.ring)
 }
 
-/// The report that the program prints. `None` if an amount is out of range.
+/// Returns the report that the program prints. `None` if an amount is out of range.
 fn answer<R: Threads + Wait + Clock + Sync>(
     rt: &R,
     alloc: Global,
@@ -70,7 +70,7 @@ fn answer<R: Threads + Wait + Clock + Sync>(
     Ok(Some(searched(rt, alloc, task, amounts)?))
 }
 
-/// The four amounts of the command line.
+/// Returns the four amounts of the command line.
 fn amounts_of(workers: &str, ring: &str, table: &str, limit: &str) -> Option<Amounts> {
     let (Ok(workers), Ok(ring)) = (workers.parse(), ring.parse()) else {
         return None;

@@ -1,4 +1,4 @@
-//! What is printed of a search.
+//! The report of a search.
 
 use crate::sums::{expanded_by, kept_by};
 use extract::Joined;
@@ -7,17 +7,17 @@ use packed::StateForm;
 use packed_spread::Spread;
 use std::alloc::{AllocError, Global};
 
-/// What is printed of a search.
+/// The report of a search.
 #[derive(Drop)]
 pub(crate) struct Report {
-    /// How it ended, which does not depend on the schedule.
+    /// The end of the search, which does not depend on the schedule.
     answer: String,
-    /// What was expanded and stored in which time, for measuring.
+    /// The numbers of expanded and stored states, and the time, for measuring.
     figures: String,
 }
 
-/// The line for how a search ended: settled at the cost of a cheapest plan, or infinite where there is none; or stopped. Fails only if
-/// allocation fails.
+/// Returns the line for the end of a search: settled at the cost of a cheapest plan, or infinite if there is none; or
+/// stopped.
 fn answer_of<S: Spread + Drop, F: StateForm + Drop>(
     alloc: Global,
     joined: &Joined<'_, S, F>,
@@ -31,7 +31,7 @@ fn answer_of<S: Spread + Drop, F: StateForm + Drop>(
     }
 }
 
-/// The line for what the owners have expanded and stored in this many milliseconds. Fails only if allocation fails.
+/// Returns the line for what the owners have expanded and stored in this many milliseconds.
 fn figures_of<S: Spread + Drop, F: StateForm + Drop>(
     alloc: Global,
     joined: &Joined<'_, S, F>,
@@ -42,7 +42,7 @@ fn figures_of<S: Spread + Drop, F: StateForm + Drop>(
 }
 
 impl Report {
-    /// The report of a search that took this many milliseconds. Fails only if allocation fails.
+    /// Returns the report of a search that took this many milliseconds.
     pub(crate) fn new<S: Spread + Drop, F: StateForm + Drop>(
         alloc: Global,
         joined: &Joined<'_, S, F>,

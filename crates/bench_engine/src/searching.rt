@@ -1,4 +1,4 @@
-//! A search by workers in threads, and its time.
+//! A multi-threaded search, and its time.
 
 ghost use Rattle.std.specs.Prelude.{◌<◌};
 ghost use Rattle.fdr.specs.Tasks.{ranges};
@@ -13,7 +13,7 @@ use std::sync::Wait;
 use std::thread::Threads;
 use std::time::{Clock, Instant};
 
-/// The milliseconds since then, 0 if the clock cannot be read.
+/// Returns the milliseconds since `start`, 0 if the clock cannot be read.
 fn milliseconds_since<R: Clock>(rt: &R, start: Option<Instant>) -> u128 {
     let Some(start) = start else {
         return 0;
@@ -24,7 +24,8 @@ fn milliseconds_since<R: Clock>(rt: &R, start: Option<Instant>) -> u128 {
     }
 }
 
-/// The report of a search by this many workers, with a link from each to each that has room for `ring` messages.
+/// Returns the report of a search by `workers` workers, with a link from each to each that has room for `ring`
+/// messages.
 fn search_in_threads<'a, R: Threads + Wait + Clock + Sync, F: StateForm + Drop + Send>(
     rt: &R,
     alloc: Global,
@@ -45,7 +46,7 @@ fn search_in_threads<'a, R: Threads + Wait + Clock + Sync, F: StateForm + Drop +
     Ok(Report::new(alloc, &joined, milliseconds)?)
 }
 
-/// The report of `search_in_threads`, with the smallest form of states.
+/// Returns the report of `search_in_threads`, with the smallest form of states.
 pub(crate) fn searched_in_smallest_form<'a, R: Threads + Wait + Clock + Sync>(
     rt: &R,
     alloc: Global,

@@ -4,7 +4,7 @@ use owner::Owner;
 use packed::StateForm;
 use packed_spread::Spread;
 
-/// The number of nodes that all owners have expanded, at most the greatest `u64`.
+/// Returns the number of nodes that all owners have expanded, at most the greatest `u64`.
 pub(crate) fn expanded_by<S: Spread + Drop, F: StateForm + Drop>(
     owners: &[Owner<'_, S, F>],
 ) -> u64 {
@@ -15,7 +15,7 @@ pub(crate) fn expanded_by<S: Spread + Drop, F: StateForm + Drop>(
     expansions
 }
 
-/// The number of states that all owners store, at most the greatest `usize`.
+/// Returns the number of states that all owners store, at most the greatest `usize`.
 pub(crate) fn kept_by<S: Spread + Drop, F: StateForm + Drop>(owners: &[Owner<'_, S, F>]) -> usize {
     let mut kept: usize = 0;
     for owner in owners {

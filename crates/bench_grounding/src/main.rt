@@ -9,8 +9,8 @@ use pddl::read_task;
 use std::alloc::{AllocError, Global};
 use std::process::ExitCode;
 
-/// The number of atoms in the least closed set of a task's atoms, and the number of actions over it. `None` if the texts
-/// spell no task, or a limit is exceeded.
+/// Returns the number of atoms in the least closed set of a task's atoms, and the number of actions over it. `None` if
+/// the texts spell no task, or a limit is exceeded.
 fn counts(
     alloc: Global,
     domain: &[u8],

@@ -1,5 +1,5 @@
-//! What the programs for benchmarks have in common: the words of their calls, the tasks and columns that these ask for, and
-//! their statuses.
+//! Common parts of the benchmark programs: their arguments, the tasks and columns that these request, and their
+//! statuses.
 #![tactic(auto)]
 
 ghost use Rattle.std.specs.Prelude.{◌≡◌, ◌≤◌, ◌^◌, IfOk};
@@ -16,20 +16,20 @@ use std::thread::Threads;
 /// The greatest number of abstract states of a table.
 pub const MAX_TABLE: usize = 16_777_216;
 
-/// Returns the words of the call, the program's own first. `None` if one of them is not UTF-8, or if allocation fails.
+/// Returns the arguments of the call, the program's own name first. `None` if one of them is not UTF-8, or if
+/// allocation fails.
 pub fn words_of_call<R: Env + Alloc<A = Global>>(rt: &R) -> Option<Vec<String>> {
     std::env::args(rt).ok()?.collect(rt.alloc()).ok()
 }
 
-/// Returns the task that a file in the form of `output.sas` spells. `None` if the file cannot be read or spells no task, or
-/// if allocation fails.
+/// Returns the task that a file in the form of `output.sas` spells. `None` if the file cannot be read or spells no
+/// task, or if allocation fails.
 pub fn task_in<D: Device>(alloc: Global, device: &mut D, path: &str) -> Option<FdrTask> {
     let text = device.read(alloc, path).ok()?;
     read_sas(alloc, &text).ok()
 }
 
-/// Returns columns with tables of at most `table` abstract states, and no column if that is 0. Fails only if allocation
-/// fails.
+/// Returns columns with tables of at most `table` abstract states, and no column if that is 0.
 pub fn columns_within<'a, R: Threads + Sync>(
     rt: &R,
     alloc: Global,
@@ -45,7 +45,7 @@ pub fn columns_within<'a, R: Threads + Sync>(
     choose_columns(rt, alloc, task, table)
 }
 
-/// Returns the status of a program: 0 if it did what its call asks for, and else 1.
+/// Returns the status of a program: 0 if it completed its request, and else 1.
 pub fn status_of(did: bool) -> ExitCode {
     if did {
         ExitCode::from(0)

@@ -1,6 +1,7 @@
-//! Owners in one thread that go on where memory is refused: the step that was refused is asked for again. They search a grid of 64 states to
-//! the end, and then tell their states on standard error, so that the text is the same whichever growth is refused, and behind them how many
-//! steps were refused. Where memory is refused before the search or after it, nothing is told and the status is 6.
+//! Owners in one thread that continue after a refused allocation: the refused step is tried again. They search a grid
+//! of 64 states to the end. Then the program prints their states on standard error, so that the text is the same
+//! whichever growth is refused, followed by the number of refused steps. If memory is refused before or after the
+//! search, nothing is printed and the status is 6.
 #![tactic(auto)]
 
 ghost use Rattle.std.specs.Prelude.{◌≤◌, IfOk};
@@ -19,7 +20,7 @@ use std::process::ExitCode;
 use std::thread::Threads;
 use test_tasks::{fact, operator, task};
 
-/// The seed of the words that draw the steps.
+/// The seed of the random steps.
 const SEED: u64 = 1;
 
 /// The number of owners.
@@ -31,10 +32,10 @@ const VARIABLES: usize = 3;
 /// The number of values of each of them.
 const VALUES: u32 = 4;
 
-/// How often a step is asked for before the program gives up: no more than one growth is refused.
+/// The number of attempts at a step before the program stops: at most one growth is refused.
 const ATTEMPTS: u32 = 3;
 
-/// Operators that lead from a value of each variable to the next one.
+/// Returns operators from each value of each variable to the next one.
 fn unit_steps(alloc: Global) -> Result<Vec<Operator>, AllocError> {
     let mut operators = Vec::new(alloc);
     for variable in 0..VARIABLES {
@@ -47,13 +48,13 @@ fn unit_steps(alloc: Global) -> Result<Vec<Operator>, AllocError> {
     Ok(operators)
 }
 
-/// The grid, from one corner to another.
+/// Returns the grid, from one corner to another.
 fn grid(alloc: Global) -> Result<Option<FdrTask>, AllocError> {
     let goal = &[fact(0, 3), fact(1, 3), fact(2, 3)];
     task(alloc, &[4, 4, 4], &[0, 0, 0], goal, unit_steps(alloc)?)
 }
 
-/// Does the step, again where memory is refused. Returns how often it was.
+/// Performs the step, again if memory is refused. Returns the number of refusals.
 fn step_at_last<S: Spread + Drop, F: StateForm + Drop>(
     world: &mut World<'_, S, F>,
     step: WorldStep,
@@ -70,7 +71,7 @@ fn step_at_last<S: Spread + Drop, F: StateForm + Drop>(
     Err(OwnerFault::OutOfMemory)
 }
 
-/// Does drawn steps until no work is left. Returns how many were refused.
+/// Performs random steps until no work is left. Returns the number of refusals.
 fn search<S: Spread + Drop, F: StateForm + Drop>(
     world: &mut World<'_, S, F>,
 ) -> Result<u64, OwnerFault> {
@@ -131,16 +132,16 @@ fn push_owner<S: Spread + Drop, F: StateForm + Drop>(
     Ok(())
 }
 
-/// What is told of a search.
+/// The report of a search.
 #[derive(Drop)]
 struct Told {
-    /// The owners' states, with how many steps were refused.
+    /// The owners' states, and the number of refused steps.
     states: String,
-    /// How many states they keep.
+    /// The number of stored states.
     line: String,
 }
 
-/// What is told of the search of a space.
+/// Returns the report of the search of a space.
 fn searched<'a>(alloc: Global, space: &'a Space<'a, Zobrist<'a>>) -> Result<Told, OwnerFault> {
     if !Bits::<1>::fits(space.layout()) {
         return Err(OwnerFault::TotalTooLarge); // never: a state has six bits
@@ -157,7 +158,7 @@ fn searched<'a>(alloc: Global, space: &'a Space<'a, Zobrist<'a>>) -> Result<Told
     Ok(Told { states, line })
 }
 
-/// The same for the grid.
+/// Returns the report of the search of the grid.
 fn searched_grid<'t, R: Threads + Sync>(
     rt: &R,
     alloc: Global,
@@ -176,7 +177,7 @@ fn searched_grid<'t, R: Threads + Sync>(
     searched(alloc, &space)
 }
 
-/// Tells the states, and prints how many there are. Returns whether it could.
+/// Writes the states to standard error, and prints their number. Returns whether it could.
 fn put<D: Device, R: Threads + Sync>(rt: &R, alloc: Global, device: &mut D) -> bool {
     let Ok(Some(task)) = grid(alloc) else {
         return false;

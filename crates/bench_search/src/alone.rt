@@ -9,7 +9,7 @@ use packed::{StateForm, in_smallest_form};
 use packed_spread::{Spread, Zobrist};
 use std::alloc::Global;
 
-/// Expands `times` nodes, or fewer if no more can be expanded, and returns their number.
+/// Expands `times` nodes, or all if there are fewer, and returns their number.
 fn expand_times<S: Spread + Drop, F: StateForm + Drop>(
     owner: &mut Owner<'_, S, F>,
     times: u64,
@@ -24,7 +24,7 @@ fn expand_times<S: Spread + Drop, F: StateForm + Drop>(
     Ok(times)
 }
 
-/// The line for an owner that expands `steps` nodes, or fewer if no more can be expanded: the number of expansions, the
+/// Returns the line for an owner that expands `steps` nodes, or all if there are fewer: the number of expansions, the
 /// number of states stored, and the least f-value of the nodes that are not expanded.
 fn expand_alone<'a, F: StateForm + Drop>(
     alloc: Global,
@@ -42,7 +42,7 @@ fn expand_alone<'a, F: StateForm + Drop>(
     Ok(line)
 }
 
-/// The line of `expand_alone`, with the smallest form of states.
+/// Returns the line of `expand_alone`, with the smallest form of states.
 pub(crate) fn alone_in_smallest_form<'a>(
     alloc: Global,
     space: &'a Space<'a, Zobrist<'a>>,

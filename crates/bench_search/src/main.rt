@@ -30,7 +30,7 @@ struct Amounts {
     table: usize,
 }
 
-/// The line for the search of a task.
+/// Returns the line for the search of a task.
 fn searched<'a, R: Threads + Sync>(
     rt: &R,
     alloc: Global,
@@ -57,7 +57,7 @@ fn searched<'a, R: Threads + Sync>(
     }
 }
 
-/// The line that the program prints. `None` if an amount is out of range.
+/// Returns the line that the program prints. `None` if an amount is out of range.
 fn answer<R: Threads + Sync>(
     rt: &R,
     alloc: Global,
@@ -70,7 +70,7 @@ fn answer<R: Threads + Sync>(
     Ok(Some(searched(rt, alloc, task, amounts)?))
 }
 
-/// The three amounts of the command line.
+/// Returns the three amounts of the command line.
 fn amounts_of(owners: &str, steps: &str, table: &str) -> Option<Amounts> {
     let (Ok(owners), Ok(steps), Ok(table)) = (owners.parse(), steps.parse(), table.parse()) else {
         return None;

@@ -11,11 +11,11 @@ use rand_core::{Rng, SeedableRng};
 use rand_xoshiro::Xoshiro256PlusPlus;
 use std::alloc::Global;
 
-/// The seed of the words that draw the steps.
+/// The seed of the random steps.
 const SEED: u64 = 1;
 
-/// The step that the next word draws: of the steps that would change something, the one whose number is the word modulo
-/// their number; `None` if there are none.
+/// Returns the step that the next output of the generator selects: of the steps that would change something, the one
+/// whose number is the output modulo their number; `None` if there are none.
 fn drawn<S: Spread + Drop, F: StateForm + Drop>(
     world: &World<'_, S, F>,
     generator: &mut Xoshiro256PlusPlus,
@@ -27,7 +27,7 @@ fn drawn<S: Spread + Drop, F: StateForm + Drop>(
     }
 }
 
-/// Does `times` steps, or fewer if there is no work left, and returns their number.
+/// Performs `times` steps, or fewer if there is no work left, and returns their number.
 fn step_times<S: Spread + Drop, F: StateForm + Drop>(
     world: &mut World<'_, S, F>,
     times: u64,
@@ -39,14 +39,14 @@ fn step_times<S: Spread + Drop, F: StateForm + Drop>(
         if world.count() == 0 {
             return Ok(done);
         }
-        // while there is work left, some step would change something; if none would, a look is harmless
+        // while there is work left, some step would change something; if none would, reading the bound is harmless
         let step = drawn(world, &mut generator).unwrap_or(WorldStep::Look(0));
         world.step(step)?;
     }
     Ok(times)
 }
 
-/// The number of states that all owners store, at most the greatest `usize`.
+/// Returns the number of states that all owners store, at most the greatest `usize`.
 fn kept_by<S: Spread + Drop, F: StateForm + Drop>(owners: &[Owner<'_, S, F>]) -> usize {
     let mut kept: usize = 0;
     for owner in owners {
@@ -55,8 +55,8 @@ fn kept_by<S: Spread + Drop, F: StateForm + Drop>(owners: &[Owner<'_, S, F>]) ->
     kept
 }
 
-/// The line for owners after `steps` steps, or fewer if there is no work left: the number of steps, and the number of
-/// states stored.
+/// Returns the line for owners after `steps` steps, or fewer if there is no work left: the number of steps, and the
+/// number of states stored.
 fn step_together<'a, F: StateForm + Drop>(
     alloc: Global,
     space: &'a Space<'a, Zobrist<'a>>,
@@ -74,7 +74,7 @@ fn step_together<'a, F: StateForm + Drop>(
     Ok(line)
 }
 
-/// The line of `step_together`, with the smallest form of states.
+/// Returns the line of `step_together`, with the smallest form of states.
 pub(crate) fn together_in_smallest_form<'a>(
     alloc: Global,
     space: &'a Space<'a, Zobrist<'a>>,

@@ -17,7 +17,7 @@ use std::alloc::{AllocError, Global};
 use std::process::ExitCode;
 use std::thread::Threads;
 
-/// The greatest of `times` lower bounds, of one state after the other and then again from the first.
+/// Returns the greatest of `times` lower bounds, for one state after the other and then again from the first.
 fn greatest_bound(columns: &Columns<'_>, states: &[Vec<u32>], times: usize) -> Dist
     requires some { 0 < length states.now }
     requires states { All (λ state. IsState (ranges columns.now.task) state.items) states.now }
@@ -29,7 +29,7 @@ fn greatest_bound(columns: &Columns<'_>, states: &[Vec<u32>], times: usize) -> D
     greatest
 }
 
-/// The number of tables in all columns, at most the greatest `usize`.
+/// Returns the number of tables in all columns, at most the greatest `usize`.
 fn table_count(columns: &Columns<'_>) -> usize {
     let mut count: usize = 0;
     for column in columns.tables() {
@@ -38,7 +38,7 @@ fn table_count(columns: &Columns<'_>) -> usize {
     count
 }
 
-/// The line that the program prints. `None` if the limit is out of range.
+/// Returns the line that the program prints. `None` if the limit is out of range.
 fn answer<R: Threads + Sync>(
     rt: &R,
     alloc: Global,

@@ -8,10 +8,10 @@ use rand_core::{Rng, SeedableRng};
 use rand_xoshiro::SplitMix64;
 use std::alloc::{AllocError, Global};
 
-/// The number of states that are drawn.
+/// The number of random states.
 const STATES: usize = 1000;
 
-/// A state whose values are drawn. Fails only if allocation fails.
+/// Returns a state with random values.
 fn draw_state(
     alloc: Global,
     task: &FdrTask,
@@ -28,8 +28,7 @@ fn draw_state(
     Ok(state)
 }
 
-/// 1000 states whose values are drawn by SplitMix64 (Steele, Lea and Flood 2014) from seed 1, state by state. Fails only
-/// if allocation fails.
+/// Returns 1000 states with random values from SplitMix64 (Steele, Lea and Flood 2014), seed 1, state by state.
 pub(crate) fn draw_states(alloc: Global, task: &FdrTask) -> Result<Vec<Vec<u32>>, AllocError>
     ensures len { IfOk result (λ states. length states.items ≡ 1000) }
     ensures states { IfOk result (λ states. All (λ state. IsState (ranges task.now) state.items) states.items) }

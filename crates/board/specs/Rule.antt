@@ -23,7 +23,7 @@ distance_at n = if nat_le n (2 ^ 63) then Finite n else Infinite
 abbrev pub all_parts : ℕ
 all_parts = 2 ^ 64
 
--- the first seat has every part
+-- the view of the first seat, which has every part
 abbrev pub first_view : View
 first_view = record { seen = Infinite; offered = Infinite; share = pos 0; parts = all_parts }
 
@@ -40,7 +40,7 @@ with_offered v d = record { seen = v.seen; offered = d; share = v.share; parts =
 abbrev pub with_share : View → ℤ → View
 with_share v z = record { seen = v.seen; offered = v.offered; share = z; parts = v.parts }
 
--- the view of a seat that is split: it keeps what it knows, and half of its parts
+-- the view that the old seat has after a split: what it knew, and half of its parts
 abbrev pub kept_part : View → View
 kept_part v = record { seen = v.seen; offered = v.offered; share = v.share; parts = v.parts / 2 }
 
@@ -63,7 +63,7 @@ abbrev pub total_parts : List View → ℕ
 total_parts [] = 0
 total_parts (v ∷ vs) = v.parts + total_parts vs
 
--- the number is congruent to this integer modulo 2^64
+-- `n` is congruent to `z` modulo 2^64
 abbrev pub IsModulo : ℕ → ℤ → Type 0
 IsModulo n z = (up : ℕ) × (down : ℕ) × (pos (n + up * 2 ^ 64) ≡ z +ℤ pos (down * 2 ^ 64))
 
@@ -84,6 +84,6 @@ pub record Holds (bound units stop : ℕ) (views : List View) : Type 0 where
   pub whole : total_parts views ≡ all_parts
   pub fair : (id : ℕ) (v : View) → get_elem? views id ≡ some v → IsFair (least (map (λ w. w.offered) views)) v
 
--- word 0 is the bound, word 16 the units, and word 1 the flag; nothing is said of the others
+-- word 0 is the bound, word 16 the units, and word 1 the flag; the other words are unconstrained
 abbrev pub IsRuled : State (Unit {0}) View → Type 0
 IsRuled s = (length s.words ≡ 17) × Holds (slice_index s.words 0) (slice_index s.words 16) (slice_index s.words 1) s.views

@@ -1,4 +1,4 @@
--- What a seat learns from a step that it does on a word of the board.
+-- What a seat learns from each of its steps on a word of the board.
 use Rattle.std.specs.Prelude.{◌≡◌, ℕ, ◌<◌, pos, ◌+ℤ◌, ◌-ℤ◌}
 use Rattle.cost.specs.Distances.{◌≤ᵈ◌, lesser}
 use Rattle.atomic_table.specs.Table.{Me, Step}
@@ -8,7 +8,8 @@ use Rattle.board.specs.Rule.{distance_at, with_seen, with_offered, with_share}
 abbrev SeatState : Type 0
 SeatState = Me (Unit {0}) View
 
--- the bound is read: it is at most the bound that the seat had seen, and at most the least cost that the seat had offered
+-- the bound is read: it is at most the bound that the seat had seen, and at most the least cost that the seat had
+-- offered
 abbrev pub looks : Step (Unit {0}) → SeatState → ℕ → SeatState → Type 0
 looks st m r m' = (m' ≡ (with_seen m.0 (distance_at r), m.1)) × (distance_at r ≤ᵈ m.0.seen) × (distance_at r ≤ᵈ m.0.offered)
 

@@ -13,12 +13,12 @@ use atomic_table::Table;
 use cost::Dist;
 use std::alloc::{AllocError, Global};
 
-/// A seat at a board, through which one thread at a time reads and changes it. It takes no bytes.
+/// A seat at a board, through which one thread at a time reads and changes it. It has size zero.
 pub type Seat = atomic_table::Seat<(), View>;
 
 impl Board {
-    /// A board at the start of a round, and its one seat: no cost is offered, the units are 0, and the round is not
-    /// ended. Fails only if allocation fails.
+    /// Creates a board at the start of a round, and its one seat: no cost is offered, the units are 0, and the round is
+    /// not ended.
     pub fn new(alloc: Global) -> Result<(Board, Seat), AllocError>
         ensures { IfOk result (λ r. IsSeatOf r.0 r.1 × (view r.1 ≡ first_view)) }
     {
@@ -37,7 +37,7 @@ impl Board {
         distance_at(self.table.shared.load::<Looks>(seat, BOUND))
     }
 
-    /// Lowers the bound to this cost, if it is above it, in one atomic step. To offer an infinite cost takes none.
+    /// Lowers the bound to `cost`, if it is above it, in one atomic step. Offering an infinite cost takes no step.
     pub fn offer(&self, seat: &mut Seat, cost: Dist)
         requires { IsSeatOf self.now seat.old }
         ensures seat { IsSeatOf self.now seat.new }
@@ -69,7 +69,7 @@ impl Board {
         self.table.shared.fetch_sub::<Subtracts>(seat, UNITS, count);
     }
 
-    /// Reads the units, in one atomic step. What other seats have added may or may not be included.
+    /// Reads the units, in one atomic step. What other seats have added concurrently may or may not be included.
     pub fn count(&self, seat: &mut Seat) -> u64
         requires { IsSeatOf self.now seat.old }
         ensures seat { IsSeatOf self.now seat.new }
@@ -87,7 +87,7 @@ impl Board {
         self.table.shared.fetch_or::<Stays>(seat, STOP, 1);
     }
 
-    /// Whether the round was ended, read in one atomic step.
+    /// Returns whether the round was ended, read in one atomic step.
     pub fn halted(&self, seat: &mut Seat) -> bool
         requires { IsSeatOf self.now seat.old }
         ensures seat { IsSeatOf self.now seat.new }
@@ -101,7 +101,7 @@ impl Board {
     }
 
     /// Splits off a seat for another thread, which has seen the same bound, and has offered and added nothing. Each of
-    /// the two seats has half of the parts, of which there must be at least two.
+    /// the two seats gets half of the parts, of which there must be at least two.
     pub fn split_seat(&self, seat: &mut Seat) -> Seat
         requires { IsSeatOf self.now seat.old × (2 ≤ (view seat.old).parts) }
         ensures seat { IsSeatOf self.now seat.new × (view seat.new ≡ kept_part (view seat.old)) }
@@ -110,8 +110,8 @@ impl Board {
         self.table.shared.split_seat::<Halves>(seat)
     }
 
-    /// Joins another seat into this one, which has then seen the lesser bound and offered the lesser cost of the two, and
-    /// has the shares and the parts of both.
+    /// Joins another seat into this one: the result has seen the lesser bound and offered the lesser cost of the two,
+    /// and has the shares and the parts of both.
     pub fn join_seat(&self, seat: &mut Seat, other: Seat)
         requires { IsSeatOf self.now seat.old × IsSeatOf self.now other }
         ensures seat { IsSeatOf self.now seat.new }
@@ -120,8 +120,8 @@ impl Board {
         self.table.shared.join_seat::<Halves>(seat, other);
     }
 
-    /// The bound and the units (modulo 2^64) at the end, when all seats are joined: the bound is the least cost that was
-    /// offered, and no seat has ever seen less.
+    /// Returns the bound and the units (modulo 2^64) at the end, when all seats are joined: the bound is the least cost
+    /// that was offered, and no seat has ever seen less.
     pub fn close(self, seat: Seat) -> (Dist, u64)
         requires { IsSeatOf self seat × ((view seat).parts ≡ all_parts) }
         ensures bound { result.0 ≡ (view seat).offered }

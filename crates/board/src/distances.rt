@@ -1,11 +1,11 @@
-//! Distances as words.
+//! Distances encoded as 64-bit words.
 
 ghost use Rattle.std.specs.Prelude.{◌≡◌};
 ghost use Rattle.board.specs.Rule.{word_of, distance_at};
 
 use cost::Dist;
 
-/// The word of a distance: its number, or 2^64 - 1 if it is infinite.
+/// Returns the word of a distance: its number, or 2^64 - 1 if it is infinite.
 pub(crate) fn word_of(distance: Dist) -> u64
     ensures word { result ≡ word_of distance }
     ensures back { distance_at result ≡ distance }
@@ -16,7 +16,7 @@ pub(crate) fn word_of(distance: Dist) -> u64
     }
 }
 
-/// The distance of a word: its number, or infinite if the word is above 2^63.
+/// Returns the distance of a word: its number, or infinite if the word is above 2^63.
 pub(crate) fn distance_at(word: u64) -> Dist
     ensures { result ≡ distance_at word }
 {

@@ -1,6 +1,6 @@
-//! The words of a board: three of them are used. All workers read the bound and the flag in each turn, and these hardly ever change;
-//! the units change in almost every turn. So the units stand 128 bytes from the others, in another line of the cache, and reading the
-//! bound waits for no other worker.
+//! The words of a board, of which three are used. All workers read the bound and the flag in each turn, and these
+//! rarely change; the units change in almost every turn. So the units are 128 bytes away from the others, in another
+//! cache line, and reading the bound does not wait for other workers.
 
 ghost use Rattle.std.specs.Prelude.{◌≡◌};
 
@@ -8,13 +8,13 @@ use crate::views::{BoardRule, View};
 use atomic_table::Table;
 use std::alloc::Global;
 
-/// The number of the word for the least cost offered.
+/// The index of the word for the least cost offered.
 pub(crate) const BOUND: usize = 0;
 
-/// The number of the word that is 1 once the round is ended.
+/// The index of the word that is 1 once the round is ended.
 pub(crate) const STOP: usize = 1;
 
-/// The number of the word for the units of work that are left.
+/// The index of the word for the units of work that are left.
 pub(crate) const UNITS: usize = 16;
 
 /// The words at the start of a round: no cost is offered, the round is not ended, and the units are 0.

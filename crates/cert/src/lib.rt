@@ -1,5 +1,5 @@
-//! Certificates that are made from what a search closed: sorted closed lists, and the law that a finished closed list
-//! with cost-partitioned columns is a certificate that holds.
+//! Certificates of searches: closed lists sorted by state, and the law that a finished closed list with
+//! cost-partitioned columns makes a certificate that holds.
 #![tactic(auto)]
 
 mod laws;

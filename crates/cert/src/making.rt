@@ -20,12 +20,12 @@ use packed::StateForm;
 use packed_spread::Spread;
 use std::alloc::{AllocError, Global};
 
-/// The certificate of a search, settled or not, of version 2. Its bound is the lower bound, which is the best cost where the search is settled; its
-/// columns are those of the heuristic; its closed states are those that the owners expanded at their present ranks, in the lexicographic
-/// order of their values.
+/// Returns the certificate of a search, settled or not, of version 2. Its bound is the lower bound of the search, which
+/// is the best cost if the search is settled; its columns are those of the heuristic; its closed list has the states
+/// that the owners expanded at their present ranks, in the lexicographic order of their values.
 ///
-/// It fails no clause, so every plan costs at least its bound. It has a text, if its kind has one and there are fewer than 2^32 closed
-/// states. Fails only if allocation fails.
+/// It fails no clause, so every plan costs at least its bound. It has a text if its kind has one and there are fewer
+/// than 2^32 closed states.
 pub fn cert_of<'a, S: Spread + Drop, F: StateForm + Drop>(
     alloc: Global,
     joined: &Joined<'a, S, F>,

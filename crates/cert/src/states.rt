@@ -10,17 +10,16 @@ use packed::StateForm;
 use packed_spread::Spread;
 use std::alloc::{AllocError, Global};
 
-/// The states that were expanded, with their costs.
+/// Expanded states with their costs.
 #[derive(Drop)]
 pub(crate) struct ExpandedStates {
     pub(crate) costs: Vec<u64>,
-    /// The values of the states, one state after the other.
+    /// The values of the states, concatenated.
     pub(crate) values: Vec<u32>,
 }
 
 impl ExpandedStates {
-    /// Appends the states that an owner has expanded at their present ranks; `state` is a buffer. Fails only if
-    /// allocation fails.
+    /// Appends the states that an owner has expanded at their present ranks; `state` is a buffer.
     fn push_owner<S: Spread + Drop, F: StateForm + Drop>(
         &mut self,
         owner: &Owner<'_, S, F>,
@@ -43,8 +42,7 @@ impl ExpandedStates {
     }
 }
 
-/// The states, of `width` values each, that these owners have expanded at their present ranks. Fails only if allocation
-/// fails.
+/// Returns the states, of `width` values each, that these owners have expanded at their present ranks.
 pub(crate) fn expanded_states<S: Spread + Drop, F: StateForm + Drop>(
     alloc: Global,
     width: usize,

@@ -9,7 +9,7 @@ use cert_value::{AbstractionTable, Values};
 use scp::ColumnTable;
 use std::alloc::{AllocError, Global};
 
-/// A copy of the values. Fails only if allocation fails.
+/// Returns a copy of the values.
 fn copied_values(alloc: Global, values: &Values) -> Result<Values, AllocError>
     ensures { IfOk result (λ copy. copy ≡ values.now) }
 {
@@ -20,7 +20,7 @@ fn copied_values(alloc: Global, values: &Values) -> Result<Values, AllocError>
     Ok(copy)
 }
 
-/// A copy of the table. Fails only if allocation fails.
+/// Returns a copy of the table.
 fn copied_table(alloc: Global, table: &AbstractionTable) -> Result<AbstractionTable, AllocError>
     ensures { IfOk result (λ copy. kept.table_of copy ≡ kept.table_of table.now) }
 {
@@ -31,7 +31,7 @@ fn copied_table(alloc: Global, table: &AbstractionTable) -> Result<AbstractionTa
     })
 }
 
-/// Copies of a column's tables. Fails only if allocation fails.
+/// Returns copies of a column's tables.
 fn copied_column(
     alloc: Global,
     column: &[ColumnTable<'_>],
@@ -45,7 +45,7 @@ fn copied_column(
     Ok(copy)
 }
 
-/// Copies of the columns' tables. Fails only if allocation fails.
+/// Returns copies of the columns' tables.
 pub(crate) fn copied_columns(
     alloc: Global,
     columns: &[Vec<ColumnTable<'_>>],

@@ -4,7 +4,7 @@ use Rattle.cert_text.specs.declared.fault.CertFault.{CertFault}
 use Rattle.cert_text.specs.declared.fault.CertFault.TheVariants as fault
 use Rattle.cert_text.specs.Pieces.{pieces}
 
--- 1 if there are bytes behind the last line feed
+-- 1 if there are bytes after the last line feed
 abbrev pub last_line : List ℕ → ℕ
 last_line [] = 0
 last_line (b ∷ bs) = 1
@@ -15,7 +15,7 @@ line_count_of [] = 0
 line_count_of (l ∷ []) = last_line l
 line_count_of (l ∷ m ∷ ms) = 1 + line_count_of (m ∷ ms)
 
--- the number of lines: a line ends with a line feed, or with the text if there are bytes behind the last line feed
+-- the number of lines: a line ends with a line feed, or with the text if there are bytes after the last line feed
 abbrev pub line_count : List ℕ → ℕ
 line_count text = line_count_of (pieces 10 text)
 

@@ -1,5 +1,5 @@
-//! Laws of the texts of certificates: one text for each certificate, and the first fault of a text stands in its first
-//! lines alone.
+//! Laws of the texts of certificates: one text for each certificate, and the first fault of a text depends only on its
+//! first lines.
 #![tactic(auto)]
 
 mod laws;

@@ -1,6 +1,6 @@
 -- Reading line by line, as a function on lists, with the first fault that is found. On one line a missing line feed
--- comes before all other faults, a wrong form before a wrong number, a wrong number before a wrong order, and that before
--- wrong classes.
+-- comes before all other faults, a wrong form before a wrong number, a wrong number before a wrong order, and that
+-- before wrong classes.
 use Rattle.std.specs.Prelude.{◌≡◌, ℕ, zero, suc, ◌+◌, ◌*◌, ◌-◌, ◌^◌, Bool, true, false, not, ◌==◌, ◌&&◌, nat_le, nat_lt, if◌then◌else◌, List, [], ◌∷◌, ◌++◌, length, map, Option, Some, None, option_map, Result, Ok, Err, codes}
 use Rattle.std.specs.Str.{bytes_eq}
 use Rattle.std.specs.List.{list_all}
@@ -20,7 +20,7 @@ abbrev pub Fails : {Y : Type 0} → CertFault → Result Y CertFault → Type 0
 Fails fault.OutOfMemory read = Unit {0}
 Fails e read = read ≡ Err e
 
--- the result of a function, under a view, is that of reading, unless allocation fails
+-- the result of a function, under `view`, is `read`, unless allocation fails
 abbrev pub Gives : {X Y : Type 0} → (X → Y) → Result X CertFault → Result Y CertFault → Type 0
 Gives view (Ok x) read = read ≡ Ok (view x)
 Gives view (Err e) read = Fails e read
@@ -190,7 +190,7 @@ counted_of line pairs [] = Err (fault.Expected line)
 counted_of line pairs (k ∷ []) = Err (fault.Expected line)
 counted_of line pairs (k ∷ c ∷ ws) = formed line (agrees pairs (filled (k ∷ c ∷ ws)) (number c)) (record { first = k; count = c; words = ws })
 
--- the same, if the first word is the keyword
+-- the parts of a line with a count, if its first word is the keyword
 unfoldable pub headed_of : ℕ → List ℕ → Bool → List (List ℕ) → Result Counted CertFault
 headed_of line keyword pairs words = do
   form ← counted_of line pairs words
@@ -245,7 +245,7 @@ atoms_at r = do
   count ← count_at (codes "atoms") 0 (2 ^ 32) r
   repeated (behind atom_at) count.0 [] count.1
 
--- a variable over atoms whose places are below `atoms`
+-- a variable over atoms whose indices are below `atoms`
 unfoldable pub variable_of : ℕ → ℕ → List (List ℕ) → Result Variable CertFault
 variable_of atoms line words = do
   form ← counted_of line false words
@@ -279,7 +279,7 @@ pattern_of line words = do
   pattern ← numbered line (numbers_in (2 ^ 32) form.words)
   ordered line (is_increasing pattern) pattern
 
--- the least variable that a row behind these may have
+-- the least variable that a row after these may have
 abbrev pub next_variable : List Row → ℕ
 next_variable [] = 0
 next_variable (r ∷ []) = r.variable + 1

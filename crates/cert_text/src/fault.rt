@@ -23,7 +23,7 @@ pub enum CertFault {
     /// may contain, or with another number of words than its counts state.
     #[error("F51 Expected cert {0}")]
     Expected(usize),
-    /// F52: a word in the place of a number that does not spell one, or spells one outside its limits.
+    /// F52: a word that must spell a number and does not, or spells one outside its limits.
     #[error("F52 Number cert {0}")]
     Number(usize),
     /// F53: a line without a line feed, or a missing line.
@@ -32,11 +32,11 @@ pub enum CertFault {
     /// F54: bytes after the last line. The number is that of the line after it.
     #[error("F54 Trailing cert {0}")]
     Trailing(usize),
-    /// F55: numbers that are not strictly increasing where they must be.
+    /// F55: numbers that must be strictly increasing and are not.
     #[error("F55 Order cert {0}")]
     Order(usize),
-    /// F57: classes that are not numbered in the order in which they first stand in their line: one is neither a class
-    /// that stood earlier there nor the least number that did not.
+    /// F57: classes that are not numbered in the order of their first occurrences in their line: one is neither a class
+    /// that occurs earlier there nor the least number that does not.
     #[error("F57 Classes cert {0}")]
     Classes(usize),
     /// F56: more than 1,073,741,824 bytes.

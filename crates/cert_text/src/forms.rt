@@ -31,7 +31,8 @@ pub(crate) fn fixed_line<'a>(lines: Lines<'a>, text: &[u8]) -> Result<Lines<'a>,
     }
 }
 
-/// The second word of a line that consists of the keyword and one other word. `number` is the number of the line.
+/// Returns the second word of a line that consists of the keyword and one other word. `number` is the number of the
+/// line.
 pub(crate) fn second_word<'a>(
     line: &'a [u8],
     keyword: &[u8],
@@ -72,8 +73,8 @@ pub(crate) fn count_line<'a>(
     }
 }
 
-/// Whether the words after the first two are as many as the count states, or twice as many if `pairs` is set. `words`
-/// is the number of words, or `None` if one of them is empty, which is refused. A count that is not a number is
+/// Returns whether the words after the first two are as many as the count states, or twice as many if `pairs` is set.
+/// `words` is the number of words, or `None` if one of them is empty, which is refused. A count that is not a number is
 /// accepted here.
 fn count_agrees(pairs: bool, words: Option<usize>, count: &[u8]) -> bool
     ensures { result ≡ agrees pairs words (number count.now) }
@@ -95,8 +96,8 @@ fn count_agrees(pairs: bool, words: Option<usize>, count: &[u8]) -> bool
     }
 }
 
-/// The parts of a line with a count, if it has as many words as the count states, or twice as many if `pairs` is set. A
-/// count that is not a number is not compared.
+/// Returns the parts of a line with a count, if it has as many words as the count states, or twice as many if `pairs`
+/// is set. A count that is not a number is not compared.
 pub(crate) fn counted_line(
     line: &[u8],
     pairs: bool,
@@ -122,7 +123,7 @@ pub(crate) fn counted_line(
     }
 }
 
-/// The same, if the first word is the keyword.
+/// Returns the same as `counted_line`, if the first word is the keyword.
 #[tactic(auto, unfolding(crate::specs::Reading::headed_of))]
 pub(crate) fn headed_line<'a>(
     line: &'a [u8],

@@ -1,4 +1,4 @@
-//! Laws of the texts of certificates. Each function states one in its contract; its body is empty.
+//! Laws of the texts of certificates.
 
 ghost use Rattle.std.specs.Prelude.{◌≡◌, ◌≤◌, ◌^◌, ◌++◌, [], ℕ, List, length};
 ghost use Rattle.cert_value.specs.Certificates.{CertificateValue};
@@ -21,8 +21,8 @@ pub fn spelled_or_not()
     ensures not_both { (c : CertificateValue) (e : CertFault) → IsLawful c → length (spelling c) ≤ 2 ^ 30 → certificate_of (spelling c) ≡ Err e → ⊥ }
 {}
 
-/// Proves that no text of at most 2^30 bytes that spells a certificate goes on behind another that spells one: neither is a
-/// proper front of the other.
+/// Proves that no text of at most 2^30 bytes that spells a certificate begins with another that spells one: neither is
+/// a proper prefix of the other.
 pub fn no_front()
     ensures { (c d : CertificateValue) (rest : List ℕ) → IsLawful c → IsLawful d → spelling d ≡ spelling c ++ rest →
         length (spelling d) ≤ 2 ^ 30 → rest ≡ [] }

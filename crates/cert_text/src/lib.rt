@@ -1,9 +1,9 @@
-//! The texts of certificates of a lower bound on the cost of every plan, in versions 1 and 2: version 2 may have tables of
-//! domain abstractions too.
+//! The texts of certificates of a lower bound on the cost of every plan, in versions 1 and 2: version 2 may have tables
+//! of domain abstractions too.
 //!
 //! A text consists of lines of words separated by single blanks, and each value has exactly one text: numbers are
 //! decimal without leading zeros, and every line ends with a line feed. A text is read exactly if it spells a
-//! certificate. Otherwise reading fails with its first fault, whose kind and line are given.
+//! certificate. Otherwise reading fails with the first fault of the text, its kind and line.
 #![tactic(auto)]
 
 mod fault;

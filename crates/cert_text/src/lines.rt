@@ -51,7 +51,7 @@ impl<'a> Lines<'a> {
         }
     }
 
-    /// Whether no byte remains.
+    /// Returns whether no byte remains.
     pub fn is_empty(self) -> bool
         ensures { result ≡ is_nothing (pieces 10 self.entry.rest.now) }
     {

@@ -11,7 +11,7 @@ use cert_value::{Share, Values};
 use cost::Dist;
 use std::alloc::Global;
 
-/// The number of one or more digits, at most 2^64 - 1.
+/// Returns the number that the digits spell, capped at 2^64 - 1, or `None` if one of them is no digit.
 #[tactic(auto, using(crate::proofs::NumberLaws::digits_alike), unfolding(crate::specs::Reading::digits_after))]
 fn digits_of(digits: &[u8]) -> Option<u64>
     ensures { result ≡ option_map (min (2 ^ 64 - 1)) (digits_after 0 digits.now) }
@@ -28,8 +28,8 @@ fn digits_of(digits: &[u8]) -> Option<u64>
     Some(value)
 }
 
-/// The number that a word spells, in decimal without leading zeros. A number past 2^64 - 1 is replaced by that one,
-/// which is past every limit and past the number of words of every line.
+/// Returns the number that a word spells, in decimal without leading zeros. A number past 2^64 - 1 is replaced by that
+/// one, which is past every limit and past the number of words of every line.
 pub(crate) fn number_of(word: &[u8]) -> Option<u64>
     ensures { result ≡ option_map (min (2 ^ 64 - 1)) (number word.now) }
 {
@@ -40,7 +40,7 @@ pub(crate) fn number_of(word: &[u8]) -> Option<u64>
     }
 }
 
-/// The number that a word spells, if it is at least `least` and below `end`.
+/// Returns the number that a word spells, if it is at least `least` and below `end`.
 pub(crate) fn number_within(word: &[u8], least: u64, end: u64) -> Option<u64>
     requires { end < 2 ^ 64 }
     ensures value { result ≡ number_in least end word.now }
@@ -58,8 +58,8 @@ pub(crate) fn number_within(word: &[u8], least: u64, end: u64) -> Option<u64>
     }
 }
 
-/// The number that the first digits of a text spell, in decimal without leading zeros, and how many digits these are. `None` if
-/// there are none, if the number has a leading zero, or if it is not below `end`.
+/// Returns the number that the first digits of a text spell, in decimal without leading zeros, and the number of these
+/// digits. Returns `None` if there are none, if the number has a leading zero, or if it is not below `end`.
 #[tactic(auto, using(crate::proofs::LeadingNumbers::one_more_digit), unfolding(crate::specs::Reading::digits_after))]
 fn leading_number(bytes: &[u8], end: u64) -> Option<(u64, usize)>
     requires some { 0 < end }
@@ -81,8 +81,8 @@ fn leading_number(bytes: &[u8], end: u64) -> Option<(u64, usize)>
     Some((value, count))
 }
 
-/// The number that the next word spells, if it is below `end`, and the words after it. `None` if no word remains, or if the next
-/// one spells no such number. Each byte is read once.
+/// Returns the number that the next word spells, if it is below `end`, and the words after it. Returns `None` if no
+/// word remains, or if the next one spells no such number. Each byte is read once.
 pub(crate) fn first_number(words: Words<'_>, end: u64) -> Option<(u64, Words<'_>)>
     requires some { 0 < end }
     requires few { end ≤ 2 ^ 60 }
@@ -111,7 +111,7 @@ pub(crate) fn first_number(words: Words<'_>, end: u64) -> Option<(u64, Words<'_>
     }
 }
 
-/// The distance that a word spells: `inf`, or a number below `end`.
+/// Returns the distance that a word spells: `inf`, or a number below `end`.
 #[tactic(auto, unfolding(crate::specs::Reading::distance_in))]
 pub(crate) fn distance_within(word: &[u8], end: u64) -> Option<Dist>
     requires { end ≤ 2 ^ 63 }
@@ -149,7 +149,7 @@ pub(crate) fn read_numbers(
     Ok(())
 }
 
-/// The distances of the words, each infinite or below `end`. `line` is the number of their line.
+/// Returns the distances of the words, each infinite or below `end`. `line` is the number of their line.
 #[tactic(auto, unfolding(crate::specs::Reading::distances_behind))]
 pub(crate) fn distances(
     alloc: Global,
@@ -172,7 +172,7 @@ pub(crate) fn distances(
     Ok(values)
 }
 
-/// The share that two words spell.
+/// Returns the share that two words spell.
 #[tactic(auto, unfolding(crate::specs::Reading::share_in))]
 fn share_of(operator: &[u8], amount: &[u8]) -> Option<Share>
     ensures { result ≡ share_in operator.now amount.now }
@@ -189,7 +189,7 @@ fn share_of(operator: &[u8], amount: &[u8]) -> Option<Share>
     }
 }
 
-/// The shares of the words: the number of an operator and its share in turn.
+/// Returns the shares that the words spell: alternately the number of an operator and its share.
 #[tactic(auto, unfolding(crate::specs::Reading::shares_behind))]
 pub(crate) fn shares(alloc: Global, words: Words<'_>, line: usize) -> Result<Vec<Share>, CertFault>
     ensures { Gives (λ v. v.items) result (numbered line (shares_in (left words.entry))) }
@@ -209,7 +209,7 @@ pub(crate) fn shares(alloc: Global, words: Words<'_>, line: usize) -> Result<Vec
     Ok(shares)
 }
 
-/// Whether the numbers are strictly increasing.
+/// Returns whether the numbers are strictly increasing.
 #[tactic(auto, unfolding(crate::specs::Reading::increases_from))]
 pub(crate) fn increases(numbers: &[u32]) -> bool
     ensures { result ≡ is_increasing numbers.now }
@@ -224,7 +224,7 @@ pub(crate) fn increases(numbers: &[u32]) -> bool
     true
 }
 
-/// Whether the operators of the shares are strictly increasing.
+/// Returns whether the operators of the shares are strictly increasing.
 #[tactic(auto, unfolding(crate::specs::Reading::increases_from))]
 pub(crate) fn operators_increase(shares: &[Share]) -> bool
     ensures { result ≡ is_increasing (map (λ s. s.operator) shares.now) }

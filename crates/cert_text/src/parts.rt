@@ -28,14 +28,14 @@ fn is_printed(word: &[u8]) -> bool
     word.iter().all(|byte| 33 <= *byte && *byte <= 126)
 }
 
-/// Whether the word may be part of an atom.
+/// Returns whether the word may be part of an atom.
 fn is_atom_word(word: &[u8]) -> bool
     ensures { result ≡ is_atom_word word.now }
 {
     0 < word.len() && is_printed(word)
 }
 
-/// The words of an atom. `number` is the number of their line.
+/// Returns the words of an atom. `number` is the number of their line.
 #[tactic(auto, unfolding(crate::specs::Reading::atom_of))]
 pub(crate) fn atom_words(
     alloc: Global,
@@ -59,7 +59,7 @@ pub(crate) fn atom_words(
     Ok(atom)
 }
 
-/// A variable over atoms whose places are below `atoms`. `number` is the number of the line.
+/// Returns a variable over atoms whose indices are below `atoms`. `number` is the number of the line.
 #[tactic(auto, unfolding(crate::specs::Reading::variable_of))]
 pub(crate) fn variable_line(
     alloc: Global,
@@ -88,7 +88,7 @@ pub(crate) fn variable_line(
     })
 }
 
-/// The pattern of a table.
+/// Returns the pattern of a table.
 #[tactic(auto, unfolding(crate::specs::Reading::pattern_of))]
 pub(crate) fn pattern_line(alloc: Global, line: &[u8], number: usize) -> Result<Vec<u32>, CertFault>
     ensures { Gives (λ v. v.items) result (pattern_of number (pieces 32 line.now)) }
@@ -106,7 +106,7 @@ pub(crate) fn pattern_line(alloc: Global, line: &[u8], number: usize) -> Result<
     }
 }
 
-/// Whether the line is the first of a domain abstraction, which version 1 does not have.
+/// Returns whether the line is the first of a domain abstraction, which version 1 does not have.
 pub(crate) fn is_domain(version: Version, line: &[u8]) -> bool
     ensures { result ≡ is_domain version (pieces 32 line.now) }
 {
@@ -119,7 +119,7 @@ pub(crate) fn is_domain(version: Version, line: &[u8]) -> bool
     }
 }
 
-/// The row of a variable that is at least `least`. `number` is the number of the line.
+/// Returns the row of a variable that is at least `least`. `number` is the number of the line.
 #[tactic(auto, using(crate::proofs::RowLaws::numbered_test, crate::proofs::RowLaws::misnumbered_test), unfolding(crate::specs::Reading::row_of))]
 pub(crate) fn row_line(
     alloc: Global,
@@ -148,7 +148,7 @@ pub(crate) fn row_line(
     }
 }
 
-/// The shares of a table.
+/// Returns the shares of a table.
 #[tactic(auto, unfolding(crate::specs::Reading::shares_of))]
 pub(crate) fn shares_line(
     alloc: Global,
@@ -169,7 +169,7 @@ pub(crate) fn shares_line(
     }
 }
 
-/// The values of a table.
+/// Returns the values of a table.
 #[tactic(auto, unfolding(crate::specs::Reading::values_of))]
 pub(crate) fn values_line(alloc: Global, line: &[u8], number: usize) -> Result<Values, CertFault>
     ensures { Gives (λ v. v) result (values_of number (pieces 32 line.now)) }
@@ -181,8 +181,8 @@ pub(crate) fn values_line(alloc: Global, line: &[u8], number: usize) -> Result<V
     distances(alloc, form.words, (1 << 55) + 1, number)
 }
 
-/// Whether a line has a cost and as many values as the states before it. `words` is the number of words, or `None` if
-/// one of them is empty.
+/// Returns whether a line has a cost and as many values as the states before it. `words` is the number of words, or
+/// `None` if one of them is empty.
 fn fits_width(words: Option<usize>, width: Option<usize>) -> bool
     ensures { result ≡ has_width width words }
 {
@@ -193,8 +193,8 @@ fn fits_width(words: Option<usize>, width: Option<usize>) -> bool
     }
 }
 
-/// The cost of a state, whose values replace the content of `state`, as `entry_line` gives it. `None` if the line has a fault, which
-/// is not told, or if the cost is 2^60 or more. It reads each byte once. Fails only if allocation fails.
+/// Returns the cost of a state, whose values replace the content of `state`, as `entry_line` does. Returns `None` if
+/// the line has a fault, which is not determined, or if the cost is 2^60 or more. Each byte is read once.
 #[tactic(auto, using(crate::proofs::PlainEntries::entry_is, crate::proofs::PlainEntries::one_more_word, crate::proofs::PlainEntries::one_more_number), unfolding(crate::specs::Reading::filled_behind, crate::specs::Reading::numbers_behind))]
 fn plain_entry(
     line: &[u8],
@@ -219,7 +219,7 @@ fn plain_entry(
     }
 }
 
-/// The cost of a state. Its values replace the content of `state`.
+/// Returns the cost of a state. Its values replace the content of `state`.
 #[tactic(auto, unfolding(crate::specs::Reading::entry_of))]
 pub(crate) fn entry_line(
     line: &[u8],

@@ -122,7 +122,7 @@ fn parts(
 }
 
 /// Reads the rows of a domain abstraction, as many as its first line states. `number` is the number of that line, and
-/// `lines` are those behind it.
+/// `lines` are those after it.
 #[tactic(auto, using(crate::proofs::Repeating::looping), unfolding(crate::specs::Reading::rows_at, crate::specs::Reading::row_step, crate::specs::Reading::row_at))]
 fn rows<'a>(
     alloc: Global,
@@ -149,7 +149,7 @@ fn rows<'a>(
     Ok((rows, next))
 }
 
-/// Reads what a table keeps of a state.
+/// Reads the mapping of a table.
 #[tactic(auto, unfolding(crate::specs::Reading::mapping_at, crate::specs::Reading::mapping_behind))]
 fn mapping(
     alloc: Global,

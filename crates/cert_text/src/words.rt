@@ -5,7 +5,7 @@ ghost use Rattle.cert_text.specs.Pieces.{pieces};
 ghost use Rattle.cert_text.specs.Reading.{filled_behind};
 ghost use Rattle.cert_text.specs.Cursors.{left};
 
-/// The number of bytes before the first separator, or of all bytes if there is none.
+/// Returns the number of bytes before the first separator, or of all bytes if there is none.
 pub(crate) fn piece_length(bytes: &[u8], separator: u8) -> usize
     ensures within { result ≤ length bytes.now }
     ensures before { (k : ℕ) → k < result → slice_index bytes.now k ≢ separator }

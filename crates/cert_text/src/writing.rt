@@ -159,7 +159,7 @@ fn push_pattern(out: &mut Vec<u8>, pattern: &[u32]) -> Result<(), AllocError>
     Ok(())
 }
 
-/// Appends the lines that state what a table keeps of a state.
+/// Appends the lines of the mapping of a table.
 fn push_mapping(out: &mut Vec<u8>, mapping: &Mapping) -> Result<(), AllocError>
     ensures { OnOk result (out.new.items ≡ out.old.items ++ text.text_of (text.mapping_lines (mapping_of mapping.now))) }
 {
@@ -311,7 +311,7 @@ fn push_bound(out: &mut Vec<u8>, bound: Dist) -> Result<(), AllocError>
     Ok(())
 }
 
-/// Returns the text of a certificate. Fails only if allocation fails.
+/// Returns the text of a certificate.
 ///
 /// `read_cert` reads the text of a lawful certificate back, if it has at most `MAX_LENGTH` bytes.
 pub fn write_cert(alloc: Global, certificate: &Certificate) -> Result<Vec<u8>, AllocError>

@@ -5,7 +5,7 @@ use Rattle.abstraction_mapping.specs.Mappings.{Mapping}
 use Rattle.cert_value.specs.declared.table.Share.{Share}
 use Rattle.cert_value.specs.declared.certificate.Version.{Version}
 
--- Atoms of a planning task that make up one variable, by their places in the list of atoms. If the variable has the
+-- Atoms of a planning task that make up one variable, by their indices in the list of atoms. If the variable has the
 -- none value, there may be states in which none of them is true.
 pub record Variable : Type 0 where
   pub has_none_value : Bool

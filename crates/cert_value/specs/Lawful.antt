@@ -59,7 +59,7 @@ pub record IsPattern (pattern : List ℕ) : Type 0 where
   pub variables : AllByRecursion IsShort pattern
   pub increasing : IsIncreasing pattern
 
--- a variable with the class of each of its values, the classes numbered in the order in which they first stand there
+-- a variable with the class of each of its values, the classes numbered in the order of their first occurrences
 pub record IsRow (r : Row) : Type 0 where
   pub variable : IsShort r.variable
   pub some : r.classes ≢ []
@@ -73,7 +73,7 @@ pub record AreRows (rows : List Row) : Type 0 where
   pub each : AllByRecursion IsRow rows
   pub increasing : IsIncreasing (variables rows)
 
--- version 1 has patterns alone
+-- version 1 has only patterns
 abbrev pub IsLawfulMapping : Version → Mapping → Type 0
 IsLawfulMapping version (Pattern pattern) = IsPattern pattern
 IsLawfulMapping One (Domains rows) = ⊥

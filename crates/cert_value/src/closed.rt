@@ -54,7 +54,7 @@ impl ClosedList {
         self.costs.len()
     }
 
-    /// Whether the list is empty.
+    /// Returns whether the list is empty.
     pub fn is_empty(&self) -> bool
         ensures { result ≡ (length self.now == 0) }
     {
@@ -72,7 +72,7 @@ impl ClosedList {
         }
     }
 
-    /// Returns the cost of the state at a place, counted from 0.
+    /// Returns the cost of the state at `index`, counted from 0.
     pub fn cost(&self, index: usize) -> u64
         requires { index < length self.now }
         ensures { option_map (λ e. e.cost) (slice_get self.now index) ≡ Some result }
@@ -80,7 +80,7 @@ impl ClosedList {
         self.costs[index]
     }
 
-    /// Returns a buffer for the values of one state, filled with 0. Fails only if allocation fails.
+    /// Returns a buffer for the values of one state, filled with 0.
     pub fn buffer(&self, alloc: Global) -> Result<Vec<u32>, AllocError>
         ensures { IfOk result (λ b. All (λ e. length e.state ≡ length b.items) self.now) }
     {
@@ -88,7 +88,7 @@ impl ClosedList {
         Ok(buffer)
     }
 
-    /// Copies the values of the state at a place into a buffer of the same length.
+    /// Copies the values of the state at `index` into a buffer of the same length.
     pub fn copy_state(&self, index: usize, into: &mut [u32])
         requires { IsSomeAnd (slice_get self.now index) (λ e. length e.state ≡ length into.old) }
         ensures state { option_map (λ e. e.state) (slice_get self.now index) ≡ Some into.new }
@@ -97,7 +97,7 @@ impl ClosedList {
         self.values.copy(index, into);
     }
 
-    /// Whether the state at a place has these values.
+    /// Returns whether the state at `index` has these values.
     pub fn has_state(&self, index: usize, state: &[u32]) -> bool
         requires { index < length self.now }
         ensures { result ≡ option_map_or (λ e. pointwise nat_eq e.state state.now) (slice_get self.now index) false }
@@ -105,8 +105,7 @@ impl ClosedList {
         self.width == state.len() && self.values.is_at(index, state)
     }
 
-    /// Appends a state, which must have as many values as those before it. Fails only if allocation fails, and then
-    /// leaves the list as it was.
+    /// Appends a state, which must have as many values as those before it. On failure the list is unchanged.
     pub fn push(&mut self, cost: u64, state: &[u32]) -> Result<(), AllocError>
         requires { AllByRecursion (λ e. length e.state ≡ length state.now) self.old }
         ensures ok { OnOk result (self.new ≡ self.old ++ record { cost = cost; state = state.now } ∷ []) }

@@ -6,7 +6,7 @@ ghost use Rattle.std.specs.Cmp.Lexicographic.{pointwise};
 use std::alloc::{AllocError, Global};
 use std::marker::Model;
 
-/// Numbers, of 2 bytes each as long as all are below 2^16.
+/// Numbers, of 2 bytes each as long as all are below 2^16, and else of 4.
 #[derive(Drop)]
 enum Kept {
     Short(Vec<u16>),
@@ -29,7 +29,7 @@ impl Model for Numbers {
     ghost view = { λ n. numbers_in n.kept };
 }
 
-/// The numbers in the 4 bytes each in which a certificate holds them. Fails only if allocation fails.
+/// Returns the numbers with 4 bytes each, as a certificate stores them.
 pub fn short_numbers(alloc: Global, numbers: &[usize]) -> Result<Vec<u32>, AllocError>
     requires { All (λ n. n < 2 ^ 32) numbers.now }
     ensures { IfOk result (λ short. short.items ≡ numbers.now) }
@@ -41,7 +41,7 @@ pub fn short_numbers(alloc: Global, numbers: &[usize]) -> Result<Vec<u32>, Alloc
     Ok(short)
 }
 
-/// The numbers followed by `last`, as numbers of 4 bytes. Fails only if allocation fails.
+/// Returns the numbers followed by `last`, with 4 bytes each.
 fn longer(alloc: Global, numbers: &[u16], last: u32) -> Result<Vec<u32>, AllocError>
     ensures { IfOk result (λ all. all.items ≡ numbers.now ++ last ∷ []) }
 {
@@ -63,7 +63,7 @@ impl Numbers {
         }
     }
 
-    /// Returns how many numbers there are.
+    /// Returns the length of the list.
     pub(crate) fn len(&self) -> usize
         ensures { result ≡ length self.now }
     {
@@ -73,7 +73,7 @@ impl Numbers {
         }
     }
 
-    /// Appends a number. Fails only if allocation fails, and then leaves the list as it was.
+    /// Appends a number. On failure the list is unchanged.
     pub(crate) fn push(&mut self, alloc: Global, number: u32) -> Result<(), AllocError>
         ensures ok { OnOk result (self.new ≡ self.old ++ number ∷ []) }
         ensures err { OnErr result (self.new ≡ self.old) }
@@ -91,7 +91,7 @@ impl Numbers {
         Ok(())
     }
 
-    /// Keeps the first `len` numbers and drops the others.
+    /// Truncates the list to its first `len` numbers.
     pub(crate) fn truncate(&mut self, len: usize)
         ensures { self.new ≡ take len self.old }
     {
@@ -101,7 +101,7 @@ impl Numbers {
         }
     }
 
-    /// Appends numbers. Fails only if allocation fails, and then leaves the list as it was.
+    /// Appends numbers. On failure the list is unchanged.
     pub(crate) fn extend(&mut self, alloc: Global, more: &[u32]) -> Result<(), AllocError>
         ensures ok { OnOk result (self.new ≡ self.old ++ more.now) }
         ensures err { OnErr result (self.new ≡ self.old) }
@@ -135,7 +135,7 @@ impl Numbers {
         }
     }
 
-    /// Whether the state with this number has these values. Each state has as many values as there are here.
+    /// Returns whether the state with this number has these values. Each state has as many values as there are here.
     pub(crate) fn is_at(&self, state: usize, values: &[u32]) -> bool
         requires { state * length values.now + length values.now ≤ length self.now }
         ensures { result ≡ pointwise nat_eq (take (length values.now) (drop (state * length values.now) self.now)) values.now }
@@ -164,7 +164,7 @@ fn copy_short(numbers: &[u16], into: &mut [u32])
     }
 }
 
-/// Whether two lists of the same length have the same numbers.
+/// Returns whether two lists of the same length have the same numbers.
 fn are_same(numbers: &[u16], others: &[u32]) -> bool
     requires { length numbers.now ≡ length others.now }
     ensures { result ≡ pointwise nat_eq numbers.now others.now }

@@ -43,7 +43,7 @@ impl Values {
         }
     }
 
-    /// Appends a value. Fails only if allocation fails, and then leaves the list as it was.
+    /// Appends a value. On failure the list is unchanged.
     pub fn push(&mut self, value: Dist) -> Result<(), AllocError>
         ensures ok { OnOk result (self.new ≡ self.old ++ value ∷ []) }
         ensures err { OnErr result (self.new ≡ self.old) }
@@ -63,7 +63,7 @@ impl Values {
         self.kept.len()
     }
 
-    /// Whether there is no value.
+    /// Returns whether there is no value.
     pub fn is_empty(&self) -> bool
         ensures { result ≡ (length self.now == 0) }
     {
@@ -82,7 +82,7 @@ impl Values {
 /// A table of an abstraction: a pattern database, or a table of a domain abstraction.
 #[derive(Drop)]
 pub struct AbstractionTable {
-    /// What it keeps of a state. The variables are strictly increasing in a lawful certificate.
+    /// The mapping from states to abstract states. Its variables are strictly increasing in a lawful certificate.
     pub mapping: Mapping,
     /// The shares, whose operators are strictly increasing in a lawful certificate.
     pub shares: Vec<Share>,

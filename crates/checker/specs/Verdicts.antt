@@ -23,11 +23,11 @@ abbrev pub verdict_text : Verdict → List ℕ
 verdict_text (Accepted bound) = codes "accepted " ++ bound_text bound
 verdict_text (Rejected v) = codes "rejected " ++ violation_text v
 
--- the clauses with lesser numbers are met
+-- the clauses with numbers below `k` are satisfied
 abbrev pub AreMetBelow : FiniteDomainTask → CertificateValue → ℕ → Type 0
 AreMetBelow task c k = (j : ℕ) → j < k → IsMet task c j
 
--- the result of the tests of the clauses with lesser numbers: the first violation of the certificate, or none
+-- the result of the tests of the clauses with numbers below `k`: the first violation of the certificate, or none
 abbrev pub IsFoundBelow : FiniteDomainTask → CertificateValue → ℕ → Option Violation → Type 0
 IsFoundBelow task c k None = AreMetBelow task c k
 IsFoundBelow task c k (Some v) = IsFirstViolation task c v

@@ -7,7 +7,7 @@ use cert_text::CertFault;
 use sasfile::SasFault;
 use std::alloc::AllocError;
 
-/// Why there is no verdict on the texts of a task and of a certificate.
+/// The reason why there is no verdict on the texts of a task and of a certificate.
 #[derive(Clone, Copy, Debug, PartialEq, Eq)]
 pub enum CheckFault {
     /// Memory ran out. This does not depend on the texts.

@@ -15,7 +15,7 @@ use fdr::FdrTask;
 use std::alloc::{AllocError, Global};
 use std::thread::Threads;
 
-/// The first violation of the clauses on tables, C3 and C4. Fails only if allocation fails.
+/// Returns the first violation of the clauses on tables, C3 and C4.
 fn table_violation<R: Threads + Sync>(
     rt: &R,
     alloc: Global,
@@ -30,7 +30,7 @@ fn table_violation<R: Threads + Sync>(
     first_table_violation(rt, alloc, task, certificate)
 }
 
-/// The first violation of the clauses C6 to C8, where all earlier ones are met. Fails only if allocation fails.
+/// Returns the first violation of the clauses C6 to C8, if all earlier ones are satisfied.
 fn covering_violation<R: Threads + Sync>(
     rt: &R,
     alloc: Global,
@@ -52,8 +52,7 @@ fn covering_violation<R: Threads + Sync>(
     coverage.first_successor_violation(rt, alloc)
 }
 
-/// The first violation of the clauses on the closed list, C5 to C8, where those on tables are met. Fails only if
-/// allocation fails.
+/// Returns the first violation of the clauses on the closed list, C5 to C8, if those on tables are satisfied.
 fn closed_violation<R: Threads + Sync>(
     rt: &R,
     alloc: Global,
@@ -70,7 +69,7 @@ fn closed_violation<R: Threads + Sync>(
     covering_violation(rt, alloc, task, certificate, &coverage)
 }
 
-/// The first violation, if there is one. Fails only if allocation fails.
+/// Returns the first violation, or `None` if there is none.
 fn first_violation<R: Threads + Sync>(
     rt: &R,
     alloc: Global,
@@ -86,10 +85,10 @@ fn first_violation<R: Threads + Sync>(
 }
 
 /// Returns the verdict on a certificate for a task, whatever kind of task the certificate is for: `Accepted` with its
-/// bound if it meets the clauses C3 to C8, and else `Rejected` with its first violation. After `Accepted` every plan
-/// costs at least the bound, whoever wrote the certificate, and there is no plan if the bound is infinite. The verdict does not depend
-/// on how many threads test the tables and search a long closed list. Fails only if allocation fails, or if there are 2^32 closed
-/// states or more, as no text has.
+/// bound if it satisfies the clauses C3 to C8, and otherwise `Rejected` with its first violation. After `Accepted`
+/// every plan costs at least the bound, whoever wrote the certificate, and there is no plan if the bound is infinite.
+/// The verdict does not depend on the number of threads that test the tables and search a long closed list. Fails if
+/// allocation fails, or if there are 2^32 closed states or more, which no certificate text can have.
 pub fn check_fdr<R: AllocGlobal + Threads + Sync>(
     rt: &R,
     task: &FdrTask,

@@ -1,4 +1,4 @@
-//! Laws of verdicts. Each function states one in its contract; its body is empty.
+//! Laws of verdicts.
 
 ghost use Rattle.std.specs.Prelude.{◌≡◌, ◌<◌, ◌-◌, ◌^◌, ℕ, List, length};
 ghost use Rattle.fdr.specs.Tasks.{FiniteDomainTask};

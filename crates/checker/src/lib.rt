@@ -1,5 +1,5 @@
 //! The certificate checker for finite-domain tasks. It decides whether a certificate proves that every plan of a task
-//! costs at least its bound. It trusts neither the author of the certificate nor the search that it came from.
+//! costs at least its bound. It trusts neither the author of the certificate nor the search that produced it.
 #![tactic(auto)]
 
 mod fault;

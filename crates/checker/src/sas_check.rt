@@ -19,7 +19,7 @@ use sasfile::{SasFault, read_sas};
 use std::alloc::{AllocError, Global};
 use std::thread::Threads;
 
-/// Whether a certificate is for a finite-domain task.
+/// Returns whether a certificate is for a finite-domain task.
 fn is_for_finite_domain(kind: &CertificateKind) -> bool
     ensures { result ≡ is_for_finite_domain (kind_of kind.now) }
 {
@@ -32,8 +32,8 @@ fn is_for_finite_domain(kind: &CertificateKind) -> bool
 /// The line that states the kind of a certificate, counted from 1.
 const KIND_LINE: usize = 2;
 
-/// Reads the certificate for a finite-domain task that the text spells. Fails with the first fault of the text, or if
-/// allocation fails; a certificate for a planning task has the fault `Expected` on line 2.
+/// Reads the certificate for a finite-domain task that the text spells. Fails with the first fault of the text; a
+/// certificate for a planning task has the fault `Expected` on line 2.
 #[tactic(auto, using(crate::proofs::ShortTexts::read_short))]
 fn read_sas_certificate(alloc: Global, cert: &[u8]) -> Result<Certificate, CertFault>
     ensures found { IfOk result (λ c. SpellsSasCertificate cert.now c) }
@@ -47,7 +47,7 @@ fn read_sas_certificate(alloc: Global, cert: &[u8]) -> Result<Certificate, CertF
     }
 }
 
-/// Reads the task that the text spells. Fails with the first fault of the text, or if allocation fails.
+/// Reads the task that the text spells. Fails with the first fault of the text.
 fn read_task(alloc: Global, sas: &[u8]) -> Result<FdrTask, CheckFault>
     ensures found { IfOk result (λ task. SpellsTask sas.now task) }
     ensures fault { IfErr result (IsSasRefusal sas.now) }
@@ -59,7 +59,7 @@ fn read_task(alloc: Global, sas: &[u8]) -> Result<FdrTask, CheckFault>
     }
 }
 
-/// Reads the certificate that the text spells. Fails with the first fault of the text, or if allocation fails.
+/// Reads the certificate that the text spells. Fails with the first fault of the text.
 fn read_certificate(alloc: Global, cert: &[u8]) -> Result<Certificate, CheckFault>
     ensures found { IfOk result (λ c. SpellsSasCertificate cert.now c) }
     ensures fault { IfErr result (IsCertRefusal cert.now) }
@@ -71,10 +71,10 @@ fn read_certificate(alloc: Global, cert: &[u8]) -> Result<Certificate, CheckFaul
     }
 }
 
-/// Returns the verdict on the text of a certificate for the text of a task (`output.sas`). It is `Accepted` with a
-/// bound if the certificate that the one text spells has that bound and meets the clauses C3 to C8 for the task that
-/// the other spells, and else `Rejected` with the first violation. After `Accepted` every plan of the task costs at
-/// least the bound, whoever wrote the certificate, and there is no plan if the bound is infinite.
+/// Returns the verdict on the text of a certificate for the text of a task (`output.sas`). It is `Accepted` with the
+/// certificate's bound if the certificate satisfies the clauses C3 to C8 for the task, and otherwise `Rejected` with
+/// the first violation. After `Accepted` every plan of the task costs at least the bound, whoever wrote the
+/// certificate, and there is no plan if the bound is infinite.
 ///
 /// Fails with the first fault of the task's text, or else with the first fault of the certificate's text, or if
 /// allocation fails.
@@ -96,7 +96,7 @@ pub fn check_sas<R: AllocGlobal + Threads + Sync>(
     Ok(verdict)
 }
 
-/// The same as `check_sas`, but each text is dropped as soon as it has been read, so that a certificate with millions
+/// Does the same as `check_sas`, but drops each text as soon as it has been read, so that a certificate with millions
 /// of states is checked without its text in memory.
 pub fn check_sas_owned<R: AllocGlobal + Threads + Sync>(
     rt: &R,

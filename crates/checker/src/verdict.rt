@@ -5,7 +5,7 @@ use cost::Dist;
 use std::fmt;
 
 /// The verdict on a certificate for a finite-domain task. It prints as `accepted N`, as `accepted unsolvable`, or as
-/// `rejected` with clause and place.
+/// `rejected` with the clause and the first place at fault.
 #[derive(Clone, Copy, Debug, PartialEq, Eq)]
 pub enum Verdict {
     /// Every plan costs at least this much. If it is infinite, there is no plan.

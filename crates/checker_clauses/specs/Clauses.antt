@@ -85,7 +85,7 @@ comes_before xs [] = false
 comes_before [] (y ∷ ys) = true
 comes_before (x ∷ xs) (y ∷ ys) = if x == y then comes_before xs ys else nat_lt x y
 
--- the state of the entry before the one at a place, if there is one, is lexicographically less
+-- the state of the entry before the one at index `i`, if there is one, is lexicographically less
 abbrev pub is_behind : List Entry → ℕ → List ℕ → Bool
 is_behind closed i state =
     if i == 0 then true else option_map_or (λ e. comes_before e.state state) (slice_get closed (i - 1)) true

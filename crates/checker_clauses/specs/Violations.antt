@@ -46,7 +46,7 @@ place_of Start = []
 place_of (ClosedGoal i) = i ∷ []
 place_of (Successor i o) = i ∷ o ∷ []
 
--- the certificate meets the clause: it has no violation of it
+-- the certificate satisfies the clause: it has no violation of it
 abbrev pub IsMet : FiniteDomainTask → CertificateValue → ℕ → Type 0
 IsMet task c k = (v : Violation) → clause_of v ≡ k → Violates task c v → ⊥
 
@@ -60,7 +60,7 @@ abbrev pub IsFoundIn : FiniteDomainTask → CertificateValue → ℕ → Option 
 IsFoundIn task c k None = IsMet task c k
 IsFoundIn task c k (Some v) = (clause_of v ≡ k) × IsFirstOfClause task c v
 
--- the certificate has this violation, and none before it: every earlier clause is met
+-- the certificate has this violation, and none before it: every earlier clause is satisfied
 pub record IsFirstViolation (task : FiniteDomainTask) (c : CertificateValue) (v : Violation) : Type 0 where
   pub of_clause : IsFirstOfClause task c v
   pub before : (k : ℕ) → k < clause_of v → IsMet task c k

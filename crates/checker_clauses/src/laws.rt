@@ -1,5 +1,4 @@
-//! Laws of the clauses, for every task and every certificate. Each function states one in its contract; its body is
-//! empty.
+//! Laws of the clauses, for every task and every certificate.
 
 ghost use Rattle.std.specs.Prelude.{◌≡◌, ℕ, ◌<◌, true, false, [], ◌∷◌, ◌⊎◌};
 ghost use Rattle.cost.specs.Distances.{Finite, Infinite};

@@ -1,4 +1,4 @@
-//! The clauses that a certificate for a finite-domain task must meet, and the law that they imply its bound.
+//! The clauses that a certificate for a finite-domain task must satisfy, and the law that they imply its bound.
 #![tactic(auto)]
 
 mod laws;

@@ -9,9 +9,9 @@ pub enum Violation {
     /// C3: in a column the shares of an operator sum to more than its cost, or a table lists an operator that does not
     /// exist. The numbers are those of the column and the operator.
     Shares(usize, usize),
-    /// C4: the variables of a table are not strictly increasing, one of them does not exist, a row does not have a class
-    /// for each value of its variable and no more, there are too many abstract states, or another number of values. The
-    /// numbers are those of the column and of the table in it.
+    /// C4: the variables of a table are not strictly increasing, one of them does not exist, a row does not have
+    /// exactly one class for each value of its variable, there are too many abstract states, or another number of
+    /// values. The numbers are those of the column and of the table in it.
     TableForm(usize, usize),
     /// C4: an abstract goal has a value other than 0. The numbers are those of the column, the table and the abstract
     /// state.
@@ -20,14 +20,14 @@ pub enum Violation {
     /// are those of the column, the table, the abstract state and the operator.
     Fall(usize, usize, usize, usize),
     /// C5: an entry of the closed list is not a state of the task, or not lexicographically greater than the one before
-    /// it. The number is its place.
+    /// it. The number is its index.
     ClosedState(usize),
     /// C6: the initial state is not in the closed list with the cost 0, and its heuristic value is below the bound.
     Start,
-    /// C7: a goal state in the closed list costs less than the bound. The number is its place.
+    /// C7: a goal state in the closed list costs less than the bound. The number is its index.
     ClosedGoal(usize),
     /// C8: the successor of a closed state is not in the closed list with at most its cost, and that cost and its
-    /// heuristic value sum to less than the bound. The numbers are the place of the closed state and the number of the
+    /// heuristic value sum to less than the bound. The numbers are the index of the closed state and the number of the
     /// operator.
     Successor(usize, usize),
 }

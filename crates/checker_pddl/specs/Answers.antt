@@ -48,7 +48,7 @@ pub record IsAnswer (domain problem cert : List ℕ) (verdict : PlanningVerdict)
 abbrev pub IsCertificateFault : List ℕ → CertFault → Type 0
 IsCertificateFault cert e = (certificate_of cert ≡ Err e) ⊎ ((e ≡ cert_fault.Expected 2) × SpellsOther cert)
 
--- There is no verdict on this certificate for the task: allocation failed, or a limit is passed.
+-- There is no verdict on this certificate for the task: allocation failed, or a limit is exceeded.
 abbrev pub IsUnjudged : Judged → PlanningCheckFault → Type 0
 IsUnjudged j OutOfMemory = Unit {0}
 IsUnjudged j GroundLimit = IsFirstFault j.task (atoms_of j) (placed_of j) fault.GroundLimit
@@ -56,7 +56,7 @@ IsUnjudged j (Limit l) = IsFirstFault j.task (atoms_of j) (placed_of j) (fault.L
 IsUnjudged j (Task e) = ⊥
 IsUnjudged j (Cert e) = ⊥
 
--- There is no verdict on a certificate: it is for a finite-domain task, or there is none on the parts that it lists.
+-- There is no verdict on a certificate: it is for a finite-domain task, or the parts that it lists have no verdict.
 abbrev pub IsUnanswered : PlanningTask → CertificateValue → PlanningCheckFault → Type 0
 IsUnanswered task c e =
     ((c.kind ≡ FiniteDomain) × (e ≡ Cert (cert_fault.Expected 2)))

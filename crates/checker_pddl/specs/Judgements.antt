@@ -51,11 +51,11 @@ placed_of j = map listed j.variables
 abbrev pub finite_domain_task : Judged → FiniteDomainTask
 finite_domain_task j = translation j.task (variables_at (atoms_of j) (placed_of j)) (actions_over j.task (contains (atoms_of j)))
 
--- the words of the listed atom at this place
+-- the text of the listed atom at index `k`
 abbrev pub IsListedText : Judged → ℕ → List ℕ → Type 0
 IsListedText j k text = IsSomeAnd (slice_get j.words k) (λ words. text ≡ words_text words)
 
--- the violation that the first fault of atoms and variables stands for
+-- the violation that the first fault of atoms and variables denotes
 abbrev pub IsPlaceOf : Judged → TranslateFault → PlanningViolation → Type 0
 IsPlaceOf j (fault.BadAtom k) (Atom text) = IsListedText j k (string_bytes text)
 IsPlaceOf j (fault.Missing p) (Atom text) = string_bytes text ≡ words_text (words_of j.task.vocabulary p)
@@ -67,7 +67,7 @@ IsPlaceOf j (fault.Uncovered k) (Uncovered text) = IsListedText j k (string_byte
 IsPlaceOf j e v = ⊥
 
 -- The certificate is accepted with its bound if its atoms and variables are fit for the task and it has no violation
--- for the finite-domain task over them, and else rejected with its first violation.
+-- for the finite-domain task over them, and otherwise rejected with its first violation.
 abbrev pub IsPlanningVerdict : Judged → CertificateValue → PlanningVerdict → Type 0
 IsPlanningVerdict j c (Accepted bound) =
     AreFit j.task (atoms_of j) (placed_of j) × IsVerdict (finite_domain_task j) c (over_variables.Accepted bound)

@@ -27,7 +27,7 @@ use std::thread::Threads;
 /// The line that states the kind of a certificate, counted from 1.
 const KIND_LINE: usize = 2;
 
-/// Reads the task that the texts spell. Fails with the first fault of the texts, or if allocation fails.
+/// Reads the task that the texts spell. Fails with the first fault of the texts.
 fn read_planning_task(
     alloc: Global,
     domain: &[u8],
@@ -45,7 +45,7 @@ fn read_planning_task(
     }
 }
 
-/// Reads the certificate that the text spells. Fails with the first fault of the text, or if allocation fails.
+/// Reads the certificate that the text spells. Fails with the first fault of the text.
 #[tactic(auto, using(checker::proofs::ShortTexts::read_short))]
 fn read_certificate(alloc: Global, cert: &[u8]) -> Result<Certificate, PlanningCheckFault>
     ensures found { IfOk result (λ c. IsLawful c × (cert.now ≡ spelling c) × (length cert.now ≤ 2 ^ 30)) }
@@ -58,8 +58,8 @@ fn read_certificate(alloc: Global, cert: &[u8]) -> Result<Certificate, PlanningC
     }
 }
 
-/// The verdict on a certificate for a task. Fails if the certificate is not for a planning task, if a limit is passed,
-/// or if allocation fails.
+/// Returns the verdict on a certificate for a task. Fails if the certificate is not for a planning task, if a limit is
+/// exceeded, or if allocation fails.
 fn answer<R: AllocGlobal + Threads + Sync>(
     rt: &R,
     task: &Task,
@@ -81,8 +81,8 @@ fn answer<R: AllocGlobal + Threads + Sync>(
     }
 }
 
-/// The verdict on the text of a certificate for the task that texts spell. Fails with the first fault of the
-/// certificate's text, if a limit is passed, or if allocation fails.
+/// Returns the verdict on the text of a certificate for a task. Fails with the first fault of the certificate's text,
+/// if a limit is exceeded, or if allocation fails.
 fn answer_to<R: AllocGlobal + Threads + Sync>(
     rt: &R,
     task: &Task,
@@ -99,13 +99,13 @@ fn answer_to<R: AllocGlobal + Threads + Sync>(
     answer(rt, task, &certificate)
 }
 
-/// Returns the verdict on the text of a certificate for the planning task that two texts spell. It is `Accepted` with a
-/// bound if the text spells a certificate with that bound that meets the clauses C1 to C8 for the task, and else
-/// `Rejected` with the first violation. After `Accepted` every valid plan of the task costs at least the bound, whoever
-/// wrote the certificate, and there is no valid plan if the bound is infinite.
+/// Returns the verdict on the text of a certificate for the planning task that two texts spell. It is `Accepted` with
+/// the certificate's bound if the certificate satisfies the clauses C1 to C8 for the task, and otherwise `Rejected`
+/// with the first violation. After `Accepted` every valid plan of the task costs at least the bound, whoever wrote the
+/// certificate, and there is no valid plan if the bound is infinite.
 ///
 /// Fails with the first fault of the task's texts; or else with the first fault of the certificate's text; or if a
-/// limit on atoms, actions, variables or values is passed; or if allocation fails.
+/// limit on atoms, actions, variables or values is exceeded; or if allocation fails.
 pub fn check_pddl<R: AllocGlobal + Threads + Sync>(
     rt: &R,
     domain: &[u8],

@@ -8,7 +8,7 @@ use fdr::TaskLimit;
 use pddl::PddlFault;
 use std::alloc::{AllocError, AllocFailed};
 
-/// Why there is no verdict on the texts of a planning task and of a certificate.
+/// The reason why there is no verdict on the texts of a planning task and of a certificate.
 #[derive(Debug, Drop)]
 pub enum PlanningCheckFault {
     /// Memory ran out. This does not depend on the texts.

@@ -26,7 +26,7 @@ use translate::with_variables;
 use translate_theory::ListedVariable;
 use translate_vars::TranslateFault;
 
-/// The words of the listed atom at the place. Fails only if allocation fails.
+/// Returns the text of the listed atom at this index.
 fn listed_text(
     alloc: Global,
     task: &Task,
@@ -40,8 +40,8 @@ fn listed_text(
     words_text(alloc, &parts.atoms[place])
 }
 
-/// The violation that the first fault of the listed atoms and variables stands for. Fails if the fault is a passed
-/// limit, or if allocation fails.
+/// Returns the violation that the first fault of the listed atoms and variables denotes. Fails if the fault is an
+/// exceeded limit, or if allocation fails.
 fn place_of(
     alloc: Global,
     task: &Task,
@@ -74,7 +74,7 @@ fn place_of(
     }
 }
 
-/// The verdict on the certificate for a finite-domain task. Fails only if allocation fails.
+/// Returns the verdict on the certificate for a finite-domain task.
 fn verdict_over<R: AllocGlobal + Threads + Sync>(
     rt: &R,
     task: &FdrTask,
@@ -109,11 +109,11 @@ fn listed_parts(alloc: Global, task: &Task, parts: &AtomParts) -> Result<Listed,
 }
 
 /// Returns the verdict on a certificate with these parts for a planning task: `Accepted` with its bound if the atoms
-/// and variables are fit for the task (C1 and C2) and the finite-domain task over them meets the clauses C3 to C8, and
-/// else `Rejected` with the first violation. After `Accepted` every valid plan costs at least the bound, whoever wrote
-/// the certificate, and there is no valid plan if the bound is infinite.
+/// and variables satisfy C1 and C2 for the task and the finite-domain task over them satisfies the clauses C3 to C8,
+/// and otherwise `Rejected` with the first violation. After `Accepted` every valid plan costs at least the bound,
+/// whoever wrote the certificate, and there is no valid plan if the bound is infinite.
 ///
-/// Fails only if a limit on atoms, actions, variables or values is passed, or if allocation fails.
+/// Fails if a limit on atoms, actions, variables or values is exceeded, or if allocation fails.
 pub fn judge<R: AllocGlobal + Threads + Sync>(
     rt: &R,
     task: &Task,

@@ -1,6 +1,6 @@
 //! The certificate checker for planning tasks. From the texts of a task and of a certificate it decides whether the
 //! certificate proves that every valid plan of the task costs at least its bound. It trusts neither the author of the
-//! certificate nor the search that it came from.
+//! certificate nor the search that produced it.
 #![tactic(auto)]
 
 mod checking;

@@ -1,4 +1,4 @@
-//! The atoms that the words of a certificate name.
+//! The atoms that a certificate lists by name.
 
 ghost use Rattle.std.specs.Prelude.{◌≡◌, ◌++◌, ◌∷◌, [], map, slice_index_or, IfOk, OnOk, string_bytes};
 ghost use Rattle.std.specs.List.{flat_map};
@@ -14,8 +14,7 @@ use smallvec::SmallVec;
 use std::alloc::{AllocError, Global};
 use translate_theory::ListedVariable;
 
-/// The numbers of the objects with these names. A name of no object has the number after all of them. Fails only if
-/// allocation fails.
+/// Returns the numbers of the objects with these names. A name of no object gets the number after all of them.
 fn object_numbers(
     alloc: Global,
     names: &Names,
@@ -30,7 +29,7 @@ fn object_numbers(
     Ok(numbers)
 }
 
-/// The atom with this predicate and these objects, given by their names. Fails only if allocation fails.
+/// Returns the atom with this predicate and these objects, given by their names.
 #[tactic(auto, using(crate::proofs::Lists::map_map))]
 fn named_by(
     alloc: Global,
@@ -45,7 +44,7 @@ fn named_by(
     Ok(GroundAtom::new(number, objects))
 }
 
-/// The atom that the words name. Fails only if allocation fails.
+/// Returns the atom that the names denote: the predicate's, then those of its objects.
 #[tactic(auto, using(crate::proofs::Lists::map_map))]
 fn named_atom(alloc: Global, names: &Vocabulary, words: &[String]) -> Result<GroundAtom, AllocError>
     ensures { IfOk result (λ p. p ≡ named names.now (texts_of words.now)) }
@@ -56,8 +55,8 @@ fn named_atom(alloc: Global, names: &Vocabulary, words: &[String]) -> Result<Gro
     }
 }
 
-/// The atoms that a certificate lists by their words. Words that do not name an atom give one that the task does not
-/// have. Fails only if allocation fails.
+/// Returns the atoms that a certificate lists by names. Names that do not denote an atom result in one that the task
+/// does not have.
 pub(crate) fn named_atoms(
     alloc: Global,
     names: &Vocabulary,
@@ -82,7 +81,7 @@ fn places_of(alloc: Global, numbers: &[u32]) -> Result<Vec<usize>, AllocError>
     Ok(places)
 }
 
-/// The variables of a certificate. Fails only if allocation fails.
+/// Returns the variables of a certificate.
 pub(crate) fn listed_variables(
     alloc: Global,
     variables: &[AtomVariable],
@@ -99,7 +98,7 @@ pub(crate) fn listed_variables(
     Ok(listed)
 }
 
-/// Appends words to a text, each after a blank.
+/// Appends names to a text, each after a blank.
 fn push_words(text: &mut String, words: &[String]) -> Result<(), AllocError>
     ensures { OnOk result (string_bytes text.new ≡ string_bytes text.old ++ flat_map (λ w. 32 ∷ string_bytes w) words.now) }
 {
@@ -110,7 +109,7 @@ fn push_words(text: &mut String, words: &[String]) -> Result<(), AllocError>
     Ok(())
 }
 
-/// Appends words to a text, with blanks between them.
+/// Appends names to a text, with blanks between them.
 #[tactic(auto, using(crate::proofs::Lists::appending))]
 fn push_joined(text: &mut String, words: &[String]) -> Result<(), AllocError>
     ensures { OnOk result (string_bytes text.new ≡ string_bytes text.old ++ joined 32 (texts_of words.now)) }
@@ -124,7 +123,7 @@ fn push_joined(text: &mut String, words: &[String]) -> Result<(), AllocError>
     }
 }
 
-/// Words with blanks between them, in parentheses. Fails only if allocation fails.
+/// Returns names with blanks between them, in parentheses.
 #[tactic(auto, using(crate::proofs::Lists::appending))]
 pub(crate) fn words_text(alloc: Global, words: &[String]) -> Result<String, AllocError>
     ensures { IfOk result (λ text. string_bytes text ≡ words_text (texts_of words.now)) }
@@ -147,7 +146,7 @@ fn push_objects(text: &mut String, names: &Names, objects: &[usize]) -> Result<(
     Ok(())
 }
 
-/// The names of an atom of the task, in the form of `words_text`. Fails only if allocation fails.
+/// Returns the names of an atom of the task, in the form of `words_text`.
 #[tactic(auto, using(crate::proofs::Lists::appending))]
 pub(crate) fn atom_text(
     alloc: Global,

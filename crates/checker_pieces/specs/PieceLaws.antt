@@ -1,4 +1,4 @@
--- The first violation that pieces have is the first among all places.
+-- The first violation of the pieces is the first among all items.
 use Rattle.std.proofs.Common.{◌≡◌, ◌⊎◌, ℕ, zero, suc, ◌+◌, ◌<◌, ◌≤◌, List, length, Option, Some, None, Ok, arith, add-one, inl, inr, ⊎_elim, le_refl}
 use Rattle.std.specs.Prelude.{slice_get, slice_index_or, IfOk}
 use Rattle.std.proofs.lemmas.Bool.{cases_lt}
@@ -8,7 +8,7 @@ use Rattle.checker_pieces.specs.Pieces.{Piece, IsFirstIn, IsFirstOf, IsFirstOfPi
 
 module _ (says : ℕ → Option Violation → Type 0) (start : ℕ → ℕ) (pieces : List Piece)
     (found : (k : ℕ) (r : Piece) → slice_get pieces k ≡ Some r → IfOk r (IsFirstIn says (start k) (start (k + 1)))) (first : start 0 ≡ 0) where
-  -- no place before a piece has a violation where no piece before it has one
+  -- no item before a piece has a violation if no piece before it has one
   none_before : (k : ℕ) → ((j : ℕ) → j < k → slice_get pieces j ≡ Some (Ok None)) → (i : ℕ) → i < start k → says i None
   none_before zero none i l = absurd (omega (arith, l, first))
   none_before (suc k) none i l = go (none_before k (λ j n. none j (omega (arith, n))) i) (found k (Ok None) (none k (omega arith))) (cases_lt i (start k))
@@ -28,11 +28,11 @@ module _ (says : ℕ → Option Violation → Type 0) (start : ℕ → ℕ) (pie
       go j m (inl n) = none_before is.0 is.2 j n
       go j m (inr n) = here.4 j n m
 
--- no piece begins behind the end
+-- no piece begins after the end
 starts_within : (len : ℕ) (starts : List ℕ) → AreStarts len starts → (k : ℕ) → slice_index_or starts k len ≤ len
 starts_within len starts are k = ⊎_elim (λ l. are.within k len l) (λ past. rw (get_or_past starts k len past) (le_refl len)) (cases_lt k (length starts))
 
--- the first violation of pieces is the first of all places, where the search gives the first of each piece
+-- the first violation of pieces is the first of all items, if the search finds the first of each piece
 pub first_among : (says : ℕ → Option Violation → Type 0) (gives : ℕ → ℕ → Piece → Type 0) (len : ℕ)
     → ((start end : ℕ) (p : Piece) → gives start end p → IfOk p (IsFirstIn says start end))
     → (found : Option Violation) → IsFirstOfPieces gives len found → IsFirstIn says 0 len found

@@ -1,15 +1,15 @@
--- A list of places in pieces, each of which is searched for its first violation.
+-- A list of items in pieces, each of which is searched for its first violation.
 use Rattle.std.specs.Prelude.{◌≡◌, ℕ, ◌+◌, ◌<◌, ◌≤◌, All, List, length, slice_get, slice_index_or, Option, Some, None, Result, Ok}
 use Rattle.std.specs.declared.alloc.AllocError.{AllocError}
 use Rattle.checker_clauses.specs.declared.violation.Violation.{Violation}
 
--- the first violation at the places from start on, before end, or none, where the test of one place says this
+-- the first violation among the items from `start` on and before `end`, or none, if `says` is the test of one item
 abbrev pub IsFirstIn : (ℕ → Option Violation → Type 0) → ℕ → ℕ → Option Violation → Type 0
 IsFirstIn says start end None = (i : ℕ) → start ≤ i → i < end → says i None
 IsFirstIn says start end (Some v) =
     (i : ℕ) × (start ≤ i) × (i < end) × says i (Some v) × ((j : ℕ) → start ≤ j → j < i → says j None)
 
--- what a piece gives: the first violation at its places, if memory did not run out
+-- the result of a piece: the first violation among its items, if memory did not run out
 abbrev pub Piece : Type 0
 Piece = Result (Option Violation) AllocError
 
@@ -18,16 +18,17 @@ abbrev pub IsFirstOf : List Piece → Option Violation → Type 0
 IsFirstOf pieces None = (k : ℕ) → k < length pieces → slice_get pieces k ≡ Some (Ok None)
 IsFirstOf pieces (Some v) = (k : ℕ) × (slice_get pieces k ≡ Some (Ok (Some v))) × ((j : ℕ) → j < k → slice_get pieces j ≡ Some (Ok None))
 
--- pieces that begin at these places have all of this many places: each of them ends where the next one begins, and the last one at the end
+-- pieces that begin at `starts` cover `len` items: each of them ends at the start of the next one, and the last one at
+-- the end
 pub record AreStarts (len : ℕ) (starts : List ℕ) : Type 0 where
   pub first : slice_index_or starts 0 len ≡ 0
   pub within : All (λ s. s ≤ len) starts
 
--- a search may be called for the places of any piece of this many
+-- a search may be called for the items of any piece of `len` items
 abbrev pub AcceptsPieces : (ℕ → ℕ → Type 0) → ℕ → Type 0
 AcceptsPieces pre len = (start end : ℕ) → end ≤ len → pre start end
 
--- the first violation of pieces that have all of this many places, where the search gives this for each of them
+-- the first violation of pieces that cover `len` items, if `gives` holds for each of them
 pub record IsFirstOfPieces (gives : ℕ → ℕ → Piece → Type 0) (len : ℕ) (found : Option Violation) : Type 0 where
   pub pieces : List Piece
   pub starts : List ℕ

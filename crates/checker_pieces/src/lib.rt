@@ -1,5 +1,5 @@
-//! The first violation among places of one kind, such as closed states or tables, which are cut in pieces that threads search side by
-//! side.
+//! The first violation among items of one kind, such as closed states or tables, which are cut into pieces that threads
+//! search in parallel.
 #![tactic(auto)]
 
 mod pieces;

@@ -1,4 +1,4 @@
-//! The first violation of pieces, which threads search side by side.
+//! The first violation of pieces, which threads search in parallel.
 
 ghost use Rattle.std.specs.Prelude.{◌≡◌, ◌<◌, ◌+◌, length, slice_index_or, IfOk};
 ghost use Rattle.checker_pieces.specs.Pieces.{IsFirstOf, AreStarts, AcceptsPieces, IsFirstOfPieces};
@@ -9,7 +9,7 @@ use std::alloc::{AllocError, Global};
 use std::thread;
 use std::thread::Threads;
 
-/// The violation of the first of these pieces that has one. Fails if memory ran out in a piece before it.
+/// Returns the violation of the first of these pieces that has one. Fails if memory ran out in a piece before it.
 fn first_of(
     pieces: &[Result<Option<Violation>, AllocError>],
 ) -> Result<Option<Violation>, AllocError>
@@ -23,8 +23,8 @@ fn first_of(
     Ok(None)
 }
 
-/// The first violation among this many places, of pieces that begin at `starts`, each of which a thread searches. Fails if a piece does
-/// before one has a violation, or if allocation fails.
+/// Returns the first violation among `len` items, in pieces that begin at `starts`, each of which a thread searches.
+/// Fails if a piece fails before one has a violation, or if allocation fails.
 fn first_from_starts<
     R: Threads + Sync,
     F: Fn(usize, usize) -> Result<Option<Violation>, AllocError> + Sync,
@@ -59,11 +59,12 @@ fn first_from_starts<
     first_of(&found)
 }
 
-/// The first violation among this many places, which are cut in pieces of about the same number of places: four for each processor, at
-/// most 64, and one alone where there are few places. Threads search the pieces side by side. `find` gives the first violation of a piece, from the
-/// place `start` on and before `end`. The violation does not depend on how many pieces there are.
+/// Returns the first violation among `len` items, which are cut into pieces of about the same number of items: four for
+/// each processor, at most 64, and only one if there are few items. Threads search the pieces in parallel. `find`
+/// returns the first violation of a piece, from the item `start` on and before `end`. The violation does not depend on
+/// the number of pieces.
 ///
-/// Fails if `find` does for a piece and for none before it finds a violation, or if allocation fails.
+/// Fails if `find` fails for a piece and finds no violation in a piece before it, or if allocation fails.
 pub fn first_in_pieces<
     R: Threads + Sync,
     F: Fn(usize, usize) -> Result<Option<Violation>, AllocError> + Sync,
@@ -75,8 +76,8 @@ pub fn first_in_pieces<
     first_from_starts(rt, alloc, &starts, len, find)
 }
 
-/// As `first_in_pieces`, for a place for each of the weights, in pieces of about the same weight. The weights say how long the places
-/// take: one of 1 about as long as one closed state.
+/// Does the same as `first_in_pieces` with an item for each of the weights, in pieces of about the same weight. The
+/// weights estimate how long the items take: weight 1 is about as long as one closed state.
 pub fn first_in_weighed_pieces<
     R: Threads + Sync,
     F: Fn(usize, usize) -> Result<Option<Violation>, AllocError> + Sync,

@@ -1,4 +1,4 @@
-//! Where pieces of a list of places begin.
+//! The starts of the pieces of a list of items.
 
 ghost use Rattle.std.specs.Prelude.{◌≡◌, ◌<◌, ◌≤◌, length, slice_index_or, IfOk};
 ghost use Rattle.checker_pieces.specs.Pieces.{AreStarts};
@@ -11,14 +11,15 @@ use std::thread::Threads;
 /// The greatest number of pieces.
 const MAX_PIECES: usize = 64;
 
-/// The least work for which another thread is worth its start, in places of a weight of 1.
+/// The least work for which another thread is worth its start, in items of weight 1.
 const WORK_OF_A_THREAD: usize = 4096;
 
-/// How many pieces there are for each processor. The places of some pieces take longer than those of others, so with one piece each
-/// some processors would have nothing to do at the end.
+/// The number of pieces for each processor. The items of some pieces take longer than those of others, so with one
+/// piece each some processors would be idle at the end.
 const PIECES_OF_A_PROCESSOR: usize = 4;
 
-/// How many pieces so much work is cut in: some for each processor, but no more than it is worth.
+/// Returns the number of pieces into which the work is cut: `PIECES_OF_A_PROCESSOR` for each processor, but at most as
+/// many as the work is worth.
 pub(crate) fn piece_count(rt: &impl Threads, work: usize) -> usize
     ensures some { 0 < result }
     ensures few { result ≤ 64 }
@@ -30,7 +31,7 @@ pub(crate) fn piece_count(rt: &impl Threads, work: usize) -> usize
         .clamp(1, MAX_PIECES)
 }
 
-/// Where `pieces` pieces of about the same number of places begin. Fails only if allocation fails.
+/// Returns the starts of `pieces` pieces of about the same number of items.
 pub(crate) fn equal_starts(
     alloc: Global,
     len: usize,
@@ -48,7 +49,7 @@ pub(crate) fn equal_starts(
     Ok(starts)
 }
 
-/// The sum of the weights, or the greatest number if it is out of range.
+/// Returns the sum of the weights, or the greatest number if it is out of range.
 pub(crate) fn weight_of(weights: &[usize]) -> usize {
     let mut sum = 0_usize;
     for weight in weights {
@@ -57,8 +58,8 @@ pub(crate) fn weight_of(weights: &[usize]) -> usize {
     sum
 }
 
-/// Where at most `pieces` pieces of about the same weight begin, of places with these weights. A piece ends before the place in which
-/// it would pass its share by half the weight of the place. Fails only if allocation fails.
+/// Returns the starts of at most `pieces` pieces of about the same weight, of items with these weights. A piece ends
+/// before the first item of which half the weight would reach the end of its share.
 pub(crate) fn weighed_starts(
     alloc: Global,
     weights: &[usize],
@@ -82,7 +83,7 @@ pub(crate) fn weighed_starts(
     Ok(starts)
 }
 
-/// Where the piece of that number begins, or where all end if there is none.
+/// Returns the start of the piece with this number, or `len` if there is none.
 pub(crate) fn start_at(starts: &[usize], piece: usize, len: usize) -> usize
     ensures { result ≡ slice_index_or starts.now piece len }
 {

@@ -1,5 +1,5 @@
--- The hash of a state, and what is taken of it: the part of an index in which the state is looked for, the number that leads to its
--- home there, and a tag.
+-- The hash of a state, and what is derived from it: the part of an index that holds the state, the number that
+-- determines its home slot there, and a tag.
 use Rattle.std.specs.Prelude.{ℕ, ◌+◌, ◌*◌, ◌/◌, ◌%◌, ◌^◌, List, [], ◌∷◌}
 use Rattle.slots.specs.Slots.{home_of}
 
@@ -16,11 +16,11 @@ hash_from hash (multiplier ∷ multipliers) (value ∷ values) = hash_from (mixe
 abbrev pub hash_of : List ℕ → List ℕ → ℕ
 hash_of multipliers state = hash_from 0 multipliers state
 
--- the part of an index in which a state with this hash is looked for, where there are this many parts
+-- the part, of `parts`, of the index that holds the states with this hash
 abbrev pub part_of : ℕ → ℕ → ℕ
 part_of hash parts = home_of (hash / 2 ^ 32) parts
 
--- the number that leads to the home of a state with this hash in its part
+-- the number that determines the home slot of a state with this hash in its part
 unfoldable pub number_of : ℕ → ℕ → ℕ
 number_of hash parts = hash / 2 ^ 32 * parts % 2 ^ 32
 

@@ -1,4 +1,4 @@
--- The tests of single places of a closed list. They pass where there is no such place.
+-- The tests of single closed states, by index. They pass if there is no state at the index.
 use Rattle.std.specs.Prelude.{◌≡◌, ℕ, ◌<◌, Bool, true, false, ◌&&◌, List, slice_get, Option, Some, None}
 use Rattle.std.specs.Option.{option_map_or}
 use Rattle.fdr.specs.Tasks.{FiniteDomainTask, ranges}
@@ -37,17 +37,18 @@ abbrev pub IsFirstFailing : (ℕ → Bool) → Option ℕ → Type 0
 IsFirstFailing test None = PassesAll test
 IsFirstFailing test (Some i) = (test i ≡ false) × PassesBelow test i
 
--- what the clause C5 says of the closed state at a place
+-- the result of the clause C5 for the closed state at index `i`
 abbrev pub says_state : FiniteDomainTask → CertificateValue → ℕ → Option Violation → Type 0
 says_state task c i None = passes_state task c.closed i ≡ true
 says_state task c i (Some v) = (v ≡ ClosedState i) × (passes_state task c.closed i ≡ false)
 
--- what the clause C7 says of the closed state at a place
+-- the result of the clause C7 for the closed state at index `i`
 abbrev pub says_goal : FiniteDomainTask → CertificateValue → ℕ → Option Violation → Type 0
 says_goal task c i None = passes_goal task c i ≡ true
 says_goal task c i (Some v) = (v ≡ ClosedGoal i) × (passes_goal task c i ≡ false)
 
--- what the clause C8 says of the closed state at a place: all its successors are covered, or the first that is not
+-- the result of the clause C8 for the closed state at index `i`: all its successors are covered, or the first that is
+-- not
 abbrev pub says_successor : FiniteDomainTask → CertificateValue → ℕ → Option Violation → Type 0
 says_successor task c i None = PassesAll (passes_successor task c i)
 says_successor task c i (Some v) = (o : ℕ) × (v ≡ Successor i o) × IsFirstFailing (passes_successor task c i) (Some o)

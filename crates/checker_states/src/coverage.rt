@@ -22,7 +22,7 @@ use std::alloc::{AllocError, Global};
 use std::marker::Model;
 use std::thread::Threads;
 
-/// Proves that each cost is below 2^64, in time linear in the list.
+/// Proves that each cost is below 2^64, in time linear in the list (only for the proof).
 fn recall_costs(closed: &ClosedList)
     ensures { All (λ e. e.cost < 2 ^ 64) closed.now }
 {
@@ -31,7 +31,7 @@ fn recall_costs(closed: &ClosedList)
     }
 }
 
-/// Proves the invariant of a distance.
+/// Proves the invariant of a distance (only for the proof).
 fn recall_distance(distance: Dist)
     ensures { IsWithin (2 ^ 63) distance }
 {
@@ -61,8 +61,9 @@ impl<'a> Model for Coverage<'a> {
 }
 
 impl<'a> Coverage<'a> {
-    /// Prepares the closed list of the certificate, which must meet the clause C4. Threads make the index of a long list side by side.
-    /// Fails only if allocation fails, or if the list has 2^32 states or more, as no text has.
+    /// Prepares the closed list of the certificate, which must satisfy the clause C4. The index of a long list is built
+    /// in parallel. Fails if allocation fails, or if the list has 2^32 states or more, which no certificate text can
+    /// have.
     pub fn new<R: Threads + Sync>(
         rt: &R,
         alloc: Global,
@@ -84,8 +85,8 @@ impl<'a> Coverage<'a> {
         })
     }
 
-    /// Whether a state that was reached at this cost is covered. The cost 2^64 - 1 also represents every greater cost. A cost
-    /// that reaches the bound by itself spares the look-up.
+    /// Returns whether a state reached at this cost is covered. The cost 2^64 - 1 also represents every greater cost. A
+    /// cost that reaches the bound by itself saves the look-up.
     fn is_covered(&self, state: &[u32], cost: u64) -> bool
         requires { IsState (ranges self.now.task) state.now }
         ensures { (total : ℕ) → cost ≡ min total (2 ^ 64 - 1)
@@ -98,7 +99,7 @@ impl<'a> Coverage<'a> {
         self.index.is_listed(state, cost) || self.heuristic.reaches(state, cost, bound)
     }
 
-    /// Returns the violation of the clause C6: the initial state is not covered at the cost 0. Returns `None` if it is.
+    /// Returns the violation of the clause C6 if the initial state is not covered at the cost 0, and `None` if it is.
     pub fn start_violation(&self) -> Option<Violation>
         ensures { IsFoundIn self.now.task self.now.certificate 6 result }
     {
@@ -109,8 +110,8 @@ impl<'a> Coverage<'a> {
         }
     }
 
-    /// Whether the successor under the operator of the state, which is the closed state at the place, is covered, if
-    /// there is one. `successor` is a buffer for it.
+    /// Returns whether the successor of the closed state under the operator is covered, or true if there is none.
+    /// `state` holds the values of that closed state; `successor` is a buffer.
     fn covers(&self, place: usize, state: &[u32], operator: usize, successor: &mut [u32]) -> bool
         requires place { place < length self.now.certificate.closed }
         requires here { option_map (λ e. e.state) (slice_get self.now.certificate.closed place) ≡ Some state.now }
@@ -127,8 +128,8 @@ impl<'a> Coverage<'a> {
         self.is_covered(successor, reached.saturating_add(cost))
     }
 
-    /// The first of the operators under which the state, which is the closed state at the place, has a successor that
-    /// is not covered. `successor` is a buffer.
+    /// Returns the first of the operators under which the closed state has a successor that is not covered. `state`
+    /// holds the values of that closed state; `successor` is a buffer.
     fn first_uncovered(
         &self,
         place: usize,
@@ -150,8 +151,8 @@ impl<'a> Coverage<'a> {
         None
     }
 
-    /// The first operator under which the closed state at the place has a successor that is not covered. `operators`,
-    /// `state` and `successor` are buffers. Fails only if allocation fails.
+    /// Returns the first operator under which the closed state has a successor that is not covered. `operators`,
+    /// `state` and `successor` are buffers.
     fn first_failing(
         &self,
         place: usize,
@@ -171,8 +172,8 @@ impl<'a> Coverage<'a> {
         Ok(self.first_uncovered(place, state, operators, successor))
     }
 
-    /// The first successor that is not covered, of the closed states from the place `start` on and before `end`. `operators`, `state`
-    /// and `successor` are buffers. Fails only if allocation fails.
+    /// Returns the first successor that is not covered, over the closed states with the indices `start` to `end` - 1.
+    /// `operators`, `state` and `successor` are buffers.
     fn first_failing_between(
         &self,
         start: usize,
@@ -195,7 +196,7 @@ impl<'a> Coverage<'a> {
         Ok(None)
     }
 
-    /// As `first_failing_between`, with buffers of its own.
+    /// Does the same as `first_failing_between`, with buffers of its own.
     fn first_in_piece(
         &self,
         alloc: Global,
@@ -212,12 +213,10 @@ impl<'a> Coverage<'a> {
         self.first_failing_between(start, end, &mut operators, &mut state, &mut successor)
     }
 
-    /// Returns the first violation of the clause C8, by the place of the closed state and then by the number of the
-    /// operator: a successor that is not covered. Returns `None` if there is none. The certificate must meet the clause
-    /// C5. Many closed states are cut in pieces, which as many threads as there are processors search side by side; the violation
-    /// does not depend on how many there are.
-    ///
-    /// Fails only if allocation fails.
+    /// Returns the first violation of the clause C8, a successor that is not covered, by the index of the closed state
+    /// and then by the number of the operator; `None` if there is none. The certificate must satisfy the clause C5. A
+    /// long closed list is cut into pieces, which as many threads as there are processors search in parallel; the
+    /// result does not depend on the number of threads.
     pub fn first_successor_violation<R: Threads + Sync>(
         &self,
         rt: &R,

@@ -15,7 +15,7 @@ use fdr::FdrTask;
 use std::alloc::{AllocError, Global};
 use std::thread::Threads;
 
-/// Whether a cost is at least the bound.
+/// Returns whether a cost is at least the bound.
 pub(crate) fn reaches(bound: Dist, cost: u64) -> bool
     ensures { result ≡ is_at_most bound (Finite cost) }
 {
@@ -25,8 +25,8 @@ pub(crate) fn reaches(bound: Dist, cost: u64) -> bool
     }
 }
 
-/// Whether the closed state at the place costs at least the bound, if it is a goal state. `state` is a buffer of the
-/// width of the closed states.
+/// Returns whether the closed state costs at least the bound, or true if it is no goal state. `state` is a buffer of
+/// the width of the closed states.
 fn passes_at(task: &FdrTask, certificate: &Certificate, place: usize, state: &mut [u32]) -> bool
     requires place { place < length certificate.now.closed }
     requires state { IfSome (slice_get certificate.now.closed place) (λ e. IsState (ranges task.now) e.state) }
@@ -39,8 +39,8 @@ fn passes_at(task: &FdrTask, certificate: &Certificate, place: usize, state: &mu
     !task.is_goal(state) || reaches(certificate.bound(), closed.cost(place))
 }
 
-/// The first violation of the clause at the places from `start` on and before `end`. `state` is a buffer of the width of the closed
-/// states.
+/// Returns the first violation of the clause by the closed states with the indices `start` to `end` - 1. `state` is a
+/// buffer of the width of the closed states.
 fn first_failing(
     task: &FdrTask,
     certificate: &Certificate,
@@ -61,7 +61,7 @@ fn first_failing(
     None
 }
 
-/// As `first_failing`, with a buffer of its own. Fails only if allocation fails.
+/// Does the same as `first_failing`, with a buffer of its own.
 fn first_in_piece(
     alloc: Global,
     task: &FdrTask,
@@ -77,10 +77,9 @@ fn first_in_piece(
     Ok(first_failing(task, certificate, start, end, &mut state))
 }
 
-/// Returns the first violation of the clause C7, by the place of the closed state: a goal state that costs less than
-/// the bound. Returns `None` if there is none. The certificate must meet the clause C5. Threads search a long list side by side.
-///
-/// Fails only if allocation fails.
+/// Returns the first violation of the clause C7, a goal state that costs less than the bound, by the index of the
+/// closed state; `None` if there is none. The certificate must satisfy the clause C5. A long list is searched in
+/// parallel.
 pub fn first_goal_violation<R: Threads + Sync>(
     rt: &R,
     alloc: Global,

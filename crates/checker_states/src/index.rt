@@ -18,19 +18,20 @@ use std::num::NonZeroUsize;
 use std::thread;
 use std::thread::Threads;
 
-/// The greatest number of parts. Each is made by a thread that hashes all states, so more of them take more time together.
+/// The greatest number of parts. The thread of each part hashes all states, so that the total work grows with the
+/// number of parts.
 const MAX_PARTS: usize = 16;
 
 /// The least number of states for which another thread is worth its start.
 const STATES_OF_A_THREAD: usize = 4096;
 
-/// An index of a closed list by the values of its states. It takes 16 bytes for each state, in two slots. A usual hash map
-/// would store each state a second time, as its key. In contracts its value is the closed list.
+/// A hash index of a closed list by the values of its states. It takes 16 bytes for each state, in two slots. A usual
+/// hash map would store each state a second time, as its key. In contracts its value is the closed list.
 ///
-/// Its slots are in parts, which threads fill side by side; the upper bits of a state's hash tell its part. A look-up hashes the state
-/// once and reads the slots of the part from the state's home on, up to an empty one: one and a half on average, side by side, where the
-/// state is listed, and two and a half where it is not. It compares the state with those of slots with the same tag alone, so hardly ever
-/// with another one, and with all states if they were chosen so that their hashes collide.
+/// Its slots are in parts, which threads fill in parallel; the upper bits of a state's hash select its part. A look-up
+/// hashes the state once and probes the part linearly from the home slot up to an empty slot: 1.5 adjacent slots on
+/// average for a listed state, and 2.5 for others. The state is compared only with those whose slots have the same tag,
+/// so hardly ever with another one; if the states were chosen so that their hashes collide, with all of them.
 #[derive(Drop)]
 pub struct ClosedIndex<'a> {
     closed: &'a ClosedList,
@@ -50,7 +51,7 @@ impl<'a> Model for ClosedIndex<'a> {
     ghost invariant = { λ index. IndexesTo index.multipliers.items index.closed.now index.parts.items };
 }
 
-/// Raises each number to that of the state, if that is greater.
+/// Raises each number to the state's value if that is greater.
 fn raise(greatest: &mut [u32], state: &[u32])
     requires { length greatest.old ≡ length state.now }
     ensures { length greatest.new ≡ length greatest.old }
@@ -60,11 +61,11 @@ fn raise(greatest: &mut [u32], state: &[u32])
     }
 }
 
-/// How many states, at most, are looked at for the greatest values.
+/// The greatest number of states that are sampled for the greatest values.
 const MAX_SAMPLES: usize = 4096;
 
-/// Raises the numbers to the greatest value of each variable in states that are taken from all over the list. `state` is a buffer for
-/// the values of one state.
+/// Raises the numbers to the greatest value of each variable in states sampled at regular distances from the list.
+/// `state` is a buffer for the values of one state.
 fn raise_to_samples(closed: &ClosedList, greatest: &mut [u32], state: &mut [u32])
     requires buffer { All (λ e. length e.state ≡ length state.old) closed.now }
     requires greatest { length greatest.old ≡ length state.old }
@@ -79,7 +80,7 @@ fn raise_to_samples(closed: &ClosedList, greatest: &mut [u32], state: &mut [u32]
     }
 }
 
-/// A multiplier for each variable. Fails only if allocation fails.
+/// Returns a multiplier for each variable.
 fn multipliers_for(alloc: Global, closed: &ClosedList) -> Result<Vec<u64>, AllocError>
     requires { length closed.now < 2 ^ 32 }
 {
@@ -89,7 +90,8 @@ fn multipliers_for(alloc: Global, closed: &ClosedList) -> Result<Vec<u64>, Alloc
     multipliers(alloc, &greatest, slot_count(closed.len()))
 }
 
-/// How many parts the index of this many states has: one for each processor, but no more than are worth a thread.
+/// Returns the number of parts of an index of `states` states: one for each processor, at most `MAX_PARTS`, and one if
+/// there are too few states for a second thread.
 fn part_count(rt: &impl Threads, states: usize) -> usize
     ensures some { 0 < result }
     ensures few { result < 2 ^ 32 }
@@ -100,7 +102,7 @@ fn part_count(rt: &impl Threads, states: usize) -> usize
         .clamp(1, MAX_PARTS)
 }
 
-/// The parts, if memory ran out in none. Fails too if allocation fails.
+/// Returns the parts. Fails if one of them failed, or if allocation fails.
 fn all_made(
     alloc: Global,
     made: Vec<Result<Vec<Slot<Note>>, AllocError>>,
@@ -114,7 +116,7 @@ fn all_made(
     Ok(parts)
 }
 
-/// The slots of each part, which threads fill side by side. Fails only if allocation fails.
+/// Returns the slots of each part, which threads fill in parallel.
 fn parts_side_by_side<R: Threads + Sync>(
     rt: &R,
     alloc: Global,
@@ -141,7 +143,8 @@ fn parts_side_by_side<R: Threads + Sync>(
     all_made(alloc, made)
 }
 
-/// Whether the state at the place of a slot has at most this cost. Costs that are too great for the slot are looked up.
+/// Returns whether the state to which the slot points has at most this cost. A cost too great for the slot is read from
+/// the list.
 fn costs_at_most(closed: &ClosedList, multipliers: &[u64], slot: Slot<Note>, cost: u64) -> bool
     requires taken { slot.link ≢ 0 }
     requires noted { IsNoted multipliers.now closed.now (length closed.now) slot }
@@ -154,7 +157,7 @@ fn costs_at_most(closed: &ClosedList, multipliers: &[u64], slot: Slot<Note>, cos
     }
 }
 
-/// Whether the entry at the place of a slot has the state, whose tag is given, with at most this cost.
+/// Returns whether the entry to which the slot points has the state, with the tag `tag`, at most at this cost.
 fn lists_at(
     closed: &ClosedList,
     multipliers: &[u64],
@@ -173,7 +176,7 @@ fn lists_at(
         && costs_at_most(closed, multipliers, slot, cost)
 }
 
-/// Whether the state with this hash is found in the slots of its part with at most this cost.
+/// Returns whether the state with this hash is found in the slots of its part with at most this cost.
 fn is_found(
     closed: &ClosedList,
     multipliers: &[u64],
@@ -203,8 +206,8 @@ fn is_found(
 }
 
 impl<'a> ClosedIndex<'a> {
-    /// Makes the index of the list, in linear time, by as many threads as there are processors where the list is long. Fails only if
-    /// allocation fails, or if there are 2^32 states or more, whose index would take 64 GiB.
+    /// Builds the index of the list in linear time, with as many threads as there are processors if the list is long.
+    /// Fails if allocation fails, or if there are 2^32 states or more, whose index would take 64 GiB.
     pub fn new<R: Threads + Sync>(
         rt: &R,
         alloc: Global,
@@ -225,7 +228,7 @@ impl<'a> ClosedIndex<'a> {
         })
     }
 
-    /// Whether the state is in the closed list with at most this cost.
+    /// Returns whether the state is in the closed list with at most this cost.
     pub fn is_listed(&self, state: &[u32], cost: u64) -> bool
         ensures { result ≡ is_listed self.now state.now cost }
     {

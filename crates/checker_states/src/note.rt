@@ -1,4 +1,4 @@
-//! What the slots of an index note.
+//! What a slot of the index stores of a state.
 
 ghost use Rattle.std.specs.Prelude.{◌≡◌};
 ghost use Rattle.checker_states.specs.Indexes as spec;
@@ -6,7 +6,7 @@ ghost use Rattle.checker_states.specs.Indexes as spec;
 use crate::hash::tag_of;
 use slots::Slot;
 
-/// The greatest number that a note has for a cost.
+/// The greatest cost that a slot can store.
 pub(crate) const MAX_SHORT_COST: u16 = 65_535;
 
 /// A slot without a state.
@@ -15,17 +15,17 @@ pub(crate) const EMPTY: Slot<Note> = Slot {
     note: Note { tag: 0, cost: 0 },
 };
 
-/// What tells most other states from a closed state, with its cost.
+/// A tag that rules out most other states, and the cost of the closed state.
 #[derive(Clone, Copy)]
 pub(crate) struct Note {
-    /// A part of the state's hash.
+    /// The lower 16 bits of the state's hash.
     pub(crate) tag: u16,
-    /// The state's cost, or `MAX_SHORT_COST` where that is greater.
+    /// The state's cost, capped at `MAX_SHORT_COST`.
     pub(crate) cost: u16,
 }
 
 impl Note {
-    /// The note of a state with this hash and cost.
+    /// Returns what a slot stores of a state with this hash and cost.
     pub(crate) fn new(hash: u64, cost: u64) -> Note
         ensures { result ≡ spec.note_of hash cost }
     {

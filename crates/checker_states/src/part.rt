@@ -1,4 +1,4 @@
-//! A part of an index: the slots of those states whose hashes lead to it.
+//! A part of an index: the slots of the states whose hashes select it.
 
 ghost use Rattle.std.specs.Prelude.{◌≡◌, ◌<◌, ◌≤◌, ◌^◌, true, All, length, None, IfOk, IfSome};
 ghost use Rattle.slots.specs.Slots.{links_of, empties};
@@ -10,7 +10,7 @@ use cert_value::ClosedList;
 use slots::{Slot, add, home_of};
 use std::alloc::{AllocError, Global};
 
-/// The number of slots for this many states: two for each, but at least one and fewer than 2^32.
+/// Returns the number of slots for `states` states: two for each, but at least one and fewer than 2^32.
 pub(crate) fn slot_count(states: usize) -> usize
     requires { states < 2 ^ 32 }
     ensures some { 0 < result }
@@ -20,8 +20,8 @@ pub(crate) fn slot_count(states: usize) -> usize
     states.saturating_mul(2).clamp(1, u32::MAX as usize)
 }
 
-/// Adds each state of a part to slots that are empty. Returns whether there was room. `state` is a buffer for the values of one
-/// state.
+/// Adds each state of the part to the slots, which must be empty. Returns whether there was room. `state` is a buffer
+/// for the values of one state.
 fn fill(
     closed: &ClosedList,
     multipliers: &[u64],
@@ -59,7 +59,7 @@ fn fill(
     true
 }
 
-/// As many slots as `size` with the states of a part, or `None` if it has more states. Fails only if allocation fails.
+/// Returns `size` slots with the states of a part, or `None` if the part has more than `size` states.
 fn filled(
     alloc: Global,
     closed: &ClosedList,
@@ -85,8 +85,8 @@ fn filled(
     }
 }
 
-/// The slots of a part, two for each state if all parts have about as many states, and two for each state of the list if this one has
-/// more than twice as many as that. Fails only if allocation fails.
+/// Returns the slots of a part: two for each state of an average part, or, if the part has more states than that number
+/// of slots, two for each state of the whole list.
 pub(crate) fn part_slots(
     alloc: Global,
     closed: &ClosedList,

@@ -14,7 +14,7 @@ use fdr::FdrTask;
 use std::alloc::{AllocError, Global};
 use std::thread::Threads;
 
-/// Whether the state has for each variable a value below its range.
+/// Returns whether the state has for each variable a value below its range.
 fn is_state(task: &FdrTask, state: &[u32]) -> bool
     ensures { result ≡ spec.is_state (ranges task.now) state.now }
 {
@@ -29,14 +29,14 @@ fn is_state(task: &FdrTask, state: &[u32]) -> bool
     true
 }
 
-/// Whether the first state is lexicographically less than the second.
+/// Returns whether the first state is lexicographically less than the second.
 fn comes_before(first: &[u32], second: &[u32]) -> bool
     ensures { result ≡ spec.comes_before first.now second.now }
 {
     first < second
 }
 
-/// Whether the closed state at the place is a state of the task and lexicographically greater than the one before it.
+/// Returns whether the closed state is a state of the task and lexicographically greater than the one before it.
 /// `state` and `before` are buffers of the width of the closed states.
 fn passes_at(
     task: &FdrTask,
@@ -60,8 +60,8 @@ fn passes_at(
     is_state(task, state) && comes_before(before, state)
 }
 
-/// The first violation of the clause at the places from `start` on and before `end`. `state` and `before` are buffers of the width of the
-/// closed states.
+/// Returns the first violation of the clause by the closed states with the indices `start` to `end` - 1. `state` and
+/// `before` are buffers of the width of the closed states.
 fn first_failing(
     task: &FdrTask,
     certificate: &Certificate,
@@ -84,7 +84,7 @@ fn first_failing(
     None
 }
 
-/// As `first_failing`, with buffers of its own. Fails only if allocation fails.
+/// Does the same as `first_failing`, with buffers of its own.
 fn first_in_piece(
     alloc: Global,
     task: &FdrTask,
@@ -100,10 +100,9 @@ fn first_in_piece(
     Ok(first_failing(task, certificate, start, end, &mut state, &mut before))
 }
 
-/// Returns the first violation of the clause C5: the place of the first closed state that is not a state of the task,
-/// or not lexicographically greater than the one before it. Returns `None` if there is none. Threads search a long list side by side.
-///
-/// Fails only if allocation fails.
+/// Returns the first violation of the clause C5: the index of the first closed state that is not a state of the task,
+/// or not lexicographically greater than the one before it; `None` if there is none. A long list is searched in
+/// parallel.
 pub fn first_closed_violation<R: Threads + Sync>(
     rt: &R,
     alloc: Global,

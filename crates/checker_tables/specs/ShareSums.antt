@@ -1,4 +1,4 @@
--- The sums of the shares that the tables of a column have of the operators.
+-- The sums of an operator's shares over the tables of a column.
 use Rattle.std.specs.Prelude.{◌≡◌, ℕ, ◌+◌, ◌-◌, ◌^◌, ◌<◌, Bool, true, false, ◌==◌, ◌&&◌, not, nat_le, nat_lt, if◌then◌else◌, min, List, [], ◌∷◌, length, map, fold, slice_index, slice_set, Option, Some, None}
 use Rattle.cost.specs.Distances.{Distance, Finite, Infinite, least}
 use Rattle.cert_value.specs.declared.table.Share.{Share}
@@ -24,16 +24,16 @@ counted table t s =
     }
     else t
 
--- the shares of tables, of which the first has the number n + 1
+-- the tally of several tables, the first of which has the number `n` + 1
 abbrev pub tally_of : ℕ → Tally → List Table → Tally
 tally_of n t [] = t
 tally_of n t (table ∷ tables) = tally_of (n + 1) (fold (counted (n + 1)) t table.shares) tables
 
--- the operator of the share, if it is at least `count`
+-- the operator of the share, if its number is at least `count`
 abbrev pub foreign : ℕ → Share → Distance
 foreign count s = if nat_le count s.operator then Finite s.operator else Infinite
 
--- the least operator from `count` on that the shares list
+-- the least operator that the shares list among those numbered `count` or higher
 abbrev pub least_foreign : ℕ → List Share → Distance
 least_foreign count shares = least (map (foreign count) shares)
 

@@ -18,7 +18,7 @@ Fails task t Form = has_form task t ≡ false
 Fails task t (Goal a) = (a < (abstraction_of task t).size) × (is_goal_at_zero task t a ≡ false)
 Fails task t (Fall a o) = (a < (abstraction_of task t).size) × (falls_within_share task t a o ≡ false)
 
--- the place within the table: its form comes first, then its abstract goals, then its transitions
+-- the order of a table's faults: its form comes first, then its abstract goals, then its transitions
 abbrev pub place_of : TableFault → List ℕ
 place_of Form = 0 ∷ []
 place_of (Goal a) = 1 ∷ a ∷ []
@@ -30,7 +30,7 @@ IsFirstFault task t None = (f : TableFault) → Fails task t f → ⊥
 IsFirstFault task t (Some f) =
     Fails task t f × ((g : TableFault) → Fails task t g → comes_before (place_of g) (place_of f) ≡ false)
 
--- the violation for a table with this fault in a column
+-- the violation for table `j` of column `i` with this fault
 abbrev pub violation_at : ℕ → ℕ → TableFault → Violation
 violation_at i j Form = violation.TableForm i j
 violation_at i j (Goal a) = violation.GoalValue i j a
@@ -48,12 +48,12 @@ falls_within abs values a o share =
     option_map_or (λ b. is_at_most (slice_index_or values a Infinite) (Finite share +ᵈ slice_index_or values b Infinite))
     (abs.transition a o) true
 
--- the value of the first abstract state exceeds that of the second, in another table, by at most the share
+-- the value of `a` in `values` exceeds that of `b` in `nexts` by at most the share
 abbrev pub is_fall_within : List Distance → List Distance → ℕ → ℕ → ℕ → Bool
 is_fall_within values nexts share a b =
     is_at_most (slice_index_or values a Infinite) (Finite share +ᵈ slice_index_or nexts b Infinite)
 
--- of `count` operators from one on, those that touch the abstraction
+-- of the `count` operators from `o` on, those that affect the abstraction
 abbrev pub touching_from : (ℕ → Bool) → ℕ → ℕ → List ℕ
 touching_from touches o zero = []
 touching_from touches o (suc count) =

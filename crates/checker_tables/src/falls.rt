@@ -1,4 +1,4 @@
-//! The transitions of one operator, tested along their sources.
+//! The consistency test of one operator's transitions, source by source.
 
 ghost use Rattle.std.specs.Prelude.{◌≡◌, ℕ, ◌^◌, ◌≤◌, ◌∷◌, [], length};
 ghost use Rattle.cost.specs.Distances.{Finite, ◌+ᵈ◌, is_at_most};
@@ -9,7 +9,7 @@ use crate::moves::FreeDigit;
 use cert_value::Values;
 use cost::Dist;
 
-/// Whether a value exceeds another by at most the share.
+/// Returns whether `value` exceeds `next` by at most `share`.
 fn is_within(value: Dist, share: u64, next: Dist) -> bool
     ensures { result ≡ is_at_most value (Finite share +ᵈ next) }
 {
@@ -20,7 +20,7 @@ fn is_within(value: Dist, share: u64, next: Dist) -> bool
     }
 }
 
-/// The test of transitions: the value of the source exceeds that of the target by at most the share.
+/// The consistency test of transitions: the value of the source exceeds that of the target by at most the share.
 #[derive(Clone, Copy)]
 pub(crate) struct FallTest<'a> {
     /// The values of the sources.
@@ -33,7 +33,8 @@ pub(crate) struct FallTest<'a> {
 }
 
 impl FallTest<'_> {
-    /// The first abstract state below the limit from which a transition of this one free digit fails, or the limit.
+    /// Returns the first abstract state below `limit` from which a transition over this one free digit fails the test,
+    /// or `limit`.
     fn least_in_run(&self, digit: FreeDigit, source: usize, target: usize, limit: usize) -> usize
         requires { StaysBelow (digit ∷ []) source target (length self.now.values.now) (length self.now.nexts.now) }
         ensures { IsLeast (is_fall_within self.now.values.now self.now.nexts.now self.now.share) (digit ∷ []) source target limit result }
@@ -51,7 +52,8 @@ impl FallTest<'_> {
         limit
     }
 
-    /// The first abstract state below the limit from which a transition with these free digits fails, or the limit.
+    /// Returns the first abstract state below `limit` from which a transition over the free digits fails the test, or
+    /// `limit`.
     pub(crate) fn least(
         &self,
         free: &[FreeDigit],

@@ -18,7 +18,7 @@ impl TableFault {
     ghost use Rattle.std.specs.Prelude.{◌≡◌};
     ghost use Rattle.checker_tables.specs.TableFaults.{violation_at};
 
-    /// Returns the violation for a table with this fault in a column.
+    /// Returns the violation for this fault of table `table` in column `column`.
     pub(crate) fn violation(self, column: usize, table: usize) -> Violation
         ensures { result ≡ violation_at column table self }
     {

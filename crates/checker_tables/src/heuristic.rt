@@ -17,8 +17,8 @@ use fdr::FdrTask;
 use std::alloc::{AllocError, Global};
 use std::marker::Model;
 
-/// The remainder of a bound after a part of it has been reached; `None` is infinite. Values are subtracted from the
-/// bound one by one, since their sum may be out of range.
+/// Returns what remains of `bound` after `reached`; `None` is infinite. Values are subtracted from the bound one by
+/// one, because their sum may overflow.
 fn rest_of(bound: Option<u64>, reached: Option<u64>) -> Option<u64>
     ensures { distance_of result ≡ spec.rest_of (distance_of bound) (distance_of reached) }
 {
@@ -29,7 +29,7 @@ fn rest_of(bound: Option<u64>, reached: Option<u64>) -> Option<u64>
     }
 }
 
-/// Whether the sum of the values of the tables at the state is at least the bound.
+/// Returns whether the sum of the tables' values at the state is at least the bound.
 fn column_reaches(column: &[MappedTable], state: &[u32], bound: Option<u64>) -> bool
     requires { All (λ t. IsState (ranges t.task) state.now) column.now }
     ensures { result ≡ is_at_most (distance_of bound) (column_value state.now (map on_abstraction column.now)) }
@@ -44,7 +44,7 @@ fn column_reaches(column: &[MappedTable], state: &[u32], bound: Option<u64>) -> 
     rest == Some(0)
 }
 
-/// The tables of a column with their abstractions. Fails only if allocation fails.
+/// Returns the tables of a column with their abstractions.
 fn mapped_column<'a>(
     alloc: Global,
     task: &'a FdrTask,
@@ -64,8 +64,8 @@ fn mapped_column<'a>(
     Ok(made)
 }
 
-/// The heuristic of a certificate's tables: the greatest over the columns of the sums of their tables' values, and 0 if
-/// there is no column. In contracts its value is the task and the columns of tables.
+/// The heuristic of a certificate's tables: the greatest over the columns of the sums of their tables' values, and 0
+/// without columns. In contracts its value is the task and the columns of tables.
 #[derive(Drop)]
 pub struct Heuristic<'a> {
     task: &'a FdrTask,
@@ -83,8 +83,8 @@ impl<'a> Model for Heuristic<'a> {
 }
 
 impl<'a> Heuristic<'a> {
-    /// Makes the heuristic of the certificate's tables. The certificate must meet the clause C4, so that
-    /// `first_table_violation` finds nothing. Fails only if allocation fails.
+    /// Returns the heuristic of the certificate's tables. The certificate must satisfy the clause C4:
+    /// `first_table_violation` found nothing.
     pub fn new(
         alloc: Global,
         task: &'a FdrTask,
@@ -100,9 +100,9 @@ impl<'a> Heuristic<'a> {
         Ok(Heuristic { task, columns })
     }
 
-    /// Whether a state that was reached at this cost reaches the bound: whether the cost and the heuristic value of the
-    /// state sum to at least the bound. The sum may be out of range, and an infinite bound is reached if the heuristic
-    /// value is infinite.
+    /// Returns whether a state reached at this cost reaches the bound, that is, whether the cost and the state's
+    /// heuristic value sum to at least the bound. The sum may exceed 64 bits; an infinite bound is reached if the
+    /// heuristic value is infinite.
     pub fn reaches(&self, state: &[u32], cost: u64, bound: Dist) -> bool
         requires { IsState (ranges self.now.task) state.now }
         ensures { result ≡ is_at_most bound (Finite cost +ᵈ heuristic_of self.now.task self.now.columns state.now) }

@@ -1,4 +1,5 @@
-//! The clauses on the tables of a certificate, each tested up to its first violation, and the heuristic of the tables.
+//! The clauses on the tables of a certificate, each tested up to its first violation, and the heuristic that the tables
+//! define.
 #![tactic(auto)]
 
 mod falls;

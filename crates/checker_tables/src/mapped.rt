@@ -35,8 +35,7 @@ impl<'a> Model for MappedTable<'a> {
 }
 
 impl<'a> MappedTable<'a> {
-    /// Joins a table and its abstraction. Returns `None` if the table does not have the required form. Fails only if
-    /// allocation fails.
+    /// Returns the table with its abstraction, or `None` if the table does not have the required form.
     pub(crate) fn new(
         alloc: Global,
         task: &'a FdrTask,

@@ -1,4 +1,4 @@
-//! The transitions of one operator, by the digits of abstract states that it leaves free.
+//! The transitions of one operator, described by the digits of abstract states that it leaves free.
 
 ghost use Rattle.std.specs.Prelude.{◌≡◌, ℕ, ◌+◌, ◌*◌, ◌^◌, ◌<◌, ◌≤◌, ◌↔◌, ◌++◌, ◌∷◌, [], nat_eq, map, IfSome, IfOk, OnOk, All};
 ghost use Rattle.std.specs.List.{find};
@@ -15,7 +15,7 @@ use abstraction_mapping::TableAbstraction;
 use fdr::Fact;
 use std::alloc::{AllocError, Global};
 
-/// A digit of abstract states whose value is free: each value is one more step from the source and from the target.
+/// A free digit of abstract states: each increment of its value moves the source and the target by a fixed step.
 #[derive(Clone, Copy)]
 pub(crate) struct FreeDigit {
     /// The number of values.
@@ -27,14 +27,14 @@ pub(crate) struct FreeDigit {
 }
 
 impl FreeDigit {
-    /// A digit with one value, which adds nothing.
+    /// A digit with one value, which adds no transition.
     pub(crate) const ONCE: FreeDigit = FreeDigit {
         range: 1,
         source: 0,
         target: 0,
     };
 
-    /// The digit without weight in the target.
+    /// Returns the digit without weight in the target.
     fn gathered(self) -> FreeDigit
         ensures { result ≡ spec.without_target self }
     {
@@ -46,26 +46,26 @@ impl FreeDigit {
     }
 }
 
-/// The transitions of one operator: a source and a target, and the free digits by which both differ between transitions.
+/// The transitions of one operator: a source, a target, and the free digits over which both range.
 #[derive(Drop)]
 pub(crate) struct Moves {
-    /// The abstract state from which the transition leads whose free digits are 0.
+    /// The source of the transition whose free digits are all 0.
     pub(crate) source: usize,
-    /// The abstract state to which it leads.
+    /// The target of that transition.
     pub(crate) target: usize,
     /// The free digits, those of greater weights first.
     pub(crate) free: Vec<FreeDigit>,
 }
 
-/// The first fact on the variable, if there is one.
+/// Returns the first fact on the variable.
 fn fact_on(facts: &[Fact], variable: usize) -> Option<Fact>
     ensures { result ≡ find (λ f. nat_eq f.variable variable) facts.now }
 {
     facts.iter().find(|fact| fact.variable == variable).copied()
 }
 
-/// The value of the first fact on the variable, or the class of that value where the variable has classes, if there is
-/// such a fact.
+/// Returns the value of the first fact on the variable, as its class if the abstraction groups the variable's values;
+/// `None` if there is no such fact.
 fn class_in(abstraction: &TableAbstraction<'_>, facts: &[Fact], variable: usize) -> Option<u32>
     requires { All (IsInRange (ranges (task_in abstraction.now))) facts.now }
     ensures { result ≡ fact.value_in (facts_by (mapping_in abstraction.now) facts.now) variable }
@@ -74,7 +74,7 @@ fn class_in(abstraction: &TableAbstraction<'_>, facts: &[Fact], variable: usize)
     Some(abstraction.class_fact(fact).value)
 }
 
-/// The digits without weight in the target. Fails only if allocation fails.
+/// Returns the digits without weight in the target.
 fn gathered(alloc: Global, free: &[FreeDigit]) -> Result<Vec<FreeDigit>, AllocError>
     ensures { IfOk result (λ made. made.items ≡ map spec.without_target free.now) }
 {
@@ -82,7 +82,7 @@ fn gathered(alloc: Global, free: &[FreeDigit]) -> Result<Vec<FreeDigit>, AllocEr
 }
 
 impl Moves {
-    /// Adds a free digit of less weight than all others. Fails only if allocation fails.
+    /// Adds a free digit of less weight than all others.
     fn push(&mut self, digit: FreeDigit) -> Result<(), AllocError>
         requires { 0 < digit.range }
         ensures source { self.new.source ≡ self.old.source }
@@ -95,8 +95,7 @@ impl Moves {
         Ok(())
     }
 
-    /// Adds a digit below all others, without a condition and with the effect on it, if there is one. Fails only if
-    /// allocation fails.
+    /// Adds a digit below all others, without a condition, with the effect on it if there is one.
     fn add_free(&mut self, digit: Digit, effect: Option<u32>) -> Result<(), AllocError>
         requires digit { IsDigitBelow (2 ^ 24) digit }
         requires effect { IfSome effect (λ value. value < digit.range) }
@@ -123,8 +122,7 @@ impl Moves {
         Ok(())
     }
 
-    /// Adds a digit below all others, with the condition and the effect on it, if there are any. Fails only if
-    /// allocation fails.
+    /// Adds a digit below all others, with the condition and the effect on it if there are any.
     fn add(
         &mut self,
         digit: Digit,
@@ -149,7 +147,7 @@ impl Moves {
         Ok(())
     }
 
-    /// The transitions of an operator with this precondition and effect. Fails only if allocation fails.
+    /// Returns the transitions of an operator with this precondition and effect.
     pub(crate) fn new(
         alloc: Global,
         abstraction: &TableAbstraction<'_>,
@@ -176,7 +174,7 @@ impl Moves {
         Ok(moves)
     }
 
-    /// The same transitions, but all to the abstract state 0. Fails only if allocation fails.
+    /// Returns the same transitions with all targets replaced by the abstract state 0.
     pub(crate) fn gathered(&self, alloc: Global) -> Result<Moves, AllocError>
         ensures { IfOk result (IsGathered self.now) }
     {

@@ -1,4 +1,4 @@
-//! The tables of a certificate in the order of their places.
+//! The positions of a certificate's tables, in order.
 
 ghost use Rattle.std.specs.Prelude.{◌≡◌, ◌+◌, ◌<◌, length, option_map, IfOk, OnOk};
 ghost use Rattle.cert_value.specs.Views as kept;
@@ -8,15 +8,15 @@ ghost use Rattle.checker_tables.specs.TablePlaces.{IsListing, IsListingBefore};
 use cert_value::AbstractionTable;
 use std::alloc::{AllocError, Global};
 
-/// The place of a table. Both numbers count from 0.
+/// The position of a table: its column, and its index there. Both count from 0.
 #[derive(Clone, Copy)]
 pub(crate) struct TablePlace {
     pub(crate) column: usize,
-    /// The number of the table in its column.
+    /// The index of the table in its column.
     pub(crate) table: usize,
 }
 
-/// The table at a place, if there is one.
+/// Returns the table at a position, or `None` if there is none.
 pub(crate) fn table_at(
     columns: &[Vec<AbstractionTable>],
     place: TablePlace,
@@ -27,7 +27,7 @@ pub(crate) fn table_at(
     column.get(place.table)
 }
 
-/// Adds the places of the tables of a column behind those of the columns before it. Fails only if allocation fails.
+/// Appends the positions of a column's tables to those of the columns before it.
 fn add_column(
     places: &mut Vec<TablePlace>,
     columns: &[Vec<AbstractionTable>],
@@ -43,7 +43,7 @@ fn add_column(
     Ok(())
 }
 
-/// The places of all tables, by column and then by number. Fails only if allocation fails.
+/// Returns the positions of all tables, ordered by column and then by index.
 pub(crate) fn table_places(
     alloc: Global,
     columns: &[Vec<AbstractionTable>],
@@ -57,8 +57,8 @@ pub(crate) fn table_places(
     Ok(places)
 }
 
-/// About how long the tests of the tables at these places take in a task with this many operators: each operator is looked at once, and
-/// each value several times. Fails only if allocation fails.
+/// Returns estimates of how long the tests of these tables take in a task with `operators` operators: the number of a
+/// table's values plus that of operators, each of which is visited once.
 pub(crate) fn weights_of(
     alloc: Global,
     columns: &[Vec<AbstractionTable>],

@@ -16,11 +16,10 @@ use fdr::FdrTask;
 use std::alloc::{AllocError, Global};
 use std::marker::Model;
 
-/// The sums of the shares that the tables of a column have of the task's operators. In contracts its value is a
-/// `Tally`.
+/// The sum over the tables of a column of each operator's shares. In contracts its value is a `Tally`.
 #[derive(Drop)]
 pub(crate) struct ShareSums {
-    /// The sum for each operator. One that is out of range is replaced by the greatest number.
+    /// The sum for each operator, capped at 2^64 - 1.
     sums: Vec<u64>,
     /// For each operator the last table that names it, counted from 1, or 0.
     tables: Vec<usize>,
@@ -38,7 +37,7 @@ impl Model for ShareSums {
 }
 
 impl ShareSums {
-    /// Returns sums of 0 for this number of operators. Fails only if allocation fails.
+    /// Returns sums of 0 for `operators` operators.
     fn new(alloc: Global, operators: usize) -> Result<ShareSums, AllocError>
         ensures { IfOk result (λ s. s ≡ record { sums = replicate operators 0; tables = replicate operators 0 }) }
     {
@@ -48,8 +47,8 @@ impl ShareSums {
         })
     }
 
-    /// Adds a share of a table, whose number counts from 1, unless the operator does not exist or the table has already
-    /// named it.
+    /// Adds a share of table number `table`, counted from 1, unless the operator does not exist or the table has
+    /// already named it.
     fn count(&mut self, table: usize, share: Share)
         ensures value { self.new ≡ spec.counted table self.old share }
         ensures amount { share.amount < 2 ^ 32 }
@@ -61,7 +60,7 @@ impl ShareSums {
         }
     }
 
-    /// Adds the shares of a table.
+    /// Adds the shares of table number `table`.
     fn count_all(&mut self, table: usize, shares: &[Share])
         ensures value { self.new ≡ fold (spec.counted table) self.old shares.now }
         ensures amounts { All (λ s. s.amount < 2 ^ 32) shares.now }
@@ -71,7 +70,7 @@ impl ShareSums {
         }
     }
 
-    /// The shares of one table. Fails only if allocation fails.
+    /// Returns the shares of one table.
     pub(crate) fn of_table(
         alloc: Global,
         shares: &[Share],
@@ -85,7 +84,7 @@ impl ShareSums {
         Ok(sums)
     }
 
-    /// The sums of the shares of a column. Fails only if allocation fails.
+    /// Returns the sums of the shares of a column.
     fn of_column(
         alloc: Global,
         column: &[AbstractionTable],
@@ -101,7 +100,7 @@ impl ShareSums {
         Ok(sums)
     }
 
-    /// Returns the sum of the operator's shares, or the greatest number if it is out of range.
+    /// Returns the sum of the operator's shares, capped at 2^64 - 1.
     pub(crate) fn sum(&self, operator: usize) -> u64
         requires { operator < length self.now.sums }
         ensures { result ≡ slice_index self.now.sums operator }
@@ -110,7 +109,7 @@ impl ShareSums {
     }
 }
 
-/// Whether a number is less than the least one so far.
+/// Returns whether a number is less than the least one so far.
 fn is_less(number: usize, least: Option<usize>) -> bool
     ensures { result ≡ is_below (Finite number) (distance_of least) }
 {
@@ -120,7 +119,7 @@ fn is_less(number: usize, least: Option<usize>) -> bool
     }
 }
 
-/// The lesser of `before` and the least operator from `count` on that the shares list.
+/// Returns the lesser of `before` and the least operator that the shares list among those numbered `count` or higher.
 fn least_foreign(shares: &[Share], count: usize, before: Option<usize>) -> Option<usize>
     ensures { distance_of result ≡ lesser (distance_of before) (spec.least_foreign count shares.now) }
 {
@@ -134,7 +133,7 @@ fn least_foreign(shares: &[Share], count: usize, before: Option<usize>) -> Optio
     least
 }
 
-/// The least operator from `count` on that a table of the column lists.
+/// Returns the least operator that a table of the column lists among those numbered `count` or higher.
 fn least_of_column(column: &[AbstractionTable], count: usize) -> Option<usize>
     ensures { distance_of result ≡ spec.least_of_column count (map kept.table_of column.now) }
 {
@@ -145,8 +144,7 @@ fn least_of_column(column: &[AbstractionTable], count: usize) -> Option<usize>
     least
 }
 
-/// The least operator whose shares sum to more than its cost, or that a table lists although it does not exist. Fails
-/// only if allocation fails.
+/// Returns the least operator whose shares sum to more than its cost, or that a table lists although it does not exist.
 fn first_overspent(
     alloc: Global,
     task: &FdrTask,
@@ -163,9 +161,8 @@ fn first_overspent(
     Ok(least_of_column(column, task.operator_count()))
 }
 
-/// Returns the first violation of the clause C3, by column and then by operator: the shares of an operator in a column
-/// sum to more than its cost, or a table lists an operator that does not exist, whatever its share. Returns `None` if
-/// there is none. Fails only if allocation fails.
+/// Returns the first violation of the clause C3, by column and then by operator, or `None`: the shares of an operator
+/// in a column sum to more than its cost, or a table lists an operator that does not exist, whatever its share.
 pub fn first_share_violation(
     alloc: Global,
     task: &FdrTask,

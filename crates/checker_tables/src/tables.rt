@@ -19,7 +19,7 @@ use fdr::FdrTask;
 use std::alloc::{AllocError, Global};
 use std::thread::Threads;
 
-/// The first fault of a table. Fails only if allocation fails.
+/// Returns the first fault of a table.
 fn first_fault(
     alloc: Global,
     task: &FdrTask,
@@ -44,7 +44,7 @@ fn first_fault(
     }
 }
 
-/// The first fault of the table at a place, or `None` if there is no table. Fails only if allocation fails.
+/// Returns the first fault of the table at a position, or `None` if there is no table.
 fn fault_at(
     alloc: Global,
     task: &FdrTask,
@@ -59,7 +59,8 @@ fn fault_at(
     }
 }
 
-/// The first violation of the tables at these places, from the number `start` on and before `end`. Fails only if allocation fails.
+/// Returns the first violation of the tables whose positions have the indices `start` to `end` - 1 in the list of
+/// positions.
 fn first_in_piece(
     alloc: Global,
     task: &FdrTask,
@@ -80,12 +81,10 @@ fn first_in_piece(
     Ok(None)
 }
 
-/// Returns the first violation of the clause C4, by column and then by table, or `None` if there is none. Of one table
-/// its form comes first, then its abstract goals, and then its transitions, by abstract state and then by operator.
-/// Only operators that touch the abstraction are tested. Where the tables have many values together, as many threads as there are
-/// processors test them side by side; the violation does not depend on how many there are.
-///
-/// Fails only if allocation fails.
+/// Returns the first violation of the clause C4, by column and then by table, or `None`. Within one table the form is
+/// tested first, then the abstract goals, then the transitions, by abstract state and then by operator. Only operators
+/// that affect the abstraction are tested. If the tables are large in total, as many threads as there are processors
+/// test them in parallel; the result does not depend on the number of threads.
 pub fn first_table_violation<R: Threads + Sync>(
     rt: &R,
     alloc: Global,

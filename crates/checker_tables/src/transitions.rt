@@ -15,15 +15,14 @@ use cert_value::Values;
 use cost::Dist;
 use std::alloc::{AllocError, Global};
 
-/// An operator that touches the abstraction, by its number, with its share.
+/// An operator that affects the abstraction, by its number, with its share.
 #[derive(Clone, Copy)]
 pub(crate) struct Spender {
     pub(crate) operator: usize,
     pub(crate) share: u64,
 }
 
-/// Those of the first `operators` operators that touch the abstraction, with their shares. Fails only if allocation
-/// fails.
+/// Returns those of the first `operators` operators that affect the abstraction, with their shares.
 pub(crate) fn spenders<A: Abstraction>(
     alloc: Global,
     abstraction: &A,
@@ -44,7 +43,7 @@ pub(crate) fn spenders<A: Abstraction>(
     Ok(made)
 }
 
-/// The abstract goals, as the sources of transitions to one state. Fails only if allocation fails.
+/// Returns the abstract goals as the sources of transitions to abstract state 0.
 fn goal_moves(alloc: Global, abstraction: &TableAbstraction<'_>) -> Result<Moves, AllocError>
     ensures { IfOk result (AreGoals (abstraction_in abstraction.now)) }
 {
@@ -52,7 +51,7 @@ fn goal_moves(alloc: Global, abstraction: &TableAbstraction<'_>) -> Result<Moves
     goals.gathered(alloc)
 }
 
-/// The value of a goal state, as those of a table of one state. Fails only if allocation fails.
+/// Returns the values of a table whose only state is a goal: the value 0.
 fn goal_values(alloc: Global) -> Result<Values, AllocError>
     ensures { IfOk result (λ values. values ≡ Finite 0 ∷ []) }
 {
@@ -61,7 +60,7 @@ fn goal_values(alloc: Global) -> Result<Values, AllocError>
     Ok(values)
 }
 
-/// The first abstract goal with a value other than 0. Fails only if allocation fails.
+/// Returns the first abstract goal with a value other than 0.
 ///
 /// Each abstract goal is tested as a transition at no cost to a goal state.
 pub(crate) fn first_goal(
@@ -87,8 +86,7 @@ pub(crate) fn first_goal(
     }
 }
 
-/// The first abstract state below the limit whose value the operator lowers by more than its share, or the limit. Fails
-/// only if allocation fails.
+/// Returns the first abstract state below `limit` whose value the operator lowers by more than its share, or `limit`.
 fn least_fall(
     alloc: Global,
     abstraction: &TableAbstraction<'_>,
@@ -113,11 +111,11 @@ fn least_fall(
     Ok(test.least(&moves.free, moves.source, moves.target, limit))
 }
 
-/// The first abstract state whose value some operator lowers by more than its share, with the first such operator. Fails
-/// only if allocation fails.
+/// Returns the first abstract state whose value some operator lowers by more than its share, with the first such
+/// operator.
 ///
-/// The abstract states from which an operator leads are counted through, operator by operator, each time up to the least
-/// one that has failed so far. Their number is at most the product of the numbers of operators and abstract states.
+/// For each operator the sources of its transitions are enumerated, up to the least abstract state that has failed so
+/// far. Their number is at most the product of the numbers of operators and abstract states.
 pub(crate) fn first_fall(
     alloc: Global,
     abstraction: &TableAbstraction<'_>,

@@ -1,4 +1,4 @@
--- The states that were reached, as they are stored, and how writes to them are undone.
+-- The reached states, as they are stored, and how writes to them are undone.
 use Rattle.std.specs.Prelude.{◌≡◌, ℕ, zero, suc, if◌then◌else◌, List, [], ◌∷◌, ◌++◌, map, Some, None, slice_get, All}
 use Rattle.owner_theory.specs.Owners.{Node}
 use Rattle.closed.specs.declared.table.Entry.{Entry}
@@ -7,7 +7,7 @@ use Rattle.closed.specs.declared.table.Outcome.TheVariants.{New, Better, Kept}
 use Rattle.closed.specs.declared.small_entry.SmallEntry.{SmallEntry}
 use Rattle.closed.specs.Tables.{node_with}
 
--- the entry that is held in 24 bytes
+-- the entry that is stored in 24 bytes
 abbrev pub entry_in : SmallEntry → Entry
 entry_in e =
     record {
@@ -16,11 +16,11 @@ entry_in e =
       expanded = e.expanded;
     }
 
--- the nodes of states with their entries, where a form has these values
+-- the nodes of states with their entries, if `values` returns the values of a form
 abbrev pub nodes_of : {F : Type 0} → (F → List ℕ) → List (F × SmallEntry) → List Node
 nodes_of values entries = map (λ p. node_with (values p.0) (entry_in p.1)) entries
 
--- the rows with this entry at a place
+-- the rows with entry `e` at index `i`
 abbrev pub set_entry_at : {F : Type 0} → List (F × SmallEntry) → ℕ → SmallEntry → List (F × SmallEntry)
 set_entry_at [] i e = []
 set_entry_at (p ∷ ps) zero e = (p.0, e) ∷ ps
@@ -33,13 +33,13 @@ pub record AreForms {F : Type 0} (Fits : List ℕ → Type 0) (IsForm : List ℕ
   pub keys : All (λ p. IsForm ranges p.0) entries
   pub buffer : IsForm ranges sought
 
--- the nodes with this entry at a place
+-- the nodes with entry `e` at index `i`
 abbrev pub with_entry : List Node → ℕ → Entry → List Node
 with_entry [] i e = []
 with_entry (n ∷ ns) zero e = node_with n.state e ∷ ns
 with_entry (n ∷ ns) (suc i) e = n ∷ with_entry ns i e
 
--- the nodes with these entries written back at their places, the last one first
+-- the nodes with these entries restored at their indices, the last one first
 abbrev pub taken_back : List (ℕ × SmallEntry) → List Node → List Node
 taken_back [] nodes = nodes
 taken_back (p ∷ ps) nodes = with_entry (taken_back ps nodes) p.0 (entry_in p.1)

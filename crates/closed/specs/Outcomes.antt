@@ -1,4 +1,4 @@
--- What an outcome says about the nodes.
+-- The meaning of an outcome for the nodes.
 use Rattle.std.specs.Prelude.{◌≡◌, ℕ, true, false, List, [], ◌∷◌, ◌++◌, length, Some, slice_get, slice_set}
 use Rattle.owner_theory.specs.Owners.{At, Node, rank_less}
 use Rattle.closed.specs.Tables.{reached}
@@ -9,7 +9,7 @@ pub record ComesLast (nodes : List Node) (m : Node) (i : ℕ) : Type 0 where
   pub absent : (j : ℕ) (n : Node) → At nodes j n → n.state ≡ m.state → ⊥
   pub appended : reached nodes m ≡ nodes ++ m ∷ []
 
--- the node of the state is at the place, at a greater rank, and is replaced
+-- the node of the state is at index `i`, at a greater rank, and is replaced
 pub record GivesWay (nodes : List Node) (m : Node) (i : ℕ) : Type 0 where
   pub node : Node
   pub there : slice_get nodes i ≡ Some node
@@ -17,7 +17,7 @@ pub record GivesWay (nodes : List Node) (m : Node) (i : ℕ) : Type 0 where
   pub rank : rank_less m.cost m.steps node.cost node.steps ≡ true
   pub replaced : reached nodes m ≡ slice_set nodes i m
 
--- a node of the state is at some place, at no greater rank, and the nodes stay the same
+-- the state has a node, at no greater rank, and the nodes are unchanged
 pub record Stays (nodes : List Node) (m : Node) : Type 0 where
   pub place : ℕ
   pub node : Node

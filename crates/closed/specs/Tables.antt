@@ -1,5 +1,5 @@
--- The states that were reached, each with the least rank at which it was reached (best-first search: Hart, Nilsson and
--- Raphael 1968).
+-- The reached states, each with the least rank at which it was reached (best-first search: Hart, Nilsson and Raphael
+-- 1968).
 use Rattle.std.specs.Prelude.{ℕ, suc, false, if◌then◌else◌, List, [], ◌∷◌, Option, Some}
 use Rattle.std.specs.Option.{option_map}
 use Rattle.owner_theory.specs.Owners as machine
@@ -16,7 +16,7 @@ use Rattle.closed.specs.declared.table.Outcome.TheVariants.{New, Better, Kept}
 abbrev pub parent_of : Parent → machine.Parent
 parent_of p = record { worker = p.worker; index = p.index; operator = p.operator }
 
--- the message whose state's form has these values
+-- the message, if `values` returns the values of its state's form
 abbrev pub message_of : {F : Type 0} → (F → List ℕ) → Message F → machine.Message
 message_of values m =
     record { state = values m.state; cost = m.rank.cost; steps = m.rank.steps; parent = parent_of m.parent }
@@ -38,7 +38,7 @@ fresh state rank parent = node_with state (record { rank = rank; parent = parent
 
 -- ---- the table
 
--- the range of each variable, and the nodes of the states that were reached
+-- the range of each variable, and the nodes of the reached states
 pub record Table : Type 0 where
   pub ranges : List ℕ
   pub nodes : List Node
@@ -51,7 +51,7 @@ reached (n ∷ ns) m =
     then (if rank_less m.cost m.steps n.cost n.steps then m ∷ ns else n ∷ ns)
     else n ∷ reached ns m
 
--- the outcome of reaching a state, where the first of these nodes is at place i
+-- the outcome of reaching a state, if the first of these nodes is at index `i`
 abbrev pub outcome_from : ℕ → List Node → Node → Outcome
 outcome_from i [] m = New i
 outcome_from i (n ∷ ns) m =
@@ -67,6 +67,6 @@ abbrev pub outcomes_of : List Node → List Node → List Outcome
 outcomes_of nodes [] = []
 outcomes_of nodes (m ∷ ms) = outcome_of nodes m ∷ outcomes_of (reached nodes m) ms
 
--- the node of a message's state, whose form has these values
+-- the node of a message's state, if `values` returns the values of its form
 abbrev pub arrival : {F : Type 0} → (F → List ℕ) → Message F → Node
 arrival values m = fresh (values m.state) m.rank (Some m.parent)

@@ -1,4 +1,4 @@
-//! The slots by which rows are found.
+//! The slots of the hash index, through which rows are found.
 
 ghost use Rattle.std.specs.Prelude.{◌≡◌, ℕ, ◌+◌, ◌^◌, ◌<◌, ◌≤◌, List, length, position, IfSome, OnOk, OnErr};
 ghost use Rattle.std.specs.Map.{keys_of};
@@ -11,7 +11,7 @@ use slots::{Slot, add, home_of, slot_after};
 use std::alloc::AllocError;
 use std::hash::{FoldHasher, Hash, Hasher};
 
-/// How many slots a table has at first.
+/// The number of slots of a new table.
 pub(crate) const FIRST_SLOTS: usize = 24;
 
 /// The greatest number of slots, 2^32 - 1.
@@ -23,7 +23,7 @@ const MAX_ROWS: usize = 2_863_311_530;
 /// A slot without a row.
 pub(crate) const EMPTY: Slot<u32> = Slot { link: 0, note: 0 };
 
-/// The tag of a form: the upper half of the hash that std's maps compute of it.
+/// Returns the tag of a form: the upper half of the hash that std's maps compute of it.
 #[tactic(auto, unfolding(crate::specs::Rows::tag_of))]
 pub(crate) fn tag_of<F: Hash>(form: &F) -> u32
     ensures { result ≡ spec.tag_of (F.hash_input form.now) }
@@ -33,7 +33,7 @@ pub(crate) fn tag_of<F: Hash>(form: &F) -> u32
     (hasher.finish() >> 32) as u32
 }
 
-/// How many rows this many slots have room for: two thirds, so that runs of taken slots stay short.
+/// Returns the number of rows for which `size` slots have room: two thirds, so that runs of taken slots stay short.
 fn room_in(size: usize) -> usize
     requires { size < 2 ^ 32 }
     ensures { result ≡ spec.room_in size }
@@ -41,8 +41,8 @@ fn room_in(size: usize) -> usize
     size / 3 * 2
 }
 
-/// How many slots are to take the place of this many that have too little room for the rows: twice as many, or as many as the
-/// rows need if that is more, and `None` where no number of slots has room.
+/// Returns the number of slots to grow to from `size`, which are too few for `rows` rows: twice as many, or as many as
+/// the rows need if that is more; `None` if no number of slots suffices.
 fn grown_count(size: usize, rows: usize) -> Option<usize>
     requires few { size < 2 ^ 32 }
     requires short { spec.room_in size < rows }
@@ -56,8 +56,8 @@ fn grown_count(size: usize, rows: usize) -> Option<usize>
     Some((size * 2).min(MAX_SLOTS).max(rows.div_ceil(2) * 3))
 }
 
-/// Adds the slots that are taken to slots that are empty. It follows their order, in which their homes nearly increase, so that
-/// it writes through memory nearly in order, and looks at no row.
+/// Adds the taken slots to slots that are empty. It follows their order, in which their home slots nearly increase, so
+/// that memory is written nearly in order, and no row is read.
 fn add_taken(taken: &[Slot<u32>], slots: &mut [Slot<u32>])
     requires few { length slots.old < 2 ^ 32 }
     requires empty { empties (links_of slots.old) ≡ length slots.old }
@@ -91,8 +91,8 @@ pub(crate) fn add_rows<F: Hash>(rows: &[(F, SmallEntry)], slots: &mut [Slot<u32>
     }
 }
 
-/// Makes room for this many rows, at least as many as there are. Fails only if allocation fails or they are more than
-/// `MAX_ROWS`, and then leaves the slots as they were.
+/// Makes room for `rows` rows, at least as many as there are. Fails if allocation fails or `rows` exceeds `MAX_ROWS`;
+/// the slots are then unchanged.
 pub(crate) fn make_room(slots: &mut Vec<Slot<u32>>, rows: usize) -> Result<(), AllocError>
     requires some { 0 < length slots.old.items }
     requires few { length slots.old.items < 2 ^ 32 }
@@ -116,8 +116,8 @@ pub(crate) fn make_room(slots: &mut Vec<Slot<u32>>, rows: usize) -> Result<(), A
     Ok(())
 }
 
-/// The link of the slot at the home of the form, or of the next one, if that slot has the form's tag, and else 0: most often
-/// that of the form's row, if it has one.
+/// Returns the link of the form's home slot or of the next one, if that slot has the form's tag, and 0 otherwise: most
+/// often that of the form's row, if it has one.
 pub(crate) fn lead_to<F: Hash>(slots: &[Slot<u32>], form: &F) -> u32
     requires some { 0 < length slots.now }
     requires few { length slots.now < 2 ^ 32 }
@@ -136,7 +136,7 @@ pub(crate) fn lead_to<F: Hash>(slots: &[Slot<u32>], form: &F) -> u32
     }
 }
 
-/// The place of the row with this form, counted from 0, or `None` if there is none. Forms are compared only where the tags are
+/// Returns the index of the row with this form, or `None` if there is none. Forms are compared only if their tags are
 /// equal.
 fn find<F: Hash>(rows: &[(F, SmallEntry)], slots: &[Slot<u32>], form: &F) -> Option<usize>
     requires { AreIndexed F.eq F.hash_input rows.now slots.now }
@@ -158,7 +158,8 @@ fn find<F: Hash>(rows: &[(F, SmallEntry)], slots: &[Slot<u32>], form: &F) -> Opt
     None
 }
 
-/// What `find` gives. The row of this link is looked at first, if there is one: no slot is read where it has the form.
+/// Returns the same as `find`, after trying the row to which `link` points, if any: if it has the form, no slot is
+/// read.
 pub(crate) fn find_led<F: Hash>(
     rows: &[(F, SmallEntry)],
     slots: &[Slot<u32>],

@@ -1,5 +1,5 @@
-//! The states that an owner of a search has reached, each with the least rank at which it was reached (best-first search:
-//! Hart, Nilsson and Raphael 1968).
+//! The states that an owner of a search has reached, each with the least rank at which it was reached (best-first
+//! search: Hart, Nilsson and Raphael 1968).
 #![tactic(auto)]
 
 mod index;

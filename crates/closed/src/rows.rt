@@ -1,4 +1,4 @@
-//! Rows: the forms of states with their entries, and an index of them.
+//! Rows: the forms of states with their entries, and a hash index of them.
 
 ghost use Rattle.std.specs.Prelude.{◌≡◌, ◌<◌, [], ◌∷◌, ◌++◌, take, length, position, Some, None, slice_get, IfOk, IfSome, OnOk, OnErr};
 ghost use Rattle.std.specs.Option.{option_copied};
@@ -12,27 +12,28 @@ use slots::{Slot, add, home_of};
 use std::alloc::{AllocError, Global};
 use std::marker::Model;
 
-/// Where slots of the index lead, as they were read before a form is looked up. What a look-up gives does not depend on it.
+/// A hint for a later look-up of a form, read from its first slots. The result of the look-up does not depend on it.
 #[derive(Clone, Copy, Debug, PartialEq, Eq)]
 pub struct Lead {
-    /// The place of a row plus one, or 0 for no row.
+    /// The index of a row plus one, or 0 for no row.
     link: u32,
 }
 
 impl Lead {
-    /// A lead to no row.
+    /// The hint that names no row.
     pub const NONE: Lead = Lead { link: 0 };
 }
 
-/// The forms of states, each beside its entry, with an index of the forms: open addressing, with 8 bytes for a slot, of which at
-/// most two thirds are taken. A look-up reads the slots from the home of the form's tag on, up to an empty one: most often side
-/// by side in memory. Then it reads the row whose slot has the same tag, hardly ever another one's.
+/// The forms of states, each stored beside its entry, with a hash index of the forms: open addressing, with 8 bytes for
+/// a slot, of which at most two thirds are taken. A look-up probes linearly from the home slot of the form's tag to an
+/// empty slot, mostly within one cache line. It reads a row only if the slot has the form's tag, hardly ever that of
+/// another form.
 ///
 /// No two forms are equal, and there are at most 2,863,311,530. In contracts its value is the list of the rows.
 #[derive(Drop)]
 pub(crate) struct Rows<F: StateForm + Drop> {
     rows: Vec<(F, SmallEntry)>,
-    /// The slots of the rows' index, whose notes are the forms' tags.
+    /// The slots of the hash index, tagged by the forms' tags.
     slots: Vec<Slot<u32>>,
 }
 
@@ -49,7 +50,7 @@ impl<F: StateForm + Drop> Model for Rows<F> {
 }
 
 impl<F: StateForm + Drop> Rows<F> {
-    /// No rows. Fails only if allocation fails.
+    /// Returns a table without rows.
     pub(crate) fn new(alloc: Global) -> Result<Rows<F>, AllocError>
         ensures { IfOk result (λ rows. rows ≡ []) }
     {
@@ -59,26 +60,26 @@ impl<F: StateForm + Drop> Rows<F> {
         })
     }
 
-    /// The allocator.
+    /// Returns the allocator.
     pub(crate) fn allocator(&self) -> &Global {
         self.rows.allocator()
     }
 
-    /// The number of rows.
+    /// Returns the number of rows.
     pub(crate) fn len(&self) -> usize
         ensures len { result ≡ length self.now }
     {
         self.rows.len()
     }
 
-    /// Where the slots at the form's home lead.
+    /// Reads the first slots for `form` and returns the row that they name, as a hint.
     pub(crate) fn lead(&self, form: &F) -> Lead {
         Lead {
             link: lead_to(&self.slots, form),
         }
     }
 
-    /// The place of the row with this form, counted from 0, or `None` if there is none, whatever the lead.
+    /// Returns the index of the row with this form, or `None` if there is none, whatever the hint.
     pub(crate) fn index_of(&self, form: &F, lead: Lead) -> Option<usize>
         ensures index { result ≡ position (F.eq form.now) (keys_of self.now) }
         ensures within { IfSome result (λ i. i < length self.now) }
@@ -86,14 +87,14 @@ impl<F: StateForm + Drop> Rows<F> {
         find_led(&self.rows, &self.slots, form, lead.link)
     }
 
-    /// The row at that place, or `None` past the last place.
+    /// Returns the row at the index, or `None` past the last row.
     pub(crate) fn get(&self, index: usize) -> Option<&(F, SmallEntry)>
         ensures { option_copied result ≡ slice_get self.now index }
     {
         self.rows.get(index)
     }
 
-    /// The entry at that place.
+    /// Returns the entry at the index.
     pub(crate) fn entry(&self, index: usize) -> SmallEntry
         requires { index < length self.now }
         ensures { slice_get (values_of self.now) index ≡ Some result }
@@ -101,7 +102,7 @@ impl<F: StateForm + Drop> Rows<F> {
         self.rows[index].1
     }
 
-    /// Writes the entry at that place.
+    /// Replaces the entry at the index.
     pub(crate) fn set_entry(&mut self, index: usize, entry: SmallEntry)
         requires { index < length self.old }
         ensures { self.new ≡ set_entry_at self.old index entry }
@@ -109,8 +110,8 @@ impl<F: StateForm + Drop> Rows<F> {
         self.rows[index].1 = entry;
     }
 
-    /// Makes room for this many further rows. Fails only if allocation fails or there would be too many rows, and changes
-    /// nothing in either case.
+    /// Makes room for `more` further rows. Fails if allocation fails or there would be too many rows; the rows are
+    /// unchanged in either case.
     pub(crate) fn reserve(&mut self, more: usize) -> Result<(), AllocError>
         ensures { self.new ≡ self.old }
     {
@@ -121,8 +122,8 @@ impl<F: StateForm + Drop> Rows<F> {
         self.rows.reserve(more)
     }
 
-    /// Appends a row whose form is in no row. Fails only if allocation fails or there are too many rows, and then leaves the
-    /// rows as they were.
+    /// Appends a row whose form is in no other row. Fails if allocation fails or there are too many rows; the rows are
+    /// then unchanged.
     pub(crate) fn push(&mut self, form: F, entry: SmallEntry) -> Result<(), AllocError>
         requires { position (F.eq form) (keys_of self.old) ≡ None }
         ensures pushed { OnOk result (self.new ≡ self.old ++ (form, entry) ∷ []) }
@@ -137,8 +138,9 @@ impl<F: StateForm + Drop> Rows<F> {
         Ok(())
     }
 
-    /// Removes the rows from place `len` on. Where there are any, it takes time linear in the size of the table, since a slot
-    /// cannot be emptied alone: others are found past it. So it serves only to undo what was written before memory was refused.
+    /// Removes the rows from index `len` on. If there are any, it takes time linear in the size of the table, because a
+    /// single slot cannot be emptied: probe sequences of other forms pass it. It is used only to undo writes after an
+    /// allocation has failed.
     pub(crate) fn truncate(&mut self, len: usize)
         ensures { self.new ≡ take len self.old }
     {

@@ -8,27 +8,28 @@ use crate::message::Parent;
 use crate::table::Entry;
 use openlist::Rank;
 
-/// An entry in 24 bytes. The three fields of the parent are 0 where there is none.
+/// An entry in 24 bytes. Without a parent its three fields are 0.
 #[derive(Clone, Copy, Debug, PartialEq, Eq)]
 pub(crate) struct SmallEntry {
     /// The cost of the rank.
     cost: u64,
     /// The number of steps of the rank.
     steps: u32,
-    /// The place of the parent in its worker's table.
+    /// The index of the parent in its worker's table.
     index: u32,
     /// The number of the operator that was applied in the parent.
     operator: u32,
     /// The worker that owns the parent.
     worker: u8,
-    /// Whether there is a parent.
+    /// Whether the state has a parent.
     has_parent: bool,
     /// Whether the state was expanded at the rank.
     expanded: bool,
 }
 
 impl SmallEntry {
-    /// The entry of a state that is not expanded, or `None` if the rank or the parent has a number past its field.
+    /// Returns the entry of a state that is not expanded, or `None` if the rank or the parent has a number that exceeds
+    /// its field.
     pub(crate) fn of(rank: Rank, parent: Option<Parent>) -> Option<SmallEntry>
         ensures held { IfSome result (λ e. entry_in e ≡ record { rank = rank; parent = parent; expanded = false }) }
         ensures past { IfNone result (IsPastEntry rank parent) }
@@ -65,7 +66,7 @@ impl SmallEntry {
         })
     }
 
-    /// The rank.
+    /// Returns the rank.
     pub(crate) fn rank(&self) -> Rank
         ensures { result ≡ (entry_in self.now).rank }
     {
@@ -75,7 +76,7 @@ impl SmallEntry {
         }
     }
 
-    /// The entry.
+    /// Returns the entry, unpacked.
     pub(crate) fn entry(&self) -> Entry
         ensures { result ≡ entry_in self.now }
     {

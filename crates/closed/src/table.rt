@@ -20,34 +20,34 @@ use packed::{Layout, StateForm};
 use std::alloc::{AllocError, Global};
 use std::marker::Model;
 
-/// What is stored for a state beside its values.
+/// The data stored for a state besides its values.
 #[derive(Clone, Copy, Debug, PartialEq, Eq)]
 pub struct Entry {
     /// The least rank at which the state was reached.
     pub rank: Rank,
-    /// Where it was reached from at that rank, and `None` for the initial state.
+    /// The origin of the state at that rank, or `None` for the initial state.
     pub parent: Option<Parent>,
     /// Whether it was expanded at that rank.
     pub expanded: bool,
 }
 
-/// The outcome of reaching a state, with the state's place in the table, counted from 0, if it is new or its rank fell.
+/// The outcome of reaching a state, with the state's index in the table if it is new or improved.
 #[derive(Clone, Copy, Debug, PartialEq, Eq)]
 pub enum Outcome {
     /// The state had not been reached before.
     New(usize),
     /// It had been reached at a greater rank. It now has the lesser one, and is not expanded at it.
     Better(usize),
-    /// It had been reached at this rank or a lesser one, and is unchanged.
+    /// It had been reached at this rank or a lesser one, and is unchanged: a duplicate.
     Kept,
 }
 
-/// The states that were reached, in the order in which they were first reached, indexed by their forms. A contract sees
-/// the ranges of the task's variables and a node for each state. A state takes the size of its form, 24 bytes for its entry and
-/// 12 to 24 bytes of the index.
+/// The reached states, in the order in which they were first reached, with a hash index of their forms. In contracts
+/// its value is the ranges of the task's variables and a node for each state. A state takes the size of its form, 24
+/// bytes for its entry and 12 to 24 bytes of the index.
 ///
-/// A table holds at most 2,863,311,530 states, and refuses a further one as it does where allocation fails. It holds ranks of
-/// at most 2^32 - 1 steps, and parents whose place and operator are at most 2^32 - 1 and whose worker is at most 255.
+/// A table holds at most 2,863,311,530 states; adding another fails like a failed allocation. It holds ranks of at most
+/// 2^32 - 1 steps, and parents whose index and operator are at most 2^32 - 1 and whose worker is at most 255.
 #[derive(Drop)]
 pub struct ClosedTable<F: StateForm + Drop> {
     layout: Layout,
@@ -67,8 +67,8 @@ impl<F: StateForm + Drop> Model for ClosedTable<F> {
     ghost invariant = { λ t. AreForms F.Fits F.IsForm t.layout t.rows t.sought };
 }
 
-/// The outcome of reaching the state of a form at a rank, where the keys are forms of states with the same ranges. What equals
-/// none of them is new, also if it is no form of a state.
+/// Returns the outcome of reaching the state of a form at a rank, if all keys are forms of states with the same ranges.
+/// A form that equals none of them is new, even if it is no form of a state.
 fn outcome_among<F: StateForm + Drop>(rows: &Rows<F>, form: &F, rank: Rank, lead: Lead) -> Outcome
     ensures outcome { (ranges : List ℕ) (parent : Option Parent) → F.IsForm ranges form.now →
         All (λ p. F.IsForm ranges p.0) rows.now →
@@ -82,8 +82,8 @@ fn outcome_among<F: StateForm + Drop>(rows: &Rows<F>, form: &F, rank: Rank, lead
     }
 }
 
-/// Writes the outcome of reaching the state of a form. A new state is stored as a copy of the form. Fails only if allocation
-/// fails, which can happen only for a new state, and then leaves the entries as they were.
+/// Applies the outcome of reaching the state of a form. A new state is stored as a copy of the form. It can fail only
+/// for a new state; the entries are then unchanged.
 fn write<F: StateForm + Drop>(
     rows: &mut Rows<F>,
     form: &F,
@@ -114,7 +114,7 @@ fn write<F: StateForm + Drop>(
 }
 
 impl<F: StateForm + Drop> ClosedTable<F> {
-    /// An empty table for the task's states, which have this form. Fails only if allocation fails.
+    /// Returns an empty table for the task's states, which have this form.
     pub fn new(alloc: Global, task: &FdrTask) -> Result<ClosedTable<F>, AllocError>
         requires { F.Fits (tasks.ranges task.now) }
         ensures ranges { IfOk result (λ t. t.ranges ≡ tasks.ranges task.now) }
@@ -129,22 +129,22 @@ impl<F: StateForm + Drop> ClosedTable<F> {
         })
     }
 
-    /// The number of states in the table.
+    /// Returns the number of states in the table.
     pub fn len(&self) -> usize
         ensures { result ≡ length self.now.nodes }
     {
         self.rows.len()
     }
 
-    /// Whether the table is empty.
+    /// Returns whether the table is empty.
     pub fn is_empty(&self) -> bool
         ensures { result ≡ (length self.now.nodes == 0) }
     {
         self.len() == 0
     }
 
-    /// Every state in the table is a state of the task, and states of the task have the form: it follows from the type's
-    /// invariant.
+    /// Proves, from the type's invariant, that every state in the table is a state of the task, and that states of the
+    /// task have the form (only for the proof).
     pub fn recall(&self)
         ensures states { All (λ n. IsState self.now.ranges n.state) self.now.nodes }
         ensures fits { F.Fits self.now.ranges }
@@ -152,15 +152,15 @@ impl<F: StateForm + Drop> ClosedTable<F> {
         let _ = self.rows.len();
     }
 
-    /// Makes room for this many further states. Fails only if allocation fails or a table cannot hold so many, and changes
-    /// nothing in either case.
+    /// Makes room for `more` further states. Fails if allocation fails or a table cannot hold that many; the table is
+    /// unchanged in either case.
     pub fn reserve(&mut self, more: usize) -> Result<(), AllocError>
         ensures { self.new ≡ self.old }
     {
         self.rows.reserve(more)
     }
 
-    /// The form of the state at that place, counted from 0, or `None` past the last place.
+    /// Returns the form of the state at the index, or `None` past the last state.
     pub fn form(&self, index: usize) -> Option<&F>
         ensures form { IfSome result (λ f. F.IsForm self.now.ranges f.now × ((n : Node) →
             slice_get self.now.nodes index ≡ Some n → F.values self.now.ranges f.now ≡ n.state)) }
@@ -170,7 +170,7 @@ impl<F: StateForm + Drop> ClosedTable<F> {
         Some(&row.0)
     }
 
-    /// The entry of the state at that place, counted from 0.
+    /// Returns the entry of the state at the index.
     pub fn entry(&self, index: usize) -> Entry
         requires { index < length self.now.nodes }
         ensures { (n : Node) → slice_get self.now.nodes index ≡ Some n → n ≡ node_with n.state result }
@@ -178,7 +178,7 @@ impl<F: StateForm + Drop> ClosedTable<F> {
         self.rows.entry(index).entry()
     }
 
-    /// Writes the values of the state at that place, counted from 0, into `values`.
+    /// Writes the values of the state at the index into `values`.
     pub fn copy_state(&self, index: usize, values: &mut [u32])
         requires index { index < length self.now.nodes }
         requires len { length values.old ≡ length self.now.ranges }
@@ -188,7 +188,7 @@ impl<F: StateForm + Drop> ClosedTable<F> {
         row.0.unpack(&self.layout, values);
     }
 
-    /// Marks the state at that place as expanded at its rank.
+    /// Marks the state at the index as expanded at its rank.
     pub fn mark_expanded(&mut self, index: usize)
         requires { index < length self.old.nodes }
         ensures nodes { (n : Node) → slice_get self.old.nodes index ≡ Some n →
@@ -200,7 +200,7 @@ impl<F: StateForm + Drop> ClosedTable<F> {
         self.rows.set_entry(index, entry);
     }
 
-    /// Marks the state at that place as not expanded.
+    /// Marks the state at the index as not expanded.
     pub fn mark_open(&mut self, index: usize)
         requires { index < length self.old.nodes }
         ensures nodes { (n : Node) → slice_get self.old.nodes index ≡ Some n →
@@ -212,7 +212,7 @@ impl<F: StateForm + Drop> ClosedTable<F> {
         self.rows.set_entry(index, entry);
     }
 
-    /// The outcome that reaching a state at a rank would have. Nothing changes but the buffer of the form that is sought.
+    /// Returns the outcome that reaching a state at a rank would have. Only the buffer of the look-up changes.
     pub fn look(&mut self, state: &[u32], rank: Rank) -> Outcome
         requires { IsState self.old.ranges state.now }
         ensures outcome { (parent : Option Parent) → result ≡ outcome_of self.old.nodes (fresh state.now rank parent) }
@@ -222,9 +222,9 @@ impl<F: StateForm + Drop> ClosedTable<F> {
         outcome_among(&self.rows, &self.sought, rank, Lead::NONE)
     }
 
-    /// Records that a state was reached, where `look` told the outcome. Fails only if allocation fails, which can happen
-    /// only for a new state, or if the rank or the parent is past what an entry can hold (`steps`, `index` or `operator`
-    /// above 2^32 - 1, or `worker` above 255), and then leaves the table as it was.
+    /// Records that a state was reached, with the outcome that `look` returned. Fails if allocation fails, which can
+    /// happen only for a new state, or if the rank or the parent exceeds the limits of an entry (`steps`, `index` or
+    /// `operator` above 2^32 - 1, or `worker` above 255); the table is then unchanged.
     pub fn reach(
         &mut self,
         state: &[u32],
@@ -246,7 +246,7 @@ impl<F: StateForm + Drop> ClosedTable<F> {
         write(&mut self.rows, &self.sought, entry, outcome)
     }
 
-    /// The outcome that reaching the state of a form at a rank would have, as `look` gives it.
+    /// Returns the outcome that reaching the state of a form at a rank would have, the same as `look`.
     pub fn look_form(&self, form: &F, rank: Rank) -> Outcome
         requires { F.IsForm self.now.ranges form.now }
         ensures { (parent : Option Parent) →
@@ -255,14 +255,14 @@ impl<F: StateForm + Drop> ClosedTable<F> {
         self.look_led(form, rank, Lead::NONE)
     }
 
-    /// Reads the slots of the index in which the look-up of a form begins, and tells where they lead. Where many forms are to be
-    /// looked up, all their leads are read first, since the processor waits for one read of memory if the next depends on it,
-    /// and here none does.
+    /// Reads the first slots for `form` and returns the row that they name, as a hint. Probing all successors before
+    /// reading rows lets cache misses overlap.
     pub fn lead(&self, form: &F) -> Lead {
         self.rows.lead(form)
     }
 
-    /// What `look_form` gives, whatever the lead. With the form's lead a look-up mostly reads one row and no slot.
+    /// Returns the same as `look_form`, whatever the hint. With the form's hint a look-up mostly reads one row and no
+    /// slot.
     pub fn look_led(&self, form: &F, rank: Rank, lead: Lead) -> Outcome
         requires { F.IsForm self.now.ranges form.now }
         ensures { (parent : Option Parent) →
@@ -271,8 +271,8 @@ impl<F: StateForm + Drop> ClosedTable<F> {
         outcome_among(&self.rows, form, rank, lead)
     }
 
-    /// Whether the state of this form is in the table at this rank or a lesser one, so that reaching it again would change
-    /// nothing. The form need not be that of a state.
+    /// Returns whether the state of this form is in the table at this rank or a lesser one, so that reaching it again
+    /// is a duplicate. The form need not be that of a state.
     pub fn knows(&self, form: &F, rank: Rank) -> bool
         ensures known { IsTrue result → F.IsForm self.now.ranges form.now × ((parent : Option Parent) →
             outcome_of self.now.nodes (fresh (F.values self.now.ranges form.now) rank parent) ≡ Kept) }
@@ -283,8 +283,8 @@ impl<F: StateForm + Drop> ClosedTable<F> {
         matches!(outcome, Outcome::Kept)
     }
 
-    /// Records that the state of a form was reached, where `look_form` told the outcome. Fails as `reach` does, and then
-    /// leaves the table as it was.
+    /// Records that the state of a form was reached, with the outcome that `look_form` returned. Fails as `reach` does;
+    /// the table is then unchanged.
     pub fn reach_form(
         &mut self,
         form: &F,
@@ -305,8 +305,7 @@ impl<F: StateForm + Drop> ClosedTable<F> {
         write(&mut self.rows, form, entry, outcome)
     }
 
-    /// Records that a state was reached, and returns the outcome. Fails as `reach` does, and then leaves the table as it
-    /// was.
+    /// Records that a state was reached, and returns the outcome. Fails as `reach` does; the table is then unchanged.
     pub fn improve(
         &mut self,
         state: &[u32],
@@ -326,8 +325,7 @@ impl<F: StateForm + Drop> ClosedTable<F> {
         Ok(outcome)
     }
 
-    /// Appends the entry that an outcome replaces, if there is one, to `replaced`. Fails only if allocation fails, and
-    /// then leaves `replaced` as it was.
+    /// Appends the entry that an outcome replaces, if there is one, to `replaced`, which is unchanged on failure.
     fn note(
         &self,
         outcome: Outcome,
@@ -344,7 +342,7 @@ impl<F: StateForm + Drop> ClosedTable<F> {
     }
 
     /// Records that the state of a message was reached, and appends the entry that this replaces, if there is one, to
-    /// `replaced`. Fails as `reach` does. In either case `take_back` with `replaced` undoes what was written.
+    /// `replaced`. Fails as `reach` does. In either case `take_back` with `replaced` undoes the writes.
     fn reach_noting(
         &mut self,
         message: &Message<F>,
@@ -365,7 +363,7 @@ impl<F: StateForm + Drop> ClosedTable<F> {
     }
 
     /// Records that the states of messages were reached, one after the other, with the outcome of each and the entries
-    /// that were replaced. Fails as `reach` does, and then `take_back` with `replaced` undoes what was written.
+    /// that were replaced. Fails as `reach` does; `take_back` with `replaced` then undoes the writes.
     fn reach_all(
         &mut self,
         messages: &[Message<F>],
@@ -387,7 +385,7 @@ impl<F: StateForm + Drop> ClosedTable<F> {
         Ok(())
     }
 
-    /// Removes the states from place `len` on. Where there are any, it takes time linear in the size of the table.
+    /// Removes the states from index `len` on. If there are any, it takes time linear in the size of the table.
     fn truncate(&mut self, len: usize)
         ensures nodes { self.new.nodes ≡ take len self.old.nodes }
         ensures ranges { self.new.ranges ≡ self.old.ranges }
@@ -395,7 +393,7 @@ impl<F: StateForm + Drop> ClosedTable<F> {
         self.rows.truncate(len);
     }
 
-    /// Writes an entry back at that place, if there is a state.
+    /// Restores an entry at the index, if there is a state.
     fn put_back(&mut self, index: usize, entry: SmallEntry)
         ensures nodes { self.new.nodes ≡ with_entry self.old.nodes index (entry_in entry) }
         ensures ranges { self.new.ranges ≡ self.old.ranges }
@@ -405,7 +403,7 @@ impl<F: StateForm + Drop> ClosedTable<F> {
         }
     }
 
-    /// Removes the states from place `len` on, and writes the replaced entries of the others back, the last one first.
+    /// Removes the states from index `len` on, and restores the replaced entries of the others, the last one first.
     fn take_back(&mut self, len: usize, mut replaced: Vec<(usize, SmallEntry)>)
         ensures nodes { self.new.nodes ≡ taken_back replaced.items (take len self.old.nodes) }
         ensures ranges { self.new.ranges ≡ self.old.ranges }
@@ -416,8 +414,8 @@ impl<F: StateForm + Drop> ClosedTable<F> {
         }
     }
 
-    /// Records that the states of messages were reached, one after the other, and replaces the content of `outcomes` by the
-    /// outcome of each. Fails as `reach` does, and then leaves the table as it was.
+    /// Records that the states of messages were reached, one after the other, and replaces the content of `outcomes` by
+    /// the outcome of each. Fails as `reach` does; the table is then unchanged.
     pub fn improve_all(
         &mut self,
         messages: &[Message<F>],

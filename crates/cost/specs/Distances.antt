@@ -1,4 +1,4 @@
--- Distances: numbers, and one that is greater than all of them.
+-- Distances: natural numbers, and infinity.
 use Rattle.std.specs.Prelude.{◌≡◌, ℕ, ◌+◌, ◌<◌, ◌≤◌, Bool, true, false, nat_le, nat_lt, max, min, List, [], ◌∷◌, Option, None, Some, decimal, codes, refl}
 use Rattle.std.specs.declared.cmp.Ordering.{Ordering}
 use Rattle.std.specs.declared.cmp.Ordering.TheVariants.{Less, Equal, Greater}
@@ -6,7 +6,7 @@ use Rattle.std.specs.Ordering.{nat_cmp}
 use Rattle.cost.specs.declared.Value.{Value}
 use Rattle.cost.specs.declared.Value.TheVariants as value
 
--- a number, or infinite
+-- a natural number, or infinity
 pub data Distance : Type 0 where
   Finite : ℕ → Distance
   Infinite : Distance
@@ -59,7 +59,7 @@ distance_cmp (Finite m) Infinite = Less
 distance_cmp Infinite (Finite n) = Greater
 distance_cmp Infinite Infinite = Equal
 
--- the sum of two distances, which is infinite if one of them is
+-- the sum of two distances, which is infinite if either of them is
 abbrev pub ◌+ᵈ◌ : Distance → Distance → Distance
 Infinite +ᵈ e = Infinite
 Finite m +ᵈ Infinite = Infinite
@@ -82,12 +82,12 @@ abbrev pub total : List Distance → Distance
 total [] = Finite 0
 total (d ∷ ds) = d +ᵈ total ds
 
--- the greatest of a list of distances, and 0 of an empty list
+-- the greatest of a list of distances; 0 for an empty list
 abbrev pub greatest : List Distance → Distance
 greatest [] = Finite 0
 greatest (d ∷ ds) = larger d (greatest ds)
 
--- the least of a list of distances, and infinite of an empty list
+-- the least of a list of distances; infinite for an empty list
 abbrev pub least : List Distance → Distance
 least [] = Infinite
 least (d ∷ ds) = lesser d (least ds)

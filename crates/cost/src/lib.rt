@@ -39,7 +39,7 @@ impl Cost {
     /// The cost 0.
     pub const ZERO: Cost = Cost { value: 0 };
 
-    /// The cost 1, which every operator has where the task states no costs.
+    /// The cost 1, which every operator has if the task states no costs.
     pub const ONE: Cost = Cost { value: 1 };
 
     /// Returns the cost `value`, or `None` if it is greater than `MAX_COST`.
@@ -74,14 +74,14 @@ impl fmt::Display for Cost {
     }
 }
 
-/// A finite distance, or the distance that is greater than every number.
+/// A finite distance, or infinity.
 #[derive(Clone, Copy, Debug, PartialEq, Eq, PartialOrd, Ord, Hash)]
 enum Value {
     Finite(u64),
     Infinite,
 }
 
-/// The distance of a state to a goal, or a bound on it: a whole number from 0 to 2^63, or infinite where no goal can be
+/// The distance of a state to a goal, or a bound on it: a whole number from 0 to 2^63, or infinite if no goal can be
 /// reached. In contracts its value is a `Distance`.
 #[derive(Clone, Copy, Debug, PartialEq, Eq, Hash)]
 pub struct Dist {
@@ -162,7 +162,7 @@ impl Dist {
         }
     }
 
-    /// Whether the distance is infinite, so that no goal can be reached.
+    /// Returns whether the distance is infinite, that is, no goal can be reached.
     pub fn is_infinite(self) -> bool
         ensures { IsTrue result ↔ (self ≡ Infinite) }
     {
@@ -183,7 +183,7 @@ impl From<Cost> for Dist {
     }
 }
 
-/// Numbers are in their order, and each is less than the infinite distance.
+/// Finite distances are ordered as numbers, and the infinite distance is greater than all of them.
 impl Ord for Dist {
     ghost use Rattle.std.specs.Prelude.{refl};
     ghost use Rattle.std.specs.Cmp.{unsigned_ties};

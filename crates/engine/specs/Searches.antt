@@ -1,4 +1,4 @@
--- How a search by threads ends, and why it may fail.
+-- How a multi-threaded search ends, and why it may fail.
 use Rattle.std.specs.Prelude.{◌≡◌, ℕ, ◌<◌, ◌⊎◌, List, [], length, None}
 use Rattle.cost.specs.Distances.{Distance}
 use Rattle.owner_theory.specs.Owners.{At}
@@ -15,7 +15,7 @@ use Rattle.engine.specs.declared.fault.EngineFault.TheVariants.{OutOfMemory, Tot
 use Rattle.engine.specs.declared.searched.Searched.{Searched}
 use Rattle.engine.specs.declared.searched.Searched.TheVariants.{Settled, Stopped}
 
--- this many owners of that space, which have taken all messages
+-- `workers` owners of that space, which have taken all messages
 pub record IsEndIn {S : Type 0} (searched_space : SpaceOf S) (workers : ℕ) (e : EndOf S) : Type 0 where
   pub space : e.space ≡ searched_space
   pub count : length e.owners ≡ workers
@@ -29,15 +29,15 @@ pub record IsRefusedBy {S : Type 0} (owner : S → List ℕ → ℕ → ℕ) (e 
   pub bound : Distance
   pub refusal : IsRefusal owner bound holder holder fault
 
--- the gate may end a search of this many workers as at a limit
+-- the gate may end a search of `workers` workers as at a limit
 pub record IsEndedByGate (may_stop : MayStop) (workers : ℕ) : Type 0 where
   pub worker : ℕ
   pub within : worker < workers
   pub turn : ℕ
   pub stops : may_stop worker turn Limit
 
--- the end of a search of this many workers: the owners are settled; or they are not, as one of them has reached its limit, or the gate ended
--- the search
+-- the end of a search of `workers` workers: the owners are settled; or they are not, because one of them has reached
+-- its limit, or the gate ended the search
 abbrev pub IsSearched : {S F : Type 0} → (S → List ℕ → ℕ → ℕ) → MayStop → SpaceOf S → ℕ → Searched S F → Type 0
 IsSearched owner may_stop space workers (Settled e) =
     IsEndIn space workers e × ((bound : Distance) × IsSettledAt (space_at owner e) e.owners e.left bound)
@@ -45,14 +45,15 @@ IsSearched owner may_stop space workers (Stopped e) =
     IsEndIn space workers e × IsSettledAnswer (space_at owner e) e.owners e.left None
     × (IsRefusedBy owner e owner_fault.LimitReached ⊎ IsEndedByGate may_stop workers)
 
--- the end of a search of this many owners, one of which refuses to expand its next node, for this fault
+-- the end of a search of `workers` owners, one of which refuses to expand its next node, for this fault
 pub record IsRefusedEnd {S : Type 0} (owner : S → List ℕ → ℕ → ℕ) (searched_space : SpaceOf S) (workers : ℕ) (fault : OwnerFault) : Type 0 where
   pub end : EndOf S
   pub is_in : IsEndIn searched_space workers end
   pub family : ∥ ((family : Family) × IsEndOf owner end family) ∥₁
   pub refused : IsRefusedBy owner end fault
 
--- why a search of this many workers fails: memory ran out; a successor's total is too large; or the gate may make it fail before that turn
+-- the reason why a search of `workers` workers fails: memory ran out; a successor's total is too large; or the gate may
+-- make it fail before that turn
 abbrev pub IsSearchFault : {S : Type 0} → (S → List ℕ → ℕ → ℕ) → MayStop → SpaceOf S → ℕ → EngineFault → Type 0
 IsSearchFault owner may_stop space workers OutOfMemory = Unit {0}
 IsSearchFault owner may_stop space workers TotalTooLarge = IsRefusedEnd owner space workers owner_fault.TotalTooLarge

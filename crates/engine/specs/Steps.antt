@@ -1,4 +1,4 @@
--- The steps of a search by threads: a round, and what comes after it.
+-- The steps of a multi-threaded search: a round, and its outcome.
 use Rattle.std.specs.Prelude.{◌≡◌, ℕ, ◌<◌, List, [], length, All, Option, Some, None, Result, Ok, Err}
 use Rattle.owner.specs.Spaces.{SpaceOf}
 use Rattle.engine_round.specs.Turns.{MayStop}
@@ -14,25 +14,26 @@ use Rattle.engine.specs.declared.searches.Outcome.{Outcome}
 use Rattle.engine.specs.declared.searches.Outcome.TheVariants.{Next, Last}
 use Rattle.engine.specs.Searches.{IsEndedByGate, IsSearched}
 
--- what a round's fault means for the search, which it may make fail
+-- the meaning of a round's fault for the search, which it may make fail
 abbrev pub halt_of : Option (ℕ × TurnFault) → Result (Option Halt) EngineFault
 halt_of None = Ok None
 halt_of (Some (worker, Owner fault)) = Ok (Some (Refused worker))
 halt_of (Some (worker, Gate turn Fail)) = Err (engine.Gate worker turn)
 halt_of (Some (worker, Gate turn Limit)) = Ok (Some AtGate)
 
--- why a round of this many workers ended early: the owner of one of them refused; or the gate may end the search as at a limit
+-- the reason why a round of `workers` workers ended early: the owner of one of them refused; or the gate may end the
+-- search as at a limit
 abbrev pub IsHalt : MayStop → ℕ → Option Halt → Type 0
 IsHalt may_stop workers None = Unit {0}
 IsHalt may_stop workers (Some (Refused worker)) = worker < workers
 IsHalt may_stop workers (Some AtGate) = IsEndedByGate may_stop workers
 
--- a team of this many workers in that space
+-- a team of `workers` workers in that space
 pub record IsTeamIn {S F : Type 0} (searched_space : SpaceOf S) (workers : ℕ) (t : TeamOf S F) : Type 0 where
   pub space : t.space ≡ searched_space
   pub count : length t.workers ≡ workers
 
--- no message stands aside, so that it can play a round
+-- a team that can play a round: no worker has set a message aside
 pub record IsReadyIn {S F : Type 0} (searched_space : SpaceOf S) (workers : ℕ) (t : TeamOf S F) : Type 0 where
   pub is_in : IsTeamIn searched_space workers t
   pub none_aside : All (λ w. w.misfits ≡ []) t.workers
@@ -41,7 +42,7 @@ pub record IsReadyIn {S F : Type 0} (searched_space : SpaceOf S) (workers : ℕ)
 abbrev pub no_stop : MayStop
 no_stop worker turn stop = ⊥
 
--- what comes after a round: another one of the team, or the end of the search
+-- the outcome of a round: another one of the team, or the end of the search
 abbrev pub IsOutcome : {S F : Type 0} → (S → List ℕ → ℕ → ℕ) → MayStop → SpaceOf S → ℕ → Outcome S F → Type 0
 IsOutcome owner may_stop space workers (Next t) = IsReadyIn space workers t
 IsOutcome owner may_stop space workers (Last end) = IsSearched owner may_stop space workers end

@@ -1,4 +1,4 @@
-//! What ends a round of a search before nothing is left to do.
+//! Reasons why a round ends while units of work are left.
 
 ghost use Rattle.std.specs.Prelude.{◌≡◌};
 ghost use Rattle.engine.specs.Steps.{halt_of};
@@ -6,16 +6,16 @@ ghost use Rattle.engine.specs.Steps.{halt_of};
 use crate::fault::EngineFault;
 use engine_round::{Stop, TurnFault};
 
-/// What ended a round before nothing was left to do, where that does not make the search fail.
+/// The reason why a round ended while units of work were left, if that does not make the search fail.
 #[derive(Clone, Copy, Debug)]
 pub(crate) enum Halt {
-    /// The owner of the worker of that number refused to expand a node.
+    /// The owner of this worker refused to expand a node.
     Refused(usize),
     /// The gate ended the search as at a limit.
     AtGate,
 }
 
-/// What a round's fault means for the search. Fails with `Gate` if the gate makes the search fail.
+/// Returns what a round's fault means for the search. Fails with `Gate` if the gate makes the search fail.
 pub(crate) fn halt_of(fault: Option<(usize, TurnFault)>) -> Result<Option<Halt>, EngineFault>
     ensures { result ≡ halt_of fault }
 {

@@ -1,4 +1,5 @@
-//! A search by threads, each of which has the states of one owner (hash distributed A*: Kishimoto, Fukunaga and Botea 2013).
+//! A multi-threaded search, in which each thread has the states of one owner (hash distributed A*: Kishimoto, Fukunaga
+//! and Botea 2013).
 #![tactic(auto)]
 
 mod fault;

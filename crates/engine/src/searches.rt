@@ -1,4 +1,4 @@
-//! A search by threads.
+//! Multi-threaded searches.
 
 ghost use Rattle.std.specs.Prelude.{◌≡◌, ◌<◌, [], None, length, map, All, IfOk, IfErr};
 ghost use Rattle.fdr.specs.Tasks.{ranges};
@@ -21,16 +21,16 @@ use std::sync::Wait;
 use std::thread::Threads;
 use std::time::Clock;
 
-/// What comes after a round.
+/// The outcome of a round.
 enum Outcome<'a, S: Spread + Drop, F: StateForm + Drop> {
-    /// Another round of the team.
+    /// Another round follows, of this team.
     Next(Team<'a, S, F>),
-    /// The end of the search.
+    /// The search ends.
     Last(Searched<'a, S, F>),
 }
 
-/// A round of the team's workers, and what ended it before nothing was left to do. Fails with `Gate` if the gate makes the search fail,
-/// or if allocation fails; then the team is gone.
+/// Runs a round of the team's workers; returns the team and why the round ended while units of work were left, if it
+/// did. Fails with `Gate` if the gate makes the search fail, or if allocation fails; then the team is lost.
 fn play<
     'a,
     R: Threads + Wait + Clock + Sync,
@@ -63,8 +63,9 @@ fn play<
     Ok((Team::of_workers(space, workers, best), halt))
 }
 
-/// What comes after a worker's owner refused to expand a node, in a round after which the owners are not settled: it is asked again, since it may
-/// have taken messages and read a bound since then. Fails with `TotalTooLarge` if it refuses again for that, or if allocation fails.
+/// Returns the outcome of a round after which the owners are not settled and in which a worker's owner refused to
+/// expand a node: the owner is asked again, because it may have taken messages and read a bound since then. Fails with
+/// `TotalTooLarge` if it refuses again for that reason, or if allocation fails.
 fn after_refusal<'a, S: Spread + Drop, F: StateForm + Drop>(
     alloc: Global,
     team: Team<'a, S, F>,
@@ -91,7 +92,7 @@ fn after_refusal<'a, S: Spread + Drop, F: StateForm + Drop>(
     }
 }
 
-/// A round, after which the rings are emptied, and what comes after it. Fails as `search` does.
+/// Runs a round, empties the rings, and returns the outcome. Fails as `search` does.
 fn step<
     'a,
     R: Threads + Wait + Clock + Sync,
@@ -119,12 +120,13 @@ fn step<
     }
 }
 
-/// Searches a space by `workers` workers, each in a thread of its own, with a link from each to each that has room for `capacity`
-/// messages, or for 1 where that is 0: rounds of turns, until the owners are settled, one of them has reached its limit, or the gate
-/// ends the search. States of the task have the form `F`.
+/// Searches a space with `workers` workers, each in a thread of its own, with a link from each to each that has room
+/// for `capacity` messages (for 1 if that is 0): runs rounds of turns until the owners are settled, one of them has
+/// reached its limit, or the gate ends the search. States of the task have the form `F`.
 ///
-/// Fails with `TotalTooLarge` if a path would have a cost or a number of operators above 2^62, with `Gate` if the gate makes it fail, or
-/// if allocation fails. Whether it ends at all is not promised: rounds follow each other as long as the scheduler lets no worker get on.
+/// Fails with `TotalTooLarge` if a path would have a cost or a number of operators above 2^62, with `Gate` if the gate
+/// makes it fail, or if allocation fails. Termination is not guaranteed: an unfair scheduler may keep every worker from
+/// making progress.
 pub fn search<
     'a,
     R: Threads + Wait + Clock + Sync,

@@ -1,4 +1,4 @@
--- The workers of a round with their seats, before it and after it.
+-- The workers of a round with their seats, before and after the round.
 use Rattle.std.specs.Prelude.{◌≡◌, ◌≢◌, ℕ, suc, ◌+◌, List, [], ◌∷◌, map, length, All, Some}
 use Rattle.cost.specs.Distances.{Distance, ◌≤ᵈ◌, lesser, least}
 use Rattle.owner.specs.declared.fault.OwnerFault.TheVariants.{OutOfMemory}
@@ -10,15 +10,15 @@ use Rattle.worker.specs.Workers.{WorkerOf}
 use Rattle.engine_round.specs.Turns.{MayStop, WorkedOf, HasWorked}
 use Rattle.engine_round.specs.declared.fault.TurnFault.TheVariants.{Owner}
 
--- this many seats that were split from one which knew this: each has seen the same bound, together they have its parts and have offered
--- what it had offered
+-- `count` seats that were split from one with the view `v`: each has seen the same bound, together they have its parts
+-- and have offered what it had offered
 pub record AreSplit (b : Board) (v : View) (count : ℕ) (seats : List BoardSeat) : Type 0 where
   pub count_is : length seats ≡ count
   pub each : All (λ s. IsSeatOf b s × ((view s).seen ≡ v.seen)) seats
   pub parts : total_parts (map view seats) ≡ v.parts
   pub offered : least (map (λ s. (view s).offered) seats) ≡ v.offered
 
--- each worker stands at the place of its number, where the places are counted from this number
+-- the numbers of the workers are consecutive, from `v` on
 abbrev pub AreNumbered : {S F : Type 0} → ℕ → List (WorkerOf S F) → Type 0
 AreNumbered v [] = Unit {0}
 AreNumbered v (w ∷ ws) = (w.owner.worker ≡ v) × AreNumbered (suc v) ws
@@ -32,14 +32,15 @@ pub record JobOf (S F : Type 0) : Type 0 where
 abbrev pub IsReady : {S F : Type 0} → Board → JobOf S F → Type 0
 IsReady b j = IsSeatOf b j.seat × (j.worker.misfits ≡ [])
 
--- the seat through which a board was opened for a round: the least cost that was offered before is offered and was read
+-- the seat through which a board was opened for a round: the least cost offered in earlier rounds is offered and was
+-- read
 pub record IsOpened (best : Distance) (v : View) : Type 0 where
   pub offered : v.offered ≡ best
   pub seen : v.seen ≤ᵈ best
   pub parts : v.parts ≡ all_parts
 
--- a seat for the caller and one for each of these workers, none of whose messages stands aside: together the seats have all parts and
--- have offered this cost, and none has seen a greater bound
+-- a seat for the caller and one for each of these workers, none of which has set a message aside: together the seats
+-- have all parts and have offered this cost, and none has seen a greater bound
 pub record AreSetUp {S F : Type 0} (b : Board) (best : Distance) (workers : List (WorkerOf S F)) (own : BoardSeat) (jobs : List (JobOf S F)) : Type 0 where
   pub own_seat : IsSeatOf b own
   pub workers_are : map (λ j. j.worker) jobs ≡ workers
@@ -62,7 +63,7 @@ HasDone owner values may_stop b j r = HasWorked owner values may_stop b j.seat j
 abbrev pub HasMemory : {S F : Type 0} → WorkedOf S F → Type 0
 HasMemory r = r.fault ≢ Some (Owner OutOfMemory)
 
--- what a seat knows after it was joined with the seats of these workers, one after the other
+-- what a seat knows after it was joined with the seats of these workers, one by one
 abbrev pub joined_all : {S F : Type 0} → View → List (WorkedOf S F) → View
 joined_all v [] = v
 joined_all v (r ∷ rs) = joined_all (joined v (view r.seat)) rs

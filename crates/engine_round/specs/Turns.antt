@@ -1,4 +1,4 @@
--- The turns of one worker in a round: what they keep, what they change at its seat, and how they end.
+-- The turns of one worker in a round: what they preserve, what they change at its seat, and how they end.
 use Rattle.std.specs.Prelude.{◌≡◌, ◌≢◌, ℕ, ◌⊎◌, Bool, true, false, List, [], Option, Some, None}
 use Rattle.cost.specs.Distances.{Distance, lesser, ◌≤ᵈ◌}
 use Rattle.board.specs.declared.views.View.{View}
@@ -14,7 +14,7 @@ use Rattle.engine_round.specs.declared.gate.Stop.{Stop}
 use Rattle.engine_round.specs.declared.fault.TurnFault.{TurnFault}
 use Rattle.engine_round.specs.declared.fault.TurnFault.TheVariants.{Owner, Gate}
 
--- how a gate may end a search, before which turn of which worker
+-- in which ways a gate may end a search, for each worker's number and turn
 abbrev pub MayStop : Type 1
 MayStop = ℕ → ℕ → Stop → Type 0
 
@@ -25,7 +25,7 @@ pub record IsSameWorker {S F : Type 0} (old new : WorkerOf S F) : Type 0 where
   pub outs : AreSameOuts old.outs new.outs
   pub ins : AreSameIns old.ins new.ins
 
--- what the worker has read and offered since then, its seat has
+-- what the worker has read and offered in the meantime is what its seat has
 pub record IsSeated {S F : Type 0} (old new : WorkerOf S F) (before after : View) : Type 0 where
   pub seen_since : Distance
   pub offered_since : Distance
@@ -37,8 +37,8 @@ pub record IsSeated {S F : Type 0} (old new : WorkerOf S F) (before after : View
 
 -- ---- a worker between the turns of a round
 
--- it has a seat at the board; it is the same worker as before, what it has read and offered since then, its seat has; and no message is left to
--- be added to the units, or aside
+-- it has a seat at the board; it is the same worker as before; what it has read and offered since is what its seat has;
+-- and no message is left to be added to the units, or set aside
 pub record IsRelaying {S F : Type 0} (b : Board) (s : BoardSeat) (old : WorkerOf S F) (t : BoardSeat) (w : WorkerOf S F) : Type 0 where
   pub seat : IsSeatOf b t
   pub same : IsSameWorker old w
@@ -55,7 +55,8 @@ pub record IsAtWork {S F : Type 0} (b : Board) (s : BoardSeat) (old : WorkerOf S
   pub taken : w.taken ≡ 0
   pub misfits : w.misfits ≡ []
 
--- what came of receiving from each link: no message was set aside, or one was, and nothing was received from the links after it
+-- the result of receiving from each link: no message was set aside, or one was, and nothing was received from the links
+-- after it
 abbrev pub HasReceivedAll : {S F : Type 0} → (S → List ℕ → ℕ → ℕ) → (List ℕ → F → List ℕ) → WorkerOf S F → WorkerOf S F → Received → Type 0
 HasReceivedAll owner values old new Taken = HasReceivedEach owner values old new true
 HasReceivedAll owner values old new Nothing = HasReceivedEach owner values old new true
@@ -74,7 +75,8 @@ pub record HasRelayedAside {S F : Type 0} (owner : S → List ℕ → ℕ → �
   pub stopped : HasStopped owner values worker w
   pub unseen : view t ≡ view seat
 
--- the owner could not take a message while the worker relayed messages, and nothing was done after that: the worker holds the message
+-- the owner could not take a message while the worker relayed messages, and nothing was done after that: the worker
+-- holds the message
 pub record HasRelayedBack {S F : Type 0} (owner : S → List ℕ → ℕ → ℕ) (values : List ℕ → F → List ℕ) (b : Board) (s : BoardSeat) (old : WorkerOf S F) (t : BoardSeat) (w : WorkerOf S F)
     : Type 0 where
   pub seat : BoardSeat
@@ -88,7 +90,8 @@ abbrev pub HasPassedOn : {S F : Type 0} → (S → List ℕ → ℕ → ℕ) →
 HasPassedOn owner values b s old t w true = IsRelaying b s old t w
 HasPassedOn owner values b s old t w false = HasRelayedAside owner values b s old t w
 
--- messages were sent and received between two turns, and what was taken is counted: the worker is at work, or a message was set aside
+-- messages were sent and received between two turns, and what was taken is counted: the worker is at work, or a message
+-- was set aside
 abbrev pub HasRelayed : {S F : Type 0} → (S → List ℕ → ℕ → ℕ) → (List ℕ → F → List ℕ) → Board → BoardSeat → WorkerOf S F → BoardSeat → WorkerOf S F → Bool → Type 0
 HasRelayed owner values b s old t w true = IsAtWork b s old t w
 HasRelayed owner values b s old t w false = HasRelayedAside owner values b s old t w
@@ -101,22 +104,23 @@ pub record WorkedOf (S F : Type 0) : Type 0 where
   pub seat : BoardSeat
   pub fault : Option TurnFault
 
--- it is the same worker; what it has read and offered, its seat has; and unless a message stands aside, the bound that it read last
--- is at most the one that its seat had seen before
+-- it is the same worker; what it has read and offered is what its seat has; and unless it has set a message aside, the
+-- bound that it read last is at most the one that its seat had seen before
 pub record HasKept {S F : Type 0} (old new : WorkerOf S F) (before after : View) : Type 0 where
   pub same : IsSameWorker old new
   pub seated : IsSeated old new before after
   pub told : new.misfits ≡ [] → new.bound ≤ᵈ before.seen
   pub uncounted : new.uncounted ≡ 0
 
--- why a turn was not taken to its end: the owner refused to expand the next node, or had no memory for a message, and the worker is as such
--- a turn leaves it; or the gate may end the search before that turn of this worker, which has read the bound and done no more
+-- the reason why a turn was not completed: the owner refused to expand the next node, or had no memory for a message,
+-- and the worker is as such a turn leaves it; or the gate may end the search before that turn of this worker, which has
+-- read the bound and done nothing else
 abbrev pub IsTurnFault : {S F : Type 0} → (S → List ℕ → ℕ → ℕ) → (List ℕ → F → List ℕ) → MayStop → WorkerOf S F → WorkerOf S F → View → View → TurnFault → Type 0
 IsTurnFault owner values may_stop old new before after (Owner fault) = IsTurnRefusal owner values old new before after fault
 IsTurnFault owner values may_stop old new before after (Gate turn stop) = may_stop old.owner.worker turn stop × HasLooked old new before after
 
--- this fault is the worker's: its owner refuses to expand the next node as it stands, or memory ran out; or the gate may end the search
--- before that turn of this worker
+-- this fault is the worker's: its owner, in its present state, refuses to expand the next node, or memory ran out; or
+-- the gate may end the search before that turn of this worker
 abbrev pub IsFaultOf : {S F : Type 0} → (S → List ℕ → ℕ → ℕ) → MayStop → WorkerOf S F → TurnFault → Type 0
 IsFaultOf owner may_stop w (Owner OutOfMemory) = Unit {0}
 IsFaultOf owner may_stop w (Owner LimitReached) = IsRefusal owner w.bound w.owner w.owner LimitReached
@@ -132,14 +136,14 @@ abbrev pub HasEnded : {S F : Type 0} → (S → List ℕ → ℕ → ℕ) → (L
 HasEnded owner values may_stop w None = HasEndedTurn owner values w
 HasEnded owner values may_stop w (Some fault) = IsFaultOf owner may_stop w fault
 
--- the turns of a worker in a round, with that seat at the board: unless memory ran out, all of it is kept
+-- the turns of a worker in a round, with that seat at the board: unless memory ran out, the invariants hold after them
 pub record HasWorked {S F : Type 0} (owner : S → List ℕ → ℕ → ℕ) (values : List ℕ → F → List ℕ) (may_stop : MayStop) (b : Board) (s : BoardSeat) (old : WorkerOf S F) (r : WorkedOf S F)
     : Type 0 where
   pub seat : IsSeatOf b r.seat
   pub kept : r.fault ≢ Some (Owner OutOfMemory) → HasKept old r.worker (view s) (view r.seat)
   pub ended : HasEnded owner values may_stop r.worker r.fault
 
--- one turn, and what was relayed behind it: the worker is at work, or these were its turns
+-- one turn, and what was relayed after it: the worker is at work, or these were all its turns
 abbrev pub HasStepped : {S F : Type 0} → (S → List ℕ → ℕ → ℕ) → (List ℕ → F → List ℕ) → MayStop → Board → BoardSeat → WorkerOf S F → BoardSeat → WorkerOf S F → Bool → Type 0
 HasStepped owner values may_stop b s old t w true = IsAtWork b s old t w
 HasStepped owner values may_stop b s old t w false = HasWorked owner values may_stop b s old (record { worker = w; seat = t; fault = None })

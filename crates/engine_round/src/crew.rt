@@ -1,4 +1,4 @@
-//! The workers of a round in threads.
+//! The workers of a round, in threads.
 
 ghost use Rattle.std.specs.Prelude.{◌≡◌, ◌<◌, ◌≤◌, ◌++◌, ◌∷◌, [], All, IfOk, vec_len, vec_capacity};
 ghost use Rattle.std.specs.List.{AllZip};
@@ -18,7 +18,7 @@ use std::thread;
 use std::thread::{Scope, Threads};
 use std::time::Clock;
 
-/// Appends a worker that has taken its turns, for which there is room. Allocates nothing.
+/// Appends a worker that has taken its turns; there must be room for it.
 fn with_next<'a, S: Spread + Drop, F: StateForm + Drop>(
     mut worked: Vec<Worked<'a, S, F>>,
     next: Worked<'a, S, F>,
@@ -33,8 +33,9 @@ fn with_next<'a, S: Spread + Drop, F: StateForm + Drop>(
     worked
 }
 
-/// The turns of all workers, each in a thread of the scope, but for the first one, which takes its turns in the caller's; so the last
-/// worker begins first, and the threads are waited for in the order of the workers. `own` is the caller's seat. Allocates nothing.
+/// Runs the turns of all workers, each in a thread of the scope, except that the first worker takes its turns in the
+/// caller's thread. So the last worker begins first, and the threads are joined in the order of the workers. `own` is
+/// the caller's seat.
 fn work_with<
     's,
     'a: 's,
@@ -70,7 +71,7 @@ fn work_with<
     with_next(worked, begun.finish(rt))
 }
 
-/// As `work_with`. Fails only if allocation fails, and then before any thread is begun.
+/// As `work_with`. If allocation fails, no thread was begun.
 fn work_in<
     's,
     'a: 's,
@@ -98,8 +99,8 @@ fn work_in<
     Ok((own, worked))
 }
 
-/// The turns of all workers in a round, each in a thread of its own. Returns the caller's seat too.
-/// Fails only if allocation fails, and then before any thread is begun.
+/// Runs the turns of all workers in a round, each in a thread of its own. Returns the workers and the caller's seat. If
+/// allocation fails, no thread was begun.
 pub(crate) fn work_each<
     'a,
     R: Threads + Wait + Clock + Sync,

@@ -1,4 +1,4 @@
-//! How a round ends: the seats are joined, and the board is closed.
+//! The end of a round: the seats are joined, and the board is closed.
 
 ghost use Rattle.std.specs.Prelude.{◌≡◌, ◌≢◌, map, All, IfOk};
 ghost use Rattle.cost.specs.Distances.{◌≤ᵈ◌};
@@ -17,7 +17,7 @@ use packed_spread::Spread;
 use std::alloc::{AllocError, Global};
 use worker::Worker;
 
-/// The fault, unless it is want of memory.
+/// Returns the fault, unless it is that memory ran out, which becomes `AllocError`.
 fn unless_memory(fault: Option<TurnFault>) -> Result<Option<TurnFault>, AllocError>
     ensures { IfOk result (λ f. (f ≡ fault) × (fault ≢ Some (TurnFault.Owner OwnerFault.OutOfMemory))) }
 {
@@ -27,7 +27,7 @@ fn unless_memory(fault: Option<TurnFault>) -> Result<Option<TurnFault>, AllocErr
     }
 }
 
-/// The first fault so far, after that of the next worker.
+/// Returns the first fault so far, given that of the next worker.
 fn earlier(
     first: Option<(usize, TurnFault)>,
     number: usize,
@@ -41,8 +41,8 @@ fn earlier(
     }
 }
 
-/// Joins the seats of all workers into the caller's, and returns it with the workers and the first fault. Fails if memory ran out in a
-/// worker, or if allocation fails.
+/// Joins the seats of all workers into the caller's, and returns it with the workers and the first fault. Fails if
+/// memory ran out in a worker.
 fn gather<'a, S: Spread + Drop, F: StateForm + Drop>(
     alloc: Global,
     board: &Board,
@@ -71,7 +71,7 @@ fn gather<'a, S: Spread + Drop, F: StateForm + Drop>(
     Ok((own, workers, first))
 }
 
-/// The end of a round, once all workers have taken their turns. Fails if memory ran out in a worker, or if allocation fails.
+/// Ends a round, once all workers have taken their turns. Fails if memory ran out in a worker.
 pub(crate) fn finish<'a, S: Spread + Drop, F: StateForm + Drop>(
     alloc: Global,
     board: Board,

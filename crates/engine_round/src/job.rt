@@ -38,7 +38,7 @@ impl<'a, S: Spread + Drop, F: StateForm + Drop> Model for Job<'a, S, F> {
     ghost invariant = { λ j. j.number ≡ j.worker.owner.worker };
 }
 
-/// What is promised of a thread: the worker of this job takes its turns at this board, with this gate.
+/// The promise of a thread: the worker of this job takes its turns at this board, with this gate. Only for proofs.
 #[derive(Drop)]
 pub(crate) struct WorkOf<'a, S: Spread + Drop, F: StateForm + Drop, G: Gate> {
     board: Snapshot<Board>,
@@ -53,7 +53,7 @@ impl<'a, S: Spread + Drop, F: StateForm + Drop, G: Gate> Promise<Worked<'a, S, F
     ghost kept_by = { λ p r. HasWorked S.owner F.values (G.may_stop p.gate.value) p.board.value p.job.value.seat p.job.value.worker r };
 }
 
-/// A job that runs in a thread; or that was done at once, because no thread could be made.
+/// A job that runs in a thread, or that was done at once because no thread could be made.
 pub(crate) struct Begun<'a, S: Spread + Drop, F: StateForm + Drop, G: Gate> {
     of: WorkOf<'a, S, F, G>,
     run: Result<PromisedHandle<Worked<'a, S, F>, WorkOf<'a, S, F, G>>, Worked<'a, S, F>>,
@@ -74,7 +74,7 @@ impl<'a, S: Spread + Drop, F: StateForm + Drop, G: Gate> Model for Begun<'a, S, 
         IfErr x.run (λ r. HasWorked S.owner F.values (G.may_stop x.of.gate.value) x.of.board.value x.of.job.value.seat x.of.job.value.worker r) };
 }
 
-/// What is to be promised of the job.
+/// Returns the promise for the job.
 fn work_of<'a, S: Spread + Drop, F: StateForm + Drop, G: Gate>(
     board: &Board,
     job: &Job<'a, S, F>,
@@ -89,7 +89,7 @@ fn work_of<'a, S: Spread + Drop, F: StateForm + Drop, G: Gate>(
     }
 }
 
-/// The turns of the worker of a job.
+/// Runs the turns of the worker of a job.
 pub(crate) fn run<'a, R: Wait + Clock, S: Spread + Drop, F: StateForm + Drop, G: Gate>(
     rt: &R,
     board: &Board,
@@ -107,8 +107,8 @@ pub(crate) fn run<'a, R: Wait + Clock, S: Spread + Drop, F: StateForm + Drop, G:
     work(rt, board, seat, number, worker, gate)
 }
 
-/// Begins a job in a thread of the scope. Where no thread can be made the round is ended, by the caller's own seat, and the worker
-/// takes a turn here.
+/// Begins a job in a thread of the scope. If no thread can be made, ends the round through the caller's own seat, and
+/// the worker takes one turn in the caller's thread.
 pub(crate) fn begin<
     's,
     'a: 's,
@@ -150,7 +150,7 @@ pub(crate) fn begin<
 }
 
 impl<'a, S: Spread + Drop, F: StateForm + Drop, G: Gate> Begun<'a, S, F, G> {
-    /// Waits until the worker has taken its turns.
+    /// Waits until the worker has taken its turns, and returns it.
     pub(crate) fn finish<R: Threads>(self, rt: &R) -> Worked<'a, S, F>
         ensures { HasWorked S.owner F.values (G.may_stop self.entry.gate) self.entry.board self.entry.job.seat self.entry.job.worker result }
     {

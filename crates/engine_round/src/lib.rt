@@ -1,4 +1,5 @@
-//! A round of a search by threads: workers that take turns at once (hash distributed A*: Kishimoto, Fukunaga and Botea 2013).
+//! A round of a multi-threaded search: workers that take turns concurrently (hash distributed A*: Kishimoto, Fukunaga
+//! and Botea 2013).
 #![tactic(auto)]
 
 mod crew;

@@ -4,28 +4,29 @@ use std::sync::Wait;
 use std::thread;
 use std::time::{Clock, Duration};
 
-/// The number of turns in a row without anything to do after which a worker yields and does not yet sleep.
+/// The number of consecutive turns without work in which a worker yields before it begins to sleep.
 const YIELDS: u32 = 64;
 
 /// The shortest sleep, in microseconds.
 const SHORTEST: u64 = 10;
 
-/// How often the sleep is doubled: the longest sleep is about a millisecond.
+/// How many times the sleep is doubled: the longest sleep is about a millisecond.
 const DOUBLINGS: u32 = 7;
 
-/// How many turns in a row a worker had nothing to do.
+/// The number of consecutive turns in which a worker had nothing to do; it saturates when its sleep no longer grows.
 #[derive(Drop)]
 pub(crate) struct Pause {
     idle_turns: u32,
 }
 
 impl Pause {
-    /// No turn so far.
+    /// Creates the counter, at 0.
     pub(crate) fn new() -> Pause {
         Pause { idle_turns: 0 }
     }
 
-    /// After a turn: a worker that is at rest lets others run, and sleeps once it was at rest for many turns in a row.
+    /// Called after a turn: a worker that is at rest yields to other threads, and sleeps after many such turns in a
+    /// row.
     pub(crate) fn after<R: Clock>(&mut self, rt: &R, resting: bool) {
         if !resting {
             self.idle_turns = 0;

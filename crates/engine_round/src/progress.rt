@@ -1,4 +1,4 @@
-//! What a worker has come to.
+//! Progress of a worker.
 
 ghost use Rattle.std.specs.Prelude.{◌≡◌, length};
 ghost use Rattle.owner.specs.Owned.{least_open, space_of};
@@ -11,14 +11,14 @@ use packed::StateForm;
 use packed_spread::Spread;
 use worker::Worker;
 
-/// What a worker has come to, as a gate is told before each of its turns.
+/// The progress of a worker, which a gate receives before each of its turns.
 #[derive(Clone, Copy, Debug, PartialEq, Eq)]
 pub struct Progress {
-    /// The number of states that its owner keeps.
+    /// The number of states that its owner stores.
     pub states: usize,
-    /// The number of messages that wait in its outboxes.
+    /// The number of messages in its outboxes.
     pub messages: u128,
-    /// The number of words of 64 bits that the values of a state take.
+    /// The number of 64-bit words that the packed values of a state take.
     pub words: usize,
     /// The least f-value of the states that its owner has yet to expand, infinite if there is none.
     pub least_open: Dist,
@@ -26,7 +26,7 @@ pub struct Progress {
     pub best: Dist,
 }
 
-/// What this worker has come to.
+/// Returns the progress of this worker.
 pub(crate) fn progress_of<'a, S: Spread + Drop, F: StateForm + Drop>(
     worker: &Worker<'a, S, F>,
 ) -> Progress

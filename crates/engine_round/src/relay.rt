@@ -1,4 +1,4 @@
-//! What a worker does between turns: it sends and receives, and expands nothing.
+//! What a worker does between turns: it sends and receives messages, and expands nothing.
 
 ghost use Rattle.std.specs.Prelude.{◌≡◌, ◌+◌, ◌<◌, ◌^◌, [], length, IfOk, IfErr};
 ghost use Rattle.board.specs.Seats.{IsSeatOf, view};
@@ -12,21 +12,21 @@ use std::alloc::AllocError;
 use std::thread;
 use worker::{Received, Worker};
 
-/// The most passes over the links after a turn.
+/// The greatest number of passes over the links after a turn.
 const PASSES: u32 = 1024;
 
-/// A worker that is not at rest relays messages after one of so many turns, so that they come and go several at a time: what other workers
-/// write is read from their caches a line at a time.
+/// A worker that is not at rest relays messages once in this many turns, so that several messages are sent and read
+/// together: what other workers write is read from their caches a line at a time.
 const TURNS_A_RELAY: u64 = 16;
 
-/// How often between two turns a worker lets others run because rings are full. A receiver that does not run at all, or whose table
-/// grows, holds up no sender for longer: its messages wait in their outbox.
+/// How many times between two turns a worker yields because rings are full. A receiver that does not run at all, or
+/// whose table is growing, delays a sender no longer than that: its messages stay in their outbox.
 const WAITS: u32 = 2;
 
-/// How many messages a worker takes, at least, before it subtracts them from the units where it goes on to take more.
+/// The number of messages taken from which on a worker subtracts them from the units before it takes more.
 const MUCH: u64 = 64;
 
-/// Sends at most one message over each link. Returns whether one was sent. Allocates nothing.
+/// Sends at most one message over each link. Returns whether one was sent.
 fn send_each<'a, S: Spread + Drop, F: StateForm + Drop>(worker: &mut Worker<'a, S, F>) -> bool
     requires { worker.old.uncounted ≡ 0 }
     ensures { chained (SendsTo F.values) (length worker.old.outs) worker.old worker.new }
@@ -39,8 +39,8 @@ fn send_each<'a, S: Spread + Drop, F: StateForm + Drop>(worker: &mut Worker<'a, 
     any
 }
 
-/// Takes at most one message from each link, until one is set aside. Returns whether one was taken, or set aside. Fails only if
-/// allocation fails, and then the worker holds the message that could not be taken, and has taken none after it.
+/// Takes at most one message from each link, until one is set aside. Returns whether one was taken, or set aside. If
+/// allocation fails, the worker holds the message that could not be taken, and has taken none after it.
 fn receive_each<'a, S: Spread + Drop, F: StateForm + Drop>(
     worker: &mut Worker<'a, S, F>,
 ) -> Result<Received, AllocError>
@@ -64,8 +64,8 @@ fn receive_each<'a, S: Spread + Drop, F: StateForm + Drop>(
     }
 }
 
-/// Subtracts what the worker has taken from the units, if that is much. All workers change the units, so a step on them takes as long as
-/// treating a message does.
+/// Subtracts the messages taken from the units if they are at least `MUCH`. All workers change the units, so a step on
+/// them costs as much as handling a message.
 fn count_much<'a, S: Spread + Drop, F: StateForm + Drop>(
     board: &Board,
     seat: &mut Seat,
@@ -82,7 +82,8 @@ fn count_much<'a, S: Spread + Drop, F: StateForm + Drop>(
     }
 }
 
-/// The most passes over the links after the turn of that number: none after most turns of a worker that is not at rest.
+/// Returns the greatest number of passes over the links after turn `turn`: 0 after most turns of a worker that is not
+/// at rest.
 fn passes_after(turn: u64, is_resting: bool) -> u32 {
     if is_resting || turn % TURNS_A_RELAY == 0 {
         PASSES
@@ -91,10 +92,11 @@ fn passes_after(turn: u64, is_resting: bool) -> u32 {
     }
 }
 
-/// Sends the messages that stand in outboxes and takes those that are in the rings, until there are none. Where a ring is full it lets
-/// other threads run, so that the receiver takes the messages before more nodes are expanded; but it goes on after `WAITS` times, and
-/// ends after `passes` passes over the links. Returns false if a message was set aside, after which nothing more is done. Fails only if
-/// allocation fails, and then the worker holds the message that could not be taken, and nothing more is done.
+/// Sends the messages in the outboxes and takes those in the rings, until there are none. If a ring is full it yields,
+/// so that the receiver takes the messages before more nodes are expanded; it returns when it would yield more than
+/// `WAITS` times, and after `passes` passes over the links. Returns false if a message was set aside, after which
+/// nothing else is done. If allocation fails, the worker holds the message that could not be taken, and nothing else is
+/// done.
 fn pass_on<'a, S: Spread + Drop, F: StateForm + Drop>(
     board: &Board,
     seat: &mut Seat,
@@ -129,8 +131,9 @@ fn pass_on<'a, S: Spread + Drop, F: StateForm + Drop>(
     Ok(true)
 }
 
-/// Passes messages on after the turn of that number, as `pass_on` does, and counts what was taken. Returns false if a message was set aside, after which nothing more
-/// is done. Fails only if allocation fails, and then the worker holds the message that could not be taken, and nothing more is done.
+/// Relays messages after turn `turn`, as `pass_on` does, and counts what was taken. Returns false if a message was set
+/// aside, after which nothing else is done. If allocation fails, the worker holds the message that could not be taken,
+/// and nothing else is done.
 pub(crate) fn relay<'a, S: Spread + Drop, F: StateForm + Drop>(
     board: &Board,
     seat: &mut Seat,

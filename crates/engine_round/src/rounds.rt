@@ -24,12 +24,12 @@ use worker::Worker;
 /// The end of a round.
 #[derive(Drop)]
 pub struct RoundEnd<'a, S: Spread + Drop, F: StateForm + Drop> {
-    /// The workers, in the order that they were given.
+    /// The workers, in the order in which they were passed.
     pub workers: Vec<Worker<'a, S, F>>,
     /// The least cost that any of them has ever offered.
     pub best: Dist,
-    /// The first fault that ended the turns of a worker, with the worker's place, if one did. It is never that of an owner which is
-    /// out of memory.
+    /// The first fault that ended the turns of a worker, with the worker's index, if there was one. It is never that
+    /// memory ran out.
     pub fault: Option<(usize, TurnFault)>,
 }
 
@@ -41,12 +41,14 @@ impl<'a, S: Spread + Drop, F: StateForm + Drop> Model for RoundEnd<'a, S, F> {
     ghost view = { λ r. record { workers = r.workers.items; best = r.best; fault = r.fault } };
 }
 
-/// A round: each worker takes turns in a thread of its own, the first one in the caller's, until nothing is counted as left to do or
-/// one of them ends the round, by a fault or by a message that is not for it. Before each turn the gate is asked, which may end the
-/// round too. The workers stand in the order of their numbers, and `best` is the least cost that any of them has offered so far.
-/// Where a thread cannot be made, its worker takes one turn in the caller's thread and the round ends.
+/// Runs a round: each worker takes turns in a thread of its own, the first one in the caller's, until no units of work
+/// are left or one of them ends the round, by a fault or by a message that is not for it. The gate is asked before each
+/// turn, and may end the round too. The workers must be in the order of their numbers, and `best` is the least cost
+/// that any of them has offered so far. If a thread cannot be made, its worker takes one turn in the caller's thread
+/// and the round ends.
 ///
-/// Fails only if allocation fails, in a worker too; the workers are lost then. Any other fault of a worker is told in the answer.
+/// Fails if allocation fails, also in a worker; then the workers are lost. Any other fault of a worker is in the
+/// result.
 pub fn round<
     'a,
     R: Threads + Wait + Clock + Sync,

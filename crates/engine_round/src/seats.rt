@@ -7,8 +7,7 @@ ghost use Rattle.engine_round.specs.Jobs.{AreSplit};
 use board::{Board, Seat};
 use std::alloc::{AllocError, Global};
 
-/// So many seats at the board, which are split from one by halves: so no seat has less parts than there are workers behind it.
-/// Fails only if allocation fails.
+/// Splits one seat into `count` seats by halving, so that each keeps enough parts for the workers split from it.
 pub(crate) fn split_seats(
     alloc: Global,
     board: &Board,

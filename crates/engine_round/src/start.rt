@@ -1,4 +1,4 @@
-//! How a round begins: a board, a seat at it for the caller, and a job for each worker.
+//! The start of a round: a board, a seat at it for the caller, and a job for each worker.
 
 ghost use Rattle.std.specs.Prelude.{◌≡◌, ◌<◌, [], map, All, IfOk, length, vec_len};
 ghost use Rattle.board.specs.Rule.{first_view};
@@ -14,7 +14,8 @@ use packed_spread::Spread;
 use std::alloc::{AllocError, Global};
 use worker::Worker;
 
-/// The units of work at the start of a round, modulo 2^64: each worker is one, and so is each message that stands in an outbox.
+/// Returns the units of work at the start of a round, modulo 2^64: one for each worker, and one for each message in an
+/// outbox.
 fn units_of<S: Spread + Drop, F: StateForm + Drop>(workers: &[Worker<'_, S, F>]) -> u64 {
     let mut units = 0u64;
     for worker in workers {
@@ -24,8 +25,8 @@ fn units_of<S: Spread + Drop, F: StateForm + Drop>(workers: &[Worker<'_, S, F>])
     units
 }
 
-/// Opens a board for a round: the least cost that was offered before is offered and read, so that each seat which is split from this
-/// one has seen it; and the units are added.
+/// Opens a board for a round: offers and reads the least cost that was offered in earlier rounds, so that each seat
+/// split from this one has seen it; and adds the units.
 fn open(board: &Board, seat: &mut Seat, best: Dist, units: u64)
     requires { IsSeatOf board.now seat.old × (view seat.old ≡ first_view) }
     ensures seat { IsSeatOf board.now seat.new }
@@ -36,7 +37,7 @@ fn open(board: &Board, seat: &mut Seat, best: Dist, units: u64)
     board.add(seat, units);
 }
 
-/// A job for each worker, with the seat of the same place, which is the worker's number. Fails only if allocation fails.
+/// Returns a job for each worker, with the seat of the same index, which is the worker's number.
 fn jobs_of<'a, S: Spread + Drop, F: StateForm + Drop>(
     alloc: Global,
     seats: Vec<Seat>,
@@ -59,7 +60,7 @@ fn jobs_of<'a, S: Spread + Drop, F: StateForm + Drop>(
     Ok(jobs)
 }
 
-/// Opens the board, and splits its seat into one for the caller and one for each worker. Fails only if allocation fails.
+/// Opens the board, and splits its seat into one for the caller and one for each worker.
 pub(crate) fn set_up<'a, S: Spread + Drop, F: StateForm + Drop>(
     alloc: Global,
     board: &Board,

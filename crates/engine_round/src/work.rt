@@ -37,8 +37,8 @@ impl<'a, S: Spread + Drop, F: StateForm + Drop> Model for Worked<'a, S, F> {
     ghost view = { λ w. record { worker = w.worker; seat = w.seat; fault = w.fault } };
 }
 
-/// Asks the gate, and takes a turn unless it ends the search: then the worker reads the bound and does no more. `number` is the worker's,
-/// and `turn` that of the turn in the round.
+/// Asks the gate, and takes a turn unless it ends the search: then the worker reads the bound and does nothing else.
+/// `number` is the worker's number, and `turn` the turn's in the round.
 fn take_turn<'a, S: Spread + Drop, F: StateForm + Drop, G: Gate>(
     board: &Board,
     seat: &mut Seat,
@@ -65,9 +65,10 @@ fn take_turn<'a, S: Spread + Drop, F: StateForm + Drop, G: Gate>(
     worker.turn(board, seat).map_err(TurnFault::Owner)
 }
 
-/// Takes a turn. Where another is to follow, it relays messages behind it if they are to be relayed after the turn of that number. Where
-/// none is to follow, the round is ended for all workers, unless nothing is counted as left to do. Returns whether another turn is to
-/// follow. `number` is the worker's, and `turn` that of the turn in the round. Fails with the fault that ends the worker's turns.
+/// Takes a turn. If another is to follow, relays messages as is due after turn `turn`; if none is to follow, ends the
+/// round for all workers, unless the round was ended or no units of work are left. Returns whether another turn is to
+/// follow. `number` is the worker's number, and `turn` the turn's in the round. Fails with the fault that ends the
+/// worker's turns.
 fn take_step<'a, S: Spread + Drop, F: StateForm + Drop, G: Gate>(
     board: &Board,
     seat: &mut Seat,
@@ -109,9 +110,9 @@ fn take_step<'a, S: Spread + Drop, F: StateForm + Drop, G: Gate>(
     }
 }
 
-/// Takes turns until nothing is counted as left to do, or the round is ended, and relays messages between them. A message that is not
-/// for the worker, a fault and the gate, which is asked before each turn of this worker, end the round for all workers. `number` is the
-/// worker's.
+/// Takes turns until no units of work are left or the round is ended, and relays messages between them. A message that
+/// is not for the worker, a fault, and the gate, which is asked before each turn of this worker, end the round for all
+/// workers. `number` is the worker's number.
 pub(crate) fn work<'a, R: Wait + Clock, S: Spread + Drop, F: StateForm + Drop, G: Gate>(
     rt: &R,
     board: &Board,

@@ -8,7 +8,7 @@ use Rattle.owner.specs.Owned.{IsExpansion, IsRefusal}
 use Rattle.worker.specs.Workers.{WorkerOf}
 use Rattle.engine_team.specs.Teams.{TeamOf}
 
--- the owner has expanded its next node below the bound, or there is none; or it refused and is as it was
+-- the owner has expanded its next node below the bound, or there is none; or it refused and is unchanged
 abbrev pub HasAnswered : {S F : Type 0} → (S → List ℕ → ℕ → ℕ) → Distance → WorkerOf S F → WorkerOf S F → Option OwnerFault → Type 0
 HasAnswered owner bound old new None = (posted : Option ℕ) × IsExpansion owner bound old.owner new.owner posted
 HasAnswered owner bound old new (Some fault) =
@@ -26,8 +26,8 @@ WasAsked bound old new =
       taken = 0;
     }
 
--- the worker of that number has read the least cost that was offered and was asked to expand a node below it; the other workers are
--- as they were
+-- worker `number` has read the least cost that was offered and was asked to expand a node below it; the other workers
+-- are unchanged
 pub record IsAsked {S F : Type 0} (owner : S → List ℕ → ℕ → ℕ) (number : ℕ) (old : TeamOf S F) (r : TeamOf S F × Option OwnerFault) : Type 0 where
   pub space : r.0.space ≡ old.space
   pub best : r.0.best ≡ old.best

@@ -17,7 +17,7 @@ pub record TeamOf (S F : Type 0) : Type 0 where
   pub workers : List (WorkerOf S F)
   pub best : Distance
 
--- the worker of that number of this many in a space, with a link to each and from each; no message in its outboxes is uncounted
+-- worker `v` of `workers` in a space, with a link to each and from each; no message in its outboxes is uncounted
 pub record IsMember {S F : Type 0} (searched_space : SpaceOf S) (workers v : ℕ) (w : WorkerOf S F) : Type 0 where
   pub space : w.owner.space ≡ searched_space
   pub number : w.owner.worker ≡ v
@@ -25,11 +25,11 @@ pub record IsMember {S F : Type 0} (searched_space : SpaceOf S) (workers v : ℕ
   pub ins : length w.ins ≡ workers
   pub counted : w.uncounted ≡ 0
 
--- their ends are those of a link from each of them to each
+-- for each two of them, their ends are those of a link from the one to the other
 abbrev pub AreAllLinked : {S F : Type 0} → List (WorkerOf S F) → Type 0
 AreAllLinked {S = S} {F = F} ws = (u v : ℕ) (a b : WorkerOf S F) → At ws u a → At ws v b → AreLinked a.outs v b.ins u
 
--- the workers of a space, each at its number, with links between them
+-- the workers of a space, in the order of their numbers, with links between them
 pub record AreMembers {S F : Type 0} (searched_space : SpaceOf S) (ws : List (WorkerOf S F)) : Type 0 where
   pub each : (v : ℕ) (w : WorkerOf S F) → At ws v w → IsMember searched_space (length ws) v w
   pub links : AreAllLinked ws
@@ -43,26 +43,27 @@ pub record IsTeam {S F : Type 0} (t : TeamOf S F) : Type 0 where
 
 -- ---- the start
 
--- the ends of new links between this many workers, each with this room: the rows of sending ends by sender, of receiving ends by receiver
+-- the ends of new links between these workers, each with room for `capacity` messages: the rows of sending ends by
+-- sender, of receiving ends by receiver
 pub record AreFreshLinks {F : Type 0} (capacity workers : ℕ) (outs : List (List (Out F))) (ins : List (List (In F))) : Type 0 where
   pub senders : HasSize workers workers outs
   pub receivers : HasSize workers workers ins
   pub matched : AreMatched capacity outs ins
 
--- the worker of that number at the start, with its ends of these links
+-- worker `v` at the start, with its ends of these links
 pub record IsFirst {S F : Type 0} (searched_space : SpaceOf S) (workers : ℕ) (outs : List (List (Out F))) (ins : List (List (In F))) (v : ℕ) (w : WorkerOf S F)
     : Type 0 where
   pub is : IsFirstWorker searched_space v workers w.outs w.ins w
   pub sends : At outs v w.outs
   pub receives : At ins v w.ins
 
--- this many workers at the start
+-- `workers` workers at the start
 pub record AreFirstWorkers {S F : Type 0} (searched_space : SpaceOf S) (workers : ℕ) (outs : List (List (Out F))) (ins : List (List (In F)))
     (ws : List (WorkerOf S F)) : Type 0 where
   pub len : length ws ≡ workers
   pub each : (v : ℕ) (w : WorkerOf S F) → At ws v w → IsFirst searched_space workers outs ins v w
 
--- this many workers at the start, with links that have room for this many messages and over which nothing was sent
+-- `workers` workers at the start, with links that have room for `capacity` messages and over which nothing was sent
 pub record IsFirstTeam {S F : Type 0} (searched_space : SpaceOf S) (workers capacity : ℕ) (t : TeamOf S F) : Type 0 where
   pub space : t.space ≡ searched_space
   pub count : length t.workers ≡ workers
@@ -74,13 +75,14 @@ pub record IsFirstTeam {S F : Type 0} (searched_space : SpaceOf S) (workers capa
 
 -- ---- what was sent
 
--- what the worker of a number has sent to another, nothing past the last worker, where a form of a state has these values
+-- what worker `u` has sent to worker `to`, nothing past the last worker, with `values` as the values of a form of a
+-- state
 abbrev pub sent_by : {S F : Type 0} → (F → List ℕ) → List (WorkerOf S F) → ℕ → ℕ → List Message
 sent_by values [] u to = []
 sent_by values (w ∷ ws) zero to = sent_to values w.outs to
 sent_by values (w ∷ ws) (suc u) to = sent_by values ws u to
 
--- the values of a form of a state, where a form has these by the ranges of a task's variables
+-- the values of a form of a state, if `values` returns these from the ranges of the task's variables
 abbrev pub values_on : {S F : Type 0} → (List ℕ → F → List ℕ) → TeamOf S F → F → List ℕ
 values_on values t = values (ranges t.space.task)
 

@@ -1,4 +1,4 @@
-//! A worker of a team is asked to expand a node, between rounds.
+//! Asks a worker of a team to expand a node, between rounds.
 
 ghost use Rattle.std.specs.Prelude.{◌≡◌, ◌<◌, length, IfOk};
 ghost use Rattle.cost.specs.Distances.{lesser};
@@ -15,7 +15,7 @@ use packed_spread::Spread;
 use std::alloc::{AllocError, Global};
 use worker::Worker;
 
-/// The worker reads this bound, at a board where it alone was offered. Fails only if allocation fails.
+/// Makes the worker read this bound, from a new board on which only it was offered.
 fn tell<S: Spread + Drop, F: StateForm + Drop>(
     alloc: Global,
     worker: &mut Worker<'_, S, F>,
@@ -30,8 +30,8 @@ fn tell<S: Spread + Drop, F: StateForm + Drop>(
     Ok(())
 }
 
-/// The worker of that number reads this bound, and expands the next node below it, if there is one. Returns the fault for which it
-/// did not, if there is one. Fails only if allocation fails.
+/// Makes worker `number` read this bound, and expand the next node below it, if there is one. Returns the owner's fault
+/// if it refused.
 fn expand_at<S: Spread + Drop, F: StateForm + Drop>(
     alloc: Global,
     workers: &mut Vec<Worker<'_, S, F>>,
@@ -55,9 +55,9 @@ fn expand_at<S: Spread + Drop, F: StateForm + Drop>(
 }
 
 impl<'a, S: Spread + Drop, F: StateForm + Drop> Team<'a, S, F> {
-    /// The team after the worker of that number has read the least cost that was offered and was asked to expand the next node below
-    /// it, and the fault for which it refused, if it did; then its owner is as it was. Fails only if allocation fails, and then the
-    /// team is gone.
+    /// Makes worker `number` read the least cost that was offered, and asks it to expand the next node below it.
+    /// Returns the team, and the fault for which the owner refused, if it did; then the owner is unchanged. If
+    /// allocation fails, the team is lost.
     pub fn ask(
         self,
         alloc: Global,

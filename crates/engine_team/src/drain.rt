@@ -1,4 +1,4 @@
-//! The rings between workers, which are emptied between rounds, while no other thread has a worker.
+//! Empties the rings between workers, between rounds, while no other thread has a worker.
 
 ghost use Rattle.std.specs.Prelude.{◌≡◌, ◌≢◌, ℕ, ◌+◌, ◌<◌, ◌≤◌, [], length, IfOk};
 ghost use Rattle.std.specs.List.{insert};
@@ -15,7 +15,7 @@ use packed_spread::Spread;
 use std::alloc::AllocError;
 use worker::Worker;
 
-/// What holds of each worker, stated as a contract for all of them.
+/// States the invariant of all workers as a contract. Only for proofs.
 pub(crate) fn recall_each<S: Spread + Drop, F: StateForm + Drop>(workers: &Vec<Worker<'_, S, F>>)
     ensures { (v : ℕ) (w : WorkerOf S F) → At workers.now.items v w → IsKept S.owner F.values w }
 {
@@ -24,7 +24,7 @@ pub(crate) fn recall_each<S: Spread + Drop, F: StateForm + Drop>(workers: &Vec<W
     }
 }
 
-/// The place of worker `from` among all workers but worker `to`.
+/// Returns the index of worker `from` among all workers but worker `to`.
 fn place_beside(from: usize, to: usize) -> usize
     requires { from ≢ to }
     ensures before { from < to → result ≡ from }
@@ -33,8 +33,8 @@ fn place_beside(from: usize, to: usize) -> usize
     if from < to { from } else { from - 1 }
 }
 
-/// The number of messages in the ring from worker `from` to the receiver, which is worker `to` and stands beside the others. Allocates
-/// nothing.
+/// Returns the number of messages in the ring from worker `from` to the receiver, which is worker `to` and not among
+/// `others`.
 fn match_link<'a, S: Spread + Drop, F: StateForm + Drop>(
     others: &mut Vec<Worker<'a, S, F>>,
     receiver: &mut Worker<'a, S, F>,
@@ -53,7 +53,7 @@ fn match_link<'a, S: Spread + Drop, F: StateForm + Drop>(
     others[place].match_link(receiver)
 }
 
-/// Looks at both ends of each link to the receiver, so that it is known that no message stands aside in it. Allocates nothing.
+/// Matches both ends of each link to the receiver. Only for the proof that the receiver has set no message aside.
 fn match_links<'a, S: Spread + Drop, F: StateForm + Drop>(
     others: &mut Vec<Worker<'a, S, F>>,
     receiver: &mut Worker<'a, S, F>,
@@ -72,7 +72,7 @@ fn match_links<'a, S: Spread + Drop, F: StateForm + Drop>(
     receiver.owner().recall();
 }
 
-/// The receiver takes all messages in the ring from worker `from`. Fails only if allocation fails.
+/// Makes the receiver take all messages in the ring from worker `from`.
 fn empty_ring<'a, S: Spread + Drop, F: StateForm + Drop>(
     others: &mut Vec<Worker<'a, S, F>>,
     receiver: &mut Worker<'a, S, F>,
@@ -97,7 +97,7 @@ fn empty_ring<'a, S: Spread + Drop, F: StateForm + Drop>(
     Ok(())
 }
 
-/// The receiver takes all messages in the rings to it. Fails only if allocation fails.
+/// Makes the receiver take all messages in the rings to it.
 fn empty_rings<'a, S: Spread + Drop, F: StateForm + Drop>(
     others: &mut Vec<Worker<'a, S, F>>,
     receiver: &mut Worker<'a, S, F>,
@@ -114,7 +114,7 @@ fn empty_rings<'a, S: Spread + Drop, F: StateForm + Drop>(
     Ok(())
 }
 
-/// One of these workers takes all messages in the rings to it. Fails only if allocation fails.
+/// Makes worker `to` take all messages in the rings to it.
 fn empty_rings_to<S: Spread + Drop, F: StateForm + Drop>(
     workers: &mut Vec<Worker<'_, S, F>>,
     to: usize,
@@ -129,7 +129,7 @@ fn empty_rings_to<S: Spread + Drop, F: StateForm + Drop>(
     Ok(())
 }
 
-/// Each of these workers takes all messages in the rings to it. Fails only if allocation fails.
+/// Makes each of these workers take all messages in the rings to it.
 fn empty_all<S: Spread + Drop, F: StateForm + Drop>(
     workers: &mut Vec<Worker<'_, S, F>>,
 ) -> Result<(), AllocError>
@@ -143,8 +143,8 @@ fn empty_all<S: Spread + Drop, F: StateForm + Drop>(
 }
 
 impl<'a, S: Spread + Drop, F: StateForm + Drop> Team<'a, S, F> {
-    /// The team after each worker has taken the messages that were left in the rings to it: those from worker 0 first, and of each
-    /// sender the oldest first. Fails only if allocation fails, and then the team is gone.
+    /// Makes each worker take the messages that were left in the rings to it: those from worker 0 first, and of each
+    /// sender the oldest first. Returns the team; if allocation fails, it is lost.
     pub fn drain(self) -> Result<Team<'a, S, F>, AllocError>
         ensures { IfOk result (IsDrained S.owner F.values self.entry) }
     {

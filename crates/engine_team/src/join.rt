@@ -12,7 +12,7 @@ use packed_spread::Spread;
 use std::alloc::{AllocError, Global};
 use worker::Worker;
 
-/// The owners of these workers. Fails only if allocation fails.
+/// Returns the owners of these workers.
 fn owners_of<'a, S: Spread + Drop, F: StateForm + Drop>(
     alloc: Global,
     workers: Vec<Worker<'a, S, F>>,
@@ -27,7 +27,7 @@ fn owners_of<'a, S: Spread + Drop, F: StateForm + Drop>(
 }
 
 impl<'a, S: Spread + Drop, F: StateForm + Drop> Team<'a, S, F> {
-    /// The owners as the end of a search, where no message is left in a ring. Fails only if allocation fails.
+    /// Returns the owners as the end of a search. No message may be left in a ring.
     pub fn into_joined(self, alloc: Global) -> Result<Joined<'a, S, F>, AllocError>
         requires { AreEmpty F.values self }
         ensures space { IfOk result (λ j. j.space ≡ self.entry.space) }

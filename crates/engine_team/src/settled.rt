@@ -17,7 +17,7 @@ use packed_spread::Spread;
 use std::alloc::{AllocError, Global};
 use worker::Worker;
 
-/// The least cost at which the owner of any of these workers has taken a goal state, infinite if none has.
+/// Returns the least cost at which the owner of any of these workers has taken a goal state, infinite if none has.
 fn best_goal<S: Spread + Drop, F: StateForm + Drop>(workers: &[Worker<'_, S, F>]) -> Dist
     ensures { result ≡ least (map (λ w. w.owner.best) workers.now) }
 {
@@ -28,7 +28,8 @@ fn best_goal<S: Spread + Drop, F: StateForm + Drop>(workers: &[Worker<'_, S, F>]
     best
 }
 
-/// The least f-value that is pending at the owner of any of these workers, all of this space; `state` is a buffer.
+/// Returns the least f-value that is pending at the owner of any of these workers, all of this space; `state` is a
+/// buffer.
 fn least_pending<S: Spread + Drop, F: StateForm + Drop>(
     space: &Space<'_, S>,
     workers: &[Worker<'_, S, F>],
@@ -47,9 +48,9 @@ fn least_pending<S: Spread + Drop, F: StateForm + Drop>(
 }
 
 impl<'a, S: Spread + Drop, F: StateForm + Drop> Team<'a, S, F> {
-    /// The bound at which the owners are settled, apart from messages in rings: the least cost at which a goal state was taken,
-    /// infinite if none was, provided that no pending f-value is below it. `None` if they are not settled. Fails only if allocation
-    /// fails.
+    /// Returns the bound at which the owners are settled, apart from messages in rings: the least cost at which a goal
+    /// state was taken, infinite if none was, provided that no pending f-value is below it. `None` if they are not
+    /// settled.
     pub fn settled(&self, alloc: Global) -> Result<Option<Dist>, AllocError>
         ensures { IfOk result (IsSettledAnswer (searched S.owner self.now.space (length self.now.workers)) (map (λ w. w.owner) self.now.workers) []) }
     {

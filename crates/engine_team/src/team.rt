@@ -14,7 +14,8 @@ use std::alloc::{AllocError, Global};
 use std::marker::Model;
 use worker::Worker;
 
-/// The workers of a search in the order of their numbers, each with a link to each, and the least cost that any of them has offered.
+/// The workers of a search in the order of their numbers, each with a link to each, and the least cost that any of them
+/// has offered.
 #[derive(Drop)]
 pub struct Team<'a, S: Spread + Drop, F: StateForm + Drop> {
     pub(crate) space: &'a Space<'a, S>,
@@ -32,10 +33,10 @@ impl<'a, S: Spread + Drop, F: StateForm + Drop> Model for Team<'a, S, F> {
     ghost invariant = { λ t. IsTeam (record { space = t.space.now; workers = t.workers.items; best = t.best }) };
 }
 
-/// What a team is made of.
+/// The parts of a team.
 #[derive(Drop)]
 pub struct Parts<'a, S: Spread + Drop, F: StateForm + Drop> {
-    /// What is searched.
+    /// The search space.
     pub space: &'a Space<'a, S>,
     /// The workers, in the order of their numbers.
     pub workers: Vec<Worker<'a, S, F>>,
@@ -43,7 +44,7 @@ pub struct Parts<'a, S: Spread + Drop, F: StateForm + Drop> {
     pub best: Dist,
 }
 
-/// The workers at the start, from the ends of their links. Fails only if allocation fails.
+/// Returns the workers at the start, from the ends of their links.
 fn first_workers<'a, S: Spread + Drop, F: StateForm + Drop>(
     alloc: Global,
     space: &'a Space<'a, S>,
@@ -63,8 +64,8 @@ fn first_workers<'a, S: Spread + Drop, F: StateForm + Drop>(
 }
 
 impl<'a, S: Spread + Drop, F: StateForm + Drop> Team<'a, S, F> {
-    /// `workers` workers at the start, with a link from each to each that has room for `capacity` messages, or for 1 where that is 0.
-    /// States of the task have the form `F`. Fails only if allocation fails.
+    /// Creates `workers` workers at the start, with a link from each to each that has room for `capacity` messages (for
+    /// 1 if that is 0). States of the task have the form `F`.
     pub fn start(
         alloc: Global,
         space: &'a Space<'a, S>,
@@ -83,7 +84,7 @@ impl<'a, S: Spread + Drop, F: StateForm + Drop> Team<'a, S, F> {
         })
     }
 
-    /// The team of these workers of a space, of which `best` is the least cost that any of them has offered.
+    /// Returns the team of these workers of a space; `best` is the least cost that any of them has offered.
     pub fn of_workers(
         space: &'a Space<'a, S>,
         workers: Vec<Worker<'a, S, F>>,
@@ -99,7 +100,7 @@ impl<'a, S: Spread + Drop, F: StateForm + Drop> Team<'a, S, F> {
         }
     }
 
-    /// What the team is made of.
+    /// Returns the parts of the team.
     pub fn into_parts(self) -> Parts<'a, S, F>
         ensures space { result.space.now ≡ self.entry.space }
         ensures workers { result.workers.items ≡ self.entry.workers }
@@ -118,14 +119,14 @@ impl<'a, S: Spread + Drop, F: StateForm + Drop> Team<'a, S, F> {
         }
     }
 
-    /// The workers, in the order of their numbers.
+    /// Returns the workers, in the order of their numbers.
     pub fn workers(&self) -> &[Worker<'a, S, F>]
         ensures { result.now ≡ self.now.workers }
     {
         &self.workers
     }
 
-    /// The least cost that any of them has offered, infinite if none was.
+    /// Returns the least cost that any of them has offered, infinite if none was.
     pub fn best(&self) -> Dist
         ensures { result ≡ self.now.best }
     {

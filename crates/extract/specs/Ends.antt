@@ -19,7 +19,7 @@ pub record EndOf (S : Type 0) : Type 0 where
 abbrev pub space_at : {S : Type 0} → (S → List ℕ → ℕ → ℕ) → EndOf S → SearchSpace
 space_at owner e = searched owner e.space (length e.owners)
 
--- there are owners, each with this space, its own number and an outbox for each owner; and the messages are of states of
+-- there are owners, each with this space, its own number and an outbox for each owner; and the messages have states of
 -- the task, at costs of at most 2^62
 pub record IsForm {S : Type 0} (e : EndOf S) : Type 0 where
   pub some : 0 < length e.owners
@@ -62,19 +62,19 @@ answer_of (Some Infinite) = Some Unsolvable
 
 -- ---- goal nodes
 
--- the first pair (owner, place) comes before the second or is equal to it
+-- the first pair (owner, index) comes before the second or is equal to it
 abbrev pub IsNotAfter : ℕ → ℕ → ℕ → ℕ → Type 0
 IsNotAfter v i w j = (v < w) ⊎ ((v ≡ w) × (i ≤ j))
 
--- the owner of that number has a node with a goal state at that place
+-- owner `v` has a node with a goal state at index `i`
 pub record IsGoalNodeAt {S : Type 0} (e : EndOf S) (v i : ℕ) (n : Node) : Type 0 where
   pub holder : OwnerOf S
   pub owner : At e.owners v holder
   pub there : At holder.nodes i n
   pub goal : is_goal_state e.space.task n.state ≡ true
 
--- a goal node of the least cost, of these the one of the least owner, and there of the least place; none if there is no
--- goal node
+-- a goal node of the least cost, of these the one of the lowest owner, and there of the lowest index; none if there is
+-- no goal node
 abbrev pub IsBestGoal : {S : Type 0} → EndOf S → Option (ℕ × ℕ) → Type 0
 IsBestGoal e None = (v i : ℕ) (n : Node) → IsGoalNodeAt e v i n → ⊥
 IsBestGoal e (Some (v, i)) =

@@ -1,4 +1,4 @@
--- Packets as they are stored, where a form of a state has these values.
+-- Packets as they are stored, if `values` returns the values of a form.
 use Rattle.std.specs.Prelude.{ℕ, List, map, flat_map}
 use Rattle.std.specs.Global.{Global}
 use Rattle.std.specs.declared.collections.VecDeque.{VecDeque}

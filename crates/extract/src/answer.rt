@@ -2,7 +2,7 @@
 
 ghost use Rattle.std.specs.Prelude.{◌≡◌};
 
-/// What the owners of a search have found.
+/// The result that the owners of a search have found.
 #[derive(Clone, Copy, Debug, PartialEq, Eq)]
 pub enum SearchAnswer {
     /// The cost of a cheapest plan.

@@ -9,7 +9,7 @@ use packed::StateForm;
 use packed_spread::Spread;
 use std::alloc::{AllocError, Global};
 
-/// A node with a goal state: its cost, its worker and its place.
+/// A node with a goal state: its cost, its worker and its index.
 #[derive(Clone, Copy)]
 pub(crate) struct Found {
     cost: u64,
@@ -17,7 +17,7 @@ pub(crate) struct Found {
     pub(crate) index: usize,
 }
 
-/// Whether a node of that cost is cheaper than what was found.
+/// Returns whether a node of that cost is cheaper than the one found so far.
 fn is_cheaper(cost: u64, found: Option<Found>) -> bool
     ensures { result ≡ is_cheaper cost found }
 {
@@ -27,7 +27,8 @@ fn is_cheaper(cost: u64, found: Option<Found>) -> bool
     }
 }
 
-/// The cheapest goal node after the node at that place of one owner; `state` is a buffer, here and below.
+/// Returns the cheaper one of `found` and the node at the index of one owner, if that is a goal node. `state` is a
+/// buffer.
 fn better_entry<S: Spread + Drop, F: StateForm + Drop>(
     owner: &Owner<'_, S, F>,
     worker: usize,
@@ -52,7 +53,7 @@ fn better_entry<S: Spread + Drop, F: StateForm + Drop>(
     }
 }
 
-/// The cheapest goal node after the nodes of one owner.
+/// Returns the cheapest goal node among `found` and the nodes of one owner. `state` is a buffer.
 fn best_of_owner<S: Spread + Drop, F: StateForm + Drop>(
     owner: &Owner<'_, S, F>,
     worker: usize,
@@ -69,7 +70,7 @@ fn best_of_owner<S: Spread + Drop, F: StateForm + Drop>(
     best
 }
 
-/// The cheapest goal node of these owners, all of this space; `state` is a buffer.
+/// Returns the cheapest goal node of these owners, all of this space. `state` is a buffer.
 fn best_in<S: Spread + Drop, F: StateForm + Drop>(
     space: &Space<'_, S>,
     owners: &[Owner<'_, S, F>],
@@ -86,7 +87,7 @@ fn best_in<S: Spread + Drop, F: StateForm + Drop>(
     best
 }
 
-/// The cheapest goal node of these owners, all of this space. Fails only if allocation fails.
+/// Returns the cheapest goal node of these owners, all of this space.
 pub(crate) fn best_of_owners<S: Spread + Drop, F: StateForm + Drop>(
     alloc: Global,
     space: &Space<'_, S>,

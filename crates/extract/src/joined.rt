@@ -19,7 +19,8 @@ use std::collections::VecDeque;
 use std::marker::Model;
 
 /// Owners and the messages not taken, at the end of a lawful family: however the owners' events were interleaved, each
-/// message that was taken had been handed out, and each bound that was seen is at least the least cost that was offered.
+/// message that was taken had been handed out, and each bound that was read is at least the least cost that was
+/// offered.
 #[derive(Drop)]
 pub struct Joined<'a, S: Spread + Drop, F: StateForm + Drop> {
     space: &'a Space<'a, S>,
@@ -41,7 +42,7 @@ impl<'a, S: Spread + Drop, F: StateForm + Drop> Model for Joined<'a, S, F> {
 }
 
 impl<'a, S: Spread + Drop, F: StateForm + Drop> Joined<'a, S, F> {
-    /// The end of a lawful family, from the space, the owners and the messages that were not taken.
+    /// Returns the end of a lawful family, from the space, the owners and the messages that were not taken.
     pub fn new(
         space: &'a Space<'a, S>,
         owners: Vec<Owner<'a, S, F>>,
@@ -58,25 +59,25 @@ impl<'a, S: Spread + Drop, F: StateForm + Drop> Joined<'a, S, F> {
         }
     }
 
-    /// The bound at which the family is settled: the least cost at which a goal state was taken, infinite if none was,
-    /// provided that no pending f-value is below it. `None` if the family is not settled. Fails only if allocation fails.
+    /// Returns the bound at which the family is settled: the least cost at which a goal state was taken, infinite if
+    /// none was, provided that no pending f-value is below it. Returns `None` if the family is not settled.
     pub fn settled(&self, alloc: Global) -> Result<Option<Dist>, AllocError>
         ensures { IfOk result (IsSettledAnswer (space_at S.owner self.now) self.now.owners self.now.left) }
     {
         settled_bound(alloc, self.space, &self.owners, &self.left)
     }
 
-    /// The lower bound: no plan costs less, whether the family is settled or not. It is the least cost at which a goal state was
-    /// taken or the least pending f-value, whichever is less, infinite if there is neither; at most 2^62 where it is finite. Fails
-    /// only if allocation fails.
+    /// Returns the lower bound: no plan costs less, whether the family is settled or not. It is the lesser of the least
+    /// cost at which a goal state was taken and the least pending f-value, infinite if there is neither; a finite one
+    /// is at most 2^62.
     pub fn lower_bound(&self, alloc: Global) -> Result<Dist, AllocError>
         ensures { IfOk result (λ bound. bound ≡ lower_bound S.owner self.now) }
     {
         lower_bound(alloc, self.space, &self.owners, &self.left)
     }
 
-    /// The worker and the place of a goal node of least cost: of these the one of the least worker, and there of the
-    /// least place. Both are counted from 0. `None` if there is no goal node. Fails only if allocation fails.
+    /// Returns the worker and the index of a goal node of least cost, or `None` if there is no goal node. Among equal
+    /// costs it is the one of the lowest worker, and there of the lowest index.
     pub fn best(&self, alloc: Global) -> Result<Option<(usize, usize)>, AllocError>
         ensures { IfOk result (IsBestGoal self.now) }
     {
@@ -86,30 +87,30 @@ impl<'a, S: Spread + Drop, F: StateForm + Drop> Joined<'a, S, F> {
         }
     }
 
-    /// The space that was searched.
+    /// Returns the space that was searched.
     pub fn space(&self) -> &'a Space<'a, S>
         ensures { result.now ≡ self.now.space }
     {
         self.space
     }
 
-    /// The owners, in the order of their numbers.
+    /// Returns the owners, in the order of their numbers.
     pub fn owners(&self) -> &[Owner<'a, S, F>]
         ensures { result.now ≡ self.now.owners }
     {
         &self.owners
     }
 
-    /// What holds of every end, the type's invariant stated as a contract: it is the end of a lawful family, each owner
-    /// has this space and its own number, the space is a search space, and the heuristic of a state is at most the cost
-    /// of any operators that lead from it to a goal state.
+    /// Proves the type's invariant, which holds of every end (only for the proof): it is the end of a lawful family,
+    /// each owner has this space and its own number, the space is a search space, and the heuristic of a state is at
+    /// most the cost of any operators from it to a goal state.
     pub fn recall(&self)
         ensures lawful { ∥ ((family : Family) × IsEndOf S.owner self.now family) ∥₁ }
         ensures form { IsForm self.now }
         ensures space { IsSearchSpace (space_at S.owner self.now) }
         ensures lower { IsLowerBound self.now.space.task (space_at S.owner self.now).heuristic }
     {
-        // the type's invariant is available where a field is read
+        // reading a field makes the type's invariant available
         self.owners[0].recall();
     }
 }

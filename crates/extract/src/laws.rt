@@ -1,4 +1,4 @@
-//! Laws of the ends of searches. Each function states a law as its contract, and its body is empty.
+//! Laws of the ends of searches.
 
 ghost use Rattle.std.specs.Prelude.{◌≡◌, ◌↔◌, ℕ, Some};
 ghost use Rattle.cost.specs.Distances.{Distance, Finite};
@@ -8,13 +8,13 @@ ghost use Rattle.extract.specs.Ends.{EndOf, IsForm, IsEndOf, IsSettledAt, IsBest
 
 use packed_spread::Spread;
 
-/// An end is settled at a bound exactly if each lawful family with this end is.
+/// Proves that an end is settled at a bound exactly if each lawful family with this end is.
 pub fn settled_as_family<S: Spread + Drop>()
     ensures { (e : EndOf S) (family : Family) (bound : Distance) → IsForm e → IsEndOf S.owner e family →
         (IsSettledAt (space_at S.owner e) e.owners e.left bound ↔ IsSettled (space_at S.owner e) family bound) }
 {}
 
-/// If the end of a lawful family is settled at a finite cost, its best goal node has that cost.
+/// Proves that if the end of a lawful family is settled at a finite cost, its best goal node has that cost.
 pub fn best_goal_costs_bound<S: Spread + Drop>()
     ensures { (e : EndOf S) (family : Family) (v i cost : ℕ) → IsSearchSpace (space_at S.owner e) → IsForm e →
         IsEndOf S.owner e family → IsBestGoal e (Some (v, i)) →

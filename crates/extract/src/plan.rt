@@ -12,7 +12,7 @@ use packed::StateForm;
 use packed_spread::Spread;
 use std::alloc::{AllocError, Global};
 
-/// The entry of the node at that place of that owner.
+/// Returns the entry of the node at index `index` of owner `worker`.
 fn entry_at<S: Spread + Drop, F: StateForm + Drop>(
     owners: &[Owner<'_, S, F>],
     worker: usize,
@@ -28,9 +28,9 @@ fn entry_at<S: Spread + Drop, F: StateForm + Drop>(
     owner.entry(index)
 }
 
-/// The plan to a goal node, given by its worker and place: the numbers of the operators, from the initial state on. The
-/// operators are found from the last one to the first, by the nodes' present parents, from owner to owner. The plan costs
-/// at most the goal node's cost, and exactly the bound if the owners are settled. Fails only if allocation fails.
+/// Returns the plan to a goal node, given by its worker and index: the numbers of the operators, from the initial state
+/// on. The operators are found from the last one to the first, by following the nodes' current parents from owner to
+/// owner. The plan costs at most the goal node's cost, and exactly the bound if the owners are settled.
 pub fn plan_of<'a, S: Spread + Drop, F: StateForm + Drop>(
     alloc: Global,
     joined: &Joined<'a, S, F>,

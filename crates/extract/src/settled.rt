@@ -18,7 +18,7 @@ use packed_spread::Spread;
 use std::alloc::{AllocError, Global};
 use std::collections::VecDeque;
 
-/// The f-value of a message; `state` is a buffer, here and below.
+/// Returns the f-value of a message. `state` is a buffer.
 fn f_of<S: Spread + Drop, F: StateForm + Drop>(
     space: &Space<'_, S>,
     message: &Message<F>,
@@ -33,7 +33,7 @@ fn f_of<S: Spread + Drop, F: StateForm + Drop>(
     space.f(state, message.rank.cost)
 }
 
-/// The least f-value of these messages, infinite if there is none.
+/// Returns the least f-value of these messages, infinite if there is none. `state` is a buffer.
 fn least_of_messages<S: Spread + Drop, F: StateForm + Drop>(
     space: &Space<'_, S>,
     messages: &VecDeque<Message<F>>,
@@ -51,7 +51,7 @@ fn least_of_messages<S: Spread + Drop, F: StateForm + Drop>(
     least
 }
 
-/// The least f-value of these messages underway, infinite if there is none.
+/// Returns the least f-value of these messages underway, infinite if there is none. `state` is a buffer.
 fn least_of_packets<S: Spread + Drop, F: StateForm + Drop>(
     space: &Space<'_, S>,
     packets: &VecDeque<Packet<F>>,
@@ -69,8 +69,8 @@ fn least_of_packets<S: Spread + Drop, F: StateForm + Drop>(
     least
 }
 
-/// The least f-value of an owner's nodes that are not expanded and of the messages in its outboxes, infinite if there are
-/// neither. `owners` is the number of owners, and `state` a buffer.
+/// Returns the least f-value of an owner's nodes that are not expanded and of the messages in its outboxes, infinite if
+/// there are neither. `owners` is the number of owners, and `state` a buffer.
 pub fn least_of_owner<S: Spread + Drop, F: StateForm + Drop>(
     owner: &Owner<'_, S, F>,
     owners: usize,
@@ -88,7 +88,8 @@ pub fn least_of_owner<S: Spread + Drop, F: StateForm + Drop>(
     least
 }
 
-/// The least pending f-value: of the owners' nodes and outboxes, and of the messages underway.
+/// Returns the least pending f-value: of the owners' nodes and outboxes, and of the messages underway. `state` is a
+/// buffer.
 fn least_pending<S: Spread + Drop, F: StateForm + Drop>(
     space: &Space<'_, S>,
     owners: &[Owner<'_, S, F>],
@@ -110,7 +111,7 @@ fn least_pending<S: Spread + Drop, F: StateForm + Drop>(
     least
 }
 
-/// The least cost at which any of the owners took a goal state, infinite if none did.
+/// Returns the least cost at which any of the owners took a goal state, infinite if none did.
 pub fn best_goal<S: Spread + Drop, F: StateForm + Drop>(owners: &[Owner<'_, S, F>]) -> Dist
     ensures { result ≡ least (map (λ o. o.best) owners.now) }
 {
@@ -121,9 +122,9 @@ pub fn best_goal<S: Spread + Drop, F: StateForm + Drop>(owners: &[Owner<'_, S, F
     best
 }
 
-/// The bound at which the owners of a space are settled, given the messages that were handed out and not taken: the least
-/// cost at which a goal state was taken, infinite if none was, provided that no pending f-value is below it. `None` if
-/// they are not settled. Fails only if allocation fails.
+/// Returns the bound at which the owners of a space are settled, given the messages that were handed out and not taken:
+/// the least cost at which a goal state was taken, infinite if none was, provided that no pending f-value is below it.
+/// Returns `None` if they are not settled.
 pub fn settled_bound<'a, S: Spread + Drop, F: StateForm + Drop>(
     alloc: Global,
     space: &Space<'a, S>,
@@ -143,7 +144,7 @@ pub fn settled_bound<'a, S: Spread + Drop, F: StateForm + Drop>(
     }
 }
 
-/// The bound as a certificate states it: 2^62 in place of one that is finite and past that.
+/// Returns the bound as a certificate states it: finite bounds are capped at 2^62.
 fn stated(bound: Dist) -> Dist
     ensures { result ≡ stated bound }
 {
@@ -153,9 +154,9 @@ fn stated(bound: Dist) -> Dist
     }
 }
 
-/// The lower bound of the owners of a space, given the messages that were handed out and not taken: the least cost at which a goal
-/// state was taken or the least pending f-value, whichever is less, infinite if there is neither; at most 2^62 where it is finite.
-/// Fails only if allocation fails.
+/// Returns the lower bound of the owners of a space, given the messages that were handed out and not taken: the lesser
+/// of the least cost at which a goal state was taken and the least pending f-value, infinite if there is neither; a
+/// finite one is at most 2^62.
 pub(crate) fn lower_bound<'a, S: Spread + Drop, F: StateForm + Drop>(
     alloc: Global,
     space: &Space<'a, S>,

@@ -16,8 +16,8 @@ pub record Operator : Type 0 where
   pub effect : List Fact
   pub cost : ℕ
 
--- A variable is a place in the list of ranges, and its values are the numbers below its range, each with a name.
--- Without the metric each operator costs 1.
+-- A variable is an index into `value_names`, and its values are the numbers below its range, each with a name. Without
+-- the metric each operator costs 1.
 pub record FiniteDomainTask : Type 0 where
   pub metric : Bool
   pub value_names : List (List (List ℕ))
@@ -66,13 +66,13 @@ pub record IsTask (task : FiniteDomainTask) : Type 0 where
 abbrev pub has_long_range : List (List (List ℕ)) → Bool
 has_long_range value_names = list_any (λ names. nat_lt max_values (length names)) value_names
 
--- the task passes no limit on variables, values of a variable, or operators
+-- the task exceeds no limit on variables, values of a variable, or operators
 pub record IsWithinLimits (task : FiniteDomainTask) : Type 0 where
   pub variables : length task.value_names ≤ max_variables
   pub values : has_long_range task.value_names ≡ false
   pub operators : length task.operators ≤ max_operators
 
--- the limit is the first one that the task passes
+-- the limit is the first one that the task exceeds
 abbrev pub IsPastLimit : FiniteDomainTask → TaskLimit → Type 0
 IsPastLimit task Variables = max_variables < length task.value_names
 IsPastLimit task Values = (length task.value_names ≤ max_variables) × (has_long_range task.value_names ≡ true)
@@ -126,11 +126,11 @@ abbrev pub state_after : FiniteDomainTask → List ℕ → List ℕ → Option (
 state_after task state [] = Some state
 state_after task state (o ∷ plan) = option_and_then (λ s. state_after task s plan) (step task state o)
 
--- the sequence of operators leads from the state to a goal state
+-- the sequence of operators applies in the state and reaches a goal state
 abbrev pub LeadsToGoal : FiniteDomainTask → List ℕ → List ℕ → Type 0
 LeadsToGoal task state plan = IsSomeAnd (state_after task state plan) (λ s. is_goal_state task s ≡ true)
 
--- the sequence of operators, given by their numbers, leads from the initial state to a goal state
+-- the sequence of operators, given by their numbers, applies in the initial state and reaches a goal state
 abbrev pub IsPlan : FiniteDomainTask → List ℕ → Type 0
 IsPlan task plan = LeadsToGoal task task.initial plan
 

@@ -13,7 +13,7 @@ pub struct Fact {
     pub value: u32,
 }
 
-/// Whether every fact holds in the state.
+/// Returns whether every fact holds in the state.
 pub(crate) fn all_hold(facts: &[Fact], state: &[u32]) -> bool
     requires { All (λ f. f.variable < length state.now) facts.now }
     ensures { result ≡ list_all (spec.holds state.now) facts.now }

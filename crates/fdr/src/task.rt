@@ -19,7 +19,7 @@ pub const MAX_VALUES: usize = 65_536;
 /// The greatest number of operators of a task.
 pub const MAX_OPERATORS: usize = 4_294_967_295;
 
-/// The limit that a task passes. Its text is the word that F18 prints.
+/// The limit that a task exceeds. It is displayed as the word that F18 prints.
 #[derive(Clone, Copy, Debug, PartialEq, Eq, Error)]
 pub enum TaskLimit {
     /// More than 65,536 variables.
@@ -34,7 +34,7 @@ pub enum TaskLimit {
 }
 
 /// A finite-domain task (SAS+: Bäckström and Nebel 1995). All values are in range, the goal and each precondition and
-/// effect name a variable at most once, and no limit of `TaskLimit` is passed.
+/// effect name a variable at most once, and no limit of `TaskLimit` is exceeded.
 #[derive(Drop)]
 pub struct FdrTask {
     metric: bool,
@@ -56,7 +56,7 @@ impl Model for FdrTask {
         IsWithinLimits (task_of t.metric t.value_names.items t.initial.items t.goal.items t.operators.items) };
 }
 
-/// Whether a variable has more than `MAX_VALUES` values.
+/// Returns whether a variable has more than `MAX_VALUES` values.
 fn has_long_range(value_names: &[Vec<String>]) -> bool
     ensures { result ≡ spec.has_long_range (spec.names_in value_names.now) }
 {
@@ -69,11 +69,11 @@ fn has_long_range(value_names: &[Vec<String>]) -> bool
 }
 
 impl FdrTask {
-    /// Makes a task of its parts. A variable is given by the names of its values, and `initial` has one value for each
-    /// variable. All values must be in range, and the goal and each precondition and effect must name a variable at most
-    /// once.
+    /// Makes a task from its parts. A variable is given by the names of its values, and `initial` has one value for
+    /// each variable. All values must be in range, and the goal and each precondition and effect must name a variable
+    /// at most once.
     ///
-    /// Fails with the first limit that is passed: variables before values, and values before operators.
+    /// Fails with the first limit that is exceeded: variables before values, and values before operators.
     pub fn new(
         metric: bool,
         value_names: Vec<Vec<String>>,
@@ -104,16 +104,17 @@ impl FdrTask {
         })
     }
 
-    /// Proves the invariant of the type: the task is well-formed and within the limits. It does nothing at run time.
+    /// Proves the invariant of the type: the task is well-formed and within the limits. Only for proofs; does nothing
+    /// at run time.
     pub fn recall(&self)
         ensures task { IsTask self.now }
         ensures limits { IsWithinLimits self.now }
     {
-        // reading a field brings the type's invariant into the proof
+        // only for the proof: reading a field brings the type's invariant into it
         let _ = self.operators.len();
     }
 
-    /// Whether operators have the costs that they state. Without the metric each operator costs 1.
+    /// Returns whether operators have the costs that they state. Without the metric each operator costs 1.
     pub fn has_metric(&self) -> bool
         ensures { result ≡ self.now.metric }
     {
@@ -173,7 +174,7 @@ impl FdrTask {
         &self.operators
     }
 
-    /// Whether the goal holds in the state.
+    /// Returns whether the goal holds in the state.
     pub fn is_goal(&self, state: &[u32]) -> bool
         requires { length state.now ≡ length self.now.value_names }
         ensures { result ≡ spec.is_goal_state self.now state.now }
@@ -181,7 +182,7 @@ impl FdrTask {
         all_hold(&self.goal, state)
     }
 
-    /// Whether the operator with this number exists and applies in the state.
+    /// Returns whether the operator with this number exists and applies in the state.
     pub fn applies(&self, operator: usize, state: &[u32]) -> bool
         requires { length state.now ≡ length self.now.value_names }
         ensures { result ≡ spec.applies_at self.now operator state.now }
@@ -193,7 +194,7 @@ impl FdrTask {
     }
 
     /// Replaces the state by its successor under the operator with this number, if that operator exists and applies.
-    /// Returns whether it does; if not, the state stays as it is.
+    /// Returns whether it does; if not, the state is unchanged.
     pub fn apply(&self, operator: usize, state: &mut [u32]) -> bool
         requires { length state.old ≡ length self.now.value_names }
         ensures applied { result ≡ spec.applies_at self.now operator state.old }
@@ -208,7 +209,7 @@ impl FdrTask {
         }
     }
 
-    /// Replaces the state by its successor under the operator with this number, which has to apply in the state: that is
+    /// Replaces the state by its successor under the operator with this number, which must apply in the state: this is
     /// not tested again.
     pub fn advance(&self, operator: usize, state: &mut [u32])
         requires state { length state.old ≡ length self.now.value_names }

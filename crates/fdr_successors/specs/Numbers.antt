@@ -1,4 +1,4 @@
--- The numbers in lists, in whatever order.
+-- Equality of lists of numbers up to order.
 use Rattle.std.specs.Prelude.{◌≡◌, ℕ, ◌==◌, List, count_by}
 
 -- each number occurs equally often in both lists

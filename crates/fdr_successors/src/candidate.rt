@@ -2,7 +2,7 @@
 
 use fdr::Fact;
 
-/// An operator and its precondition: the facts of a row from the place `first` on that are before the place `end`.
+/// An operator and its precondition: the facts `first..end` of a flat list of facts.
 #[derive(Clone, Copy)]
 pub(crate) struct Candidate {
     pub(crate) operator: usize,
@@ -10,16 +10,15 @@ pub(crate) struct Candidate {
     pub(crate) end: usize,
 }
 
-/// The candidates, and the row of facts that has their preconditions.
+/// The candidates, and the flat list of facts that contains their preconditions.
 #[derive(Drop)]
 pub(crate) struct Listing {
     pub(crate) candidates: Vec<Candidate>,
     pub(crate) facts: Vec<Fact>,
 }
 
-/// The candidates from the place `first` on that are before the place `end`. They have the first `tested` facts of their
-/// preconditions in common. After them a visit goes on at the node `next`, and below them are at most `levels` levels of
-/// the tree.
+/// The candidates `first..end`, which share the first `tested` facts of their preconditions. After them a visit
+/// continues at the node `next`. At most `levels` levels of the tree are below them.
 #[derive(Clone, Copy)]
 pub(crate) struct Part {
     pub(crate) first: usize,

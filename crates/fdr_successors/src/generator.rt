@@ -16,22 +16,22 @@ use fdr::{Fact, FdrTask};
 use std::alloc::{AllocError, Global};
 use std::marker::Model;
 
-/// The most facts of a precondition that nodes of the tree test, each with a table of the variable's values. The others
-/// are tested one by one.
+/// The greatest number of facts of a precondition that nodes of the tree test, each with a table of the variable's
+/// values. Further facts are tested one by one.
 const MOST_LEVELS: usize = 64;
 
 /// A successor generator: finds the applicable operators of states of one task (Helmert 2006). In contracts its value
 /// is the task.
 ///
-/// It is a decision tree in flat lists. Preconditions are tested fact by fact, those on variables with more values first.
-/// A node has the operators whose remaining facts are tested in turn, or that have none, and a table of children, one for
-/// each value of a variable. A visit goes to the child for the value in the state, and from there on to the node that
-/// follows for any value.
+/// It is a decision tree in flat lists. Preconditions are tested fact by fact, those on variables with more values
+/// first. A node has the operators whose remaining facts are tested one by one, or that have none left, and a table of
+/// children, one for each value of a variable. A visit goes to the child for the value in the state, and from there to
+/// the node that follows for any value.
 ///
-/// There is a table where the operators that test the variable next are more than one, and at least a quarter as many as
-/// its values. Otherwise each of them is tested in turn, as is one that has passed `MOST_LEVELS` tables. So the memory is
-/// linear in the lengths of the preconditions. A state takes a step for each node that is visited, a test for each of the
-/// node's operators, and the sorting of the result.
+/// A node gets a table of a variable's values if the operators that test the variable next are more than one, and at
+/// least a quarter as many as its values. Otherwise each of these operators is tested separately, as is one that has
+/// passed `MOST_LEVELS` tables. So memory is linear in the lengths of the preconditions. The cost for a state is a step
+/// for each visited node, a test for each of the node's operators, and sorting the result.
 #[derive(Drop)]
 pub struct SuccessorGenerator<'a> {
     task: &'a FdrTask,
@@ -53,7 +53,7 @@ impl<'a> Model for SuccessorGenerator<'a> {
     ghost invariant = { λ g. IsGenerator g.task.now g.facts.items g.candidates.items g.nodes.items g.children.items g.root };
 }
 
-/// The number of the node to which a visit goes from this one.
+/// Returns the number of the node to which a visit goes from this one.
 fn next_node(node: Node, children: &[usize], state: &[u32]) -> usize
     requires variable { 0 < node.range → node.variable < length state.now }
     requires table { node.table + node.range ≤ length children.now }
@@ -65,7 +65,7 @@ fn next_node(node: Node, children: &[usize], state: &[u32]) -> usize
     }
 }
 
-/// Whether every fact holds in the state.
+/// Returns whether every fact holds in the state.
 fn all_hold(facts: &[Fact], state: &[u32]) -> bool
     requires { All (λ f. f.variable < length state.now) facts.now }
     ensures { result ≡ list_all (holds state.now) facts.now }
@@ -73,8 +73,7 @@ fn all_hold(facts: &[Fact], state: &[u32]) -> bool
     facts.iter().all(|fact| state[fact.variable] == fact.value)
 }
 
-/// Appends those of the candidates that pass the tests of their facts after the first ones. Fails only if allocation
-/// fails.
+/// Appends those of the candidates whose facts after the first `tested` all hold in the state.
 fn add_passing(
     facts: &[Fact],
     candidates: &[Candidate],
@@ -96,8 +95,7 @@ fn add_passing(
     Ok(())
 }
 
-/// Appends those of a node's candidates that apply, in a state in which the tests before the node hold. Fails only if
-/// allocation fails.
+/// Appends those of the node's candidates that apply, in a state in which the tests before the node hold.
 fn add_from_node(
     facts: &[Fact],
     candidates: &[Candidate],
@@ -115,8 +113,8 @@ fn add_from_node(
 }
 
 impl<'a> SuccessorGenerator<'a> {
-    /// Makes the successor generator of the task. It takes time and memory linear in the lengths of the preconditions, and
-    /// the time to sort the operators by them. Fails only if allocation fails.
+    /// Makes the successor generator of the task. Takes time and memory linear in the lengths of the preconditions, and
+    /// the time to sort the operators by them.
     pub fn new(alloc: Global, task: &'a FdrTask) -> Result<SuccessorGenerator<'a>, AllocError>
         ensures { IfOk result (λ g. g ≡ task.now) }
     {
@@ -150,9 +148,9 @@ impl<'a> SuccessorGenerator<'a> {
 
     /// Replaces the content of `found` by the numbers of the operators that apply in the state, counted from 0, in
     /// increasing order. The state must have a value for each variable. A value that is not below the range of its
-    /// variable meets no condition.
+    /// variable satisfies no condition.
     ///
-    /// Fails only if allocation fails, and then leaves `found` empty.
+    /// On failure `found` is empty.
     pub fn applicable(&self, state: &[u32], found: &mut Vec<usize>) -> Result<(), AllocError>
         requires { length state.now ≡ length self.now.value_names }
         ensures found { OnOk result (found.new.items ≡ applicable_operators self.now state.now) }
@@ -171,7 +169,7 @@ impl<'a> SuccessorGenerator<'a> {
         }
     }
 
-    /// Appends the operators that apply, in the order of the candidates. Fails only if allocation fails.
+    /// Appends the operators that apply, in the order of the candidates.
     fn gather(&self, state: &[u32], found: &mut Vec<usize>) -> Result<(), AllocError>
         requires state { length state.now ≡ length self.now.value_names }
         requires none { found.old.items ≡ [] }

@@ -7,8 +7,8 @@ ghost use Rattle.fdr_successors.specs.Trees.{IsRun};
 use crate::candidate::{Candidate, Part};
 use fdr::{Fact, FdrTask};
 
-/// The candidates of a part from the place `first` on, which test the same variable next. The range is the number of the
-/// variable's values if the candidates are worth a table of them, and otherwise 0.
+/// The candidates of a part from the index `first` on, which test the same variable next. The range is the number of
+/// the variable's values if the candidates are worth a table of them, and otherwise 0.
 #[derive(Clone, Copy)]
 pub(crate) struct Group {
     pub(crate) first: usize,
@@ -16,7 +16,7 @@ pub(crate) struct Group {
     pub(crate) range: usize,
 }
 
-/// The fact that the candidate at a place tests next, after this many.
+/// Returns the fact that the candidate at index `place` tests after its first `tested` facts.
 fn next_fact(facts: &[Fact], candidates: &[Candidate], place: usize, tested: usize) -> Option<Fact>
     requires rows { All (IsPlaced (length facts.now)) candidates.now }
     requires place { place < length candidates.now }
@@ -26,7 +26,7 @@ fn next_fact(facts: &[Fact], candidates: &[Candidate], place: usize, tested: usi
     facts[candidate.first..candidate.end].get(tested).copied()
 }
 
-/// Whether the candidate at a place tests this fact next.
+/// Returns whether the candidate at index `place` tests the fact of `variable` and `value` next.
 fn tests_next(
     facts: &[Fact],
     candidates: &[Candidate],
@@ -45,7 +45,8 @@ fn tests_next(
     }
 }
 
-/// The place from which on the candidates of a part that are in the group test its variable for this value next.
+/// Returns the index from which on the candidates of the part, as far as they are in the group, test its variable for
+/// `value` next.
 pub(crate) fn run_start(
     facts: &[Fact],
     candidates: &[Candidate],
@@ -75,7 +76,7 @@ pub(crate) fn run_start(
     start
 }
 
-/// The variable that the candidate at a place tests next, or `none`.
+/// Returns the variable that the candidate at index `place` tests next, or `none` if it has no further fact.
 fn next_variable(
     facts: &[Fact],
     candidates: &[Candidate],
@@ -92,8 +93,8 @@ fn next_variable(
     }
 }
 
-/// The number of values of a variable if this many candidates are worth a table of them: at least a quarter of that
-/// number, and more than one. If not, or if there is no such variable, 0.
+/// Returns the number of values of the variable if `count` candidates are worth a table of them: more than one, and at
+/// least a quarter of that number. Otherwise, or if there is no such variable, returns 0.
 fn table_range(task: &FdrTask, variable: usize, count: usize) -> usize
     ensures { 0 < result → variable < length task.now.value_names }
 {
@@ -106,7 +107,7 @@ fn table_range(task: &FdrTask, variable: usize, count: usize) -> usize
     0
 }
 
-/// The group of the last candidate of a part. If no more levels are allowed, it is worth no table.
+/// Returns the group of the last candidate of a part. Its range is 0 if no further level is allowed.
 pub(crate) fn last_group(
     task: &FdrTask,
     facts: &[Fact],
@@ -140,7 +141,7 @@ pub(crate) fn last_group(
     }
 }
 
-/// The place from which on the candidates of a part are in no group that is worth a table.
+/// Returns the index from which on the candidates of a part are in no group that is worth a table.
 pub(crate) fn list_start(
     task: &FdrTask,
     facts: &[Fact],

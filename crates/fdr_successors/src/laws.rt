@@ -1,4 +1,4 @@
-//! Laws of the applicable operators. Each function states one in its contract; its body is empty.
+//! Laws of the applicable operators.
 
 ghost use Rattle.std.specs.Prelude.{◌≡◌, ℕ, ◌<◌, true, List, [], ◌∷◌, length, Contains};
 ghost use Rattle.std.specs.List.Sorted.{IsStrictlyIncreasing};

@@ -5,12 +5,12 @@ ghost use Rattle.fdr_successors.specs.Trees.{end_after};
 
 use std::alloc::{AllocError, Global};
 
-/// A node: where the facts hold that were tested before it, each candidate from the place `first` on that is before the
-/// place `end` has `tested` facts of its precondition that need no test.
+/// A node. If the facts that were tested before it hold, each of the candidates `first..end` has `tested` facts of its
+/// precondition that need no test.
 ///
-/// If the variable has a value below `range`, the node to go to next is the child for that value: the children's numbers
-/// stand side by side, from the place `table` on. For any other value it is `next`. The number of the node to go to next
-/// is always below the node's own.
+/// If the variable has a value below `range`, the next node is the child for that value: the children's numbers are
+/// adjacent, from the index `table` on. For any other value it is `next`. The number of the next node is always below
+/// the node's own.
 #[derive(Clone, Copy)]
 pub(crate) struct Node {
     pub(crate) first: usize,
@@ -22,7 +22,7 @@ pub(crate) struct Node {
     pub(crate) next: usize,
 }
 
-/// The nodes, and the numbers of their children. Node 0 is where a visit ends.
+/// The nodes, and the numbers of their children. A visit ends at node 0.
 #[derive(Drop)]
 pub(crate) struct Tree {
     pub(crate) nodes: Vec<Node>,
@@ -30,7 +30,7 @@ pub(crate) struct Tree {
 }
 
 impl Tree {
-    /// Makes the tree in which every visit ends at once. Fails only if allocation fails.
+    /// Makes the tree in which every visit ends at once, after `candidates` candidates.
     pub(crate) fn new(alloc: Global, candidates: usize) -> Result<Tree, AllocError>
         ensures nodes { IfOk result (λ tree. tree.nodes.items ≡ end_after candidates ∷ []) }
         ensures children { IfOk result (λ tree. tree.children.items ≡ []) }
@@ -51,7 +51,7 @@ impl Tree {
         })
     }
 
-    /// Appends a node, and its children. Fails only if allocation fails.
+    /// Appends a node, and its children.
     pub(crate) fn push(&mut self, node: Node, children: &[usize]) -> Result<(), AllocError>
         ensures nodes { OnOk result (self.new.nodes.items ≡ self.old.nodes.items ++ node ∷ []) }
         ensures children { OnOk result (self.new.children.items ≡ self.old.children.items ++ children.now) }

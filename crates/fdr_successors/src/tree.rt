@@ -10,7 +10,7 @@ use crate::node::{Node, Tree};
 use fdr::{Fact, FdrTask};
 use std::alloc::{AllocError, Global};
 
-/// The children of a node. For each value of its variable, the number of the node to go to; the candidates from the place
+/// The children of a node: for each value of its variable, the number of the next node. The candidates from the index
 /// `start` on are in the children.
 #[derive(Drop)]
 struct Children {
@@ -19,7 +19,7 @@ struct Children {
 }
 
 /// Appends the nodes of a part to the tree, from its end to its start, and returns the number of the node at which a
-/// visit of it begins. Fails only if allocation fails.
+/// visit of it begins.
 #[cycle(tree)]
 pub(crate) fn add_part(
     alloc: Global,
@@ -54,8 +54,8 @@ pub(crate) fn add_part(
     Ok(next)
 }
 
-/// Appends the node of the last candidates of a part, with its children, and returns the place of the first of these
-/// candidates and the node's number. Fails only if allocation fails.
+/// Appends the node of the last candidates of a part, with its children, and returns the index of the first of these
+/// candidates and the node's number.
 #[cycle(tree)]
 fn add_node(
     alloc: Global,
@@ -96,7 +96,7 @@ fn add_node(
 }
 
 /// Appends the nodes of the candidates of a group, the last ones of a part, for each value of the group's variable, and
-/// returns the numbers at which their visits begin. Fails only if allocation fails.
+/// returns the numbers at which their visits begin.
 #[cycle(tree)]
 fn add_children(
     alloc: Global,

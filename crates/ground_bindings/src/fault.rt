@@ -1,16 +1,16 @@
-//! Why a task is not grounded.
+//! Faults of grounding.
 
 ghost use Rattle.std.specs.Prelude.{◌≡◌};
 ghost use Rattle.ground_bindings.specs.declared.fault.GroundFault.TheVariants.{OutOfMemory};
 
 use std::alloc::{AllocError, AllocFailed};
 
-/// Why a task is not grounded.
+/// The reason why a task is not grounded.
 #[derive(Clone, Copy, Debug, PartialEq, Eq)]
 pub enum GroundFault {
     /// Allocation failed.
     OutOfMemory,
-    /// F20: there are more atoms or more ground actions than may be listed.
+    /// F20: there are more atoms or ground actions than the limits allow.
     GroundLimit,
 }
 

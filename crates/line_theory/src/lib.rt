@@ -1,3 +1,4 @@
-//! What every reader of a text line by line keeps: it looks at one line after the other, and tells a fault of a line at
-//! which it has looked. Readers of several formats have laws by these lemmas; the crate has no code.
+//! Invariants of readers that read a text line by line: a reader reads one line after the other, and reports a fault
+//! only of a line that it has read. The laws of the readers of several formats rest on these lemmas; the crate has no
+//! code.
 #![tactic(auto)]

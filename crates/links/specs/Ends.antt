@@ -15,12 +15,12 @@ sent o = Ring.sent o.producer
 abbrev pub room : {F : Type 0} → Out F → ℕ
 room o = Ring.known_free o.producer
 
--- every message taken so far and not given back, the oldest first
+-- every message taken so far and not put back, the oldest first
 abbrev pub received : {F : Type 0} → In F → List (Message F)
 received i = but_returned (Ring.received i.consumer) i.returned
 
--- the messages that the receiver knows to be left to take, which the next calls of `pop` return: one that was given back, and those that it knows
--- to be in the ring
+-- the messages that the receiver knows to be left to take, which the next calls of `pop` return: one that was put back,
+-- and those that it knows to be in the ring
 abbrev pub known : {F : Type 0} → In F → List (Message F)
 known i = option_to_list i.returned ++ Ring.known_items i.consumer
 
@@ -28,7 +28,7 @@ known i = option_to_list i.returned ++ Ring.known_items i.consumer
 abbrev pub capacity : {F : Type 0} → In F → ℕ
 capacity i = Ring.consumer_capacity i.consumer
 
--- the message was taken last, and none is given back
+-- `message` was taken last, and none is put back
 pub record WasTakenLast {F : Type 0} (i : In F) (message : Message F) : Type 0 where
   pub before : List (Message F)
   pub received_is : received i ≡ before ++ message ∷ []
@@ -45,7 +45,7 @@ SameOut a b = Ring.SameProducer a.producer b.producer
 abbrev pub SameIn : {F : Type 0} → In F → In F → Type 0
 SameIn a b = Ring.SameConsumer a.consumer b.consumer
 
--- the two ends of a link with room for a number of messages, over which nothing was sent
+-- the two ends of a link with room for `messages` messages, over which nothing was sent
 pub record IsFresh {F : Type 0} (messages : ℕ) (o : Out F) (i : In F) : Type 0 where
   pub ends : AreEnds o i
   pub room_is : room o ≡ messages

@@ -1,4 +1,4 @@
--- Ranks of messages that pass between workers.
+-- Ranks of messages between workers.
 use Rattle.std.specs.Prelude.{◌≤◌, ◌^◌}
 use Rattle.closed.specs.declared.message.Message.{Message}
 

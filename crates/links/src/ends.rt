@@ -20,18 +20,18 @@ impl<F: StateForm + Drop> Protocol<Message<F>> for SmallRanks {
     ghost allows = { λ before m. HasSmallRank m };
 }
 
-/// The sending end of a link. A contract sees the messages sent so far.
+/// The sending end of a link. Contracts see the messages sent so far.
 #[derive(Drop)]
 pub struct Out<F: StateForm + Drop> {
     pub(crate) producer: Producer<Message<F>, Global, SmallRanks>,
 }
 
-/// The receiving end of a link, with a place for one message that was given back. A contract sees the messages that were taken so
-/// far and not given back, and those that are known to be left to take.
+/// The receiving end of a link, with room for one message that was put back. Contracts see the messages that were taken
+/// and not put back, and those that are known to be left to take.
 #[derive(Drop)]
 pub struct In<F: StateForm + Drop> {
     pub(crate) consumer: Consumer<Message<F>, Global, SmallRanks>,
-    /// A message that was taken and given back, which is the next to be taken.
+    /// A message that was taken and put back; the next one to be taken.
     pub(crate) returned: Option<Message<F>>,
     ghost returned_last: { ring.received consumer ≡ but_returned (ring.received consumer) returned ++ option_to_list returned },
     ghost returned_small: { All HasSmallRank (option_to_list returned) },
@@ -42,8 +42,8 @@ impl<F: StateForm + Drop> Out<F> {
     ghost use Rattle.links.specs.Ranks.{HasSmallRank};
     ghost use Rattle.links.specs.Ends.{sent, room, SameOut};
 
-    /// Whether there is certainly room for a message. It looks at what the receiver has taken only where no room was known, since that
-    /// word is the receiver's. Allocates nothing.
+    /// Returns whether the ring certainly has room for a message. Polls the receiver's counter only if no room is
+    /// known, because that cache line belongs to the receiver.
     pub fn has_room(&mut self) -> bool
         ensures ring { SameOut self.old self.new }
         ensures same { sent self.new ≡ sent self.old }
@@ -53,7 +53,7 @@ impl<F: StateForm + Drop> Out<F> {
         !self.producer.is_full()
     }
 
-    /// Sends a message, or returns it if the ring is full. Allocates nothing.
+    /// Sends a message, or returns it if the ring is full.
     pub fn push(&mut self, message: Message<F>) -> Result<(), Message<F>>
         requires { HasSmallRank message }
         ensures ring { SameOut self.old self.new }
@@ -74,8 +74,8 @@ impl<F: StateForm + Drop> In<F> {
     ghost use Rattle.links.specs.Ranks.{HasSmallRank};
     ghost use Rattle.links.specs.Ends.{received, known, capacity, SameIn, WasTakenLast};
 
-    /// Takes the message that was given back, or else the oldest one of the ring, or returns `None` if it finds the ring empty, which
-    /// cannot happen while a message is known to be left. Allocates nothing.
+    /// Takes the message that was put back, or else the oldest one of the ring. Returns `None` if it finds the ring
+    /// empty, which cannot happen while a message is known to be left.
     pub fn pop(&mut self) -> Option<Message<F>>
         ensures ring { SameIn self.old self.new }
         ensures some { IfSome result (λ m. received self.new ≡ received self.old ++ m ∷ []) }
@@ -95,21 +95,22 @@ impl<F: StateForm + Drop> In<F> {
         }
     }
 
-    /// For how many messages the ring has room.
+    /// Returns the number of messages for which the ring has room.
     pub fn capacity(&self) -> usize
         ensures { result ≡ capacity self.now }
     {
         self.consumer.capacity()
     }
 
-    /// Whether no message is known to be left to take. It does not look at what was sent since it looked last, which is the sender's word.
+    /// Returns whether no message is known to be left to take. Does not poll the sender's counter, because that cache
+    /// line belongs to the sender; messages sent since the last poll do not count.
     pub fn knows_none(&self) -> bool
         ensures { IsTrue result ↔ (length (known self.now) ≡ 0) }
     {
         self.returned.is_none() && self.consumer.cached_slots() == 0
     }
 
-    /// Gives back the message that was taken last; it is the next that `pop` returns. Allocates nothing.
+    /// Puts back the message that was taken last; it is the next that `pop` returns.
     pub fn give_back(&mut self, message: Message<F>)
         requires last { WasTakenLast self.old message }
         requires small { HasSmallRank message }

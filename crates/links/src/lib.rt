@@ -1,4 +1,4 @@
-//! Links between workers: a ring for each ordered pair of workers, through which messages pass in the order in which they
+//! Links between workers: a ring for each ordered pair of workers, which delivers messages in the order in which they
 //! were sent.
 #![tactic(auto)]
 

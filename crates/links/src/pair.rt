@@ -8,7 +8,7 @@ use packed::StateForm;
 use rtrb::RingBuffer;
 use std::alloc::{AllocError, Global};
 
-/// Both ends of a new link, which has room for `capacity` messages. Fails only if allocation fails.
+/// Creates a link with room for `capacity` messages, and returns both its ends.
 pub fn link<F: StateForm + Drop>(
     alloc: Global,
     capacity: usize,
@@ -25,8 +25,8 @@ pub fn link<F: StateForm + Drop>(
     ))
 }
 
-/// The number of messages left to take from a link, from both of its ends: those in its ring, and one that was given back. The
-/// messages taken, followed by these, are the messages sent. That number of calls of `pop` then return a message each.
+/// Returns the number of messages left to take from a link: those in its ring, and one that was put back. The messages
+/// taken, followed by these, are the messages sent. As many further calls of `pop` return a message each.
 pub fn match_up<F: StateForm + Drop>(sender: &mut Out<F>, receiver: &mut In<F>) -> usize
     requires { AreEnds sender.old receiver.old }
     ensures ends { AreEnds sender.new receiver.new }

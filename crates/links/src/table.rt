@@ -9,7 +9,7 @@ use packed::StateForm;
 use std::alloc::{AllocError, Global};
 
 /// The ends of all links: `outs[w][v]` and `ins[v][w]` are the two ends of the link from worker w to worker v. Workers
-/// are counted from 0.
+/// are numbered from 0.
 #[derive(Drop)]
 pub struct LinkTable<F: StateForm + Drop> {
     /// The sending ends, by sender and then by receiver.
@@ -18,7 +18,7 @@ pub struct LinkTable<F: StateForm + Drop> {
     pub ins: Vec<Vec<In<F>>>,
 }
 
-/// The ends of `workers` new links, each with room for `capacity` messages. Fails only if allocation fails.
+/// Creates `workers` links, each with room for `capacity` messages.
 fn links_from<F: StateForm + Drop>(
     alloc: Global,
     workers: usize,
@@ -37,7 +37,7 @@ fn links_from<F: StateForm + Drop>(
     Ok((outs, ins))
 }
 
-/// Appends one more receiving end to each worker's row. Fails only if allocation fails.
+/// Appends one more receiving end to each worker's row.
 fn add_ends<F: StateForm + Drop>(
     alloc: Global,
     ins: Vec<Vec<In<F>>>,
@@ -54,7 +54,7 @@ fn add_ends<F: StateForm + Drop>(
     Ok(all)
 }
 
-/// An empty row of receiving ends for each of `workers` workers. Fails only if allocation fails.
+/// Returns an empty row of receiving ends for each of `workers` workers.
 fn no_ends<F: StateForm + Drop>(
     alloc: Global,
     workers: usize,
@@ -69,8 +69,8 @@ fn no_ends<F: StateForm + Drop>(
 }
 
 impl<F: StateForm + Drop> LinkTable<F> {
-    /// A link from each of `workers` workers to each of them, itself included, with room for `capacity` messages, over
-    /// which nothing was sent. Fails only if allocation fails.
+    /// Creates a link from each of `workers` workers to each of them, itself included, with room for `capacity`
+    /// messages, over which nothing was sent.
     pub fn new(alloc: Global, workers: usize, capacity: usize) -> Result<LinkTable<F>, AllocError>
         ensures size { IfOk result (λ t. HasSize workers workers (rows t.outs.items) × HasSize workers workers (rows t.ins.items)) }
         ensures matched { IfOk result (λ t. AreMatched capacity (rows t.outs.items) (rows t.ins.items)) }

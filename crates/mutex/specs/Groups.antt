@@ -1,4 +1,5 @@
--- Mutex groups: lists of atoms of which at most one is true at a time (Helmert 2009, invariants with one or no parameter).
+-- Mutex groups: lists of atoms of which at most one is true at a time (Helmert 2009, invariants with one or no
+-- parameter).
 use Rattle.std.specs.Prelude.{Bool, true, ◌&&◌, ◌||◌, not, if◌then◌else◌, List}
 use Rattle.std.specs.List.{list_all, list_any}
 use Rattle.pddl_task.specs.Atoms.{Atom, State, same_atom, contains, at_most_one, wants, excludes}

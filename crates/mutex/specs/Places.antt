@@ -1,4 +1,4 @@
--- Atoms by their places in a list, and the effects of actions by places.
+-- Atoms by their indices in a list, and the effects of actions as such indices.
 use Rattle.std.specs.Prelude.{◌≡◌, ℕ, Bool, ◌&&◌, ◌||◌, ◌==◌, not, if◌then◌else◌, List, None, slice_get, position}
 use Rattle.std.specs.List.{list_all, list_any, filter_map}
 use Rattle.pddl_task.specs.Atoms.{Atom, Literal, same_atom, contains}
@@ -10,7 +10,7 @@ pub record Indexed : Type 0 where
   pub atoms : List Atom
   pub actions : List Action
 
--- the atoms at these places
+-- the atoms at these indices
 abbrev pub atoms_at : List Atom → List ℕ → List Atom
 atoms_at atoms places = filter_map (slice_get atoms) places
 
@@ -18,29 +18,29 @@ atoms_at atoms places = filter_map (slice_get atoms) places
 abbrev pub has : List ℕ → ℕ → Bool
 has numbers k = list_any (λ n. n == k) numbers
 
--- the numbers are the same ones, but for their order and repeats
+-- the numbers are the same, but for their order and repeats
 abbrev pub AreSameSet : List ℕ → List ℕ → Type 0
 AreSameSet numbers more = (k : ℕ) → has numbers k ≡ has more k
 
--- the places of those of the atoms that are in the list
+-- the indices of those atoms that are in the list
 abbrev pub places_of : List Atom → List Atom → List ℕ
 places_of atoms more = filter_map (λ p. position (same_atom p) atoms) more
 
--- the places of the atoms of the literals with this sign
+-- the indices of the atoms of the literals with this sign
 abbrev pub literal_places : List Atom → Bool → List Literal → List ℕ
 literal_places atoms sign literals =
     filter_map (λ l. if (if l.positive then sign else not sign) then position (same_atom l.atom) atoms else None) literals
 
--- the places of those deleted atoms that are not added too
+-- the indices of those deleted atoms that are not added too
 abbrev pub removed_places : List Atom → List Atom → List Atom → List ℕ
 removed_places atoms adds deletes =
     filter_map (λ p. if contains adds p then None else position (same_atom p) atoms) deletes
 
--- no other number of the group than this one is added
+-- no other number of the group than `place` is added
 abbrev pub adds_alone : List ℕ → ℕ → List ℕ → Bool
 adds_alone group place added = list_all (λ q. q == place || not (has group q)) added
 
--- one of the wanted numbers of the group is this one or is removed
+-- one of the wanted numbers of the group is `place` or is removed
 abbrev pub gives_way : List ℕ → ℕ → List ℕ → List ℕ → Bool
 gives_way group place wanted removed = list_any (λ r. has group r && (r == place || has removed r)) wanted
 

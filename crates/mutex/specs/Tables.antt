@@ -1,4 +1,5 @@
--- The meaning of the tables of an index: rows of places by action, rows of actions by place, and flags by place.
+-- The meaning of the tables of an action index: rows of atom indices by action, rows of actions by atom index, and
+-- flags by atom index.
 use Rattle.std.specs.Prelude.{ℕ, ◌≡◌, ◌<◌, Bool, true, false, ◌&&◌, ◌||◌, ◌==◌, not, nat_le, count_by, List, [], length, map, slice_index_or}
 use Rattle.std.specs.List.{list_all, list_any}
 use Rattle.pddl_task.specs.Atoms.{Atom}
@@ -11,7 +12,7 @@ use Rattle.mutex.specs.Places.{has, places_of, literal_places, removed_places, a
 abbrev pub row : List (List ℕ) → ℕ → List ℕ
 row rows k = slice_index_or rows k []
 
--- the row of a place has an action if and only if the row of the action has the place
+-- the row of an atom has an action if and only if the row of the action has the atom
 abbrev pub IsTranspose : ℕ → List (List ℕ) → List (List ℕ) → Type 0
 IsTranspose count rows columns = (p k : ℕ) → p < count → has (row columns p) k ≡ has (row rows k) p
 
@@ -27,25 +28,25 @@ pub record AreTables (task : PlanningTask) (atoms : List Atom) (actions : List A
       ≡ (list_any (λ a. has (literal_places atoms false a.precondition) p) actions || has (literal_places atoms false task.goal) p)
 
 module _ (tables : Tables) (group : List ℕ) where
-  -- the action adds no other place of the group than this one, and wants a place of the group that is this one or is
-  -- removed
+  -- the action adds no other atom of the group than `place`, and one of its positive preconditions in the group is
+  -- `place` or is removed
   abbrev pub takes_over_at : ℕ → ℕ → Bool
   takes_over_at place k =
       adds_alone group place (row tables.added k) && gives_way group place (row tables.wanted k) (row tables.removed k)
 
-  -- each action that adds this place takes it over
+  -- `takes_over_at` holds for each action that adds this atom
   abbrev pub is_taken_over : ℕ → Bool
   is_taken_over place = list_all (takes_over_at place) (row tables.adders place)
 
-  -- the action adds or wants a place of the group; it wants those of its positive preconditions
+  -- the action adds an atom of the group or has one as a positive precondition
   abbrev pub starts_inside_at : ℕ → Bool
   starts_inside_at k = meets group (row tables.added k) || meets group (row tables.wanted k)
 
-  -- each action that removes this place adds or wants a place of the group
+  -- each action that removes this atom adds an atom of the group or has one as a positive precondition
   abbrev pub is_left_inside : ℕ → Bool
   is_left_inside place = list_all starts_inside_at (row tables.removers place)
 
-  -- each action that removes this place adds a place of the group
+  -- each action that removes this atom adds an atom of the group
   abbrev pub is_refilled : ℕ → Bool
   is_refilled place = list_all (λ k. meets group (row tables.added k)) (row tables.removers place)
 

@@ -1,4 +1,4 @@
-//! Building the tables of an index.
+//! Construction of the tables of an action index.
 
 ghost use Rattle.std.specs.Prelude.{◌≡◌, ◌<◌, ◌==◌, ℕ, [], length, map, slice_index_or, replicate, true, false, ◌&&◌, ◌||◌, IfOk, OnOk};
 ghost use Rattle.std.specs.List.{list_any};
@@ -11,7 +11,7 @@ use ground_atoms::Atoms;
 use pddl_task::{GroundAction, Task};
 use std::alloc::{AllocError, Global};
 
-/// For each action the places of the atoms of its positive preconditions.
+/// Returns for each action the indices of the atoms of its positive preconditions.
 pub(crate) fn wanted_rows(
     alloc: Global,
     atoms: &Atoms,
@@ -27,7 +27,7 @@ pub(crate) fn wanted_rows(
     Ok(rows)
 }
 
-/// For each action the places of the atoms that it adds.
+/// Returns for each action the indices of the atoms that it adds.
 pub(crate) fn added_rows(
     alloc: Global,
     atoms: &Atoms,
@@ -43,7 +43,7 @@ pub(crate) fn added_rows(
     Ok(rows)
 }
 
-/// For each action the places of the atoms that it removes.
+/// Returns for each action the indices of the atoms that it removes.
 pub(crate) fn removed_rows(
     alloc: Global,
     atoms: &Atoms,
@@ -69,7 +69,7 @@ fn empty_rows(alloc: Global, count: usize) -> Result<Vec<Row>, AllocError>
     Ok(rows)
 }
 
-/// Appends the number to the row at this place, if there is one.
+/// Appends the number to the row at index `place`, if there is one.
 fn put_one(rows: &mut [Row], place: usize, number: usize) -> Result<(), AllocError>
     ensures { OnOk result ((p k : ℕ) → p < length rows.old →
         has (slice_index_or rows.new p []) k ≡ (has (slice_index_or rows.old p []) k || (number == k && place == p))) }
@@ -80,7 +80,7 @@ fn put_one(rows: &mut [Row], place: usize, number: usize) -> Result<(), AllocErr
     Ok(())
 }
 
-/// Appends the number to the rows at these places.
+/// Appends the number to the rows at these indices.
 fn put(rows: &mut [Row], places: &[usize], number: usize) -> Result<(), AllocError>
     ensures { OnOk result ((p k : ℕ) → p < length rows.old →
         has (slice_index_or rows.new p []) k ≡ (has (slice_index_or rows.old p []) k || (number == k && has places.now p))) }
@@ -91,7 +91,7 @@ fn put(rows: &mut [Row], places: &[usize], number: usize) -> Result<(), AllocErr
     Ok(())
 }
 
-/// For each place below `count` the numbers of the rows that contain it.
+/// Returns for each index below `count` the numbers of the rows that contain it.
 fn columns_of(alloc: Global, count: usize, rows: &Rows) -> Result<Vec<Row>, AllocError>
     ensures { IfOk result (λ columns. IsTranspose count rows.now columns.items) }
 {
@@ -112,7 +112,7 @@ fn flattened(alloc: Global, rows: &[Row]) -> Result<Rows, AllocError>
     Ok(flat)
 }
 
-/// For each place below `count` the numbers of the rows that contain it, in one vector.
+/// Returns for each index below `count` the numbers of the rows that contain it, in one vector.
 pub(crate) fn transpose(alloc: Global, count: usize, rows: &Rows) -> Result<Rows, AllocError>
     ensures { IfOk result (λ columns. IsTranspose count rows.now columns) }
 {
@@ -120,7 +120,7 @@ pub(crate) fn transpose(alloc: Global, count: usize, rows: &Rows) -> Result<Rows
     flattened(alloc, &columns)
 }
 
-/// Sets the flag at this place, if there is one.
+/// Sets the flag at index `place`, if there is one.
 fn mark_one(flags: &mut [bool], place: usize)
     ensures { (p : ℕ) → p < length flags.old →
         slice_index_or flags.new p false ≡ (slice_index_or flags.old p false || place == p) }
@@ -130,7 +130,7 @@ fn mark_one(flags: &mut [bool], place: usize)
     }
 }
 
-/// Sets the flags at these places.
+/// Sets the flags at these indices.
 fn mark(flags: &mut [bool], places: &[usize])
     ensures { (p : ℕ) → p < length flags.old →
         slice_index_or flags.new p false ≡ (slice_index_or flags.old p false || has places.now p) }
@@ -140,7 +140,7 @@ fn mark(flags: &mut [bool], places: &[usize])
     }
 }
 
-/// For each place whether its atom is initially true.
+/// Returns for each atom whether it is initially true.
 pub(crate) fn initial_flags(
     alloc: Global,
     task: &Task,
@@ -155,7 +155,7 @@ pub(crate) fn initial_flags(
     Ok(flags)
 }
 
-/// For each place whether a precondition or the goal contains the negation of its atom.
+/// Returns for each atom whether a precondition or the goal contains its negation.
 pub(crate) fn excluded_flags(
     alloc: Global,
     task: &Task,

@@ -11,11 +11,12 @@ use pddl_task::{GroundAction, Task};
 use std::alloc::{AllocError, Global};
 use std::marker::Model;
 
-/// A task, a list of atoms and a list of ground actions, with the places of the atoms that each action has as positive
-/// preconditions, adds and removes, and for each atom the actions that add it and those that remove it. An action
-/// removes an atom if it deletes and does not add it. Atoms that are not in the list are ignored.
+/// A task, a list of atoms and a list of ground actions, with lookup tables: for each action the indices of its
+/// positive preconditions and of the atoms that it adds and removes, and for each atom the actions that add it and
+/// those that remove it. An action removes an atom if it deletes and does not add it. Atoms that are not in the list
+/// are ignored.
 ///
-/// A group is a list of atoms, given by their places in the list, counted from 0.
+/// A group is a list of atoms, represented by their indices in the list of atoms, counted from 0.
 #[derive(Drop)]
 pub struct ActionIndex<'a> {
     task: &'a Task,
@@ -36,7 +37,7 @@ impl<'a> Model for ActionIndex<'a> {
 }
 
 impl<'a> ActionIndex<'a> {
-    /// The index of these actions. Fails only if allocation fails.
+    /// Returns the index of these actions.
     ///
     /// Takes time linear in the numbers of atoms and of the literals and effects of the task and the actions, and for
     /// each action in the product of the numbers of its delete and add effects.
@@ -57,25 +58,25 @@ impl<'a> ActionIndex<'a> {
         })
     }
 
-    /// The task.
+    /// Returns the task.
     pub fn task(&self) -> &'a Task
         ensures { result.now ≡ self.now.task }
     {
         self.task
     }
 
-    /// The atoms, in the order of their places.
+    /// Returns the list of atoms, to which the indices refer.
     pub fn atoms(&self) -> &'a Atoms
         ensures { result.now ≡ self.now.atoms }
     {
         self.atoms
     }
 
-    /// Whether the atoms at these places are a usable group: at most one is initially true; an action adds at most one,
-    /// and then has a precondition in the group that is this atom or that it removes; and an action that removes one
-    /// and adds none has a precondition in the group (Helmert 2009, mutex groups).
+    /// Returns whether the atoms at these indices are a usable group: at most one is initially true; an action adds at
+    /// most one, and then has a precondition in the group that is this atom or that it removes; and an action that
+    /// removes one and adds none has a precondition in the group (Helmert 2009, mutex groups).
     ///
-    /// Looks only at the actions that add or remove one of the atoms, and allocates nothing.
+    /// Examines only the actions that add or remove one of the atoms.
     pub fn is_usable(&self, places: &[usize]) -> bool
         requires rising { IsStrictlyIncreasing places.now }
         requires within { All (λ p. p < length self.now.atoms) places.now }
@@ -84,8 +85,7 @@ impl<'a> ActionIndex<'a> {
         self.tables.is_usable(places)
     }
 
-    /// Whether the atoms at these places are a usable group, as `is_usable` tells, where the places may stand in any
-    /// order and with repeats. Fails only if allocation fails.
+    /// Returns the result of `is_usable` for indices in any order and with repeats.
     pub fn is_group(&self, alloc: Global, places: &[usize]) -> Result<bool, AllocError>
         requires within { All (λ p. p < length self.now.atoms) places.now }
         ensures { IfOk result (λ is. is ≡ is_usable self.now.task self.now.actions (atoms_at self.now.atoms places.now)) }
@@ -94,10 +94,10 @@ impl<'a> ActionIndex<'a> {
         Ok(self.is_usable(&group))
     }
 
-    /// Whether the group of the atoms at these places is full: at least one is initially true, and every action that
-    /// removes one adds one.
+    /// Returns whether the group of the atoms at these indices is full: at least one is initially true, and every
+    /// action that removes one adds one.
     ///
-    /// Looks only at the actions that remove one of the atoms, and allocates nothing.
+    /// Examines only the actions that remove one of the atoms.
     pub fn is_full(&self, places: &[usize]) -> bool
         requires rising { IsStrictlyIncreasing places.now }
         requires within { All (λ p. p < length self.now.atoms) places.now }
@@ -106,7 +106,7 @@ impl<'a> ActionIndex<'a> {
         self.tables.is_full(places)
     }
 
-    /// Whether the atom at the place is constant: it is initially true, no action removes it, and neither a
+    /// Returns whether the atom at index `place` is constant: it is initially true, no action removes it, and neither a
     /// precondition nor the goal contains its negation.
     pub fn is_constant(&self, place: usize) -> bool
         requires { place < length self.now.atoms }
@@ -115,7 +115,7 @@ impl<'a> ActionIndex<'a> {
         self.tables.is_constant(place)
     }
 
-    /// Whether the atom at the place is excluded: a precondition or the goal contains its negation.
+    /// Returns whether the atom at index `place` is excluded: a precondition or the goal contains its negation.
     pub fn is_excluded(&self, place: usize) -> bool
         requires { place < length self.now.atoms }
         ensures { IfSome (slice_get self.now.atoms place) (λ p. result ≡ is_excluded self.now.task self.now.actions p) }
@@ -124,7 +124,7 @@ impl<'a> ActionIndex<'a> {
     }
 }
 
-/// The numbers in increasing order, without repeats. Fails only if allocation fails.
+/// Returns the numbers in increasing order, without repeats.
 fn in_order(alloc: Global, numbers: &[usize]) -> Result<Vec<usize>, AllocError>
     ensures rising { IfOk result (λ sorted. IsStrictlyIncreasing sorted.items) }
     ensures same { IfOk result (λ sorted. AreSameSet sorted.items numbers.now) }

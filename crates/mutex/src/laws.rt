@@ -1,4 +1,4 @@
-//! Laws of mutex groups. The contract of each function states one, for every task; its body is empty.
+//! Laws of mutex groups, for every task.
 
 ghost use Rattle.std.specs.Prelude.{◌≡◌, true, List, Some, All, Contains};
 ghost use Rattle.std.specs.List.{list_any};

@@ -1,4 +1,5 @@
-//! Mutex groups: lists of atoms of which at most one is true at a time, tested by the actions that add or remove them.
+//! Mutex groups: lists of atoms of which at most one is true at a time, tested by examining the actions that add or
+//! remove them.
 #![tactic(auto)]
 
 mod build;

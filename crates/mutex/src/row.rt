@@ -11,7 +11,7 @@ use smallvec::SmallVec;
 use std::alloc::{AllocError, Global};
 use std::marker::Model;
 
-/// Numbers of places or of actions. Up to four are stored without an allocation.
+/// Indices of atoms, or numbers of actions. Up to four are stored without an allocation.
 #[derive(Drop)]
 pub(crate) struct Row {
     numbers: SmallVec<usize, 4>,
@@ -56,7 +56,7 @@ impl Row {
         Ok(())
     }
 
-    /// The places of those of the atoms that are in the list.
+    /// Returns the indices of those atoms that are in the list.
     pub(crate) fn of_atoms(
         alloc: Global,
         atoms: &Atoms,
@@ -71,7 +71,7 @@ impl Row {
         Ok(row)
     }
 
-    /// The places of the atoms of the literals with this sign.
+    /// Returns the indices of the atoms of the literals with this sign.
     pub(crate) fn of_literals(
         alloc: Global,
         atoms: &Atoms,
@@ -87,7 +87,7 @@ impl Row {
         Ok(row)
     }
 
-    /// The places of those deleted atoms that are not added too.
+    /// Returns the indices of those deleted atoms that are not added too.
     pub(crate) fn of_removed(
         alloc: Global,
         atoms: &Atoms,
@@ -104,7 +104,7 @@ impl Row {
     }
 }
 
-/// The place of the literal's atom, if the literal has this sign and the atom is in the list.
+/// Returns the index of the literal's atom, if the literal has this sign and the atom is in the list.
 fn place_of_literal(atoms: &Atoms, sign: bool, literal: &GroundLiteral) -> Option<usize>
     ensures { result ≡ (if (if literal.now.positive then sign else not sign)
         then position (same_atom literal.now.atom) atoms.now else None) }
@@ -122,7 +122,7 @@ fn is_among(atoms: &[GroundAtom], atom: &GroundAtom) -> bool
     atoms.iter().any(|other| atom == other)
 }
 
-/// The place of a deleted atom, if it is in the list and is not added too.
+/// Returns the index of a deleted atom, if it is in the list and is not added too.
 fn place_of_removed(atoms: &Atoms, adds: &[GroundAtom], atom: &GroundAtom) -> Option<usize>
     ensures { result ≡ (if contains adds.now atom.now then None else position (same_atom atom.now) atoms.now) }
 {

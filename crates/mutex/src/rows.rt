@@ -5,14 +5,14 @@ ghost use Rattle.std.specs.Prelude.{◌≡◌, ◌++◌, [], ◌∷◌, length, 
 use std::alloc::{AllocError, Global};
 use std::marker::Model;
 
-/// The start of a row in the vector, and its end, which is behind its last number.
+/// The start of a row in the vector, and its end, which is exclusive.
 #[derive(Debug, Clone, Copy)]
 struct Span {
     start: usize,
     end: usize,
 }
 
-/// Rows of numbers of places, or of actions.
+/// Rows of indices of atoms, or of numbers of actions.
 #[derive(Drop)]
 pub(crate) struct Rows {
     spans: Vec<Span>,
@@ -57,7 +57,7 @@ impl Rows {
         Ok(())
     }
 
-    /// The row with this number, or an empty one if there is none.
+    /// Returns the row with this number, or an empty one if there is none.
     pub(crate) fn row(&self, number: usize) -> &[usize]
         ensures { result.now ≡ slice_index_or self.now number [] }
     {

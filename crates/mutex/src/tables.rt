@@ -1,4 +1,4 @@
-//! The tables of an index, and the tests of groups by them.
+//! The tables of an action index, and the tests of groups with these tables. Atoms are represented by their indices.
 
 ghost use Rattle.std.specs.Prelude.{◌≡◌, ◌==◌, [], length, slice_index_or, false, nat_le, count_by, IfOk};
 ghost use Rattle.std.specs.List.{list_any, list_all};
@@ -13,9 +13,9 @@ use ground_atoms::Atoms;
 use pddl_task::{GroundAction, Task};
 use std::alloc::{AllocError, Global};
 
-/// For each action the places of the atoms of its positive preconditions, of those that it adds and of those that it
-/// removes; for each place the actions that add its atom and those that remove it, whether it is initially true, and
-/// whether a precondition or the goal contains its negation.
+/// For each action the atoms of its positive preconditions, those that it adds and those that it removes; for each atom
+/// the actions that add it and those that remove it, whether it is initially true, and whether a precondition or the
+/// goal contains its negation.
 #[derive(Drop)]
 pub(crate) struct Tables {
     pub(crate) wanted: Rows,
@@ -58,8 +58,8 @@ impl Tables {
         })
     }
 
-    /// Whether the action adds no other place of the group than this one, and one of its positive preconditions in the
-    /// group is this place or is removed.
+    /// Returns whether the action adds no other atom of the group than the one at `place`, and one of its positive
+    /// preconditions in the group is that atom or is removed.
     fn takes_over(&self, group: &[usize], place: usize, action: usize) -> bool
         requires { IsStrictlyIncreasing group.now }
         ensures { result ≡ takes_over_at self.now group.now place action }
@@ -73,7 +73,7 @@ impl Tables {
             )
     }
 
-    /// Whether each action that adds this place takes it over.
+    /// Returns whether `takes_over` holds for each action that adds this atom.
     fn is_taken_over(&self, group: &[usize], place: usize) -> bool
         requires { IsStrictlyIncreasing group.now }
         ensures { result ≡ is_taken_over self.now group.now place }
@@ -84,7 +84,7 @@ impl Tables {
             .all(|action| self.takes_over(group, place, *action))
     }
 
-    /// Whether the action adds a place of the group or has one as a positive precondition.
+    /// Returns whether the action adds an atom of the group or has one as a positive precondition.
     fn starts_inside(&self, group: &[usize], action: usize) -> bool
         requires { IsStrictlyIncreasing group.now }
         ensures { result ≡ starts_inside_at self.now group.now action }
@@ -92,7 +92,8 @@ impl Tables {
         meets(group, self.added.row(action)) || meets(group, self.wanted.row(action))
     }
 
-    /// Whether each action that removes this place adds a place of the group or has one as a positive precondition.
+    /// Returns whether each action that removes this atom adds an atom of the group or has one as a positive
+    /// precondition.
     fn is_left_inside(&self, group: &[usize], place: usize) -> bool
         requires { IsStrictlyIncreasing group.now }
         ensures { result ≡ is_left_inside self.now group.now place }
@@ -103,7 +104,7 @@ impl Tables {
             .all(|action| self.starts_inside(group, *action))
     }
 
-    /// Whether each action that removes this place adds a place of the group.
+    /// Returns whether each action that removes this atom adds an atom of the group.
     fn is_refilled(&self, group: &[usize], place: usize) -> bool
         requires { IsStrictlyIncreasing group.now }
         ensures { result ≡ is_refilled self.now group.now place }
@@ -114,35 +115,35 @@ impl Tables {
             .all(|action| meets(group, self.added.row(*action)))
     }
 
-    /// Whether the atom at the place is initially true.
+    /// Returns whether the atom at `place` is initially true.
     fn is_initial(&self, place: usize) -> bool
         ensures { result ≡ slice_index_or self.now.initial.items place false }
     {
         self.initial.get(place).copied().unwrap_or(false)
     }
 
-    /// Whether a precondition or the goal contains the negation of the atom at the place.
+    /// Returns whether a precondition or the goal contains the negation of the atom at `place`.
     pub(crate) fn is_excluded(&self, place: usize) -> bool
         ensures { result ≡ slice_index_or self.now.excluded.items place false }
     {
         self.excluded.get(place).copied().unwrap_or(false)
     }
 
-    /// Whether no action removes the atom at the place.
+    /// Returns whether no action removes the atom at `place`.
     fn is_kept(&self, place: usize) -> bool
         ensures { result ≡ (length (slice_index_or self.now.removers place []) == 0) }
     {
         self.removers.row(place).is_empty()
     }
 
-    /// Whether the atom at the place is initially true, is not removed and is not excluded.
+    /// Returns whether the atom at `place` is initially true, is not removed and is not excluded.
     pub(crate) fn is_constant(&self, place: usize) -> bool
         ensures { result ≡ is_constant_by self.now place }
     {
         self.is_initial(place) && self.is_kept(place) && !self.is_excluded(place)
     }
 
-    /// Whether at most one atom of the group is initially true.
+    /// Returns whether at most one atom of the group is initially true.
     fn starts_with_one(&self, group: &[usize]) -> bool
         ensures { result ≡ nat_le (count_by (λ p. slice_index_or self.now.initial.items p false) group.now) 1 }
     {
@@ -153,7 +154,7 @@ impl Tables {
             <= 1
     }
 
-    /// Whether at least one atom of the group is initially true.
+    /// Returns whether at least one atom of the group is initially true.
     fn starts_with_some(&self, group: &[usize]) -> bool
         ensures { result ≡ list_any (λ p. slice_index_or self.now.initial.items p false) group.now }
     {
@@ -181,7 +182,7 @@ impl Tables {
         group.iter().all(|place| self.is_refilled(group, *place))
     }
 
-    /// Whether the group is usable, by the tables.
+    /// Returns whether the group is usable, by the tables.
     pub(crate) fn is_usable(&self, group: &[usize]) -> bool
         requires { IsStrictlyIncreasing group.now }
         ensures { result ≡ is_usable_by self.now group.now }
@@ -189,7 +190,7 @@ impl Tables {
         self.starts_with_one(group) && self.are_taken_over(group) && self.are_left_inside(group)
     }
 
-    /// Whether the group is full, by the tables.
+    /// Returns whether the group is full, by the tables.
     pub(crate) fn is_full(&self, group: &[usize]) -> bool
         requires { IsStrictlyIncreasing group.now }
         ensures { result ≡ is_full_by self.now group.now }
@@ -198,7 +199,7 @@ impl Tables {
     }
 }
 
-/// Whether the place is one of the group.
+/// Returns whether `place` is in the group.
 fn is_one_of(group: &[usize], place: usize) -> bool
     requires { IsStrictlyIncreasing group.now }
     ensures { result ≡ has group.now place }
@@ -206,7 +207,7 @@ fn is_one_of(group: &[usize], place: usize) -> bool
     group.binary_search(&place).is_ok()
 }
 
-/// Whether one of the places is in the group.
+/// Returns whether one of `places` is in the group.
 fn meets(group: &[usize], places: &[usize]) -> bool
     requires { IsStrictlyIncreasing group.now }
     ensures { result ≡ meets group.now places.now }
@@ -214,7 +215,7 @@ fn meets(group: &[usize], places: &[usize]) -> bool
     places.iter().any(|place| is_one_of(group, *place))
 }
 
-/// Whether no other place of the group than this one is added.
+/// Returns whether no other atom of the group than the one at `place` is added.
 fn adds_alone(group: &[usize], place: usize, added: &[usize]) -> bool
     requires { IsStrictlyIncreasing group.now }
     ensures { result ≡ adds_alone group.now place added.now }
@@ -224,7 +225,7 @@ fn adds_alone(group: &[usize], place: usize, added: &[usize]) -> bool
         .all(|other| *other == place || !is_one_of(group, *other))
 }
 
-/// Whether one of the wanted places of the group is this one or is removed.
+/// Returns whether one of the wanted atoms of the group is the one at `place` or is removed.
 fn gives_way(group: &[usize], place: usize, wanted: &[usize], removed: &[usize]) -> bool
     requires { IsStrictlyIncreasing group.now }
     ensures { result ≡ gives_way group.now place wanted.now removed.now }

@@ -9,7 +9,7 @@ use Rattle.mutex.specs.Places.{Indexed, atoms_at}
 use Rattle.mutex_proposals.specs.declared.parts.Part.{Part}
 use Rattle.mutex_proposals.specs.Proposals.{is_movable, with_group}
 
--- an effect of a schema names the predicate
+-- the predicate occurs in an effect of a schema
 abbrev pub is_fluent : PlanningTask → ℕ → Bool
 is_fluent task predicate = list_any (λ s. list_any (λ e. e.atom.predicate == predicate) s.effect) task.schemas
 
@@ -17,7 +17,7 @@ is_fluent task predicate = list_any (λ s. list_any (λ e. e.atom.predicate == p
 abbrev pub bound_at : ℕ → ℕ → Part
 bound_at predicate position = record { predicate = predicate; position = Some position }
 
--- the parts with a parameter of a predicate with this arity: one argument is bound, and at most one is counted
+-- the parts with a bound argument of a predicate with this arity: at most one argument is not bound
 abbrev pub bound_parts_of : ℕ → ℕ → List Part
 bound_parts_of predicate arity =
     if arity == 1 then bound_at predicate 0 ∷ []
@@ -27,7 +27,7 @@ bound_parts_of predicate arity =
 abbrev pub free_part : ℕ → Part
 free_part predicate = record { predicate = predicate; position = None }
 
--- the part without a parameter of a predicate with this arity: at most one argument is counted
+-- the part without a bound argument of a predicate with this arity, which may have at most one argument
 abbrev pub free_parts_of : ℕ → ℕ → List Part
 free_parts_of predicate arity = if nat_le arity 1 then free_part predicate ∷ [] else []
 
@@ -40,17 +40,17 @@ fluent_parts parts_of task =
 abbrev pub Candidate : Type 0
 Candidate = List Part
 
--- the lists of this many of the parts, in lexicographic order
+-- the lists of `n` of the parts, in lexicographic order
 abbrev pub lists_of : ℕ → List Part → List Candidate
 lists_of zero parts = [] ∷ []
 lists_of (suc n) parts = flat_map (λ list. map (λ part. list ++ part ∷ []) parts) (lists_of n parts)
 
--- the predicates increase: they are distinct, and the parts are in order
+-- the predicate numbers increase, so the predicates are distinct
 abbrev pub is_increasing : Candidate → Bool
 is_increasing [] = true
 is_increasing (part ∷ parts) = list_all (λ other. nat_lt part.predicate other.predicate) parts && is_increasing parts
 
--- the candidates of one to three of the parts, those of fewer parts first
+-- the candidates of one to three of the parts, those with fewer parts first
 abbrev pub candidates_of : List Part → List Candidate
 candidates_of parts = flat_map (λ n. filter is_increasing (lists_of n parts)) (1 ∷ 2 ∷ 3 ∷ [])
 
@@ -62,18 +62,18 @@ candidates task = candidates_of (fluent_parts bound_parts_of task) ++ candidates
 abbrev pub bound_object : Part → Atom → ℕ
 bound_object part p = option_map_or (slice_index p.objects) part.position 0
 
--- the atom is of the predicate of a part that binds this object
+-- a part with the atom's predicate binds this object in it
 abbrev pub is_covered : Candidate → ℕ → Atom → Bool
 is_covered candidate object p =
     list_any (λ part. p.predicate == part.predicate && bound_object part p == object) candidate
 
--- the places of the atoms that the candidate covers for the object, but for constant and excluded ones
+-- the indices of the atoms that the candidate covers for the object, without constant and excluded ones
 abbrev pub instance : Indexed → Candidate → ℕ → List ℕ
 instance index candidate object =
     filter (λ place. is_movable index place && option_map_or (is_covered candidate object) (slice_get index.atoms place) false)
     (range_with_len 0 (length index.atoms))
 
--- one instance for each object of the task, and one alone for a candidate without a parameter
+-- one instance for each object of the task, and a single one for a candidate without a parameter
 abbrev pub count_of_instances : PlanningTask → Candidate → ℕ
 count_of_instances task candidate =
     if list_any (λ part. is_some part.position) candidate then length task.object_types else 1

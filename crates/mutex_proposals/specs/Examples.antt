@@ -8,7 +8,7 @@ use Rattle.pddl_task.specs.Planning.{PlanningTask, action_of}
 use Rattle.mutex.specs.Places.{Indexed}
 
 -- Predicates: 0 in, 1 held, 2 free. Type 1 is ball, and the balls x, y are 0, 1; type 2 is room, and the rooms p, q are
--- 2, 3. Schema 0 takes a ball in a room, and schema 1 puts it down.
+-- 2, 3. Schema 0 picks up a ball in a room, and schema 1 puts it down.
 abbrev pub two_balls : PlanningTask
 two_balls =
     record {

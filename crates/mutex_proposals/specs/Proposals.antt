@@ -1,4 +1,4 @@
--- Proposed groups: lists of places whose atoms are a usable group.
+-- Proposed groups: lists of atom indices whose atoms are a usable group.
 use Rattle.std.specs.Prelude.{◌≡◌, ℕ, ◌≤◌, Bool, true, false, ◌&&◌, not, if◌then◌else◌, List, [], ◌∷◌, ◌++◌, length, slice_get, All}
 use Rattle.std.specs.List.{list_any}
 use Rattle.std.specs.List.Sorted.{IsStrictlyIncreasing}
@@ -7,13 +7,13 @@ use Rattle.pddl_task.specs.Atoms.{same_numbers}
 use Rattle.mutex.specs.Groups.{is_usable, is_constant, is_excluded}
 use Rattle.mutex.specs.Places.{Indexed, atoms_at}
 
--- the place has an atom that is neither constant nor excluded
+-- there is an atom at index `place` that is neither constant nor excluded
 abbrev pub is_movable : Indexed → ℕ → Bool
 is_movable index place =
     option_map_or (λ p. not (is_constant index.task index.actions p) && not (is_excluded index.task index.actions p))
     (slice_get index.atoms place) false
 
--- two or more places, strictly increasing, of atoms that are a usable group, none of them constant or excluded
+-- two or more indices, strictly increasing, of atoms that are a usable group, none of them constant or excluded
 pub record IsProposal (index : Indexed) (places : List ℕ) : Type 0 where
   pub rising : IsStrictlyIncreasing places
   pub several : 2 ≤ length places

@@ -1,4 +1,4 @@
--- What the steps towards the proposed groups give.
+-- The intermediate results on the way to the proposed groups.
 use Rattle.std.specs.Prelude.{◌≡◌, ℕ, ◌<◌, Bool, false, ◌&&◌, ◌==◌, nat_lt, List, [], ◌∷◌, ◌++◌, length, map, filter, slice_get, slice_index_or}
 use Rattle.std.specs.List.{list_all}
 use Rattle.std.specs.Option.{option_map_or}
@@ -7,7 +7,7 @@ use Rattle.mutex_proposals.specs.declared.parts.Part.{Part}
 use Rattle.mutex_proposals.specs.Proposals.{is_movable}
 use Rattle.mutex_proposals.specs.Candidates.{Candidate, bound_object}
 
--- the predicates of the candidate are below that of the part
+-- the predicate numbers of the candidate are below that of the part
 abbrev pub is_below : Candidate → Part → Bool
 is_below candidate part = list_all (λ other. nat_lt other.predicate part.predicate) candidate
 
@@ -15,15 +15,15 @@ is_below candidate part = list_all (λ other. nat_lt other.predicate part.predic
 abbrev pub extensions : List Part → Candidate → List Candidate
 extensions parts candidate = map (λ part. candidate ++ part ∷ []) (filter (is_below candidate) parts)
 
--- the place has an atom of the predicate, neither constant nor excluded
+-- the atom at index `place` has this predicate and is neither constant nor excluded
 abbrev pub is_row_place : Indexed → ℕ → ℕ → Bool
 is_row_place index predicate place =
     is_movable index place && option_map_or (λ p. p.predicate == predicate) (slice_get index.atoms place) false
 
--- for each predicate of the task the places of its atoms that are neither constant nor excluded
+-- for each predicate of the task the indices of its atoms that are neither constant nor excluded
 abbrev pub AreRows : Indexed → List (List ℕ) → Type 0
 AreRows index rows = (q k : ℕ) → q < length index.task.arities → has (slice_index_or rows q []) k ≡ is_row_place index q k
 
--- the part binds the object in the atom at the place
+-- the part binds the object in the atom at index `place`
 abbrev pub binds : Indexed → Part → ℕ → ℕ → Bool
 binds index part object place = option_map_or (λ p. bound_object part p == object) (slice_get index.atoms place) false

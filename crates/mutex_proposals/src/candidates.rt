@@ -10,7 +10,7 @@ use pddl_task::Task;
 use std::alloc::{AllocError, Global};
 use std::marker::Model;
 
-/// The largest number of candidates that are tried.
+/// The greatest number of candidates that are tried.
 pub const MAX_CANDIDATES: usize = 4096;
 
 /// A list of parts.
@@ -43,14 +43,14 @@ impl Candidate {
         self.parts.as_slice()
     }
 
-    /// Whether one of the parts binds an argument to the parameter.
+    /// Returns whether one of the parts has an argument that is bound to the parameter.
     fn has_parameter(&self) -> bool
         ensures { result ≡ list_any (λ part. is_some part.position) self.now }
     {
         self.parts.iter().any(|part| part.position.is_some())
     }
 
-    /// The number of the candidate's instances.
+    /// Returns the number of the candidate's instances.
     pub(crate) fn count_of_instances(&self, task: &Task) -> usize
         ensures { result ≡ count_of_instances task.now self.now }
     {
@@ -61,7 +61,7 @@ impl Candidate {
         }
     }
 
-    /// Whether the predicates of the parts are all below that of the other part.
+    /// Returns whether the predicate numbers of the parts are all below that of the other part.
     fn is_below(&self, other: Part) -> bool
         ensures { result ≡ is_below self.now other }
     {
@@ -70,7 +70,7 @@ impl Candidate {
             .all(|part| part.predicate < other.predicate)
     }
 
-    /// The list with one more part at its end.
+    /// Returns the list with one more part at its end.
     fn with(&self, alloc: Global, part: Part) -> Result<Candidate, AllocError>
         ensures { IfOk result (λ longer. longer ≡ self.now ++ part ∷ []) }
     {
@@ -99,7 +99,7 @@ fn extend_one(
     Ok(())
 }
 
-/// The first `room` extensions of the candidates by one of the parts.
+/// Returns the first `room` extensions of the candidates by one of the parts.
 fn extended(
     alloc: Global,
     parts: &[Part],
@@ -115,7 +115,7 @@ fn extended(
     Ok(longer)
 }
 
-/// The first `room` candidates of one to three of the parts.
+/// Returns the first `room` candidates of one to three of the parts.
 fn candidates_of(alloc: Global, parts: &[Part], room: usize) -> Result<Vec<Candidate>, AllocError>
     ensures { IfOk result (λ all. all.items ≡ take room (candidates_of parts.now)) }
 {
@@ -130,7 +130,7 @@ fn candidates_of(alloc: Global, parts: &[Part], room: usize) -> Result<Vec<Candi
     Ok(one)
 }
 
-/// The first candidates of the task, at most `MAX_CANDIDATES`.
+/// Returns the first candidates of the task, at most `MAX_CANDIDATES`.
 pub(crate) fn candidates(alloc: Global, task: &Task) -> Result<Vec<Candidate>, AllocError>
     ensures { IfOk result (λ all. all.items ≡ take 4096 (candidates task.now)) }
 {

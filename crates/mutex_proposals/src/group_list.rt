@@ -15,7 +15,7 @@ use std::alloc::{AllocError, Global};
 use std::hash::{Hash, Hasher};
 use std::marker::Model;
 
-/// A group of atoms by their places, counted from 0.
+/// A group of atoms, represented by their indices, counted from 0.
 #[derive(Debug, Drop)]
 pub struct Group {
     places: Vec<usize>,
@@ -30,7 +30,7 @@ impl Model for Group {
 }
 
 impl Group {
-    /// The places, in order.
+    /// Returns the indices, in order.
     pub fn places(&self) -> &[usize]
         ensures { result.now ≡ self.now }
     {
@@ -85,7 +85,7 @@ impl Groups {
         }
     }
 
-    /// The groups, in order. They are distinct.
+    /// Returns the groups, in order. They are distinct.
     pub fn as_slice(&self) -> &[Group]
         ensures groups { result.now ≡ self.now }
         ensures distinct { AllPairs (λ g h. g ≢ h) self.now }
@@ -101,7 +101,7 @@ impl Groups {
         Ok(())
     }
 
-    /// Appends the group of these places if it is a proposal and is not in the list.
+    /// Appends the group of the atoms at these indices if it is a proposal and is not in the list.
     pub(crate) fn offer(
         &mut self,
         alloc: Global,
@@ -120,7 +120,7 @@ impl Groups {
     }
 }
 
-/// Whether the places are two or more, and their atoms a usable group.
+/// Returns whether there are two or more indices, and their atoms are a usable group.
 fn is_proposal(index: &ActionIndex<'_>, places: &[usize]) -> bool
     requires rising { IsStrictlyIncreasing places.now }
     requires within { All (λ p. p < length index.now.atoms) places.now }
@@ -129,7 +129,7 @@ fn is_proposal(index: &ActionIndex<'_>, places: &[usize]) -> bool
     2 <= places.len() && index.is_usable(places)
 }
 
-/// Whether the place has an atom, and this is neither constant nor excluded.
+/// Returns whether there is an atom at index `place`, and it is neither constant nor excluded.
 pub(crate) fn is_movable(index: &ActionIndex<'_>, place: usize) -> bool
     ensures { result ≡ is_movable index.now place }
 {

@@ -1,4 +1,4 @@
-//! The instances of candidates: lists of places, one list for each object.
+//! The instances of candidates: lists of atom indices, one list for each object.
 
 ghost use Rattle.std.specs.Prelude.{◌≡◌, ℕ, ◌<◌, ◌++◌, [], ◌∷◌, ◌==◌, ◌&&◌, ◌||◌, length, replicate, slice_index_or, All, IfOk, OnOk};
 ghost use Rattle.std.specs.List.{list_any};
@@ -16,7 +16,7 @@ use pddl_task::GroundAtom;
 use std::alloc::{AllocError, Global};
 use std::marker::Model;
 
-/// A list of places.
+/// A list of atom indices.
 #[derive(Drop)]
 pub(crate) struct Places {
     places: Vec<usize>,
@@ -58,7 +58,7 @@ impl Places {
         self.places.clear();
     }
 
-    /// Puts the places in increasing order, without repeats.
+    /// Sorts the indices in increasing order, and removes repeats.
     fn sort(&mut self)
         ensures rising { IsStrictlyIncreasing self.new }
         ensures same { AreSameSet self.new self.old }
@@ -68,7 +68,7 @@ impl Places {
     }
 }
 
-/// As many empty lists as `count`.
+/// Returns `count` empty lists.
 pub(crate) fn empty_lists(alloc: Global, count: usize) -> Result<Vec<Places>, AllocError>
     ensures { IfOk result (λ lists. lists.items ≡ replicate count []) }
 {
@@ -79,7 +79,7 @@ pub(crate) fn empty_lists(alloc: Global, count: usize) -> Result<Vec<Places>, Al
     Ok(lists)
 }
 
-/// Appends the place to the list with this number, if there is one.
+/// Appends the atom index to the list with this number, if there is one.
 fn put(lists: &mut [Places], number: usize, place: usize) -> Result<(), AllocError>
     ensures { OnOk result ((n k : ℕ) → n < length lists.old →
         has (slice_index_or lists.new n []) k ≡ (has (slice_index_or lists.old n []) k || (place == k && number == n))) }
@@ -90,7 +90,7 @@ fn put(lists: &mut [Places], number: usize, place: usize) -> Result<(), AllocErr
     Ok(())
 }
 
-/// Appends the place to the row of its atom's predicate, if the atom is neither constant nor excluded.
+/// Appends the index of the atom to the row of its predicate, if the atom is neither constant nor excluded.
 fn put_movable(
     index: &ActionIndex<'_>,
     place: usize,
@@ -107,7 +107,7 @@ fn put_movable(
     Ok(())
 }
 
-/// For each predicate of the task the places of its atoms that are neither constant nor excluded.
+/// Returns for each predicate of the task the indices of its atoms that are neither constant nor excluded.
 pub(crate) fn rows_by_predicate(
     alloc: Global,
     index: &ActionIndex<'_>,
@@ -121,7 +121,8 @@ pub(crate) fn rows_by_predicate(
     Ok(rows)
 }
 
-/// Appends each of the places that has an atom to the list of the object that the part binds in it.
+/// Appends the index of each of these atoms to the list of the object that the part binds in it. An index without an
+/// atom is ignored.
 fn put_part(
     index: &ActionIndex<'_>,
     part: Part,
@@ -140,7 +141,7 @@ fn put_part(
     Ok(())
 }
 
-/// Appends the places of each part's row, each to the list of the object that the part binds.
+/// Appends the indices of each part's row, each to the list of the object that the part binds.
 fn put_parts(
     index: &ActionIndex<'_>,
     rows: &[Places],
@@ -179,7 +180,7 @@ fn sort_all(lists: &mut [Places])
     }
 }
 
-/// Makes each list the candidate's instance for the object with the list's number.
+/// Turns each list into the candidate's instance for the object with the list's number.
 pub(crate) fn collect(
     index: &ActionIndex<'_>,
     rows: &[Places],

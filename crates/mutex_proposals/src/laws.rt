@@ -1,4 +1,4 @@
-//! Groups worked out by hand. The contract of the function states them; its body is empty.
+//! Groups worked out by hand.
 
 ghost use Rattle.std.specs.Prelude.{◌≡◌, [], ◌∷◌};
 ghost use Rattle.mutex_proposals.specs.Candidates.{bound_at, free_part, candidates, proposed_groups};

@@ -1,4 +1,4 @@
-//! The parts of candidates: fluent predicates with one argument bound to the parameter, or with none.
+//! The parts of candidates: fluent predicates with one argument bound to the parameter, or with no bound argument.
 
 ghost use Rattle.std.specs.Prelude.{◌≡◌, ℕ, ◌++◌, ◌<◌, ◌==◌, ◌||◌, true, false, length, slice_index_or, IfOk, OnOk};
 ghost use Rattle.std.specs.List.{list_any};
@@ -7,7 +7,7 @@ ghost use Rattle.mutex_proposals.specs.Candidates.{bound_object, is_fluent, boun
 use pddl_task::{GroundAtom, LiftedEffect, Task};
 use std::alloc::{AllocError, Global};
 
-/// A predicate, and the position of its argument that is bound to the parameter, if one is.
+/// A predicate, and the position of its argument that is bound to the parameter, if there is one.
 #[derive(Debug, Clone, Copy)]
 pub(crate) struct Part {
     pub(crate) predicate: usize,
@@ -15,7 +15,7 @@ pub(crate) struct Part {
 }
 
 impl Part {
-    /// The object that stands for the parameter in the atom, or 0 if no argument is bound.
+    /// Returns the object that the part binds to the parameter in the atom, or 0 if no argument is bound.
     pub(crate) fn object(self, atom: &GroundAtom) -> usize
         ensures { result ≡ bound_object self atom.now }
     {
@@ -36,7 +36,7 @@ fn mark_one(fluent: &mut [bool], predicate: usize)
     }
 }
 
-/// Sets the flags of the predicates that the effects name.
+/// Sets the flags of the predicates of the effects.
 fn mark_effects(fluent: &mut [bool], effects: &[LiftedEffect])
     ensures { (q : ℕ) → q < length fluent.old →
         slice_index_or fluent.new q false
@@ -47,7 +47,7 @@ fn mark_effects(fluent: &mut [bool], effects: &[LiftedEffect])
     }
 }
 
-/// For each predicate whether an effect of a schema names it.
+/// Returns for each predicate whether it occurs in an effect of a schema.
 pub(crate) fn fluent_flags(alloc: Global, task: &Task) -> Result<Vec<bool>, AllocError>
     ensures { IfOk result (λ flags. (q : ℕ) → q < length task.now.arities →
         slice_index_or flags.items q false ≡ is_fluent task.now q) }
@@ -91,7 +91,7 @@ fn push_free(parts: &mut Vec<Part>, predicate: usize, arity: usize) -> Result<()
     Ok(())
 }
 
-/// The parts with a parameter, by predicate and then by the position of the argument that is bound.
+/// Returns the parts with a parameter, by predicate and then by the position of the argument that is bound.
 pub(crate) fn bound_parts(
     alloc: Global,
     task: &Task,
@@ -109,7 +109,7 @@ pub(crate) fn bound_parts(
     Ok(parts)
 }
 
-/// The parts without a parameter, by predicate.
+/// Returns the parts without a parameter, by predicate.
 pub(crate) fn free_parts(
     alloc: Global,
     task: &Task,

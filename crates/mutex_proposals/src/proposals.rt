@@ -12,7 +12,7 @@ use crate::instances::{Places, collect, empty_lists, rows_by_predicate};
 use mutex::ActionIndex;
 use std::alloc::{AllocError, Global};
 
-/// Offers the instances of the candidate, which are the first of the lists.
+/// Offers the instances of the candidate, which are the first lists of `lists`, to `groups`.
 fn offer_instances(
     alloc: Global,
     index: &ActionIndex<'_>,
@@ -31,16 +31,16 @@ fn offer_instances(
     Ok(())
 }
 
-/// Proposed mutex groups of the index's atoms. Each is a usable group of two or more atoms, none of them constant or
-/// excluded, by their places in increasing order. The groups are distinct.
+/// Returns proposed mutex groups of the index's atoms. Each is a usable group of two or more atoms, none of them
+/// constant or excluded, represented by their indices in increasing order. The groups are distinct.
 ///
-/// A part is a predicate that an effect names, with one argument bound to the parameter, where it has one or two, or
-/// with none bound, where it has at most one. A candidate is one to three parts of distinct predicates, all of them
-/// with a bound argument or all without. The first 4,096 candidates are tried: those with a bound argument first, then
-/// those of fewer parts, then in the order of the parts. A candidate has one instance for each object of the task: the
-/// atoms with that object for the parameter, without those that are constant or excluded. A candidate without a bound
-/// argument has one instance. Every instance that is a usable group of two or more atoms is proposed, in order. Fails
-/// only if allocation fails.
+/// A part is a predicate that occurs in an effect, either with one argument bound to the parameter, if it has one or
+/// two arguments, or with no bound argument, if it has at most one. A candidate is one to three parts of distinct
+/// predicates, all of them with a bound argument or all without. The first 4,096 candidates are tried: those with a
+/// bound argument first, then those with fewer parts, then in the order of the parts. A candidate has one instance for
+/// each object of the task: the atoms with that object for the parameter, without those that are constant or excluded.
+/// A candidate without a bound argument has one instance. Every instance that is a usable group of two or more atoms is
+/// proposed, in order.
 pub fn groups(alloc: Global, index: &ActionIndex<'_>) -> Result<Groups, AllocError>
     ensures proposals { IfOk result (λ groups. All (IsProposal index.now) groups) }
     ensures groups { IfOk result (λ groups. groups ≡ proposed_groups index.now) }

@@ -22,8 +22,8 @@ pub record IsStepRefused {S : Type 0} (owner : S → List ℕ → ℕ → ℕ) (
   pub owners : length new.owners ≡ length old.owners
 
 -- the world has owners, and as many queues, bounds and flags; each owner has the world's space, its own number and an
--- outbox for each owner; each message underway may be handed to the owner to which it is underway; and the world is the one
--- after some run
+-- outbox for each owner; each message underway is one that its receiver may take; and the world is the one after some
+-- run
 pub record IsWorld {S : Type 0} (owner : S → List ℕ → ℕ → ℕ) (w : WorldOf S) : Type 0 where
   pub some : 0 < length w.owners
   pub queues : length w.underway ≡ length w.owners

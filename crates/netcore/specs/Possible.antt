@@ -27,7 +27,7 @@ by_owner owner w step = filter (would_change owner w) (map step (below (length w
 abbrev pub sends_of : {S : Type 0} → (S → List ℕ → ℕ → ℕ) → WorldOf S → ℕ → List WorldStep
 sends_of owner w v = filter (would_change owner w) (map (Send v) (below (length w.owners)))
 
--- a step for each message underway, where the first queue is that to owner v
+-- a step for each message underway, if the first queue is that to owner v
 abbrev pub deliveries : ℕ → List (List Packet) → List WorldStep
 deliveries v [] = []
 deliveries v (ps ∷ queues) = map (Deliver v) (below (length ps)) ++ deliveries (suc v) queues

@@ -1,5 +1,5 @@
--- Owners of states in one thread as they are stored, with the messages underway delivered in any order (hash distributed
--- A*: Kishimoto, Fukunaga and Botea 2013).
+-- Owners of states in one thread as they are stored, with the messages underway delivered in any order (hash
+-- distributed A*: Kishimoto, Fukunaga and Botea 2013).
 use Rattle.std.specs.Prelude.{◌≡◌, ℕ, ◌≤◌, ◌⊎◌, ◌==◌, Bool, true, false, not, ◌&&◌, nat_lt, List, [], length, map, filter, flat_map, ◌∷◌, ◌++◌, slice_get}
 use Rattle.std.specs.Option.{option_map_or}
 use Rattle.cost.specs.Distances.{Distance, Infinite, is_at_most, is_below}
@@ -14,8 +14,8 @@ use Rattle.owner.specs.declared.fault.OwnerFault.TheVariants.{OutOfMemory, Total
 use Rattle.netcore.specs.declared.step.WorldStep.{WorldStep}
 use Rattle.netcore.specs.declared.step.WorldStep.TheVariants.{Expand, Send, Deliver, Offer, Look, Rest}
 
--- the space, the owners, the messages underway to each of them (the oldest first), the bound that each has seen last, the
--- least cost that was offered, and which owners are at rest
+-- the space, the owners, the messages underway to each of them (the oldest first), the bound that each has read last,
+-- the least cost that was offered, and which owners are at rest
 pub record WorldOf (S : Type 0) : Type 0 where
   pub space : SpaceOf S
   pub owners : List (OwnerOf S)
@@ -63,7 +63,7 @@ request_of (Offer w) = ToOffer w
 request_of (Look w) = ToLook w
 request_of (Rest w) = ToRest w
 
--- a step that does what is requested leads from the world that the old one represents to the world that the new one
+-- a step that does what is requested changes the world that the old one represents into the world that the new one
 -- represents
 pub record Steps {S : Type 0} (owner : S → List ℕ → ℕ → ℕ) (old : WorldOf S) (world : machine.World) (asked : WorldStep) (new : WorldOf S)
     : Type 0 where
@@ -77,7 +77,7 @@ pub record IsAfter {S : Type 0} (owner : S → List ℕ → ℕ → ℕ) (space 
   pub run : IsRunOf space (world_start space) (map request_of asked) steps
   pub shown : Shows owner w (world_after_run space steps)
 
--- whether this holds of the owner of a number and the bound that it has seen last; false if there is no such owner
+-- whether this holds of owner number `v` and the bound that it has read last; false if there is no such owner
 abbrev pub at_owner : {S : Type 0} → WorldOf S → ℕ → (OwnerOf S → Distance → Bool) → Bool
 at_owner w v holds = option_map_or (λ o. option_map_or (holds o) (slice_get w.seen v) false) (slice_get w.owners v) false
 
@@ -85,8 +85,8 @@ at_owner w v holds = option_map_or (λ o. option_map_or (holds o) (slice_get w.s
 abbrev pub differ : Distance → Distance → Bool
 differ x y = not (is_at_most x y && is_at_most y x)
 
--- whether the step would change something: there is a node to expand below the bound seen last, whatever the limit; a
--- message to send; a message of that number underway; a cost below the least offered; a bound not yet seen; or an idle
+-- whether the step would change something: there is a node to expand below the bound read last, whatever the limit; a
+-- message to send; a message of that number underway; a cost below the least offered; a bound not yet read; or an idle
 -- owner not at rest
 abbrev pub would_change : {S : Type 0} → (S → List ℕ → ℕ → ℕ) → WorldOf S → WorldStep → Bool
 would_change owner w (Expand v) = at_owner w v (λ o b. not (no_open (space_in owner w) (under o b)))
@@ -97,7 +97,8 @@ would_change owner w (Look v) = at_owner w v (λ o b. differ b w.bound)
 would_change owner w (Rest v) =
     at_owner w v (λ o b. option_map_or not (slice_get w.resting v) false && idle (space_in owner w) (under o b))
 
--- a step is refused as the owner refuses it that is to expand its next node, or because there is no memory for it; the world is as it was
+-- a step is refused as the owner that is to expand its next node refuses it, or because an allocation failed; the world
+-- is unchanged
 abbrev pub IsStepRefusal : {S : Type 0} → (S → List ℕ → ℕ → ℕ) → WorldOf S → WorldOf S → WorldStep → OwnerFault → Type 0
 IsStepRefusal {S = S} owner old new asked OutOfMemory = (would_change owner old asked ≡ true) × (new ≡ old)
 IsStepRefusal {S = S} owner old new asked e =
@@ -110,7 +111,7 @@ pub record IsWorldAfter {S : Type 0} (owner : S → List ℕ → ℕ → ℕ) (o
   pub space : w.space ≡ over
   pub owners : length w.owners ≡ n
 
--- of these steps, this one is refused in the world after those before it
+-- one of these steps is refused, in the world `w` after those before it
 pub record IsRefusedStep {S : Type 0} (owner : S → List ℕ → ℕ → ℕ) (over : SpaceOf S) (n : ℕ) (asked : List WorldStep) (w : WorldOf S) (e : OwnerFault)
     : Type 0 where
   pub before : List WorldStep
@@ -120,12 +121,12 @@ pub record IsRefusedStep {S : Type 0} (owner : S → List ℕ → ℕ → ℕ) (
   pub world : IsWorldAfter owner over n before w
   pub refused : IsStepRefusal owner w w step e
 
--- the world after these steps; or the one in which one of them asks an owner for more nodes than its limit allows: that step changes
--- nothing, and those behind it are not done
+-- the world after these steps; or the one in which one of them asks an owner for more nodes than its limit allows: that
+-- step changes nothing, and no later step is done
 abbrev pub IsRun : {S : Type 0} → (S → List ℕ → ℕ → ℕ) → SpaceOf S → ℕ → List WorldStep → WorldOf S → Type 0
 IsRun owner over n asked w = IsWorldAfter owner over n asked w ⊎ IsRefusedStep owner over n asked w LimitReached
 
--- a step is refused otherwise than for the limit
+-- a step is refused for another reason than the limit
 abbrev pub IsRunRefusal : {S : Type 0} → (S → List ℕ → ℕ → ℕ) → SpaceOf S → ℕ → List WorldStep → OwnerFault → Type 0
 IsRunRefusal owner over n asked OutOfMemory = Unit {0}
 IsRunRefusal owner over n asked LimitReached = ⊥

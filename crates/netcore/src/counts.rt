@@ -1,4 +1,4 @@
-//! The number of messages and of active owners in a world.
+//! The numbers of messages and of active owners in a world.
 
 ghost use Rattle.std.specs.Prelude.{◌≡◌, ℕ, List, ◌-◌, ◌^◌, length, min, not, sum_by, count_by};
 ghost use Rattle.owner_theory.specs.Worlds.{waiting};
@@ -10,7 +10,7 @@ use packed::StateForm;
 use packed_spread::Spread;
 use std::collections::VecDeque;
 
-/// The number of messages in the owners' outboxes, or 2^128 - 1 if it is greater.
+/// Returns the number of messages in the owners' outboxes, capped at 2^128 - 1.
 pub fn waiting_count<S: Spread + Drop, F: StateForm + Drop>(owners: &[Owner<'_, S, F>]) -> u128
     ensures { result ≡ min (sum_by (λ o. waiting o.outboxes) owners.now) (2 ^ 128 - 1) }
 {
@@ -21,7 +21,7 @@ pub fn waiting_count<S: Spread + Drop, F: StateForm + Drop>(owners: &[Owner<'_, 
     count
 }
 
-/// The number of messages underway, or 2^128 - 1 if it is greater.
+/// Returns the number of messages underway, capped at 2^128 - 1.
 pub fn underway_count<F: StateForm + Drop>(queues: &[VecDeque<Packet<F>>]) -> u128
     ensures { (values : F → List ℕ) → result ≡ min (length (all_packets values queues.now)) (2 ^ 128 - 1) }
 {
@@ -32,7 +32,7 @@ pub fn underway_count<F: StateForm + Drop>(queues: &[VecDeque<Packet<F>>]) -> u1
     count
 }
 
-/// The number of owners that are not at rest.
+/// Returns the number of owners that are not at rest.
 pub fn awake_count(resting: &[bool]) -> usize
     ensures { result ≡ count_by not resting.now }
 {

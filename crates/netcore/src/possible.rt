@@ -24,7 +24,7 @@ enum OwnStep {
 }
 
 impl OwnStep {
-    /// The step of this kind by this worker.
+    /// Returns the step of this kind by this worker.
     fn of(self, worker: usize) -> WorldStep
         ensures { result ≡ own_step self worker }
     {
@@ -37,7 +37,7 @@ impl OwnStep {
     }
 }
 
-/// The step of that number, counted from 0, among those that deliver a message of these queues.
+/// Returns step number `number`, counted from 0, among those that deliver a message of these queues.
 fn nth_delivery<F: StateForm + Drop>(
     queues: &[VecDeque<Packet<F>>],
     number: u128,
@@ -56,8 +56,8 @@ fn nth_delivery<F: StateForm + Drop>(
 }
 
 impl<'a, S: Spread + Drop, F: StateForm + Drop> World<'a, S, F> {
-    /// Whether the step would change something. A step of an owner or a message that does not exist would not. The limit
-    /// on expansions plays no part.
+    /// Returns whether the step would change something. A step of an owner or a message that does not exist would not.
+    /// The limit on expansions is ignored.
     pub fn would_change(&self, step: WorldStep) -> bool
         ensures { result ≡ would_change S.owner self.now step }
     {
@@ -71,7 +71,7 @@ impl<'a, S: Spread + Drop, F: StateForm + Drop> World<'a, S, F> {
         }
     }
 
-    /// Whether the worker has a node to expand below the bound that it has seen last.
+    /// Returns whether the worker has a node to expand below the bound that it has read last.
     fn could_expand(&self, worker: usize) -> bool
         ensures { result ≡ would_change S.owner self.now (Expand worker) }
     {
@@ -81,7 +81,7 @@ impl<'a, S: Spread + Drop, F: StateForm + Drop> World<'a, S, F> {
         self.owners[worker].least_open() < self.seen[worker]
     }
 
-    /// Whether the worker has a message in its outbox for the other.
+    /// Returns whether the worker has a message in its outbox for worker `to`.
     fn could_send(&self, worker: usize, to: usize) -> bool
         ensures { result ≡ would_change S.owner self.now (Send worker to) }
     {
@@ -94,7 +94,7 @@ impl<'a, S: Spread + Drop, F: StateForm + Drop> World<'a, S, F> {
         self.owners[worker].outbox_len(to) > 0
     }
 
-    /// Whether a message of that number, counted from 0, is underway to the worker.
+    /// Returns whether message number `number`, counted from 0, is underway to the worker.
     fn could_deliver(&self, worker: usize, number: usize) -> bool
         ensures { result ≡ would_change S.owner self.now (Deliver worker number) }
     {
@@ -104,7 +104,7 @@ impl<'a, S: Spread + Drop, F: StateForm + Drop> World<'a, S, F> {
         }
     }
 
-    /// Whether the worker has taken a goal state at a cost below the bound.
+    /// Returns whether the worker has taken a goal state at a cost below the bound.
     fn could_offer(&self, worker: usize) -> bool
         ensures { result ≡ would_change S.owner self.now (Offer worker) }
     {
@@ -114,7 +114,7 @@ impl<'a, S: Spread + Drop, F: StateForm + Drop> World<'a, S, F> {
         self.owners[worker].best_goal() < self.bound
     }
 
-    /// Whether the bound that the worker has seen last is not the present one.
+    /// Returns whether the bound that the worker has read last differs from the current one.
     fn could_look(&self, worker: usize) -> bool
         ensures { result ≡ would_change S.owner self.now (Look worker) }
     {
@@ -124,7 +124,7 @@ impl<'a, S: Spread + Drop, F: StateForm + Drop> World<'a, S, F> {
         }
     }
 
-    /// Whether the worker is idle and not at rest.
+    /// Returns whether the worker is idle and not at rest.
     fn could_rest(&self, worker: usize) -> bool
         ensures { result ≡ would_change S.owner self.now (Rest worker) }
     {
@@ -137,14 +137,14 @@ impl<'a, S: Spread + Drop, F: StateForm + Drop> World<'a, S, F> {
         self.owners[worker].is_idle(self.seen[worker])
     }
 
-    /// The number of owners.
+    /// Returns the number of owners.
     fn owner_count(&self) -> usize
         ensures { result ≡ length self.now.owners }
     {
         self.owners.len()
     }
 
-    /// The number of steps of this kind that would change something.
+    /// Returns the number of steps of this kind that would change something.
     fn own_count(&self, kind: OwnStep) -> usize
         ensures { result ≡ length (by_owner S.owner self.now (own_step kind)) }
     {
@@ -153,7 +153,7 @@ impl<'a, S: Spread + Drop, F: StateForm + Drop> World<'a, S, F> {
             .count()
     }
 
-    /// The step of that number, counted from 0, among those of this kind that would change something.
+    /// Returns step number `number`, counted from 0, among those of this kind that would change something.
     fn nth_own(&self, kind: OwnStep, number: u128) -> Option<WorldStep>
         ensures { result ≡ slice_get (by_owner S.owner self.now (own_step kind)) number }
     {
@@ -171,7 +171,7 @@ impl<'a, S: Spread + Drop, F: StateForm + Drop> World<'a, S, F> {
         None
     }
 
-    /// The number of owners for which this one has a message.
+    /// Returns the number of owners for which this one has a message.
     fn send_count_of(&self, worker: usize) -> usize
         requires { worker < length self.now.owners }
         ensures { result ≡ length (sends_of S.owner self.now worker) }
@@ -179,7 +179,7 @@ impl<'a, S: Spread + Drop, F: StateForm + Drop> World<'a, S, F> {
         self.owners[worker].outboxes_in_use()
     }
 
-    /// The step of that number, counted from 0, among those that send a message of this owner.
+    /// Returns step number `number`, counted from 0, among those that send a message of this owner.
     fn nth_send_of(&self, worker: usize, number: usize) -> Option<WorldStep>
         ensures { result ≡ slice_get (sends_of S.owner self.now worker) number }
     {
@@ -196,7 +196,7 @@ impl<'a, S: Spread + Drop, F: StateForm + Drop> World<'a, S, F> {
         None
     }
 
-    /// The number of pairs of owners of which the first has a message for the second, or 2^128 - 1 if it is greater.
+    /// Returns the number of pairs of owners of which the first has a message for the second, capped at 2^128 - 1.
     fn send_count(&self) -> u128
         ensures { result ≡ min (length (flat_map (sends_of S.owner self.now) (below (length self.now.owners)))) (2 ^ 128 - 1) }
     {
@@ -207,15 +207,15 @@ impl<'a, S: Spread + Drop, F: StateForm + Drop> World<'a, S, F> {
         count
     }
 
-    /// The number of messages underway, or 2^128 - 1 if it is greater.
+    /// Returns the number of messages underway, capped at 2^128 - 1.
     fn delivery_count(&self) -> u128
         ensures { result ≡ min (length (deliveries 0 self.now.underway)) (2 ^ 128 - 1) }
     {
         underway_count(&self.underway)
     }
 
-    /// The number of steps that would change something, or 2^128 - 1 if it is greater. Takes time linear in the number of
-    /// owners, whatever the number of states and messages.
+    /// Returns the number of steps that would change something, capped at 2^128 - 1. It takes time linear in the number
+    /// of owners, whatever the number of states and messages.
     pub fn possible_count(&self) -> u128
         ensures { result ≡ min (length (possible_steps S.owner self.now)) (2 ^ 128 - 1) }
     {
@@ -227,7 +227,7 @@ impl<'a, S: Spread + Drop, F: StateForm + Drop> World<'a, S, F> {
             .saturating_add(self.own_count(OwnStep::Rest) as u128)
     }
 
-    /// The step of that number, counted from 0, among those that send a message.
+    /// Returns step number `number`, counted from 0, among those that send a message.
     fn nth_send(&self, number: u128) -> Option<WorldStep>
         ensures { result ≡ slice_get (flat_map (sends_of S.owner self.now) (below (length self.now.owners))) number }
     {
@@ -242,8 +242,8 @@ impl<'a, S: Spread + Drop, F: StateForm + Drop> World<'a, S, F> {
         None
     }
 
-    /// The step of that number, counted from 0, among those by which an owner offers, looks or rests and that would
-    /// change something.
+    /// Returns step number `number`, counted from 0, among those by which an owner offers, reads or rests and that
+    /// would change something.
     fn nth_later(&self, number: u128) -> Option<WorldStep>
         ensures { result ≡ slice_get (by_owner S.owner self.now Offer ++ by_owner S.owner self.now Look ++ by_owner S.owner self.now Rest) number }
     {
@@ -258,16 +258,16 @@ impl<'a, S: Spread + Drop, F: StateForm + Drop> World<'a, S, F> {
         self.nth_own(OwnStep::Rest, number)
     }
 
-    /// The step of that number, counted from 0, among those that would change something, in the order Expand, Send,
-    /// Deliver, Offer, Look, Rest, and in each kind by increasing numbers. `None` if there are not more than `number` of
-    /// them. Takes time linear in the number of owners.
+    /// Returns step number `number`, counted from 0, among those that would change something, in the order Expand,
+    /// Send, Deliver, Offer, Look, Rest, and in each kind by increasing numbers. Returns `None` if at most `number`
+    /// steps would change something. It takes time linear in the number of owners.
     pub fn possible_step(&self, number: u128) -> Option<WorldStep>
         ensures { result ≡ slice_get (possible_steps S.owner self.now) number }
     {
         if let Some(step) = self.nth_own(OwnStep::Expand, number) {
             return Some(step);
         }
-        // none was found, so there are no more of them than this number, and the counts are exact
+        // none was found, so their number is at most `number`, and the counts are exact
         let number = number - self.own_count(OwnStep::Expand) as u128;
         if let Some(step) = self.nth_send(number) {
             return Some(step);

@@ -29,7 +29,7 @@ use std::alloc::{AllocError, Global};
 use std::collections::VecDeque;
 use std::marker::Model;
 
-/// Owners of states, the messages underway to each of them, the bound that each has seen last, the least cost that was
+/// Owners of states, the messages underway to each of them, the bound that each has read last, the least cost that was
 /// offered, and which owners are at rest.
 #[derive(Drop)]
 pub struct World<'a, S: Spread + Drop, F: StateForm + Drop> {
@@ -70,7 +70,7 @@ impl<'a, S: Spread + Drop, F: StateForm + Drop> Model for World<'a, S, F> {
     }) };
 }
 
-/// Owners at the start, each with its number. Fails only if allocation fails.
+/// Returns `count` owners at the start, each with its number.
 fn first_owners<'a, S: Spread + Drop, F: StateForm + Drop>(
     alloc: Global,
     space: &'a Space<'a, S>,
@@ -87,7 +87,7 @@ fn first_owners<'a, S: Spread + Drop, F: StateForm + Drop>(
     Ok(owners)
 }
 
-/// `count` empty queues. Fails only if allocation fails.
+/// Returns `count` empty queues.
 fn empty_queues<F: StateForm + Drop>(
     alloc: Global,
     count: usize,
@@ -102,8 +102,8 @@ fn empty_queues<F: StateForm + Drop>(
 }
 
 impl<'a, S: Spread + Drop, F: StateForm + Drop> World<'a, S, F> {
-    /// A world at its start: no owner is at rest or has seen a bound, and the owner of the initial state has it. States of
-    /// the task have the form `F`. Fails only if allocation fails.
+    /// Returns a world at its start: no owner is at rest or has read a bound, and the owner of the initial state starts
+    /// with that state. States of the task have the form `F`.
     pub fn start(
         alloc: Global,
         space: &'a Space<'a, S>,
@@ -125,8 +125,8 @@ impl<'a, S: Spread + Drop, F: StateForm + Drop> World<'a, S, F> {
         })
     }
 
-    /// The worker expands its next node below the bound that it has seen last. Returns whether there was one. A fault is
-    /// that of the owner, and leaves the world as it was.
+    /// Expands the worker's next node below the bound that it has read last. Returns whether there was one. A fault is
+    /// that of the owner; the world is then unchanged.
     fn expand(&mut self, worker: usize) -> Result<bool, OwnerFault>
         ensures { MatchResult result (IsStepDone S.owner self.old self.new (Expand worker)) (IsStepRefused S.owner self.old self.new (Expand worker)) }
     {
@@ -139,8 +139,8 @@ impl<'a, S: Spread + Drop, F: StateForm + Drop> World<'a, S, F> {
         }
     }
 
-    /// The first worker's oldest message for the second goes underway. Returns whether there was one. Fails only if
-    /// allocation fails, and then leaves the world as it was.
+    /// Puts the worker's oldest message for worker `to` underway. Returns whether there was one. On failure the world
+    /// is unchanged.
     fn send(&mut self, worker: usize, to: usize) -> Result<bool, AllocError>
         ensures { MatchResult result (IsStepDone S.owner self.old self.new (Send worker to)) (λ _. IsStepRefused S.owner self.old self.new (Send worker to) OutOfMemory) }
     {
@@ -164,8 +164,8 @@ impl<'a, S: Spread + Drop, F: StateForm + Drop> World<'a, S, F> {
         Ok(true)
     }
 
-    /// The worker takes the message of that number, counted from 0, of those underway to it, and is then not at rest.
-    /// Returns whether there was one. Fails only if allocation fails, and then leaves the world as it was.
+    /// Delivers message number `number`, counted from 0, of those underway to the worker, which is then not at rest.
+    /// Returns whether there was one. On failure the world is unchanged.
     fn deliver(&mut self, worker: usize, number: usize) -> Result<bool, AllocError>
         ensures { MatchResult result (IsStepDone S.owner self.old self.new (Deliver worker number)) (λ _. IsStepRefused S.owner self.old self.new (Deliver worker number) OutOfMemory) }
     {
@@ -191,8 +191,8 @@ impl<'a, S: Spread + Drop, F: StateForm + Drop> World<'a, S, F> {
         }
     }
 
-    /// The bound becomes the lesser of itself and the least cost at which the worker has taken a goal state. Returns
-    /// whether it changed.
+    /// Lowers the bound to the least cost at which the worker has taken a goal state, if that is less. Returns whether
+    /// the bound changed.
     fn offer(&mut self, worker: usize) -> bool
         ensures { IsStepDone S.owner self.old self.new (Offer worker) result }
     {
@@ -207,7 +207,7 @@ impl<'a, S: Spread + Drop, F: StateForm + Drop> World<'a, S, F> {
         true
     }
 
-    /// The worker sees the present bound. Returns whether it had seen another one.
+    /// Makes the worker read the current bound. Returns whether it had read another one.
     fn look(&mut self, worker: usize) -> bool
         ensures { IsStepDone S.owner self.old self.new (Look worker) result }
     {
@@ -221,8 +221,8 @@ impl<'a, S: Spread + Drop, F: StateForm + Drop> World<'a, S, F> {
         true
     }
 
-    /// The worker comes to rest if it has no node to expand and no message to send. Returns whether it did and was not at
-    /// rest before.
+    /// Puts the worker at rest if it has no node to expand and no message to send. Returns whether it did and was not
+    /// at rest before.
     fn rest(&mut self, worker: usize) -> bool
         ensures { IsStepDone S.owner self.old self.new (Rest worker) result }
     {
@@ -239,8 +239,8 @@ impl<'a, S: Spread + Drop, F: StateForm + Drop> World<'a, S, F> {
         true
     }
 
-    /// Does a step, and returns whether something changed. A fault leaves the world as it was: it is that of the owner that
-    /// is to expand a node, or there is no memory for a step that would change something.
+    /// Does a step, and returns whether something changed. A fault, after which the world is unchanged, is that of the
+    /// owner that is to expand a node, or a failed allocation in a step that would change something.
     pub fn step(&mut self, step: WorldStep) -> Result<bool, OwnerFault>
         ensures stepped { (world : machine.World) → Shows S.owner self.old world → IfOk result (λ _. Steps S.owner self.old world step self.new) }
         ensures changed { IfOk result (λ changed. changed ≡ would_change S.owner self.old step) }
@@ -259,9 +259,9 @@ impl<'a, S: Spread + Drop, F: StateForm + Drop> World<'a, S, F> {
         }
     }
 
-    /// The world after these steps, from the start; where one of them asks an owner for more nodes than its limit allows, the world
-    /// before that step, which changes nothing, and no later step is done. Fails with `TotalTooLarge` where a step does, or if
-    /// allocation fails.
+    /// Returns the world after these steps, from the start. If one of them asks an owner for more nodes than its limit
+    /// allows, it returns the world before that step, and no later step is done. Fails with `TotalTooLarge` if a step
+    /// does, or if allocation fails.
     pub fn run(
         alloc: Global,
         space: &'a Space<'a, S>,
@@ -287,8 +287,8 @@ impl<'a, S: Spread + Drop, F: StateForm + Drop> World<'a, S, F> {
         Ok(world)
     }
 
-    /// The number of messages underway or in outboxes plus the number of owners not at rest, or 2^128 - 1 if it is
-    /// greater.
+    /// Returns the number of messages underway or in outboxes plus the number of owners not at rest, capped at 2^128 -
+    /// 1.
     fn pending(&self) -> u128
         ensures { result ≡ min (length (left_in self.now) + sum_by (λ o. waiting o.outboxes) self.now.owners + count_by not self.now.resting) (2 ^ 128 - 1) }
     {
@@ -296,8 +296,8 @@ impl<'a, S: Spread + Drop, F: StateForm + Drop> World<'a, S, F> {
         messages.saturating_add(awake_count(&self.resting) as u128)
     }
 
-    /// The number of messages underway or in outboxes plus the number of owners not at rest, or 2^128 - 1 if it is
-    /// greater. If it is 0, the owners are settled; if it is not 0, some step would change something.
+    /// Returns the number of messages underway or in outboxes plus the number of owners not at rest, capped at 2^128 -
+    /// 1. If it is 0, the owners are settled; if not, some step would change something.
     pub fn count(&self) -> u128
         ensures count { (world : machine.World) → Shows S.owner self.now world → result ≡ min (machine.count (space_in S.owner self.now) world) (2 ^ 128 - 1) }
         ensures quiet { result ≡ 0 → (asked : List WorldStep) (after : IsAfter S.owner (space_in S.owner self.now) asked self.now) →
@@ -309,16 +309,16 @@ impl<'a, S: Spread + Drop, F: StateForm + Drop> World<'a, S, F> {
         self.pending()
     }
 
-    /// The bound at which the owners are settled: the least cost at which a goal state was taken, infinite if none was,
-    /// provided that no pending f-value is below it. `None` if they are not settled. Fails only if allocation fails.
+    /// Returns the bound at which the owners are settled: the least cost at which a goal state was taken, infinite if
+    /// none was, provided that no pending f-value is below it. Returns `None` if they are not settled.
     pub fn settled(&self, alloc: Global) -> Result<Option<Dist>, AllocError>
         ensures { IfOk result (IsSettledAnswer (space_in S.owner self.now) self.now.owners (left_in self.now)) }
     {
         settled_bound(alloc, self.space, &self.owners, &self.underway)
     }
 
-    /// What the owners have found: the cost of a cheapest plan, or that there is no plan; `None` if they are not settled.
-    /// Fails only if allocation fails.
+    /// Returns the result that the owners have found: the cost of a cheapest plan, or that there is no plan; `None` if
+    /// they are not settled.
     pub fn answer(&self, alloc: Global) -> Result<Option<SearchAnswer>, AllocError>
         ensures { IfOk result (λ answer. (at : Option Distance) × IsSettledAnswer (space_in S.owner self.now) self.now.owners (left_in self.now) at × (answer ≡ answer_of at)) }
     {
@@ -331,7 +331,7 @@ impl<'a, S: Spread + Drop, F: StateForm + Drop> World<'a, S, F> {
         }
     }
 
-    /// The end of the search, as the end of a lawful family.
+    /// Returns the end of the search, as the end of a lawful family.
     pub fn joined(self) -> Joined<'a, S, F>
         ensures shown { (asked : List WorldStep) (after : IsAfter S.owner (space_in S.owner self.entry) asked self.entry) →
             IsEndOf S.owner result (family_of (world_after_run (space_in S.owner self.entry) after.steps)) }
@@ -344,14 +344,14 @@ impl<'a, S: Spread + Drop, F: StateForm + Drop> World<'a, S, F> {
         Joined::new(self.space, self.owners, self.underway)
     }
 
-    /// The owners, each at its number.
+    /// Returns the owners, in the order of their numbers.
     pub fn owners(&self) -> &[Owner<'a, S, F>]
         ensures { result.now ≡ self.now.owners }
     {
         &self.owners
     }
 
-    /// The type's invariant, stated as a contract: every world is the world after some run, and it has owners.
+    /// Proves the type's invariant (only for the proof): every world is the world after some run, and it has owners.
     pub fn recall(&self)
         ensures run { ∥ ((asked : List WorldStep) × IsAfter S.owner (space_in S.owner self.now) asked self.now) ∥₁ }
         ensures some { 0 < length self.now.owners }

@@ -1,9 +1,9 @@
--- What a contract sees of an open list as a heap.
+-- The value, in contracts, of an open list as a heap.
 use Rattle.std.specs.Prelude.{ℕ, ◌≤◌, List, ◌∷◌, length}
 use Rattle.std.proofs.Math.Nat.{le_of_suc-le}
 use Rattle.openlist.specs.declared.entry.OpenEntry.{OpenEntry}
 
--- the entries, in the heap's own order, and how many more entries fit without an allocation
+-- the entries, in the heap's own order, and the number of entries that still fit without an allocation
 pub record Held : Type 0 where
   pub entries : List OpenEntry
   pub spare : ℕ

@@ -11,7 +11,7 @@ is_lower x y = nat_lt x.cost y.cost || ((x.cost == y.cost) && nat_lt x.steps y.s
 abbrev pub is_same_rank : Rank → Rank → Bool
 is_same_rank x y = (x.cost == y.cost) && (x.steps == y.steps)
 
--- the first entry comes before the second or is equal to it: by f, then by rank, then by place
+-- the first entry comes before the second or is equal to it: by f, then by rank, then by index
 abbrev pub comes_first : OpenEntry → OpenEntry → Bool
 comes_first x y =
     nat_lt x.f y.f
@@ -21,6 +21,6 @@ comes_first x y =
 abbrev pub IsFirst : OpenEntry → List OpenEntry → Type 0
 IsFirst x entries = All (λ y. comes_first x y ≡ true) entries
 
--- the entry with this f-value, cost, number of operators and place
+-- the entry with f-value `a`, cost `b`, number of operators `c` and index `d`
 abbrev pub entry_of : ℕ → ℕ → ℕ → ℕ → OpenEntry
 entry_of a b c d = record { f = a; rank = record { cost = b; steps = c }; index = d }

@@ -1,9 +1,9 @@
--- Entries of one bucket in their order.
+-- Entries of one bucket in order.
 use Rattle.std.specs.Prelude.{Bool, true, ◌≡◌, ◌&&◌, ◌||◌, nat_le, List, [], ◌∷◌, All}
 use Rattle.openlist.specs.declared.bucket.BucketEntry.{BucketEntry}
 use Rattle.openlist.specs.OpenLists.{is_lower, is_same_rank}
 
--- the first entry comes before the second or is equal to it: by rank, then by place
+-- the first entry comes before the second or is equal to it: by rank, then by index
 abbrev pub comes_before : BucketEntry → BucketEntry → Bool
 comes_before x y = is_lower x.rank y.rank || (is_same_rank x.rank y.rank && nat_le x.index y.index)
 
@@ -16,7 +16,7 @@ abbrev pub Leads : List BucketEntry → List BucketEntry → Type 0
 Leads [] ys = Unit {0}
 Leads (x ∷ xs) ys = IsBefore x ys
 
--- the entries are in their order: each comes before those after it or is equal to them
+-- the entries are in order: each comes before those after it or is equal to them
 abbrev pub IsRun : List BucketEntry → Type 0
 IsRun [] = Unit {0}
 IsRun (x ∷ xs) = IsBefore x xs × IsRun xs

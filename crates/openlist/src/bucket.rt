@@ -20,24 +20,24 @@ use std::marker::Model;
 pub struct BucketEntry {
     /// The rank at which the state was reached.
     pub rank: Rank,
-    /// The state's place in its owner's table, counted from 0.
+    /// The state's index in its owner's table.
     pub index: usize,
 }
 
-/// The entries of one f-value, ordered by rank and then by place. A bucket does not know its f-value: callers pass it along.
+/// The entries of one f-value, ordered by rank and then by index. A bucket does not store its f-value: callers pass it.
 ///
-/// A bucket has two parts, a run and a binary heap. As long as the heap is empty, an entry that comes after all entries of the
-/// run, or before all of them, goes to that end of the run: its push and its pop take constant time on average and touch
-/// neighbouring memory. Any other entry goes into the heap, where a push or a pop takes time logarithmic in the number of
-/// entries there: where entries do not come in order, the ends of the run are not looked at for each. The first entry of the
-/// bucket is the first of the run or the first of the heap.
+/// A bucket has two parts, a run and a binary heap. As long as the heap is empty, an entry that comes after all entries
+/// of the run, or before all of them, goes to that end of the run: its push and its pop take constant time on average
+/// and access adjacent memory. Any other entry goes into the heap, in which a push or a pop takes time logarithmic in
+/// the number of entries there. While the heap has entries, every push goes there without comparing the ends of the
+/// run. The first entry of the bucket is the first of the run or the first of the heap.
 #[derive(Drop)]
 pub struct Bucket {
-    /// Entries in their order: each comes before the next or is equal to it.
+    /// Entries in order: each comes before the next or is equal to it.
     run: VecDeque<BucketEntry>,
-    /// The other entries, reversed: a binary heap gives its greatest element, and the first entry is the least one.
+    /// The other entries, reversed: a binary heap pops its greatest element, and the first entry is the least one.
     heap: BinaryHeap<Reverse<BucketEntry>>,
-    /// For how many entries the last call of `reserve` of the open list has asked so far.
+    /// The number of entries for which the current or last call of `reserve` of the open list has requested room.
     asked: usize,
 }
 
@@ -62,7 +62,7 @@ impl Model for Bucket {
 impl Bucket {
     ghost use Rattle.openlist.specs.BucketLists.{with_f};
 
-    /// An empty bucket.
+    /// Returns an empty bucket.
     pub fn new(alloc: Global) -> Bucket
         ensures { result.entries ≡ [] }
     {
@@ -73,21 +73,21 @@ impl Bucket {
         }
     }
 
-    /// Whether the bucket has no entry.
+    /// Returns whether the bucket has no entry.
     pub fn is_empty(&self) -> bool
         ensures { IsTrue result ↔ (self.now.entries ≡ []) }
     {
         self.run.is_empty() && self.heap.is_empty()
     }
 
-    /// Begins to count how many entries `reserve` asks for.
+    /// Resets the number of entries for which `reserve` requests room.
     pub fn begin_reserve(&mut self)
         ensures entries { self.new.entries ≡ self.old.entries }
     {
         self.asked = 0;
     }
 
-    /// Makes room for as many entries as were asked for, and one more, in both parts. Fails only if allocation fails.
+    /// Makes room in both parts for one entry more than requested so far. The entries are unchanged, also on failure.
     pub fn reserve_one_more(&mut self) -> Result<(), AllocError>
         ensures entries { self.new.entries ≡ self.old.entries }
         ensures asked { self.new.asked ≡ min (self.old.asked + 1) (2 ^ 64 - 1) }
@@ -99,7 +99,7 @@ impl Bucket {
         self.heap.reserve(self.asked)
     }
 
-    /// Adds an entry of the bucket's f-value. Fails only if allocation fails.
+    /// Adds an entry of the bucket's f-value. On failure the bucket is unchanged.
     pub fn push(&mut self, entry: OpenEntry) -> Result<(), AllocError>
         ensures pushed { OnOk result (IsPermutation (entry ∷ map (with_f entry.f) self.old.entries)
             (map (with_f entry.f) self.new.entries)) }
@@ -121,7 +121,7 @@ impl Bucket {
         }
     }
 
-    /// Removes and returns the first entry of the bucket of this f-value, or returns `None` if it is empty.
+    /// Removes and returns the first entry of the bucket of f-value `f`, or returns `None` if it is empty.
     pub fn pop(&mut self, f: u64) -> Option<OpenEntry>
         ensures value { IfSome result (λ e. e.f ≡ f) }
         ensures first { IfSome result (λ e. IsFirst e (map (with_f f) self.old.entries)) }
@@ -140,7 +140,7 @@ impl Bucket {
         }
     }
 
-    /// The first entry of the bucket of this f-value, or `None` if it is empty.
+    /// Returns the first entry of the bucket of f-value `f`, or `None` if it is empty.
     pub fn least(&self, f: u64) -> Option<OpenEntry>
         ensures value { IfSome result (λ e. e.f ≡ f) }
         ensures member { IfSome result (Contains (map (with_f f) self.now.entries)) }
@@ -157,7 +157,7 @@ impl Bucket {
     }
 }
 
-/// Whether the run is still in order with the entry at its back.
+/// Returns whether the run is still in order with the entry at its back.
 fn fits_at_back(run: &VecDeque<BucketEntry>, entry: &BucketEntry) -> bool
     requires { IsRun run.now.items }
     ensures { IsTrue result → IsRun (run.now.items ++ entry.now ∷ []) }
@@ -168,7 +168,7 @@ fn fits_at_back(run: &VecDeque<BucketEntry>, entry: &BucketEntry) -> bool
     }
 }
 
-/// Whether the run is still in order with the entry at its front.
+/// Returns whether the run is still in order with the entry at its front.
 fn fits_at_front(run: &VecDeque<BucketEntry>, entry: &BucketEntry) -> bool
     requires { IsRun run.now.items }
     ensures { IsTrue result → IsRun (entry.now ∷ run.now.items) }
@@ -179,7 +179,8 @@ fn fits_at_front(run: &VecDeque<BucketEntry>, entry: &BucketEntry) -> bool
     }
 }
 
-/// Whether the run has an entry and its first one comes before the heap's entries or is equal to the first of them.
+/// Returns whether the run has an entry and its first one comes before the heap's entries or is equal to the first of
+/// them.
 fn is_run_first(run: &VecDeque<BucketEntry>, heap: &BinaryHeap<Reverse<BucketEntry>>) -> bool
     requires run { IsRun run.now.items }
     requires heap { IsHeap ⟦<Reverse<BucketEntry> as Ord>⟧.cmp (heap_items heap.now) }
@@ -201,7 +202,7 @@ fn is_run_first(run: &VecDeque<BucketEntry>, heap: &BinaryHeap<Reverse<BucketEnt
 impl BucketEntry {
     ghost use Rattle.openlist.specs.BucketLists.{with_f};
 
-    /// The open entry of this f-value.
+    /// Returns the open entry with this f-value.
     fn with_f(self, f: u64) -> OpenEntry
         ensures { result ≡ with_f f self }
     {

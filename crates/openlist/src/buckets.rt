@@ -10,22 +10,23 @@ use crate::row::{begin_reserve, bucket_of, count_far, first_filled, push_near, r
 use std::alloc::{AllocError, Global};
 use std::marker::Model;
 
-/// An open list as a row of buckets by f (Dial 1969), each a run beside a binary heap, with one heap for all entries of f
-/// 65536 and above.
+/// An open list as an array of buckets by f (Dial 1969), each a run beside a binary heap, with one heap for all entries
+/// of f 65536 and above.
 ///
-/// A push or a pop takes at most time logarithmic in the number of entries of the same f. A pop also passes the empty buckets from
-/// the place of the last pop, or of a push below that, to the first bucket that has an entry; `least` passes them without
-/// moving the place. So while no push is below the last f that was popped, all pops together pass each bucket once.
+/// A push or a pop takes at most time logarithmic in the number of entries of the same f. A pop also scans empty
+/// buckets, from the f-value of the last pop, or of a push below that, to the first bucket that has an entry; `least`
+/// does the same without moving the start of the scan. So while no push is below the last f that was popped, all pops
+/// together scan each bucket once.
 ///
-/// A contract sees the entries of each bucket, how many more fit in each without an allocation, the place, and the heap of
-/// the entries of great f.
+/// In contracts its value is the entries of each bucket, the number of entries that still fit in each without an
+/// allocation, the start of the scan, and the heap of entries without a bucket.
 #[derive(Drop)]
 pub struct Buckets {
     /// The allocator of new buckets.
     alloc: Global,
-    /// The buckets: that in place i has the entries of f-value i. The row ends at or before the last f-value below `FAR`.
+    /// The buckets: index i has the entries of f-value i. The last f-value with a bucket is below `FAR`.
     row: Vec<Bucket>,
-    /// No bucket below this place has an entry.
+    /// No bucket below this index has an entry.
     least: usize,
     /// The entries of f-values that have no bucket.
     far: Heap,
@@ -44,7 +45,7 @@ impl Model for Buckets {
 impl Buckets {
     ghost use Rattle.openlist.specs.BucketLists.{all_entries};
 
-    /// An empty open list.
+    /// Returns an empty open list.
     pub fn new(alloc: Global) -> Buckets
         ensures { all_entries result ≡ [] }
     {

@@ -10,13 +10,13 @@ pub struct Rank {
     pub steps: u64,
 }
 
-/// A state to be expanded. Entries are ordered by f, then by rank, then by place.
+/// A state to be expanded. Entries are ordered by f, then by rank, then by index.
 #[derive(Clone, Copy, Debug, PartialEq, Eq, PartialOrd, Ord)]
 pub struct OpenEntry {
     /// The f-value: the cost at which the state was reached plus the state's heuristic value, f = g + h.
     pub f: u64,
     /// The rank at which the state was reached.
     pub rank: Rank,
-    /// The state's place in its owner's table, counted from 0.
+    /// The state's index in its owner's table.
     pub index: usize,
 }

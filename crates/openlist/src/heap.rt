@@ -10,11 +10,11 @@ use std::collections::BinaryHeap;
 use std::marker::Model;
 
 /// An open list as a binary heap (Williams 1964): a push or a pop takes time logarithmic in the number of entries,
-/// `least` takes constant time. A contract sees the entries, in the heap's own order, and how many more entries fit
-/// without an allocation.
+/// `least` takes constant time. In contracts its value is the entries, in the heap's own order, and the number of
+/// entries that still fit without an allocation.
 #[derive(Drop)]
 pub struct Heap {
-    /// The entries, reversed: a binary heap gives its greatest element, and the first entry is the least one.
+    /// The entries, reversed: a binary heap pops its greatest element, and the first entry is the least one.
     heap: BinaryHeap<Reverse<OpenEntry>>,
 }
 
@@ -34,7 +34,7 @@ impl Model for Heap {
 }
 
 impl Heap {
-    /// An empty open list.
+    /// Returns an empty open list.
     pub fn new(alloc: Global) -> Heap
         ensures { result.entries ≡ [] }
     {
@@ -43,7 +43,7 @@ impl Heap {
         }
     }
 
-    /// Makes room for this many more entries. Fails only if allocation fails.
+    /// Makes room for `count` more entries. The entries are unchanged, also on failure.
     pub(crate) fn reserve_more(&mut self, count: usize) -> Result<(), AllocError>
         ensures entries { self.new.entries ≡ self.old.entries }
         ensures room { OnOk result (count ≤ self.new.spare) }

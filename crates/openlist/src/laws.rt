@@ -1,12 +1,12 @@
-//! Laws of the order of entries. Each function states laws as its contract, for all entries, and its body is empty.
+//! Laws of the order of entries, for all entries.
 
 ghost use Rattle.std.specs.Prelude.{◌≡◌, ◌≤◌, ◌⊎◌, ℕ, List, [], ◌∷◌, true, false, Contains, IsPermutation};
 ghost use Rattle.openlist.specs.declared.entry.OpenEntry.{OpenEntry};
 ghost use Rattle.openlist.specs.OpenLists.{comes_first, IsFirst, entry_of};
 ghost use Rattle.openlist.specs.BucketLists.{bucket_entry_of, count_of, far_count, row_entries};
 
-/// The order of entries is total, and f does not fall along it. The first entry of a list does not depend on how the list
-/// is arranged, and there is at most one.
+/// Proves that the order of entries is total, and that f never decreases along it. The first entry of a list does not
+/// depend on how the list is arranged, and there is at most one.
 pub fn entries_are_ordered()
     ensures reflexive { (x : OpenEntry) → comes_first x x ≡ true }
     ensures total { (x y : OpenEntry) → (comes_first x y ≡ true) ⊎ (comes_first y x ≡ true) }
@@ -19,8 +19,8 @@ pub fn entries_are_ordered()
         Contains xs x → IsFirst x xs → Contains xs y → IsFirst y xs → x ≡ y }
 {}
 
-/// Entries in their order: a lower f comes first whatever the rank, then a lower cost, then fewer operators, then an earlier
-/// place.
+/// Proves worked examples of the order: a lower f comes first whatever the rank, then a lower cost, then fewer
+/// operators, then a lower index.
 pub fn worked_examples()
     ensures f { comes_first (entry_of 65535 9 9 4) (entry_of 65536 0 0 3) ≡ true }
     ensures f_is_higher { comes_first (entry_of 65536 0 0 3) (entry_of 65535 9 9 4) ≡ false }
@@ -32,8 +32,8 @@ pub fn worked_examples()
     ensures place_is_later { comes_first (entry_of 3 1 1 7) (entry_of 3 1 1 2) ≡ false }
 {}
 
-/// Buckets: the entries of a row have their bucket's f-value. Of some f-values, those of one bucket and those that have no
-/// bucket are counted.
+/// Proves worked examples of buckets: the entries of an array of buckets have their bucket's f-value; of some f-values,
+/// those of one bucket and those without a bucket are counted.
 pub fn worked_buckets()
     ensures entries { row_entries 3 ((bucket_entry_of 1 1 2 ∷ bucket_entry_of 1 2 1 ∷ []) ∷ [] ∷ (bucket_entry_of 5 1 0 ∷ []) ∷ [])
         ≡ entry_of 3 1 1 2 ∷ entry_of 3 1 2 1 ∷ entry_of 5 5 1 0 ∷ [] }

@@ -16,21 +16,21 @@ pub trait OpenList: Drop {
     /// Entries of these f-values, in this order and with any left out, can be pushed without an allocation.
     ghost HasRoom: { Self → List ℕ → Type 0 };
 
-    /// Makes room to push entries of these f-values in this order, with any left out. Fails only if allocation fails. The
-    /// entries stay the same in either case.
+    /// Makes room to push entries of these f-values in this order, with any left out. The entries are unchanged, also
+    /// on failure.
     fn reserve(&mut self, fs: &[u64]) -> Result<(), AllocError>
         ensures entries { IsPermutation (entries self.old) (entries self.new) }
         ensures room { OnOk result (HasRoom self.new fs.now) };
 
-    /// Adds an entry. Fails only if allocation fails, and then leaves the entries as they were; it cannot fail where
-    /// `HasRoom` holds for f-values of which the first is the entry's.
+    /// Adds an entry. On failure the entries are unchanged. It cannot fail if `HasRoom` holds for f-values the first of
+    /// which is the entry's.
     fn push(&mut self, entry: OpenEntry) -> Result<(), AllocError>
         ensures pushed { OnOk result (IsPermutation (entry ∷ entries self.old) (entries self.new)) }
         ensures unchanged { OnErr result (IsPermutation (entries self.old) (entries self.new)) }
         ensures succeeds { (fs : List ℕ) → HasRoom self.old (entry.f ∷ fs) → IsOk result }
         ensures room { (fs : List ℕ) → HasRoom self.old (entry.f ∷ fs) → HasRoom self.new fs };
 
-    /// Removes and returns the first entry, or returns `None` if the list is empty. Allocates nothing.
+    /// Removes and returns the first entry, or returns `None` if the list is empty.
     fn pop(&mut self) -> Option<OpenEntry>
         ensures first { IfSome result (λ e. IsFirst e (entries self.old)) }
         ensures rest { IfSome result (λ e. IsPermutation (entries self.old) (e ∷ entries self.new)) }
@@ -38,7 +38,7 @@ pub trait OpenList: Drop {
         ensures empty { IfNone result (entries self.new ≡ []) }
         ensures room { (fs : List ℕ) → HasRoom self.old fs → HasRoom self.new fs };
 
-    /// The first entry, or `None` if the list is empty. Allocates nothing.
+    /// Returns the first entry, or `None` if the list is empty.
     fn least(&self) -> Option<OpenEntry>
         ensures member { IfSome result (λ e. Contains (entries self.now) e) }
         ensures first { IfSome result (λ e. IsFirst e (entries self.now)) }

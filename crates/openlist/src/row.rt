@@ -1,4 +1,4 @@
-//! A row of buckets: the bucket in place i has the entries of f-value i.
+//! The array of buckets: index i has the entries of f-value i.
 
 ghost use Rattle.std.specs.Prelude.{◌≡◌, ◌≢◌, ℕ, ◌+◌, max, ◌<◌, ◌≤◌, List, [], ◌∷◌, length, slice_index_or, vec_len, IsOk, IsPermutation, IfSome, IfNone, OnOk, OnErr};
 ghost use Rattle.openlist.specs.BucketLists.{far_count, HasBuckets, HasRoomNear, HasSameEntries, KeepsRoom, row_entries, row_of, spares_of};
@@ -7,10 +7,10 @@ use crate::bucket::Bucket;
 use crate::entry::OpenEntry;
 use std::alloc::{AllocError, Global};
 
-/// The least f-value that has no bucket: entries of this f-value or of a greater one stand in one heap.
+/// The least f-value without a bucket: entries of this f-value or of a greater one are in one heap.
 pub const FAR: u64 = 65_536;
 
-/// The place of this f-value's bucket, or `None` if the f-value has none.
+/// Returns the index of this f-value's bucket, or `None` if it has none.
 pub fn bucket_of(f: u64) -> Option<usize>
     ensures near { IfSome result (λ place. place ≡ f) }
     ensures below { IfSome result (λ place. place < FAR) }
@@ -19,14 +19,15 @@ pub fn bucket_of(f: u64) -> Option<usize>
     if f < FAR { Some(f as usize) } else { None }
 }
 
-/// How many of these f-values have no bucket.
+/// Returns the number of these f-values without a bucket.
 pub fn count_far(fs: &[u64]) -> usize
     ensures { result ≡ far_count fs.now }
 {
     fs.iter().filter(|f| **f >= FAR).count()
 }
 
-/// The first place at or above `from` whose bucket has an entry, or one at or above the row's length if there is none.
+/// Returns the least index, `from` or higher, whose bucket has an entry, or an index at or above the array's length if
+/// there is none.
 pub fn first_filled(row: &[Bucket], from: usize) -> usize
     ensures above { from ≤ result }
     ensures empty { (place : ℕ) → from ≤ place → place < result →
@@ -40,8 +41,8 @@ pub fn first_filled(row: &[Bucket], from: usize) -> usize
     place
 }
 
-/// Adds empty buckets at the row's end until there is one in this place. Fails only if allocation fails, and may then have
-/// added some of them. Each new bucket takes constant time on average, since a `Vec` doubles its capacity.
+/// Appends empty buckets until there is one at the index. On failure some of them may have been added. Each new bucket
+/// takes constant time on average, because a `Vec` doubles its capacity.
 pub fn grow(row: &mut Vec<Bucket>, alloc: Global, place: usize) -> Result<(), AllocError>
     ensures entries { HasSameEntries (row_of row.old.items) (row_of row.new.items) }
     ensures room { KeepsRoom (spares_of row.old.items) (spares_of row.new.items) }
@@ -56,8 +57,7 @@ pub fn grow(row: &mut Vec<Bucket>, alloc: Global, place: usize) -> Result<(), Al
     Ok(())
 }
 
-/// Adds the entry to the bucket in this place, which is that of the entry's f-value; makes the bucket if there is none. Fails
-/// only if allocation fails.
+/// Adds the entry to the bucket at the index, which is that of the entry's f-value, after creating missing buckets.
 pub fn push_near(
     row: &mut Vec<Bucket>,
     alloc: Global,
@@ -80,8 +80,7 @@ pub fn push_near(
     row[place].push(entry)
 }
 
-/// Makes a bucket for each of these f-values that can have one, and begins to count for how many entries it is asked. Fails
-/// only if allocation fails.
+/// Creates missing buckets for those of the f-values that have one, and resets their requested room.
 pub fn begin_reserve(row: &mut Vec<Bucket>, alloc: Global, fs: &[u64]) -> Result<(), AllocError>
     requires { vec_len row.old ≤ FAR }
     ensures entries { HasSameEntries (row_of row.old.items) (row_of row.new.items) }
@@ -97,10 +96,10 @@ pub fn begin_reserve(row: &mut Vec<Bucket>, alloc: Global, fs: &[u64]) -> Result
     Ok(())
 }
 
-/// Makes room in each bucket for as many entries as its f-value stands in `fs`. Fails only if allocation fails.
+/// Makes room in each bucket for as many entries as `fs` has occurrences of its f-value.
 ///
-/// Each occurrence asks its bucket for one entry more than the occurrences before it, so the whole takes linear time and the
-/// room is for no more entries than are in `fs`, where room for `fs.len()` entries in each bucket could be quadratic.
+/// Each occurrence requests room for one entry more than those before it, so that the total time is linear and the
+/// total room is that of the entries in `fs`; room for `fs.len()` entries in each bucket could be quadratic.
 pub fn reserve_near(row: &mut Vec<Bucket>, fs: &[u64]) -> Result<(), AllocError>
     requires { HasBuckets fs.now (vec_len row.old) }
     ensures entries { HasSameEntries (row_of row.old.items) (row_of row.new.items) }

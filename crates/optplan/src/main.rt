@@ -1,4 +1,4 @@
-//! optplan: an optimal sequential planner for PDDL. `solve` runs no checker: with a plan or `unsolvable` it gives a
+//! optplan: an optimal sequential planner for PDDL. `solve` runs no checker: with a plan or `unsolvable` it produces a
 //! certificate that the separate checker provably accepts, if the certificate's text has at most 2^30 bytes.
 #![tactic(auto)]
 

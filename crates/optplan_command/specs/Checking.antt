@@ -1,5 +1,5 @@
--- The check of a certificate for a finite-domain task: the words that request it, the answer for the two texts, and what
--- the command does.
+-- The check of a certificate for a finite-domain task: the arguments that request it, the answer for the two texts, and
+-- what the command does.
 use Rattle.std.specs.Prelude.{◌≡◌, ℕ, true, List, [], ◌∷◌, ◌++◌, codes}
 use Rattle.optplan_device.specs.Events.{Event, HasRead}
 use Rattle.checker.specs.Verdicts.{verdict_text}
@@ -13,7 +13,7 @@ use Rattle.optplan_replies.specs.declared.status.Status.TheVariants as exit
 use Rattle.optplan_replies.specs.Faults.{fault_of_check}
 use Rattle.optplan_replies.specs.Runs.{is_operand, Follows}
 
--- the words request a check: the program's name, `check-sas`, and two files
+-- the arguments request a check: the program's name, `check-sas`, and two files
 pub record AskForCheck (words : List (List ℕ)) (sas cert : List ℕ) : Type 0 where
   pub program : List ℕ
   pub are : words ≡ program ∷ codes "check-sas" ∷ sas ∷ cert ∷ []

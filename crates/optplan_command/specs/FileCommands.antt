@@ -1,4 +1,4 @@
--- The commands that work on files alone: the words that request each, and what each does.
+-- The commands that work on files alone: the arguments that request each, and what each does.
 use Rattle.std.specs.Prelude.{◌≡◌, ◌≢◌, ℕ, List, Option, None, IfSome, IsSomeAnd, codes}
 use Rattle.optplan_device.specs.Events.{Event}
 use Rattle.optplan_replies.specs.declared.status.Status.{Status}
@@ -51,7 +51,7 @@ IsMigration c (CheckSas sas cert) = ⊥
 IsMigration c (Translate domain problem) = ⊥
 IsMigration c (MigrateCert cert) = cert.now ≡ c
 
--- the words request this command
+-- the arguments request this command
 abbrev pub AskFor : List (List ℕ) → FileCommand → Type 0
 AskFor words (Validate domain problem plan) = AskForValidation words domain.now problem.now plan.now
 AskFor words (Check domain problem cert) = AskForPlanningCheck words domain.now problem.now cert.now
@@ -59,7 +59,7 @@ AskFor words (CheckSas sas cert) = AskForCheck words sas.now cert.now
 AskFor words (Translate domain problem) = AskForTranslation words domain.now problem.now
 AskFor words (MigrateCert cert) = AskForMigration words cert.now
 
--- the command is the one that the words request, and there is none only if they request none
+-- the command is the one that the arguments request, and there is none only if they request none
 pub record IsRequested (words : List (List ℕ)) (command : Option FileCommand) : Type 0 where
   pub asked : IfSome command (AskFor words)
   pub validates : (domain problem plan : List ℕ) → AskForValidation words domain problem plan → IsSomeAnd command (IsValidation domain problem plan)
@@ -68,7 +68,7 @@ pub record IsRequested (words : List (List ℕ)) (command : Option FileCommand) 
   pub translates : (domain problem : List ℕ) → AskForTranslation words domain problem → IsSomeAnd command (IsTranslation domain problem)
   pub migrates : (cert : List ℕ) → AskForMigration words cert → IsSomeAnd command (IsMigration cert)
 
--- the words request no command in this plain way
+-- the arguments request no command in this plain way
 abbrev pub IsNotPlain : List (List ℕ) → Type 0
 IsNotPlain words = IsRequested words None
 
@@ -83,7 +83,7 @@ IsNamed name value (Translate domain problem) =
     (name ≡ codes "translate") × (domain.now ≡ operand value (codes "DOMAIN")) × (problem.now ≡ operand value (codes "PROBLEM"))
 IsNamed name value (MigrateCert cert) = (name ≡ codes "migrate-cert") × (cert.now ≡ operand value (codes "CERT"))
 
--- no command on files alone has this name
+-- no command that works on files alone has this name
 abbrev pub NamesNoFileCommand : List ℕ → Type 0
 NamesNoFileCommand name =
     (name ≢ codes "validate") × (name ≢ codes "check") × (name ≢ codes "check-sas") × (name ≢ codes "translate") × (name ≢ codes "migrate-cert")

@@ -1,4 +1,5 @@
--- A certificate as one of version 2: the words that request it, the answer for its text, and what the command does.
+-- The conversion of a certificate to version 2: the arguments that request it, the answer for the certificate's text,
+-- and what the command does.
 use Rattle.std.specs.Prelude.{◌≡◌, ◌≢◌, ℕ, true, List, [], ◌∷◌, ◌++◌, Err, codes}
 use Rattle.optplan_device.specs.Events.{Event, HasRead}
 use Rattle.cert_value.specs.Certificates.{CertificateValue}
@@ -13,13 +14,13 @@ use Rattle.optplan_replies.specs.Runs.{is_operand, Follows}
 use Rattle.optplan_replies.specs.declared.fault.Fault.{Fault}
 use Rattle.optplan_replies.specs.declared.fault.Fault.TheVariants.{OutOfMemory, CannotRead, CannotWrite, Task, Plan, Sas, Cert, GroundLimit, TaskTooLarge, TotalTooLarge}
 
--- the words request it: the program's name, `migrate-cert`, and a file
+-- the arguments request it: the program's name, `migrate-cert`, and a file
 pub record AskForMigration (words : List (List ℕ)) (cert : List ℕ) : Type 0 where
   pub program : List ℕ
   pub are : words ≡ program ∷ codes "migrate-cert" ∷ cert ∷ []
   pub cert_is : is_operand cert ≡ true
 
--- the first text spells a certificate, and the second the same certificate as one of version 2
+-- the first text spells a certificate, and the second the same certificate in version 2
 pub record IsMigrated (cert text : List ℕ) : Type 0 where
   pub certificate : CertificateValue
   pub lawful : IsLawful certificate

@@ -36,7 +36,7 @@ abbrev pub IsTiesOf : Option (List ℕ) → Ties → Type 0
 IsTiesOf None ties = ties ≡ Shallow
 IsTiesOf (Some text) ties = NamesTies text ties
 
--- the options of the solver, by the values of the command's options
+-- the options of the solver, from the values of the command's options
 pub record AreChoicesOf (value : List ℕ → Option (List ℕ)) (choices : Choices) : Type 0 where
   pub workers : IsNumberOr 4 1 64 (value (codes "workers")) choices.workers
   pub table : IsNumberOr 100000 1 16777216 (value (codes "table")) choices.table
@@ -45,13 +45,13 @@ pub record AreChoicesOf (value : List ℕ → Option (List ℕ)) (choices : Choi
   pub steps : IsNumberOr 1000000 0 9223372036854775807 (value (codes "steps")) choices.steps
   pub ties : IsTiesOf (value (codes "ties")) choices.ties
 
--- the schedule by a seed, by seconds and by a memory: steps drawn from the seed, whatever the others; or where there is none, threads, which
--- have these seconds and this memory, if there are any
+-- the schedule from a seed, seconds and a memory: random steps from the seed, whatever the others are; or, if there is
+-- no seed, threads, with these seconds and this memory, if there are any
 abbrev pub schedule_by : Option ℕ → Option ℕ → Option ℕ → Schedule
 schedule_by (Some seed) seconds mebibytes = Drawn seed
 schedule_by None seconds mebibytes = Threads (record { seconds = seconds; mebibytes = mebibytes })
 
--- the schedule by the values of the options that name a seed, seconds and memory
+-- the schedule from the values of the options that name a seed, seconds and memory
 pub record IsScheduleOf (value : List ℕ → Option (List ℕ)) (schedule : Schedule) : Type 0 where
   pub seed : Option ℕ
   pub seed_is : IsNumberOf 0 9223372036854775807 (value (codes "simulate")) seed
@@ -61,7 +61,7 @@ pub record IsScheduleOf (value : List ℕ → Option (List ℕ)) (schedule : Sch
   pub mebibytes_are : IsNumberOf 0 9223372036854775807 (value (codes "memory")) mebibytes
   pub is : schedule ≡ schedule_by seed seconds mebibytes
 
--- what is requested beside the task, by the values of the command's options
+-- the request apart from the task, from the values of the command's options
 pub record AreSettingsOf (value : List ℕ → Option (List ℕ)) (settings : Settings) : Type 0 where
   pub choices : AreChoicesOf value settings.options
   pub schedule : IsScheduleOf value settings.schedule

@@ -1,5 +1,5 @@
--- The check of a certificate for a planning task: the answer for the three texts, the words that request it, and what the
--- command does.
+-- The check of a certificate for a planning task: the answer for the three texts, the arguments that request it, and
+-- what the command does.
 use Rattle.std.specs.Prelude.{◌≡◌, ℕ, true, List, [], ◌∷◌, ◌++◌, codes}
 use Rattle.optplan_device.specs.Events.{Event}
 use Rattle.checker_pddl.specs.Judgements.{verdict_text}
@@ -40,7 +40,7 @@ IsPlanningCheckRefusal domain problem cert GroundLimit = checked.IsRefusal domai
 IsPlanningCheckRefusal domain problem cert (TaskTooLarge table) = checked.IsRefusal domain problem cert (check.Limit table)
 IsPlanningCheckRefusal domain problem cert TotalTooLarge = ⊥
 
--- the words request a check: the program's name, `check`, and three files
+-- the arguments request a check: the program's name, `check`, and three files
 pub record AskForPlanningCheck (words : List (List ℕ)) (domain problem cert : List ℕ) : Type 0 where
   pub program : List ℕ
   pub are : words ≡ program ∷ codes "check" ∷ domain ∷ problem ∷ cert ∷ []

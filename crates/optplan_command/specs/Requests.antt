@@ -1,5 +1,5 @@
--- What the program does by words that name one of its commands, with operands and options in any order, `--` among them. Which
--- command they name, and with which values, is told by the definitions of the parser of command lines.
+-- What the program does for arguments that name one of its commands, with operands and options in any order, `--` among
+-- them. The definitions of `clap` specify which command they name, and with which values.
 use Rattle.std.specs.Prelude.{◌≡◌, ◌≢◌, ◌⊎◌, ℕ, List, [], Option, codes}
 use Rattle.clap.specs.Walk.{Row, first_of}
 use Rattle.clap.specs.Kinds.{IsAmong}
@@ -18,7 +18,7 @@ use Rattle.optplan_command.specs.SolveWords.{HasRefusedValue, SolvesByWords, Sol
 abbrev pub value_in : List Row → List ℕ → Option (List ℕ)
 value_in rows name = first_of name rows
 
--- the command of this name is done, with these values of its operands and options
+-- the command of this name is run, with these values of its operands and options
 pub record DoesRequest (name : List ℕ) (value : List ℕ → Option (List ℕ)) (old new : List Event) (status : Status) : Type 0 where
   pub validates : name ≡ codes "validate" → Validates old new (operand value (codes "DOMAIN")) (operand value (codes "PROBLEM")) (operand value (codes "PLAN")) status
   pub checks : name ≡ codes "check" → ChecksPlanning old new (operand value (codes "DOMAIN")) (operand value (codes "PROBLEM")) (operand value (codes "CERT")) status
@@ -32,7 +32,8 @@ pub record DoesRequest (name : List ℕ) (value : List ℕ → Option (List ℕ)
 abbrev pub IsRefusedRequest : List ℕ → (List ℕ → Option (List ℕ)) → Type 0
 IsRefusedRequest name value = ((name ≡ codes "solve") ⊎ (name ≡ codes "solve-sas")) × HasRefusedValue value
 
--- words with an error of one of these kinds are misused: there is such a kind, and none is a request for help or the version
+-- arguments with an error of one of these kinds are misused: there is such a kind, and none is a request for help or
+-- the version
 pub record IsMisuse (kinds : List ErrorKind) : Type 0 where
   pub some : kinds ≢ []
   pub no_help : (k : ErrorKind) → IsAmong k kinds → (k ≢ DisplayHelp) × (k ≢ DisplayVersion)

@@ -1,4 +1,4 @@
--- What a solve command does by its words.
+-- The effect of a solve command, from its arguments.
 use Rattle.std.specs.Prelude.{ℕ, List, [], Option, codes, unwrap_or}
 use Rattle.optplan_device.specs.Events.{Event}
 use Rattle.optplan_replies.specs.declared.status.Status.{Status}
@@ -12,7 +12,7 @@ use Rattle.optplan_command.specs.Options.{AreSettingsOf}
 abbrev pub operand : (List ℕ → Option (List ℕ)) → List ℕ → List ℕ
 operand value name = unwrap_or (value name) []
 
--- a value of an option is refused: there is nothing that the options request
+-- a value of an option is refused: no settings have these values
 abbrev pub HasRefusedValue : (List ℕ → Option (List ℕ)) → Type 0
 HasRefusedValue value = (settings : Settings) → AreSettingsOf value settings → ⊥
 

@@ -1,4 +1,4 @@
--- The commands that solve a task: their names, and what each does by its words.
+-- The commands that solve a task: their names, and what each does for its arguments.
 use Rattle.std.specs.Prelude.{ℕ, List, Option, codes}
 use Rattle.optplan_device.specs.Events.{Event}
 use Rattle.optplan_replies.specs.declared.status.Status.{Status}
@@ -10,7 +10,7 @@ abbrev pub name_of : SolvingCommand → List ℕ
 name_of Solve = codes "solve"
 name_of SolveSas = codes "solve-sas"
 
--- the task is solved as the words of the command request
+-- the task is solved as the arguments of the command request
 abbrev pub Solved : SolvingCommand → (List ℕ → Option (List ℕ)) → List Event → List Event → Status → Type 0
 Solved Solve value old new status = SolvesByWords value old new status
 Solved SolveSas value old new status = SolvesSasByWords value old new status

@@ -1,4 +1,5 @@
--- The translation of a planning task: the answer for its two texts, the words that request it, and what the command does.
+-- The translation of a planning task: the answer for its two texts, the arguments that request it, and what the command
+-- does.
 use Rattle.std.specs.Prelude.{◌≡◌, ℕ, true, List, [], ◌∷◌, ◌++◌, length, map, codes}
 use Rattle.optplan_device.specs.Events.{Event}
 use Rattle.pddl_task.specs.Planning.{PlanningTask}
@@ -36,7 +37,7 @@ IsTranslationRefusal domain problem (TaskTooLarge table) =
     (task : PlanningTask) × SpellTask domain problem task × IsUntranslated task (translating.Limit table)
 IsTranslationRefusal domain problem TotalTooLarge = ⊥
 
--- the words request a translation: the program's name, `translate`, and two files
+-- the arguments request a translation: the program's name, `translate`, and two files
 pub record AskForTranslation (words : List (List ℕ)) (domain problem : List ℕ) : Type 0 where
   pub program : List ℕ
   pub are : words ≡ program ∷ codes "translate" ∷ domain ∷ problem ∷ []

@@ -1,11 +1,11 @@
--- The validation of a plan: the words that request it, and what the command does.
+-- The validation of a plan: the arguments that request it, and what the command does.
 use Rattle.std.specs.Prelude.{◌≡◌, ℕ, true, List, [], ◌∷◌, ◌++◌, codes}
 use Rattle.optplan_device.specs.Events.{Event, HasRead}
 use Rattle.optplan_replies.specs.declared.status.Status.{Status}
 use Rattle.optplan_replies.specs.Runs.{is_operand, Follows}
 use Rattle.optplan_command.specs.Answers.{IsAnswer, IsRefusal}
 
--- the words request a plan's validation: the program's name, `validate`, and three files
+-- the arguments request a plan's validation: the program's name, `validate`, and three files
 pub record AskForValidation (words : List (List ℕ)) (domain problem plan : List ℕ) : Type 0 where
   pub program : List ℕ
   pub are : words ≡ program ∷ codes "validate" ∷ domain ∷ problem ∷ plan ∷ []

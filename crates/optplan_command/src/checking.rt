@@ -13,7 +13,7 @@ use optplan_replies::{Fault, FileWord, Status, read_file, reply, report};
 use std::alloc::{AllocError, Global};
 use std::thread::Threads;
 
-/// The exit status of a verdict: `Done` if the certificate is accepted, else `Rejected`.
+/// Returns the exit status of a verdict: `Done` if the certificate is accepted, else `Rejected`.
 fn check_status(verdict: &Verdict) -> Status
     ensures status { result ≡ check_status verdict.now }
     ensures judged { IsOfVerdict result }
@@ -24,7 +24,7 @@ fn check_status(verdict: &Verdict) -> Status
     }
 }
 
-/// The verdict's line, with its line feed. Fails only if allocation fails.
+/// Returns the verdict's line, with its line feed.
 fn check_line(alloc: Global, verdict: &Verdict) -> Result<String, AllocError>
     ensures { IfOk result (λ line. string_bytes line ≡ verdict_text verdict.now ++ codes "\n") }
 {
@@ -33,8 +33,8 @@ fn check_line(alloc: Global, verdict: &Verdict) -> Result<String, AllocError>
     Ok(line)
 }
 
-/// The line that is printed for a certificate's text and a task's, with its line feed, and the exit status: `Done` if the
-/// certificate is accepted, else `Rejected`. Each text is dropped as soon as it is parsed.
+/// Returns the line that is printed for a certificate's text and a task's, with its line feed, and the exit status:
+/// `Done` if the certificate is accepted, else `Rejected`. Each text is dropped as soon as it is parsed.
 ///
 /// Fails with the first fault of the task's text; if that spells a task, with the first fault of the certificate's; or
 /// with `OutOfMemory`.
@@ -57,7 +57,7 @@ fn check_of<R: AllocGlobal + Threads + Sync>(
     }
 }
 
-/// The bytes of the two files, read in this order. Fails as `read_file` does.
+/// Returns the bytes of the two files, read in this order. Fails as `read_file` does.
 fn read_texts<D: Device>(
     alloc: Global,
     device: &mut D,

@@ -29,8 +29,8 @@ use std::sync::Wait;
 use std::thread::Threads;
 use std::time::Clock;
 
-/// Runs the command that `clap` finds in the words, and returns the exit status. Fails with the error in the words, with
-/// help or the version if they are requested, or if allocation fails.
+/// Runs the command that `clap` finds in the arguments, and returns the exit status. Fails with the error in the
+/// arguments, with help or the version if they are requested, or if allocation fails.
 fn run_words<D: Device, R: Threads + Wait + Clock + Eprint + Sync + AllocGlobal>(
     rt: &R,
     words: &[String],
@@ -59,8 +59,8 @@ fn run_words<D: Device, R: Threads + Wait + Clock + Eprint + Sync + AllocGlobal>
     }
 }
 
-/// Prints help or the version on standard output, or reports an error in the words on standard error. Returns the exit
-/// status.
+/// Prints help or the version on standard output, or reports an error in the arguments on standard error. Returns the
+/// exit status.
 fn show<D: Device>(alloc: Global, device: &mut D, error: &Error) -> Status
     ensures memory { kind_of error.now ≡ OutOfMemory → result ≡ Status.OutOfMemory }
     ensures misused { kind_of error.now ≢ DisplayHelp → kind_of error.now ≢ DisplayVersion → (result ≡ Status.Misused) ⊎ (result ≡ Status.OutOfMemory) }
@@ -79,13 +79,13 @@ fn show<D: Device>(alloc: Global, device: &mut D, error: &Error) -> Status
     put_text(alloc, device, text.as_bytes(), Status::Done)
 }
 
-/// The whole program: does what the words request, the first of which is the program's name, and returns the exit status.
+/// Runs the whole program: does what the arguments request, the first of which is the program's name, and returns the
+/// exit status.
 ///
-/// Files are read and texts are written through the device. A report on standard error that fails leaves the status as it
-/// is.
+/// All I/O is through the device. If a report on standard error fails, the exit status is unchanged.
 ///
-/// Plain words are a command on files alone and its files, none of which begins with `-`. What other words request, with operands and
-/// options in any order, is told by the definitions of the command line's library.
+/// Plain arguments are a command that works on files alone and its files, none of which begins with `-`. The meaning of
+/// other arguments, with operands and options in any order, is that of the definitions of `clap`.
 pub fn run<D: Device, R: Threads + Wait + Clock + Eprint + Sync + AllocGlobal>(
     words: &[String],
     device: &mut D,

@@ -46,7 +46,7 @@ pub(crate) enum FileCommand<'a> {
     },
 }
 
-/// Whether the word does not start an option.
+/// Returns whether the argument does not start an option.
 fn is_operand(word: &str) -> bool
     ensures { result ≡ is_operand word.now }
 {
@@ -56,7 +56,7 @@ fn is_operand(word: &str) -> bool
     }
 }
 
-/// The command of this name on three files, none of which starts with a hyphen, if there is one.
+/// Returns the command of this name on three files, none of which starts with a hyphen, if there is one.
 fn plain_on_three<'a>(
     command: &str,
     first: &'a str,
@@ -83,7 +83,7 @@ fn plain_on_three<'a>(
     }
 }
 
-/// The command of this name on two files, none of which starts with a hyphen, if there is one.
+/// Returns the command of this name on two files, none of which starts with a hyphen, if there is one.
 fn plain_on_two<'a>(command: &str, first: &'a str, second: &'a str) -> Option<FileCommand<'a>>
     ensures { (program : List ℕ) → IsRequested (program ∷ command.now ∷ first.now ∷ second.now ∷ []) result }
 {
@@ -103,7 +103,7 @@ fn plain_on_two<'a>(command: &str, first: &'a str, second: &'a str) -> Option<Fi
     }
 }
 
-/// The command of this name on one file that does not start with a hyphen, if there is one.
+/// Returns the command of this name on one file that does not start with a hyphen, if there is one.
 fn plain_on_one<'a>(command: &str, file: &'a str) -> Option<FileCommand<'a>>
     ensures { (program : List ℕ) → IsRequested (program ∷ command.now ∷ file.now ∷ []) result }
 {
@@ -114,8 +114,8 @@ fn plain_on_one<'a>(command: &str, file: &'a str) -> Option<FileCommand<'a>>
     }
 }
 
-/// The command that plain words request: the program, the command and its files, none of which starts with a hyphen, and
-/// nothing else.
+/// Returns the command that plain arguments request: the program, the command and its files, none of which starts with
+/// a hyphen, and nothing else.
 pub(crate) fn plain_command(words: &[String]) -> Option<FileCommand<'_>>
     ensures { IsRequested (texts_of words.now) result }
 {

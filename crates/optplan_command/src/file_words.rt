@@ -1,4 +1,4 @@
-//! The words of the commands that work on files alone.
+//! The arguments of the commands that work on files alone.
 
 ghost use Rattle.std.specs.Prelude.{◌≡◌, IfSome, IfNone};
 ghost use Rattle.clap.specs.Matches.{found_of, first_value};
@@ -8,14 +8,14 @@ ghost use Rattle.optplan_command.specs.FileCommands.{IsNamed, NamesNoFileCommand
 use crate::file_command::FileCommand;
 use clap::ArgMatches;
 
-/// The file that an operand names, the empty text if it names none.
+/// Returns the file that an operand names, the empty text if it names none.
 fn named<'a>(words: &ArgMatches<'a>, role: &str) -> &'a str
     ensures { result.now ≡ operand (λ name. first_value (found_of words.now) name) role.now }
 {
     words.get_str(role).unwrap_or("")
 }
 
-/// The command of this name, with the files that its words name, if it is one on files alone.
+/// Returns the command of this name, with the files that its arguments name, if it is one that works on files alone.
 pub(crate) fn file_command<'a>(name: &str, words: &ArgMatches<'a>) -> Option<FileCommand<'a>>
     ensures some { IfSome result (IsNamed name.now (λ name. first_value (found_of words.now) name)) }
     ensures none { IfNone result (NamesNoFileCommand name.now) }

@@ -11,8 +11,8 @@ use optplan_device::Device;
 use optplan_replies::{Fault, FileWord, Status, read_file, report};
 use std::alloc::Global;
 
-/// The text of the certificate as version 2. The text that was read is dropped before that is made. Fails with the first fault of the
-/// text, or with `OutOfMemory`.
+/// Returns the text of the certificate as version 2. The input text is dropped before that one is made. Fails with the
+/// first fault of the text, or with `OutOfMemory`.
 fn migrated(alloc: Global, cert: Vec<u8>) -> Result<Vec<u8>, Fault>
     ensures text { IfOk result (λ text. IsMigrated cert.items text.items) }
     ensures refused { IfErr result (IsMigrationRefusal cert.items) }
@@ -28,8 +28,8 @@ fn migrated(alloc: Global, cert: Vec<u8>) -> Result<Vec<u8>, Fault>
     }
 }
 
-/// Prints a certificate as version 2: reads the file, and prints the text or reports the fault of what was read. Returns the exit
-/// status.
+/// Prints a certificate as version 2: reads the file, and prints the text or reports the fault of the file's text.
+/// Returns the exit status.
 pub fn run_migration<D: Device>(alloc: Global, device: &mut D, cert: &str) -> Status
     ensures done { (h : List Event) → D.history device.old ≡ Some h → D.failure_count device.new ≡ D.failure_count device.old → result ≢ Status.OutOfMemory →
         (new : List Event) × (D.history device.new ≡ Some new) × Migrates h new cert.now result }

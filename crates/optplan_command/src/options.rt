@@ -13,10 +13,10 @@ use clap::{ArgMatches, Command, Error};
 use optplan_sas::Ties;
 use std::alloc::{AllocError, Global};
 
-/// What an option takes.
+/// The type of an option's value.
 #[derive(Clone, Copy, Debug)]
 enum Taken {
-    /// A number from the first to the second.
+    /// A number from the first to the second, inclusive.
     Number(u64, u64),
     /// The name of an order among states of the same f-value.
     Ties,
@@ -31,7 +31,7 @@ pub(crate) struct RefusedValue<'a> {
 }
 
 impl<'a> RefusedValue<'a> {
-    /// The command's error for the value; an out-of-memory error if allocation fails.
+    /// Returns the command's error for the value; an out-of-memory error if allocation fails.
     pub(crate) fn error(self, alloc: Global, command: Command<'_>) -> Error
         ensures { (kind_of result ≡ OutOfMemory) ⊎ (kind_of result ≡ ValueValidation) }
     {
@@ -59,11 +59,11 @@ impl<'a> RefusedValue<'a> {
     }
 }
 
-/// The number that a text spells with digits only, if it is in this range.
+/// Returns the number that a text spells with digits only, if it is in this range.
 fn number_in(text: &str, least: u64, most: u64) -> Option<u64>
     ensures { SomeIff result (IsNumberIn least most text.now) (digits_value 10 text.now) }
 {
-    // `parse` takes a plus as a sign
+    // `parse` accepts a plus sign.
     if text.starts_with('+') {
         return None;
     }
@@ -73,7 +73,7 @@ fn number_in(text: &str, least: u64, most: u64) -> Option<u64>
     }
 }
 
-/// The number that is given for an option, if the option is there. Fails if the value is not a number in this range.
+/// Returns the number of an option, if the option is present. Fails if the value is not a number in this range.
 pub(crate) fn number_for<'a>(
     words: &ArgMatches<'a>,
     option: &'a str,
@@ -97,7 +97,7 @@ pub(crate) fn number_for<'a>(
     }
 }
 
-/// The order that a text names, if it names one.
+/// Returns the order that a text names, if it names one.
 fn ties_named(text: &str) -> Option<Ties>
     ensures named { IfSome result (NamesTies text.now) }
     ensures neither { IfNone result ((text.now ≢ codes "shallow") × (text.now ≢ codes "deep")) }
@@ -109,7 +109,7 @@ fn ties_named(text: &str) -> Option<Ties>
     }
 }
 
-/// The order that is given for the option, `Shallow` if the option is not there. Fails if the value names none.
+/// Returns the order of the option, `Shallow` if the option is absent. Fails if the value names none.
 pub(crate) fn ties_for<'a>(
     words: &ArgMatches<'a>,
     option: &'a str,

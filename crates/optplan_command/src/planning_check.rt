@@ -15,7 +15,7 @@ use optplan_replies::{Fault, FileWord, Status, read_file, reply, report, task_fa
 use std::alloc::{AllocError, Global};
 use std::thread::Threads;
 
-/// The exit status of a verdict: `Done` if the certificate is accepted, else `Rejected`.
+/// Returns the exit status of a verdict: `Done` if the certificate is accepted, else `Rejected`.
 fn planning_check_status(verdict: &PlanningVerdict) -> Status
     ensures status { result ≡ planning_check_status verdict.now }
     ensures judged { IsOfVerdict result }
@@ -26,7 +26,7 @@ fn planning_check_status(verdict: &PlanningVerdict) -> Status
     }
 }
 
-/// The verdict's line, with its line feed. Fails only if allocation fails.
+/// Returns the verdict's line, with its line feed.
 fn planning_check_line(alloc: Global, verdict: &PlanningVerdict) -> Result<String, AllocError>
     ensures { IfOk result (λ line. string_bytes line ≡ verdict_text verdict.now ++ codes "\n") }
 {
@@ -35,7 +35,7 @@ fn planning_check_line(alloc: Global, verdict: &PlanningVerdict) -> Result<Strin
     Ok(line)
 }
 
-/// The checker's fault as the program's, with the word that it prints.
+/// Converts the checker's fault into the program's, with the word that it prints.
 fn planning_check_fault(
     alloc: Global,
     fault: PlanningCheckFault,
@@ -56,11 +56,11 @@ fn planning_check_fault(
     }
 }
 
-/// The line that is printed for a certificate's text and the texts of a domain and a problem, with its line feed, and the
-/// exit status: `Done` if the certificate is accepted, else `Rejected`.
+/// Returns the line that is printed for a certificate's text and the texts of a domain and a problem, with its line
+/// feed, and the exit status: `Done` if the certificate is accepted, else `Rejected`.
 ///
-/// Fails with the fault of the domain and the problem that comes first, with the first fault of the certificate, with the
-/// limit that is exceeded, or with `OutOfMemory`.
+/// Fails with the fault of the domain and the problem that comes first, with the first fault of the certificate, with
+/// the limit that is exceeded, or with `OutOfMemory`.
 fn planning_check_of<R: AllocGlobal + Threads + Sync>(
     rt: &R,
     domain: &[u8],
@@ -89,7 +89,7 @@ struct Texts {
     cert: Vec<u8>,
 }
 
-/// The bytes of the three files, read in this order. Fails as `read_file` does.
+/// Returns the bytes of the three files, read in this order. Fails as `read_file` does.
 fn read_texts<D: Device>(
     alloc: Global,
     device: &mut D,

@@ -1,4 +1,4 @@
-//! The words of the commands that solve a task.
+//! The arguments of the commands that solve a task.
 
 ghost use Rattle.std.specs.Prelude.{◌≡◌, ◌≢◌, ◌≤◌, ◌+◌, ◌⊎◌, List, Some, IfOk, IfErr, IfSome, IfNone, OnErr, codes};
 ghost use Rattle.clap.specs.Matches.{found_of, first_value};
@@ -26,8 +26,8 @@ use std::time::Clock;
 /// The greatest number of most options, 2^63 - 1.
 const MAX_NUMBER: u64 = 9_223_372_036_854_775_807;
 
-/// The options of the search, as in `Options::new` where the words leave them out. Fails with the first value that is
-/// refused.
+/// Returns the options of the search; an option that the arguments omit is as in `Options::new`. Fails with the first
+/// value that is refused.
 fn search_options<'a>(words: &ArgMatches<'a>) -> Result<Options, RefusedValue<'a>>
     ensures taken { IfOk result (AreChoicesOf (λ name. first_value (found_of words.now) name)) }
     ensures refused { IfErr result (λ _. (choices : Choices) → AreChoicesOf (λ name. first_value (found_of words.now) name) choices → ⊥) }
@@ -53,8 +53,8 @@ fn search_options<'a>(words: &ArgMatches<'a>) -> Result<Options, RefusedValue<'a
     }
 }
 
-/// The schedule that the words request: steps drawn from a seed, or threads where they name no seed, which have the seconds and the
-/// memory that the words name, if they name any. Fails with the first value that is refused.
+/// Returns the schedule that the arguments request: random steps from a seed, or, if they name no seed, threads, with
+/// the seconds and the memory that the arguments name, if any. Fails with the first value that is refused.
 fn schedule_of<'a>(words: &ArgMatches<'a>) -> Result<Schedule, RefusedValue<'a>>
     ensures taken { IfOk result (IsScheduleOf (λ name. first_value (found_of words.now) name)) }
     ensures refused { IfErr result (λ _. (schedule : ScheduleOf) → IsScheduleOf (λ name. first_value (found_of words.now) name) schedule → ⊥) }
@@ -68,7 +68,7 @@ fn schedule_of<'a>(words: &ArgMatches<'a>) -> Result<Schedule, RefusedValue<'a>>
     }
 }
 
-/// What the words request beside the task. Fails with the first value that is refused.
+/// Returns the settings that the arguments request, apart from the task. Fails with the first value that is refused.
 fn settings_of<'a>(words: &ArgMatches<'a>) -> Result<Settings<'a>, RefusedValue<'a>>
     ensures taken { IfOk result (AreSettingsOf (λ name. first_value (found_of words.now) name)) }
     ensures refused { IfErr result (λ _. HasRefusedValue (λ name. first_value (found_of words.now) name)) }
@@ -93,7 +93,7 @@ pub(crate) enum SolvingCommand {
     SolveSas,
 }
 
-/// The command of this name, if it solves a task.
+/// Returns the command of this name, if it solves a task.
 pub(crate) fn solving_command(name: &str) -> Option<SolvingCommand>
     ensures some { IfSome result (λ command. name.now ≡ name_of command) }
     ensures none { IfNone result ((name.now ≢ codes "solve") × (name.now ≢ codes "solve-sas")) }
@@ -106,7 +106,7 @@ pub(crate) fn solving_command(name: &str) -> Option<SolvingCommand>
 }
 
 impl SolvingCommand {
-    /// The command's definition, whose usage an error in its words shows. Fails only if allocation fails.
+    /// Returns the command's definition, for the usage that an error in its arguments shows.
     fn definition<'a>(self, alloc: Global) -> Result<Command<'a>, AllocError> {
         match self {
             SolvingCommand::Solve => solve_command(alloc, "optplan solve"),
@@ -115,8 +115,8 @@ impl SolvingCommand {
     }
 }
 
-/// Solves a task as the words of this command request, and returns the exit status. Fails with the command's error for the
-/// first value that is refused, or if allocation fails.
+/// Solves a task as the arguments of this command request, and returns the exit status. Fails with the command's error
+/// for the first value that is refused, or if allocation fails.
 pub(crate) fn solve_by_words<D: Device, R: Threads + Wait + Clock + Eprint + Sync + AllocGlobal>(
     rt: &R,
     device: &mut D,

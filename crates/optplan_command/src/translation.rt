@@ -20,7 +20,7 @@ use translate::{Translated, translate};
 use translate_theory::ListedVariable;
 use translate_vars::TranslateFault;
 
-/// The number of atoms of each variable. Fails only if allocation fails.
+/// Returns the number of atoms of each variable.
 fn sizes_of(alloc: Global, variables: &[ListedVariable]) -> Result<Vec<usize>, AllocError>
     ensures { IfOk result (λ sizes. sizes.items ≡ map (λ v. length v.places) variables.now) }
 {
@@ -31,7 +31,7 @@ fn sizes_of(alloc: Global, variables: &[ListedVariable]) -> Result<Vec<usize>, A
     Ok(sizes)
 }
 
-/// The text of a translated task. Fails only if allocation fails.
+/// Returns the text of a translated task.
 fn text_of(alloc: Global, translated: &Translated) -> Result<Vec<u8>, AllocError>
     ensures { IfOk result (λ text. text.items ≡ written translated.now.task (map (λ v. length v.places) translated.now.variables)) }
 {
@@ -39,8 +39,8 @@ fn text_of(alloc: Global, translated: &Translated) -> Result<Vec<u8>, AllocError
     write_sas(alloc, translated.task(), &sizes)
 }
 
-/// The text of a translation of a task that texts spell. Fails if the task or its translation exceeds a limit, or if
-/// allocation fails.
+/// Returns the text of a translation of a task that texts spell. Fails if the task or its translation exceeds a limit,
+/// or if allocation fails.
 fn translation_text(alloc: Global, task: &Task) -> Result<Vec<u8>, Fault>
     requires read { IsReadTask task.now }
     requires well { IsPlanningTask task.now }
@@ -60,8 +60,8 @@ fn translation_text(alloc: Global, task: &Task) -> Result<Vec<u8>, Fault>
     }
 }
 
-/// The text of the translation of the task that the texts spell. Fails with the fault of the texts that comes first, with
-/// the limit that is exceeded, or with `OutOfMemory`.
+/// Returns the text of the translation of the task that the texts spell. Fails with the fault of the texts that comes
+/// first, with the limit that is exceeded, or with `OutOfMemory`.
 fn translation_of(alloc: Global, domain: &[u8], problem: &[u8]) -> Result<Vec<u8>, Fault>
     ensures text { IfOk result (λ text. IsTranslationText domain.now problem.now text.items) }
     ensures refused { IfErr result (IsTranslationRefusal domain.now problem.now) }
@@ -72,7 +72,7 @@ fn translation_of(alloc: Global, domain: &[u8], problem: &[u8]) -> Result<Vec<u8
     }
 }
 
-/// Prints the text, or reports the fault of the texts that it was to be made of, and returns the exit status.
+/// Prints the text, or reports the fault for which there is none, and returns the exit status.
 pub(crate) fn reply_text<D: Device>(
     alloc: Global,
     device: &mut D,
@@ -91,8 +91,8 @@ pub(crate) fn reply_text<D: Device>(
     }
 }
 
-/// Translates a planning task: reads the two files, and prints the text of its translation or reports the fault. Returns
-/// the exit status.
+/// Translates a planning task: reads the two files, and prints the text of its translation or reports the fault.
+/// Returns the exit status.
 pub fn run_translation<D: Device>(
     alloc: Global,
     device: &mut D,

@@ -18,7 +18,7 @@ struct Texts {
     plan: Vec<u8>,
 }
 
-/// The texts of the three files, read in this order. Fails as `read_file` does.
+/// Returns the texts of the three files, read in this order. Fails as `read_file` does.
 fn read_texts<D: Device>(
     alloc: Global,
     device: &mut D,
@@ -41,7 +41,8 @@ fn read_texts<D: Device>(
     })
 }
 
-/// Validates a plan: reads the three files, and prints the verdict's line or reports the fault. Returns the exit status.
+/// Validates a plan: reads the three files, and prints the verdict's line or reports the fault. Returns the exit
+/// status.
 pub fn run_validation<D: Device>(
     alloc: Global,
     device: &mut D,

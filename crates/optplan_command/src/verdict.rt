@@ -17,7 +17,7 @@ use pddl_task::Task;
 use std::alloc::{AllocError, Global};
 use validate::{Plan, PlanFault, Verdict, read_plan, validate, verdict_line};
 
-/// The exit status of a verdict: `Done` if the plan is valid, else `Rejected`.
+/// Returns the exit status of a verdict: `Done` if the plan is valid, else `Rejected`.
 fn verdict_status(verdict: &Verdict) -> Status
     ensures status { result ≡ verdict_status verdict.now }
     ensures judged { IsOfVerdict result }
@@ -29,7 +29,7 @@ fn verdict_status(verdict: &Verdict) -> Status
     }
 }
 
-/// The plan's fault as the program's.
+/// Converts the plan's fault into the program's.
 fn plan_fault(fault: PlanFault) -> Fault
     ensures { (domain problem plan : List ℕ) (task : PlanningTask) → SpellTask domain problem task → IsPlanFault plan fault → IsRefusal domain problem plan result }
 {
@@ -39,7 +39,7 @@ fn plan_fault(fault: PlanFault) -> Fault
     }
 }
 
-/// The verdict's line, with its line feed, and the exit status. Fails only if allocation fails.
+/// Returns the verdict's line, with its line feed, and the exit status.
 fn line_of(alloc: Global, task: &Task, plan: &Plan) -> Result<(String, Status), AllocError>
     requires small { IsTrue (has_small_costs task.now) }
     requires costs { CostsAtMost task.now max_cost }
@@ -52,8 +52,8 @@ fn line_of(alloc: Global, task: &Task, plan: &Plan) -> Result<(String, Status), 
     Ok((line, status))
 }
 
-/// The answer for a plan's text: the verdict's line, with its line feed, and the exit status. Fails with the fault of the
-/// plan's text, or with `OutOfMemory`.
+/// Returns the answer for a plan's text: the verdict's line, with its line feed, and the exit status. Fails with the
+/// fault of the plan's text, or with `OutOfMemory`.
 fn answer_of(alloc: Global, task: &Task, plan: &[u8]) -> Result<(String, Status), Fault>
     requires small { IsTrue (has_small_costs task.now) }
     requires costs { CostsAtMost task.now max_cost }
@@ -71,7 +71,8 @@ fn answer_of(alloc: Global, task: &Task, plan: &[u8]) -> Result<(String, Status)
     }
 }
 
-/// The line that is printed for a plan, with its line feed, and the exit status: `Done` if the plan is valid, else `Rejected`.
+/// Returns the line that is printed for a plan, with its line feed, and the exit status: `Done` if the plan is valid,
+/// else `Rejected`.
 ///
 /// Fails with the fault of the domain and the problem that comes first; if they spell a task, with that of the plan's
 /// text; or with `OutOfMemory`.

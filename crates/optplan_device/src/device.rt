@@ -1,11 +1,11 @@
-//! The trait of devices.
+//! The trait of devices, through which a program does its I/O: files and streams.
 
 ghost use Rattle.std.specs.Prelude.{◌≡◌, ◌+◌, ℕ, List, Option, IfOk, IfErr, OnOk, OnErr};
 ghost use Rattle.optplan_device.specs.Events.{Event, HasRead, HasWritten, HasPut, HasReported, Adds, failure_of};
 
 use std::alloc::Global;
 
-/// Why a device did not do a read or a write.
+/// The reason why a read or a write of a device failed.
 #[derive(Clone, Copy, Debug, PartialEq, Eq)]
 pub enum DeviceFault {
     /// Memory ran out.
@@ -14,15 +14,15 @@ pub enum DeviceFault {
     Failed,
 }
 
-/// Files by their names, and the two streams to which a program writes. A device may specify what passes: its `history`
-/// is then the list of what was read and written so far, in order.
+/// Files by their names, and the two streams to which a program writes. A device may specify its I/O: then its
+/// `history` is the list of all reads and writes so far, in order.
 pub trait Device {
     ghost history: { Self → Option (List Event) };
 
     ghost failure_count: { Self → ℕ };
 
-    /// Reads a whole file and returns its bytes. A failed call adds nothing to the history; its fault is counted if it is
-    /// `Failed`.
+    /// Reads a whole file and returns its bytes. A failed call adds nothing to the history; its fault is counted if it
+    /// is `Failed`.
     fn read(&mut self, alloc: Global, name: &str) -> Result<Vec<u8>, DeviceFault>
         ensures told { IfOk result (λ bytes. Adds (history self.old) (history self.new) (HasRead name.now bytes.items)) }
         ensures kept { OnErr result (history self.new ≡ history self.old) }
@@ -51,7 +51,7 @@ pub trait Device {
         ensures counted { IfErr result (λ e. failure_count self.new ≡ failure_count self.old + failure_of e) }
         ensures same { OnOk result (failure_count self.new ≡ failure_count self.old) };
 
-    /// The number of calls that failed with `Failed`.
+    /// Returns the number of calls that failed with `Failed`.
     fn failures(&self) -> u64
         ensures { result ≡ failure_count self.now };
 }

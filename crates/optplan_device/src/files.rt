@@ -17,15 +17,15 @@ pub struct ProcessDevice<'a, R: Files + Print + Eprint + AllocGlobal> {
 }
 
 impl<'a, R: Files + Print + Eprint + AllocGlobal> ProcessDevice<'a, R> {
-    /// The device of this runtime's process.
+    /// Creates the device of this runtime's process.
     pub fn new(rt: &'a R) -> ProcessDevice<'a, R>
         ensures { result.failures ≡ 0 }
     {
         ProcessDevice { rt, failures: 0 }
     }
 
-    /// The fault for an error of this kind: `Memory` if memory ran out or the count of failures is full, else `Failed`,
-    /// which is counted.
+    /// Returns the fault for an error of this kind: `Memory` if memory ran out or the count of failures is at its
+    /// maximum, else `Failed`, which is counted.
     fn fault_of(&mut self, kind: ErrorKind) -> DeviceFault
         ensures counted { self.new.failures ≡ self.old.failures + failure_of result }
         ensures failed { kind ≢ ErrorKind.OutOfMemory → self.old.failures < 2 ^ 64 - 1 → result ≡ DeviceFault.Failed }

@@ -1,7 +1,7 @@
-//! What a program reads from and writes to: files by their names, and two streams.
+//! The I/O of a program: files by their names, and two streams.
 //!
-//! A program over any `Device` can be proved without assumptions about the system. It runs over the files of the process,
-//! or over files in memory whose calls fail when the caller chooses.
+//! A program over any `Device` can be proved without assumptions about the system. It runs over the files of the
+//! process, or over files in memory whose calls fail when the caller chooses.
 #![tactic(auto)]
 
 mod device;

@@ -1,4 +1,4 @@
-//! A device in memory, which records what passes and fails from a call on that the caller chooses. The tests use it.
+//! A device in memory, which records its reads and writes, and fails from a chosen call on. For tests.
 
 ghost use Rattle.std.specs.Prelude.{◌≡◌, ◌<◌, ◌-◌, ◌^◌, true, ◌+◌, ◌∷◌, [], ◌++◌, if◌then◌else◌, Some, map, string_bytes, IfOk, IfErr, OnOk, OnErr};
 ghost use Rattle.optplan_device.specs.Events.{failure_of};
@@ -7,12 +7,12 @@ ghost use Rattle.optplan_device.specs.Memory.{event_of};
 use crate::device::{Device, DeviceFault};
 use std::alloc::{AllocError, Global};
 
-/// A read or a write that was done.
+/// A completed read or write.
 #[derive(Debug, Drop)]
 pub enum Recorded {
-    /// A file, by its name, and the bytes that were read.
+    /// The name of a file, and the bytes that were read.
     Read(String, Vec<u8>),
-    /// A file, by its name, and the bytes that were written.
+    /// The name of a file, and the bytes that were written.
     Written(String, Vec<u8>),
     /// Bytes that were written to standard output.
     Put(Vec<u8>),
@@ -31,7 +31,8 @@ pub struct MemoryDevice<'a> {
 }
 
 impl<'a> MemoryDevice<'a> {
-    /// A device with these files, each a name and bytes, that fails every call after the first `calls_left` ones.
+    /// Creates a device with these files, each a name and bytes, which fails every call after the first `calls_left`
+    /// ones.
     pub fn new(alloc: Global, files: &'a [(&'a str, &'a [u8])], calls_left: u64) -> MemoryDevice<'a>
         ensures files { result.files.now ≡ files.now }
         ensures calls { result.calls_left ≡ calls_left }
@@ -47,14 +48,14 @@ impl<'a> MemoryDevice<'a> {
         }
     }
 
-    /// The reads and writes so far, in order.
+    /// Returns the reads and writes so far, in order.
     pub fn events(&self) -> &[Recorded]
         ensures { result.now ≡ self.now.events.items }
     {
         &self.events
     }
 
-    /// Whether this call is to fail; if so, the failure is counted.
+    /// Returns whether this call is to fail; if so, the failure is counted.
     fn fails(&mut self) -> bool
         ensures events { self.new.events ≡ self.old.events }
         ensures counted { self.new.failures ≡ (if result then self.old.failures + 1 else self.old.failures) }
@@ -70,7 +71,8 @@ impl<'a> MemoryDevice<'a> {
         false
     }
 
-    /// The fault for a file that does not exist: `Failed`, which is counted, or `Memory` if the count is full.
+    /// Returns the fault for a file that does not exist: `Failed`, which is counted, or `Memory` if the count is at its
+    /// maximum.
     fn refusal(&mut self) -> DeviceFault
         ensures events { self.new.events ≡ self.old.events }
         ensures counted { self.new.failures ≡ self.old.failures + failure_of result }
@@ -83,7 +85,7 @@ impl<'a> MemoryDevice<'a> {
         DeviceFault::Failed
     }
 
-    /// The bytes of a file, if it exists.
+    /// Returns the bytes of a file, if it exists.
     fn file(&self, name: &str) -> Option<&'a [u8]> {
         for (known, bytes) in self.files {
             if *known == name {

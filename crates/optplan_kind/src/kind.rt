@@ -13,7 +13,7 @@ use std::alloc::{AllocError, Global};
 use translate::Translated;
 use translate_theory::ListedVariable;
 
-/// The words of an atom: its predicate's name, and the names of its objects. Fails only if allocation fails.
+/// Returns the parts of an atom's name: its predicate's name, and the names of its objects.
 fn words_of(alloc: Global, names: &Vocabulary, atom: &GroundAtom) -> Result<Vec<String>, AllocError>
     ensures { IfOk result (λ words. texts_of words.items ≡ words_of names.now atom.now) }
 {
@@ -25,7 +25,7 @@ fn words_of(alloc: Global, names: &Vocabulary, atom: &GroundAtom) -> Result<Vec<
     Ok(words)
 }
 
-/// The words of each atom. Fails only if allocation fails.
+/// Returns the parts of each atom's name.
 fn words_of_all(
     alloc: Global,
     names: &Vocabulary,
@@ -40,7 +40,7 @@ fn words_of_all(
     Ok(words)
 }
 
-/// Variables as they are stored in a certificate. Fails only if allocation fails.
+/// Returns the variables as they are stored in a certificate.
 fn certificate_variables(
     alloc: Global,
     variables: &[ListedVariable],
@@ -58,8 +58,7 @@ fn certificate_variables(
     Ok(kept)
 }
 
-/// The kind of certificates for a translated task: its atoms, by their names, and its variables. Fails only if allocation
-/// fails.
+/// Returns the kind of certificates for a translated task: its atoms, by their names, and its variables.
 pub fn translation_kind(
     alloc: Global,
     task: &Task,

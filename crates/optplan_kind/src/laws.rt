@@ -1,4 +1,4 @@
-//! Laws of certificates for translated tasks. Each function states a law as its contract, and its body is empty.
+//! Laws of certificates for translated tasks. Each function states a law as its contract and has an empty body.
 
 ghost use Rattle.std.specs.Prelude.{◌≡◌, ◌≤◌, ◌^◌, ℕ, List, length};
 ghost use Rattle.pddl_task.specs.Planning.{PlanningTask};
@@ -18,8 +18,8 @@ pub fn translation_kind_has_text()
         IsLawfulKind (translation_kind task t) }
 {}
 
-/// A certificate of that kind that holds for the translation is accepted, by its text and for its bound, by the checker,
-/// which reads only the texts, if its text has at most 2^30 bytes.
+/// A certificate of that kind that holds for the translation is accepted, by its text and for its bound, by the
+/// checker, which reads only the texts, if its text has at most 2^30 bytes.
 pub fn held_certificate_is_accepted()
     ensures { (domain problem text : List ℕ) (task : PlanningTask) (t : TranslatedTask) (c : CertificateValue) →
         SpellTask domain problem task → IsTranslation task t → c.kind ≡ translation_kind task t → IsHeld t.task c → IsLawful c →

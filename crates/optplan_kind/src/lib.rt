@@ -1,6 +1,6 @@
 //! The kind of certificates for a translated planning task: the task's atoms, by their names, and its variables. A
-//! certificate of that kind that holds for the translation is accepted by the checker, which reads only the texts of the
-//! task and the certificate.
+//! certificate of that kind that holds for the translation is accepted by the checker, which reads only the texts of
+//! the task and the certificate.
 #![tactic(auto)]
 
 mod kind;

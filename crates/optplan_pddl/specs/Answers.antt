@@ -31,7 +31,7 @@ use Rattle.optplan_sas.specs.declared.fault.SearchFault.TheVariants as search
 use Rattle.optplan_pddl.specs.declared.fault.PlanningFault.{PlanningFault}
 use Rattle.optplan_pddl.specs.declared.fault.PlanningFault.TheVariants.{OutOfMemory, Task, GroundLimit, TaskTooLarge, TotalTooLarge, Gate}
 
--- a plan is given by its steps
+-- a plan is the list of its steps
 abbrev pub PlanningAnswer : Type 0
 PlanningAnswer = Answer (Vec Step Global)
 
@@ -60,14 +60,15 @@ pub record IsPlanningKnown (domain problem : List ℕ) (task : PlanningTask) (mo
   pub best : IsBestWritten (IsPlanningPlan task) most known.best
   pub accepted : IsAccepted domain problem known.cert.items (Finite known.bound)
 
--- the answer for a task by a search of a translation at its end: a cheapest plan, that there is none, or a bound and the best plan so far;
--- each with the text of a certificate
+-- the answer for a task by a search of a translation at its end: a cheapest plan, that there is none, or a bound and
+-- the best plan so far; each with the text of a certificate
 abbrev pub IsAnswerFor : List ℕ → List ℕ → PlanningTask → EndOf spread.Zobrist → PlanningAnswer → Type 0
 IsAnswerFor domain problem task e (Solved s) = IsPlanningSolution domain problem task s × IsSettledEnd zobrist_owner e (Finite s.found.cost)
 IsAnswerFor domain problem task e (Unsolvable cert) = HasNoValidPlan task × IsAccepted domain problem cert.items Infinite × IsSettledEnd zobrist_owner e Infinite
 IsAnswerFor domain problem task e (Limit known) = IsPlanningKnown domain problem task (least_best e) known × IsShortEnd zobrist_owner e known.bound
 
--- the texts spell a task, and this is the answer for it, by a search of a translation of the task that may end so
+-- the texts spell a task, and this is the answer for it, by a search of a translation of the task whose end satisfies
+-- `ends`
 pub record IsPlanningAnswer (domain problem : List ℕ) (ends : FiniteDomainTask → EndOf spread.Zobrist → Type 0) (answer : PlanningAnswer) : Type 0 where
   pub task : PlanningTask
   pub spelled : SpellTask domain problem task
@@ -78,8 +79,8 @@ pub record IsPlanningAnswer (domain problem : List ℕ) (ends : FiniteDomainTask
   pub is : IsAnswerFor domain problem task end answer
 
 -- the texts are refused for the fault that comes first; or they spell a task that has too many atoms or actions, whose
--- translation is too large, or the search of whose translation is refused in the specified way, since a path's total is too large or a gate
--- made it fail
+-- translation is too large, or the search of whose translation is refused for a fault that satisfies `refused`: a
+-- path's total is too large, or a gate made it fail
 abbrev pub IsPlanningRefusal : List ℕ → List ℕ → (FiniteDomainTask → SearchFault → Type 0) → PlanningFault → Type 0
 IsPlanningRefusal domain problem refused OutOfMemory = Unit {0}
 IsPlanningRefusal domain problem refused (Task e) = (e ≢ pddl_fault.OutOfMemory) × IsTaskRefusal domain problem e

@@ -1,4 +1,4 @@
-//! Why the planner gives no answer.
+//! Reasons why the planner has no answer.
 
 ghost use Rattle.std.specs.Prelude.{◌≡◌};
 ghost use Rattle.optplan_pddl.specs.declared.fault.PlanningFault.TheVariants.{OutOfMemory};
@@ -9,7 +9,7 @@ use optplan_sas::SearchFault;
 use pddl::PddlFault;
 use std::alloc::AllocError;
 
-/// Why a planning task is not solved.
+/// The reason why a planning task is not solved.
 #[derive(Debug, Drop)]
 pub enum PlanningFault {
     /// Memory ran out. This says nothing about the texts.
@@ -22,8 +22,8 @@ pub enum PlanningFault {
     TaskTooLarge(TaskLimit),
     /// F60: a path would have a cost, or a number of actions, above 2^62.
     TotalTooLarge,
-    /// The gate of a search by threads made it fail before a turn: the worker's number, counted from 0, and the turn's, counted from 1
-    /// in its round.
+    /// The gate of a multi-threaded search made it fail before a turn: the worker's number, counted from 0, and the
+    /// turn's, counted from 1 in its round.
     Gate(usize, u64),
 }
 

@@ -1,4 +1,4 @@
-//! Preparing a planning task for a search, from its texts.
+//! Preparation of a planning task for a search, from its texts.
 
 ghost use Rattle.std.specs.Prelude.{ℕ, List, IfOk, IfErr};
 ghost use Rattle.pddl_task.specs.Planning.{IsPlanningTask};
@@ -23,7 +23,7 @@ pub(crate) struct Prepared {
     pub(crate) kind: CertificateKind,
 }
 
-/// The task's translation. Fails if the task or its translation exceeds a limit, or if allocation fails.
+/// Returns the task's translation. Fails if the task or its translation exceeds a limit, or if allocation fails.
 fn translation_of(alloc: Global, task: &Task) -> Result<Translated, PlanningFault>
     requires read { IsReadTask task.now }
     requires well { IsPlanningTask task.now }
@@ -39,8 +39,8 @@ fn translation_of(alloc: Global, task: &Task) -> Result<Translated, PlanningFaul
     }
 }
 
-/// The task's translation, with the kind of certificates for it. Fails if the task or its translation exceeds a limit, or
-/// if allocation fails.
+/// Returns the task's translation, with the kind of certificates for it. Fails if the task or its translation exceeds a
+/// limit, or if allocation fails.
 fn prepare_task(alloc: Global, task: &Task) -> Result<Prepared, PlanningFault>
     requires read { IsReadTask task.now }
     requires well { IsPlanningTask task.now }
@@ -52,8 +52,8 @@ fn prepare_task(alloc: Global, task: &Task) -> Result<Prepared, PlanningFault>
     Ok(Prepared { translated, kind })
 }
 
-/// The translation of the task that the texts spell, with the kind of certificates for it. Fails with the first fault of
-/// the texts, if the task or its translation exceeds a limit, or if allocation fails.
+/// Returns the translation of the task that the texts spell, with the kind of certificates for it. Fails with the first
+/// fault of the texts, if the task or its translation exceeds a limit, or if allocation fails.
 pub(crate) fn prepare(
     alloc: Global,
     domain: &[u8],

@@ -32,10 +32,10 @@ use std::time::Clock;
 use translate::Translated;
 use validate::Step;
 
-/// The answer for a planning task: a plan is given by its steps, by their words.
+/// The answer for a planning task: a plan is the list of its steps, each with the names of its schema and objects.
 pub type PlanningAnswer = Answer<Vec<Step>>;
 
-/// The plan of the task that a plan of its translation is, with its text. Fails only if allocation fails.
+/// Returns the plan of the task that corresponds to a plan of its translation, with its text.
 fn plan_text(
     alloc: Global,
     translated: &Translated,
@@ -56,7 +56,7 @@ fn plan_text(
     })
 }
 
-/// The best plan so far with its text, if there is one. Fails only if allocation fails.
+/// Returns the best plan so far with its text, if there is one.
 fn best_text(
     alloc: Global,
     translated: &Translated,
@@ -73,8 +73,7 @@ fn best_text(
     }
 }
 
-/// The solution with the texts of its plan and its certificate, from a solution of the translation. Fails only if
-/// allocation fails.
+/// Returns the solution with the texts of its plan and its certificate, from a solution of the translation.
 fn solution_texts(
     alloc: Global,
     translated: &Translated,
@@ -92,8 +91,8 @@ fn solution_texts(
     Ok(CheapestPlan { found, cert })
 }
 
-/// What is known so far with the texts of the best plan and of the certificate, from what is known of the translation. Fails
-/// only if allocation fails.
+/// Returns the result so far with the texts of the best plan and of the certificate, from the result so far for the
+/// translation.
 fn known_texts(
     alloc: Global,
     translated: &Translated,
@@ -115,7 +114,7 @@ fn known_texts(
     })
 }
 
-/// The answer with the texts of what a search of the translation has found. Fails only if allocation fails.
+/// Returns the answer with the texts of the finding of a search of the translation.
 fn answer_texts(
     alloc: Global,
     translated: &Translated,
@@ -134,13 +133,14 @@ fn answer_texts(
     }
 }
 
-/// The answer for the task that the texts spell, after these steps of a world of owners, with a certificate that the checker accepts
-/// if its text has at most 2^30 bytes: a cheapest plan, or that there is none; `Limit` with a bound and the best plan so far if the
-/// owners are not settled. No step is done from the first on that asks an owner for more nodes than its limit allows.
+/// Returns the answer for the task that the texts spell, after these steps of a world of owners, with a certificate
+/// that the checker accepts if its text has at most 2^30 bytes: a cheapest plan, or that there is none; `Limit` with a
+/// bound and the best plan so far if the owners are not settled. Stops before the first step that asks an owner for
+/// more nodes than its limit allows.
 ///
 /// Fails with the fault of the texts that comes first, with `GroundLimit` or `TaskTooLarge` if the task or its
-/// translation exceeds a limit, with `TotalTooLarge` if a path would have a cost or a number of actions above 2^62, or if
-/// allocation fails.
+/// translation exceeds a limit, with `TotalTooLarge` if a path would have a cost or a number of actions above 2^62, or
+/// if allocation fails.
 pub fn solve_steps<R: AllocGlobal + Threads + Sync>(
     rt: &R,
     domain: &[u8],
@@ -157,9 +157,9 @@ pub fn solve_steps<R: AllocGlobal + Threads + Sync>(
     Ok(answer_texts(alloc, &translated, found)?)
 }
 
-/// The answer for the task that the texts spell, after steps drawn from the seed, at most as many as the options allow:
-/// each is the step whose number is the next word of Xoshiro256++ modulo the number of steps that would change something.
-/// The guarantees are those of `solve_steps` for these steps. The observer is told how far they are.
+/// Returns the answer for the task that the texts spell, after random steps from the seed, at most as many as the
+/// options allow: each is the step whose number is the next output of Xoshiro256++ modulo the number of steps that
+/// would change something. The guarantees are those of `solve_steps` for these steps. Reports progress to the observer.
 pub fn simulate<R: AllocGlobal + Threads + Sync, O: Observer>(
     rt: &R,
     domain: &[u8],
@@ -177,14 +177,15 @@ pub fn simulate<R: AllocGlobal + Threads + Sync, O: Observer>(
     Ok(answer_texts(alloc, &translated, found)?)
 }
 
-/// The answer for the task that the texts spell, by the chosen number of workers, each in a thread of its own, with a certificate that the
-/// checker accepts if its text has at most 2^30 bytes: a cheapest plan, or that there is none; `Limit` with a bound and the best plan so
-/// far if one of the owners has reached its limit, or the gate ended the search, before they were settled.
+/// Returns the answer for the task that the texts spell, by the chosen number of workers, each in a thread of its own,
+/// with a certificate that the checker accepts if its text has at most 2^30 bytes: a cheapest plan, or that there is
+/// none; `Limit` with a bound and the best plan so far if one of the owners reached its limit, or the gate ended the
+/// search, before they were settled.
 ///
 /// Fails with the fault of the texts that comes first, with `GroundLimit` or `TaskTooLarge` if the task or its
-/// translation exceeds a limit, with `TotalTooLarge` if a path would have a cost or a number of actions above 2^62, with `Gate` if the
-/// gate makes the search fail, or if allocation fails. Whether it ends at all is not promised: the workers go on as long as the scheduler
-/// lets none of them get on.
+/// translation exceeds a limit, with `TotalTooLarge` if a path would have a cost or a number of actions above 2^62,
+/// with `Gate` if the gate makes the search fail, or if allocation fails. Termination is not guaranteed: an unfair
+/// scheduler may keep every worker from making progress.
 pub fn solve<R: Threads + Wait + Clock + Sync + AllocGlobal, G: Gate + Sync>(
     rt: &R,
     domain: &[u8],

@@ -1,4 +1,4 @@
--- A planning task's plan by its steps' words, and the operators of the task's translation.
+-- The plan of a planning task, as steps of words, and the operators of the task's translation.
 use Rattle.std.specs.Prelude.{ℕ, not, List, map}
 use Rattle.pddl_task.specs.Planning.{PlanningTask, Vocabulary, Action}
 use Rattle.validate.specs.Steps.{Step}

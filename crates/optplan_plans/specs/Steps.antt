@@ -10,7 +10,7 @@ use Rattle.validate.specs.PlanWords.{IsPlanStep}
 abbrev pub words_of : List ℕ → List (List ℕ)
 words_of text = slice_split (λ b. b == 32) text
 
--- the step of which the first word names the schema, and the others name the objects
+-- the step whose first word names the schema, and whose others name the objects
 abbrev pub step_of_words : List (List ℕ) → Step
 step_of_words [] = record { name = []; arguments = [] }
 step_of_words (w ∷ ws) = record { name = w; arguments = ws }
@@ -19,6 +19,6 @@ step_of_words (w ∷ ws) = record { name = w; arguments = ws }
 abbrev pub HasStepNames : FiniteDomainTask → Type 0
 HasStepNames task = All (λ op. IsPlanStep (step_of_words (words_of op.name))) task.operators
 
--- the step that the name of the operator of that number spells
+-- the step that the name of operator `o` spells
 abbrev pub operator_step : FiniteDomainTask → ℕ → Step
 operator_step task o = step_of_words (words_of (option_map_or (λ op. op.name) (slice_get task.operators o) []))

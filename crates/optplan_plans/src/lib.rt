@@ -1,4 +1,4 @@
-//! A planning task's plan, by its steps' words, from the operators of the task's translation.
+//! The plan of a planning task, as steps of words, from the operators of the task's translation.
 #![tactic(auto)]
 
 mod laws;

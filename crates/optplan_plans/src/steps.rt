@@ -14,7 +14,7 @@ use fdr::FdrTask;
 use std::alloc::{AllocError, Global};
 use validate::Step;
 
-/// The words of a text that are separated by single blanks. Fails only if allocation fails.
+/// Returns the words of a text that are separated by single blanks.
 fn words(alloc: Global, text: &str) -> Result<Vec<String>, AllocError>
     ensures { IfOk result (λ words. texts_of words.items ≡ words_of text.now) }
 {
@@ -25,8 +25,8 @@ fn words(alloc: Global, text: &str) -> Result<Vec<String>, AllocError>
     Ok(words)
 }
 
-/// The step whose words, separated by single blanks, are this name; or `None` if one of them is no plan word. Fails only if
-/// allocation fails.
+/// Returns the step whose words, separated by single blanks, are this name, or `None` if one of them is not a plan
+/// word.
 pub fn named_step(alloc: Global, name: &str) -> Result<Option<Step>, AllocError>
     ensures some { IfOk result (λ o. IfSome o (λ step. step ≡ step_of_words (words_of name.now))) }
     ensures none { IfOk result (λ o. IfNone o (IsPlanStep (step_of_words (words_of name.now)) → ⊥)) }
@@ -41,7 +41,7 @@ pub fn named_step(alloc: Global, name: &str) -> Result<Option<Step>, AllocError>
     }
 }
 
-/// Adds the step that a name spells.
+/// Pushes the step that a name spells.
 fn push_named(alloc: Global, name: &str, steps: &mut Vec<Step>) -> Result<(), AllocError>
     requires { IsPlanStep (step_of_words (words_of name.now)) }
     ensures { IfOk result (λ _. steps.new.items ≡ steps.old.items ++ step_of_words (words_of name.now) ∷ []) }
@@ -55,8 +55,8 @@ fn push_named(alloc: Global, name: &str, steps: &mut Vec<Step>) -> Result<(), Al
     }
 }
 
-/// The steps that name the actions of these operators: each operator's name is that of its schema and those of its
-/// objects, separated by single blanks. Fails only if allocation fails.
+/// Returns the steps that name the actions of these operators: each operator's name is that of its schema and those of
+/// its objects, separated by single blanks.
 pub fn named_steps(
     alloc: Global,
     translated: &FdrTask,

@@ -23,7 +23,7 @@ fault_status GroundLimit = exit.Refused
 fault_status (TaskTooLarge table) = exit.Refused
 fault_status TotalTooLarge = exit.Refused
 
--- a fault of the text of a finite-domain task as the program's
+-- a fault of the text of a finite-domain task, as the program's
 abbrev pub fault_of_sas : SasFault → Fault
 fault_of_sas sas.OutOfMemory = OutOfMemory
 fault_of_sas (sas.Limit table) = Sas (sas.Limit table)
@@ -35,7 +35,7 @@ fault_of_sas (sas.ConditionalEffect line) = Sas (sas.ConditionalEffect line)
 fault_of_sas sas.Truncated = Sas sas.Truncated
 fault_of_sas (sas.Trailing line) = Sas (sas.Trailing line)
 
--- a fault of the text of a certificate as the program's
+-- a fault of the text of a certificate, as the program's
 abbrev pub fault_of_cert : CertFault → Fault
 fault_of_cert cert.OutOfMemory = OutOfMemory
 fault_of_cert cert.Header = Cert cert.Header
@@ -47,7 +47,7 @@ fault_of_cert (cert.Order line) = Cert (cert.Order line)
 fault_of_cert (cert.Classes line) = Cert (cert.Classes line)
 fault_of_cert cert.TooLong = Cert cert.TooLong
 
--- a fault of the texts of a finite-domain task and of a certificate for it as the program's
+-- a fault of the texts of a finite-domain task and of a certificate for it, as the program's
 abbrev pub fault_of_check : CheckFault → Fault
 fault_of_check check.OutOfMemory = OutOfMemory
 fault_of_check (check.Sas e) = fault_of_sas e

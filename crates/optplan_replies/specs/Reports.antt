@@ -1,4 +1,4 @@
--- What is reported of refused texts of a planning task.
+-- Reports of refused texts of a planning task.
 use Rattle.std.specs.Prelude.{◌≡◌, ◌≢◌, ℕ, List, string_bytes}
 use Rattle.std.specs.Option.{option_map}
 use Rattle.pddl.specs.Texts.{IsTaskRefusal}

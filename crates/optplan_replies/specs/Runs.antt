@@ -1,4 +1,4 @@
--- What every command does to its device, and its exit status.
+-- The effects of every command on its device, and its exit status.
 use Rattle.std.specs.Prelude.{◌≡◌, ℕ, ◌+◌, ◌⊎◌, ◌==◌, not, Bool, true, List, [], ◌∷◌}
 use Rattle.optplan_device.specs.Events.{Event, HasRead, HasWritten, HasPut, HasReported}
 use Rattle.optplan_replies.specs.declared.fault.Fault.{Fault}
@@ -6,7 +6,7 @@ use Rattle.optplan_replies.specs.declared.fault.Fault.TheVariants.{OutOfMemory, 
 use Rattle.optplan_replies.specs.declared.status.Status.{Status}
 use Rattle.optplan_replies.specs.Faults.{fault_status}
 
--- whether a word is not an option: it does not start with a hyphen
+-- whether an argument is not an option: it does not start with a hyphen
 abbrev pub is_operand : List ℕ → Bool
 is_operand [] = true
 is_operand (b ∷ bs) = not (b == 45)
@@ -24,14 +24,14 @@ IsQuiet (HasPut bytes ∷ events) = ⊥
 abbrev pub task_reads : List ℕ → List ℕ → List ℕ → List ℕ → List Event
 task_reads domain d problem p = HasRead domain d ∷ HasRead problem p ∷ []
 
--- what follows the reading of a command's files, and the exit status: the line that answers the texts is written to
+-- the events after the reading of a command's files, and the exit status: the line that answers the texts is written to
 -- standard output, or a text is refused
 abbrev pub Follows : (List ℕ → Status → Type 0) → (Fault → Type 0) → List Event → Status → Type 0
 Follows IsAnswer IsRefusal events status =
     ((line : List ℕ) × IsAnswer line status × (events ≡ HasPut line ∷ []))
     ⊎ ((e : Fault) × IsRefusal e × (status ≡ fault_status e) × IsQuiet events)
 
--- the fault of a device that changes the count of failures in this way: memory, or a failure that is counted
+-- the fault of a device that changes the count of failures in this way: memory ran out, or the failure is counted
 abbrev pub IsDeviceFault : Fault → ℕ → ℕ → Type 0
 IsDeviceFault OutOfMemory old new = new ≡ old
 IsDeviceFault (CannotRead file) old new = new ≡ old + 1

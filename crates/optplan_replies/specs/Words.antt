@@ -35,7 +35,7 @@ table_text Literals = codes "literals"
 table_text Increases = codes "increases"
 table_text Init = codes "init"
 
--- the word that a byte of this kind begins: this one if it is a letter, and the empty one otherwise
+-- the word that begins with a byte of this kind: `word` if the byte is a letter, and empty otherwise
 abbrev pub letter_or_end : ByteKind → List ℕ → List ℕ
 letter_or_end Letter word = word
 letter_or_end Blank word = []
@@ -49,7 +49,7 @@ abbrev pub first_word : List ℕ → List ℕ
 first_word [] = []
 first_word (b ∷ bs) = letter_or_end (kind b) (to_ascii_lowercase b ∷ first_word bs)
 
--- the word that starts at a byte of a text, in lower case
+-- the word that starts at byte `at` of a text, in lower case
 abbrev pub word_at : List ℕ → ℕ → List ℕ
 word_at text at = first_word (drop at text)
 
@@ -58,7 +58,7 @@ abbrev pub text_of : PlanningFile → List ℕ → List ℕ → List ℕ
 text_of planning_file.Domain domain problem = domain
 text_of planning_file.Problem domain problem = problem
 
--- the word that a fault of this kind at this place prints, if it prints one
+-- the word that a fault of this kind at byte `at` prints, if it prints one
 abbrev pub named_word : List ℕ → FaultKind → ℕ → Option (List ℕ)
 named_word text Unsupported at = Some (word_at text at)
 named_word text Shape at = None

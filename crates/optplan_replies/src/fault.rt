@@ -17,7 +17,7 @@ use std::alloc::{AllocError, AllocFailed};
 use std::fmt;
 use validate::PlanFault;
 
-/// A file, named as a printed fault names it.
+/// A file, by the word that a printed fault uses for it.
 #[derive(Clone, Copy, Debug, PartialEq, Eq)]
 pub enum FileWord {
     Domain,
@@ -28,7 +28,7 @@ pub enum FileWord {
     Output,
 }
 
-/// Why the program gives no answer.
+/// The reason why the program has no answer.
 #[derive(Debug, Drop)]
 pub enum Fault {
     /// Memory ran out.
@@ -118,8 +118,8 @@ impl From<CheckFault> for Fault {
 }
 
 impl Fault {
-    /// The exit status: `OutOfMemory` if memory ran out, `DeviceFailed` for a file that cannot be read or written, and
-    /// `Refused` for a text or a task that is refused.
+    /// Returns the exit status: `OutOfMemory` if memory ran out, `DeviceFailed` for a file that cannot be read or
+    /// written, and `Refused` for a text or a task that is refused.
     pub fn status(&self) -> Status
         ensures { result ≡ fault_status self.now }
     {
@@ -148,7 +148,7 @@ impl FileWord {
     }
 }
 
-/// The name of a file of a planning task.
+/// Returns the word for a file of a planning task.
 fn file_word(file: PlanningFile) -> FileWord
     ensures domain { file ≡ PlanningFile.Domain → result ≡ FileWord.Domain }
     ensures problem { file ≡ PlanningFile.Problem → result ≡ FileWord.Problem }
@@ -174,7 +174,7 @@ fn table_word(table: LimitedTable) -> &'static str
     }
 }
 
-/// Writes the number, name, file and place (in bytes, counted from 0) of a fault of a tree.
+/// Writes the number, name, file and byte offset (counted from 0) of a fault of a tree.
 fn write_tree_fault<W: fmt::Write>(
     f: &mut fmt::Formatter<W>,
     fault: SexpFault,
@@ -193,7 +193,7 @@ fn write_tree_fault<W: fmt::Write>(
     }
 }
 
-/// Writes the number, name, word, file and place (in bytes, counted from 0) of a fault of a planning text.
+/// Writes the number, name, word, file and byte offset (counted from 0) of a fault of a planning text.
 fn write_text_fault<W: fmt::Write>(
     f: &mut fmt::Formatter<W>,
     fault: TextFault,
@@ -219,7 +219,7 @@ fn write_text_fault<W: fmt::Write>(
     }
 }
 
-/// The fault's line, without the program's name and the line feed.
+/// Writes the fault's line, without the program's name and the line feed.
 impl fmt::Display for Fault {
     fn fmt<W: fmt::Write>(&self, f: &mut fmt::Formatter<W>) -> fmt::Result {
         match self {

@@ -1,4 +1,4 @@
-//! What every command does with its device: it reads files, prints an answer, and reports a fault.
+//! The I/O that all commands share: reading files, printing an answer, and reporting a fault.
 #![tactic(auto)]
 
 mod fault;

@@ -11,8 +11,7 @@ use pddl_syntax::{Fault as TextFault, FaultKind, PlanningFile};
 use sexp::{ByteKind, kind_of};
 use std::alloc::{AllocError, Global};
 
-/// The word at the start of a text, in lower case; empty if the text does not start with one. Fails only if allocation
-/// fails.
+/// Returns the word at the start of a text, in lower case; empty if the text does not start with one.
 fn first_word(alloc: Global, text: &[u8]) -> Result<String, AllocError>
     ensures { IfOk result (λ word. string_bytes word ≡ first_word text.now) }
 {
@@ -27,7 +26,7 @@ fn first_word(alloc: Global, text: &[u8]) -> Result<String, AllocError>
     Ok(word)
 }
 
-/// The word at a byte of a text, counted from 0, in lower case; empty if there is none. Fails only if allocation fails.
+/// Returns the word that starts at byte `at` of a text, counted from 0, in lower case; empty if there is none.
 fn word_at(alloc: Global, text: &[u8], at: usize) -> Result<String, AllocError>
     ensures { IfOk result (λ word. string_bytes word ≡ word_at text.now at) }
 {
@@ -37,7 +36,7 @@ fn word_at(alloc: Global, text: &[u8], at: usize) -> Result<String, AllocError>
     }
 }
 
-/// The text of a file.
+/// Returns the text of a file.
 fn text_of<'a>(file: PlanningFile, domain: &'a [u8], problem: &'a [u8]) -> &'a [u8]
     ensures { result.now ≡ text_of file domain.now problem.now }
 {
@@ -47,8 +46,8 @@ fn text_of<'a>(file: PlanningFile, domain: &'a [u8], problem: &'a [u8]) -> &'a [
     }
 }
 
-/// The fault of the texts as the program's, with the word that it prints, if it has one; `OutOfMemory` if allocation
-/// fails.
+/// Converts the fault of the texts into the program's, with the word that it prints, if it has one; `OutOfMemory` if
+/// allocation fails.
 pub fn task_fault(alloc: Global, fault: PddlFault, domain: &[u8], problem: &[u8]) -> Fault
     ensures { IsTaskRefusal domain.now problem.now fault → IsTaskReport domain.now problem.now result }
 {

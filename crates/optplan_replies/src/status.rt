@@ -3,21 +3,21 @@
 ghost use Rattle.std.specs.Prelude.{◌≡◌};
 ghost use Rattle.optplan_replies.specs.Statuses.{status_code};
 
-/// How a command ended.
+/// The result of a command.
 #[derive(Clone, Copy, Debug, PartialEq, Eq)]
 pub enum Status {
-    /// What was asked for was done: a plan is valid, a certificate accepted, a task translated or solved, or help or the
+    /// The request was completed: a plan is valid, a certificate accepted, a task translated or solved, or help or the
     /// version was printed.
     Done,
     /// A text or a task is refused.
     Refused,
-    /// The words are not a command.
+    /// The arguments are not a command.
     Misused,
     /// The plan is not valid, or the certificate is rejected.
     Rejected,
     /// There is no plan.
     Unsolvable,
-    /// A search came to a limit.
+    /// A search reached a limit.
     Limited,
     /// Memory ran out.
     OutOfMemory,
@@ -26,8 +26,7 @@ pub enum Status {
 }
 
 impl Status {
-    /// The number with which the program ends: that of the variant by its place, from 0 for `Done` to 7 for
-    /// `DeviceFailed`.
+    /// Returns the number with which the program exits: the variant's index, from 0 for `Done` to 7 for `DeviceFailed`.
     pub fn code(self) -> u8
         ensures { result ≡ status_code self }
     {

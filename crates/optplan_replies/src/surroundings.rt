@@ -1,4 +1,4 @@
-//! What every command does with its device: it reads files, prints an answer, and reports a fault.
+//! The I/O that all commands share: reading files, printing an answer, and reporting a fault.
 
 ghost use Rattle.std.specs.Prelude.{◌≡◌, ◌≢◌, ◌≤◌, ◌+◌, ◌∷◌, [], ◌++◌, ◌⊎◌, List, Some, IfOk, IfErr, OnOk, OnErr, string_bytes};
 ghost use Rattle.optplan_device.specs.Events.{Event, HasRead, HasPut, Adds};
@@ -11,7 +11,7 @@ use crate::status::Status;
 use optplan_device::{Device, DeviceFault};
 use std::alloc::{AllocError, Global};
 
-/// The bytes of a file. Fails with `CannotRead(file)` if the device fails, or with `OutOfMemory`.
+/// Returns the bytes of a file. Fails with `CannotRead(file)` if the device fails, or with `OutOfMemory`.
 pub fn read_file<D: Device>(
     alloc: Global,
     device: &mut D,
@@ -31,7 +31,7 @@ pub fn read_file<D: Device>(
     }
 }
 
-/// The bytes of the two files of a planning task, read in this order. Fails as `read_file` does.
+/// Returns the bytes of the two files of a planning task, read in this order. Fails as `read_file` does.
 pub fn read_task_files<D: Device>(
     alloc: Global,
     device: &mut D,
@@ -63,16 +63,16 @@ fn put<D: Device>(device: &mut D, text: &[u8]) -> Result<(), Fault>
     }
 }
 
-/// The line that says that memory ran out, with its line feed. It takes no memory to make.
+/// The line which says that memory ran out, with its line feed. It is constant because making it must not allocate.
 const OUT_OF_MEMORY_LINE: &[u8] = b"optplan: out of memory\n";
 
-/// The line of a fault, with its line feed. Fails only if allocation fails.
+/// Returns the line of a fault, with its line feed.
 fn fault_line(alloc: Global, fault: &Fault) -> Result<String, AllocError> {
     format!(in alloc; "optplan: {fault}\n")
 }
 
-/// Reports a fault on standard error, unless that fails, and returns the fault's exit status. Where there is no memory for the fault's line,
-/// the line says that.
+/// Reports a fault on standard error and returns the fault's exit status. If there is no memory for the fault's line,
+/// the line says that memory ran out. A failure to write the line is ignored.
 pub fn report<D: Device>(alloc: Global, device: &mut D, fault: &Fault) -> Status
     ensures told { (h : List Event) → D.history device.old ≡ Some h →
         (later : List Event) × (D.history device.new ≡ Some (h ++ later)) × IsQuiet later }

@@ -1,4 +1,4 @@
--- What a run prints and reports.
+-- The output and the reports of a run.
 use Rattle.std.specs.Prelude.{ℕ, List, [], ◌∷◌, ◌++◌}
 use Rattle.optplan_device.specs.Events.{Event, HasRead, HasWritten, HasPut, HasReported}
 

@@ -1,4 +1,4 @@
-//! A device of which one call fails.
+//! A device one of whose calls fails.
 
 ghost use Rattle.std.specs.Prelude.{◌≡◌, ◌+◌, None, OnOk, IfErr};
 ghost use Rattle.optplan_device.specs.Events.{failure_of};
@@ -7,8 +7,7 @@ use crate::runs::CALLS_OF_A_RUN;
 use optplan_device::{Device, DeviceFault, MemoryDevice, Recorded};
 use std::alloc::Global;
 
-/// Files in memory, and the fault of one call; the calls before and after it are those of the files. It specifies no
-/// history.
+/// Files in memory, and the fault of one call; the other calls are those of the files. It specifies no history.
 #[derive(Drop)]
 pub struct FaultyDevice<'a> {
     device: MemoryDevice<'a>,
@@ -18,7 +17,7 @@ pub struct FaultyDevice<'a> {
 }
 
 impl<'a> FaultyDevice<'a> {
-    /// A device whose call after the first `calls_before` ones fails with this fault.
+    /// Creates a device whose call after the first `calls_before` ones fails with this fault.
     pub fn new(
         alloc: Global,
         files: &'a [(&'a str, &'a [u8])],
@@ -33,13 +32,13 @@ impl<'a> FaultyDevice<'a> {
         }
     }
 
-    /// The reads and writes so far, in order.
+    /// Returns the reads and writes so far, in order.
     pub fn events(&self) -> &[Recorded] {
         self.device.events()
     }
 
-    /// The fault that is returned: `Memory` if it is that or the count of failures is full, else `Failed`, which is
-    /// counted.
+    /// Returns the fault to return: `Memory` if `fault` is that or the count of failures is at its maximum, else
+    /// `Failed`, which is counted.
     fn counted(&mut self, fault: DeviceFault) -> DeviceFault
         ensures { self.new.failures ≡ self.old.failures + failure_of result }
     {

@@ -1,4 +1,5 @@
-//! Runs of the program over a device in memory, for the tests of what no run over files shows: calls that fail, and memory that is refused.
+//! Runs of the program over a device in memory, for the tests of what no run over files shows: calls that fail, and
+//! memory that is refused.
 #![tactic(auto)]
 
 mod faulty_device;

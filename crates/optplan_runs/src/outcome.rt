@@ -1,4 +1,4 @@
-//! What a run prints and reports, and its exit status.
+//! The output and the reports of a run, and its exit status.
 
 ghost use Rattle.std.specs.Prelude.{◌≡◌, IfOk, OnOk, map, ◌++◌, string_bytes};
 ghost use Rattle.optplan_device.specs.Memory.{event_of};
@@ -10,7 +10,7 @@ use std::alloc::{AllocError, AllocFailed, Global};
 use std::str::Utf8Error;
 use thiserror::Error;
 
-/// What a run wrote to standard output and to standard error, and its exit status.
+/// The texts that a run wrote to standard output and to standard error, and its exit status.
 #[derive(Debug, PartialEq, Eq, Drop)]
 pub struct Outcome {
     pub out: String,
@@ -18,7 +18,7 @@ pub struct Outcome {
     pub status: u8,
 }
 
-/// Why there is no outcome.
+/// The reason why there is no outcome.
 #[derive(Clone, Copy, Debug, PartialEq, Eq, Error)]
 pub enum RunFault {
     /// Memory ran out.
@@ -67,8 +67,8 @@ fn note_event(outcome: &mut Outcome, event: &Recorded) -> Result<(), RunFault>
     Ok(())
 }
 
-/// The outcome of a run, from the events that a device in memory recorded. Fails if what was printed or reported is not
-/// UTF-8, or if allocation fails.
+/// Returns the outcome of a run, from the events that a device in memory recorded. Fails if what was printed or
+/// reported is not UTF-8, or if allocation fails.
 pub fn recorded(alloc: Global, events: &[Recorded], status: u8) -> Result<Outcome, RunFault>
     ensures out { IfOk result (λ o. string_bytes o.out ≡ put_of (map event_of events.now)) }
     ensures err { IfOk result (λ o. string_bytes o.err ≡ reported_of (map event_of events.now)) }

@@ -11,10 +11,10 @@ use std::sync::Wait;
 use std::thread::Threads;
 use std::time::Clock;
 
-/// A number of calls that no run of the program exceeds.
+/// A number of calls of the device that no run of the program exceeds.
 pub const CALLS_OF_A_RUN: u64 = 100;
 
-/// The program's words, its own name first.
+/// Returns the program's arguments, its own name first.
 pub fn program_words(alloc: Global, words: &[&str]) -> Result<Vec<String>, AllocError>
     ensures { IfOk result (λ all. texts_of all.items ≡ codes "optplan" ∷ map (λ w. w.now) words.now) }
 {
@@ -25,7 +25,7 @@ pub fn program_words(alloc: Global, words: &[&str]) -> Result<Vec<String>, Alloc
     Ok(all)
 }
 
-/// The outcome of the program over these files, each a name and bytes.
+/// Returns the outcome of the program over these files, each a name and bytes.
 pub fn run_over<R: Threads + Wait + Clock + Eprint + Sync + AllocGlobal>(
     rt: &R,
     words: &[&str],

@@ -1,6 +1,6 @@
-//! Tasks that several rows use.
+//! Tasks that several tests use.
 
-/// A step goes along a road, at cost 1.
+/// A step moves along a road, at cost 1.
 pub const ROAD_DOMAIN: &str = "(define (domain road)
  (:requirements :typing)
  (:types loc)
@@ -17,14 +17,14 @@ pub const ROAD_PROBLEM: &str = "(define (problem r1) (:domain road)
  (:goal (at c)))
 ";
 
-/// A road from each of two places to the third, with a goal that no road leads to.
+/// A road from each of two locations to the third, with a goal that no road reaches.
 pub const ROAD_PROBLEM_WITHOUT_WAY: &str = "(define (problem r1) (:domain road)
  (:objects a b c - loc)
  (:init (at a) (road a b) (road c b))
  (:goal (at c)))
 ";
 
-/// `ROAD_PROBLEM` as Fast Downward's translator writes it, in 45 lines: one variable, whose values are the places.
+/// `ROAD_PROBLEM` as Fast Downward's translator writes it, in 45 lines: one variable, whose values are the locations.
 pub const ROAD_SAS: &str = "begin_version\n3\nend_version\nbegin_metric\n0\nend_metric\n1\n\
 begin_variable\nvar0\n-1\n3\nAtom at(a)\nAtom at(b)\nAtom at(c)\nend_variable\n\
 1\nbegin_mutex_group\n3\n0 0\n0 1\n0 2\nend_mutex_group\nbegin_state\n0\nend_state\n\

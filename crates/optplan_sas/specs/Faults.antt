@@ -1,4 +1,4 @@
--- Faults of a search by threads as faults of a search, and these as faults of the solver.
+-- Faults of a multi-threaded search as faults of a search, and these as faults of the solver.
 use Rattle.engine.specs.declared.fault.EngineFault.{EngineFault}
 use Rattle.engine.specs.declared.fault.EngineFault.TheVariants as engine
 use Rattle.optplan_sas.specs.declared.fault.SearchFault.{SearchFault}

@@ -1,4 +1,5 @@
--- The finding of a search: a cheapest plan, that there is none, or how far it came; each with a certificate.
+-- The finding of a search: a cheapest plan, that there is none, or a bound with the best plan so far; each with a
+-- certificate.
 use Rattle.std.specs.Prelude.{◌≡◌, ℕ, ◌<◌, ◌≤◌, ◌^◌, List, length, Option, Some, None}
 use Rattle.cost.specs.Distances.{Distance, Finite, Infinite}
 use Rattle.fdr.specs.Tasks.{FiniteDomainTask, IsPlan, plan_cost, EveryPlanCostsAtLeast, HasNoPlan}
@@ -26,8 +27,8 @@ pub record IsCheapestPlan (task : FiniteDomainTask) (plan : List ℕ) (cost : �
   pub costs : plan_cost task plan ≡ cost
   pub least : EveryPlanCostsAtLeast task (Finite cost)
 
--- the certificate is of that kind and for that bound, all its clauses hold, and it has a text if its kind has one and it
--- has fewer than 2^32 closed states
+-- the certificate has that kind and that bound, all its clauses hold, and it has a text if its kind has one and it has
+-- fewer than 2^32 closed states
 pub record IsCertificateOf (task : FiniteDomainTask) (kind : Kind) (bound : Distance) (c : CertificateValue) : Type 0 where
   pub kind_is : c.kind ≡ kind
   pub bound_is : c.bound ≡ bound
@@ -39,7 +40,8 @@ pub record IsSolution (task : FiniteDomainTask) (kind : Kind) (s : Solution) : T
   pub cheapest : IsCheapestPlan task s.found.plan.items s.found.cost
   pub certified : IsCertificateOf task kind (Finite s.found.cost) s.certificate
 
--- the best plan so far: none where no goal state was taken, and else one that costs at most as much as the best goal state that was
+-- the best plan so far: none if no goal state was taken, and else one that costs at most as much as the best goal state
+-- that was
 abbrev pub IsBestSoFar : FiniteDomainTask → Distance → Option FoundPlan → Type 0
 IsBestSoFar task Infinite None = Unit {0}
 IsBestSoFar task Infinite (Some p) = ⊥
@@ -52,13 +54,13 @@ pub record IsSoFar (task : FiniteDomainTask) (kind : Kind) (best : Distance) (s 
   pub certified : IsCertificateOf task kind (Finite s.bound) s.certificate
   pub best_is : IsBestSoFar task best s.best
 
--- ---- by where the search ended
+-- ---- by the end of the search
 
 -- the owners at an end are settled at the bound
 abbrev pub IsSettledEnd : {S : Type 0} → (S → List ℕ → ℕ → ℕ) → EndOf S → Distance → Type 0
 IsSettledEnd owner e bound = IsSettledAt (space_at owner e) e.owners e.left bound
 
--- the owners at an end are not settled, and this is its lower bound
+-- the owners at an end are not settled, and its lower bound is `bound`
 pub record IsShortEnd {S : Type 0} (owner : S → List ℕ → ℕ → ℕ) (e : EndOf S) (bound : ℕ) : Type 0 where
   pub unsettled : (at : Distance) → IsSettledEnd owner e at → ⊥
   pub bound_is : lower_bound owner e ≡ Finite bound
@@ -69,7 +71,7 @@ IsFound owner e kind (Solved s) = IsSolution e.space.task kind s × IsSettledEnd
 IsFound owner e kind (Unsolvable c) = HasNoPlan e.space.task × IsCertificateOf e.space.task kind Infinite c × IsSettledEnd owner e Infinite
 IsFound owner e kind (Stopped s) = IsSoFar e.space.task kind (least_best e) s × IsShortEnd owner e s.bound
 
--- the finding for a task by a search that ends so, its states spread by a hash
+-- the finding for a task by a search whose end satisfies `ends` and whose states are spread by a hash
 pub record IsFinding (task : FiniteDomainTask) (kind : Kind) (ends : EndOf spread.Zobrist → Type 0) (f : Found) : Type 0 where
   pub end : EndOf spread.Zobrist
   pub ended : ends end

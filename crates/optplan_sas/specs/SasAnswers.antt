@@ -25,7 +25,7 @@ use Rattle.optplan_sas.specs.declared.answer.KnownSoFar.{KnownSoFar}
 use Rattle.optplan_sas.specs.declared.answer.Answer.{Answer}
 use Rattle.optplan_sas.specs.declared.answer.Answer.TheVariants.{Solved, Unsolvable, Limit}
 
--- a plan is given by the numbers of its operators
+-- a plan is the list of its operators' numbers
 abbrev pub SasAnswer : Type 0
 SasAnswer = Answer (Vec ℕ Global)
 
@@ -39,7 +39,8 @@ pub record IsSasPlan (task : FiniteDomainTask) (p : WrittenPlan (Vec ℕ Global)
   pub is : IsPlanAt task p.plan.items p.cost
   pub written : string_bytes p.plan_text ≡ sas_plan_text task p.plan.items p.cost
 
--- the best plan so far: none where no goal state was taken, and else one that costs at most as much as the best goal state that was
+-- the best plan so far: none if no goal state was taken, and else one that costs at most as much as the best goal state
+-- that was
 abbrev pub IsBestWritten : {P : Type 0} → (WrittenPlan P → Type 0) → Distance → Option (WrittenPlan P) → Type 0
 IsBestWritten is_plan Infinite None = Unit {0}
 IsBestWritten is_plan Infinite (Some p) = ⊥
@@ -58,14 +59,14 @@ pub record IsSasKnown (sas : List ℕ) (task : FiniteDomainTask) (most : Distanc
   pub best : IsBestWritten (IsSasPlan task) most known.best
   pub accepted : IsAccepted sas known.cert.items (Finite known.bound)
 
--- the answer for a task by a search at its end: a cheapest plan, that there is none, or a bound and the best plan so far; each with the
--- text of a certificate
+-- the answer for a task by a search at its end: a cheapest plan, that there is none, or a bound and the best plan so
+-- far; each with the text of a certificate
 abbrev pub IsSasAnswerFor : List ℕ → FiniteDomainTask → EndOf spread.Zobrist → SasAnswer → Type 0
 IsSasAnswerFor sas task e (Solved s) = IsSasSolution sas task s × IsSettledEnd zobrist_owner e (Finite s.found.cost)
 IsSasAnswerFor sas task e (Unsolvable cert) = HasNoPlan task × IsAccepted sas cert.items Infinite × IsSettledEnd zobrist_owner e Infinite
 IsSasAnswerFor sas task e (Limit known) = IsSasKnown sas task (least_best e) known × IsShortEnd zobrist_owner e known.bound
 
--- the text spells a task, and this is the answer for it by a search that may end so
+-- the text spells a task, and this is the answer for it by a search whose end satisfies `ends`
 pub record IsSasAnswer (sas : List ℕ) (ends : FiniteDomainTask → EndOf spread.Zobrist → Type 0) (answer : SasAnswer) : Type 0 where
   pub task : FiniteDomainTask
   pub spelled : SpellsTask sas task
@@ -73,8 +74,8 @@ pub record IsSasAnswer (sas : List ℕ) (ends : FiniteDomainTask → EndOf sprea
   pub ended : ends task end
   pub is : IsSasAnswerFor sas task end answer
 
--- the text is refused for its first fault; or it spells a task, the search for which is refused in the specified way, since a path's total
--- is too large or a gate made it fail
+-- the text is refused for its first fault; or it spells a task, the search for which is refused for a fault that
+-- satisfies `refused`: a path's total is too large, or a gate made it fail
 abbrev pub IsSasRefusal : List ℕ → (FiniteDomainTask → SearchFault → Type 0) → SasSolveFault → Type 0
 IsSasRefusal sas refused OutOfMemory = Unit {0}
 IsSasRefusal sas refused (Sas e) = (e ≢ sas_fault.OutOfMemory) × (task_in sas ≡ Err e)

@@ -1,4 +1,5 @@
--- Where a search for a task may end, and why it may be refused: by a list of steps, by steps that are drawn, and by threads.
+-- The ends that a search for a task may have, and why it may be refused: by a list of steps, by random steps, and with
+-- threads.
 use Rattle.std.specs.Prelude.{◌≡◌, ℕ, ◌⊎◌, List, sum}
 use Rattle.fdr.specs.Tasks.{FiniteDomainTask, ranges}
 use Rattle.packed_spread.specs.Spreads as spread
@@ -18,34 +19,36 @@ use Rattle.optplan_sas.specs.Schedules.{IsSimulated, IsSimulationRefusal}
 use Rattle.optplan_sas.specs.declared.fault.SearchFault.{SearchFault}
 use Rattle.optplan_sas.specs.declared.fault.SearchFault.TheVariants.{OutOfMemory, TotalTooLarge, Gate}
 
--- a space of the task, with this limit, this order among nodes of the same f-value, and the states spread by a hash of these words
+-- a space of the task, with the limit and the order among nodes of the same f-value as chosen, and the states spread by
+-- a hash over `words`
 pub record IsSpaceFor (task : FiniteDomainTask) (choices : Choices) (words : List ℕ) (space : SpaceOf spread.Zobrist) : Type 0 where
   pub task_is : space.task ≡ task
   pub spread_is : space.spread ≡ record { task = task; words = words }
   pub limit_is : space.limit ≡ choices.limit
   pub ties_are : space.ties ≡ choices.ties
 
--- a space of a search by one thread, where all variables are hashed
+-- a space of a single-threaded search, in which all variables are hashed
 abbrev pub IsSimulatedSpace : FiniteDomainTask → Choices → SpaceOf spread.Zobrist → Type 0
 IsSimulatedSpace task choices space = IsSpaceFor task choices (splitmix_words 1 (sum (ranges task))) space
 
--- a space of a search by threads, where the variables of a projection are hashed
+-- a space of a multi-threaded search, in which the variables of a projection are hashed
 abbrev pub IsThreadedSpace : FiniteDomainTask → Choices → SpaceOf spread.Zobrist → Type 0
 IsThreadedSpace task choices space = IsSpaceFor task choices (projected_words task) space
 
--- the end that a world is
+-- the world as the end of a search
 abbrev pub end_of : {S : Type 0} → WorldOf S → EndOf S
 end_of w = record { space = w.space; owners = w.owners; left = left_in w }
 
 -- ---- by a list of steps
 
--- the end of the world of the chosen number of owners after these steps, or before one of them that its owner's limit does not allow
+-- the end of the world of the chosen number of owners after these steps, or before one of them that its owner's limit
+-- does not allow
 abbrev pub EndsAfter : Choices → List WorldStep → FiniteDomainTask → EndOf spread.Zobrist → Type 0
 EndsAfter choices steps task e =
     (space : SpaceOf spread.Zobrist) × IsSimulatedSpace task choices space
     × ((w : WorldOf spread.Zobrist) × IsRun zobrist_owner space choices.workers steps w × (e ≡ end_of w))
 
--- a step is refused as its total is too large, or memory ran out
+-- a step is refused because its total is too large, or memory ran out
 abbrev pub IsRefusedAfter : Choices → List WorldStep → FiniteDomainTask → SearchFault → Type 0
 IsRefusedAfter choices steps task OutOfMemory = Unit {0}
 IsRefusedAfter choices steps task TotalTooLarge =
@@ -53,15 +56,16 @@ IsRefusedAfter choices steps task TotalTooLarge =
     × IsRunRefusal zobrist_owner space choices.workers steps owner_fault.TotalTooLarge
 IsRefusedAfter choices steps task (Gate worker turn) = ⊥
 
--- ---- by steps that are drawn
+-- ---- by random steps
 
--- the end of the world of the chosen number of owners after steps that are drawn from the seed, at most as many as the options allow
+-- the end of the world of the chosen number of owners after random steps from the seed, at most as many as the options
+-- allow
 abbrev pub EndsBySeed : Choices → ℕ → FiniteDomainTask → EndOf spread.Zobrist → Type 0
 EndsBySeed choices seed task e =
     (space : SpaceOf spread.Zobrist) × IsSimulatedSpace task choices space
     × ((w : WorldOf spread.Zobrist) × IsSimulated zobrist_owner space choices.workers seed choices.steps w × (e ≡ end_of w))
 
--- a step that is drawn from the seed is refused as its total is too large, or memory ran out
+-- a random step from the seed is refused because its total is too large, or memory ran out
 abbrev pub IsRefusedBySeed : Choices → ℕ → FiniteDomainTask → SearchFault → Type 0
 IsRefusedBySeed choices seed task OutOfMemory = Unit {0}
 IsRefusedBySeed choices seed task TotalTooLarge =
@@ -69,14 +73,14 @@ IsRefusedBySeed choices seed task TotalTooLarge =
     × IsSimulationRefusal zobrist_owner space choices.workers seed owner_fault.TotalTooLarge
 IsRefusedBySeed choices seed task (Gate worker turn) = ⊥
 
--- ---- by threads
+-- ---- with threads
 
 -- no turn may end a search
 abbrev pub no_stop : MayStop
 no_stop worker turn stop = ⊥
 
--- the end of a search by the chosen number of workers, whose owners are settled or were stopped before; the form of their states makes no
--- difference
+-- the end of a search by the chosen number of workers, whose owners are settled or were stopped before that; the form
+-- of their states makes no difference
 abbrev pub EndsByThreads : Choices → MayStop → FiniteDomainTask → EndOf spread.Zobrist → Type 0
 EndsByThreads choices may_stop task e =
     (space : SpaceOf spread.Zobrist) × IsThreadedSpace task choices space

@@ -2,7 +2,7 @@
 
 ghost use Rattle.std.specs.Prelude.{◌≡◌};
 
-/// A plan with its cost and its text; `P` is how the plan itself is given.
+/// A plan with its cost and its text; `P` is the form of the plan itself.
 #[derive(Drop)]
 pub struct WrittenPlan<P: Drop> {
     /// The cost of the plan.
@@ -22,7 +22,7 @@ pub struct CheapestPlan<P: Drop> {
     pub cert: Vec<u8>,
 }
 
-/// What is known where a search was stopped.
+/// The result of a search that was stopped.
 #[derive(Drop)]
 pub struct KnownSoFar<P: Drop> {
     /// No plan costs less.

@@ -1,4 +1,4 @@
-//! Why a search or a solver gives no answer.
+//! Reasons why a search or a solver has no answer.
 
 ghost use Rattle.std.specs.Prelude.{◌≡◌};
 ghost use Rattle.optplan_sas.specs.declared.fault.SearchFault.TheVariants as search;
@@ -9,19 +9,19 @@ use engine::EngineFault;
 use sasfile::SasFault;
 use std::alloc::AllocError;
 
-/// Why a search gives no finding.
+/// The reason why a search has no finding.
 #[derive(Clone, Copy, Debug, PartialEq, Eq)]
 pub enum SearchFault {
     /// Memory ran out. This says nothing about the task.
     OutOfMemory,
     /// A path would have a cost, or a number of operators, above 2^62.
     TotalTooLarge,
-    /// The gate of a search by threads made it fail before a turn: the worker's number, counted from 0, and the turn's, counted from 1
-    /// in its round.
+    /// The gate of a multi-threaded search made it fail before a turn: the worker's number, counted from 0, and the
+    /// turn's, counted from 1 in its round.
     Gate(usize, u64),
 }
 
-/// Why a finite-domain task is not solved.
+/// The reason why a finite-domain task is not solved.
 #[derive(Clone, Copy, Debug, PartialEq, Eq)]
 pub enum SasSolveFault {
     /// Memory ran out. This says nothing about the task.
@@ -30,8 +30,8 @@ pub enum SasSolveFault {
     Sas(SasFault),
     /// F60: a path would have a cost, or a number of operators, above 2^62.
     TotalTooLarge,
-    /// The gate of a search by threads made it fail before a turn: the worker's number, counted from 0, and the turn's, counted from 1
-    /// in its round.
+    /// The gate of a multi-threaded search made it fail before a turn: the worker's number, counted from 0, and the
+    /// turn's, counted from 1 in its round.
     Gate(usize, u64),
 }
 

@@ -34,7 +34,7 @@ pub struct Solution {
     pub certificate: Certificate,
 }
 
-/// What is known where a search was stopped.
+/// The result of a search that was stopped.
 #[derive(Drop)]
 pub struct SoFar {
     /// No plan costs less.
@@ -56,7 +56,7 @@ pub enum Found {
     Stopped(SoFar),
 }
 
-/// The cost of these operators.
+/// Returns the cost of these operators.
 fn cost_of_plan(task: &FdrTask, plan: &[usize]) -> u64
     requires { plan_cost task.now plan.now ≤ 2 ^ 62 }
     ensures { result ≡ plan_cost task.now plan.now }
@@ -68,8 +68,8 @@ fn cost_of_plan(task: &FdrTask, plan: &[usize]) -> u64
     cost
 }
 
-/// The plan to a goal node of least cost, with its own cost: at most that of the node, and exactly the bound if the search is settled.
-/// Fails only if allocation fails.
+/// Returns the plan to a goal node of least cost, with its own cost: at most that of the node, and exactly the bound if
+/// the search is settled.
 fn plan_to<'a, S: Spread + Drop, F: StateForm + Drop>(
     alloc: Global,
     joined: &Joined<'a, S, F>,
@@ -88,7 +88,7 @@ fn plan_to<'a, S: Spread + Drop, F: StateForm + Drop>(
     Ok(FoundPlan { cost, plan })
 }
 
-/// The best plan so far, if a goal state was taken. Fails only if allocation fails.
+/// Returns the best plan so far, if a goal state was taken.
 fn best_plan<'a, S: Spread + Drop, F: StateForm + Drop>(
     alloc: Global,
     joined: &Joined<'a, S, F>,
@@ -103,7 +103,7 @@ fn best_plan<'a, S: Spread + Drop, F: StateForm + Drop>(
     }
 }
 
-/// The solution of a search that is settled at a cost. Fails only if allocation fails.
+/// Returns the solution of a search that is settled at a finite cost.
 fn solution_of<'a, S: Spread + Drop, F: StateForm + Drop>(
     alloc: Global,
     joined: &Joined<'a, S, F>,
@@ -121,7 +121,7 @@ fn solution_of<'a, S: Spread + Drop, F: StateForm + Drop>(
     }
 }
 
-/// What is known where a search is not settled. Fails only if allocation fails.
+/// Returns the result of a search that is not settled.
 fn so_far_of<'a, S: Spread + Drop, F: StateForm + Drop>(
     alloc: Global,
     joined: &Joined<'a, S, F>,
@@ -144,8 +144,8 @@ fn so_far_of<'a, S: Spread + Drop, F: StateForm + Drop>(
     }
 }
 
-/// The finding of the search, with a certificate of this kind: if it is settled, a cheapest plan, or that there is none; else a bound
-/// below which no plan costs, with the best plan so far. Fails only if allocation fails.
+/// Returns the finding of the search, with a certificate of this kind: if it is settled, a cheapest plan, or that there
+/// is none; else a bound below which no plan costs, with the best plan so far.
 pub fn found_by<'a, S: Spread + Drop, F: StateForm + Drop>(
     alloc: Global,
     joined: &Joined<'a, S, F>,

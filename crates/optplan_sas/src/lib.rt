@@ -1,5 +1,5 @@
-//! Solving: from the text of a finite-domain task to a cheapest plan, or that there is none, with a certificate; by threads, or by a
-//! schedule of the owners' steps.
+//! Solving: from the text of a finite-domain task to a cheapest plan, or that there is none, with a certificate; with
+//! threads, or by a schedule of the owners' steps.
 #![tactic(auto)]
 
 mod answer;

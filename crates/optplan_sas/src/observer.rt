@@ -1,4 +1,4 @@
-//! Who is told how far a simulation is.
+//! Progress reports of simulations.
 
 use cost::Dist;
 use netcore::WorldStep;
@@ -6,15 +6,15 @@ use owner::Owner;
 use packed::StateForm;
 use packed_spread::Spread;
 
-/// The number of steps after which, each time, an observer is told.
+/// The number of steps between two reports to an observer.
 pub const STEPS_BETWEEN_REPORTS: u64 = 100_000;
 
-/// What the owners of a search have come to together.
+/// The progress of all owners of a search together.
 #[derive(Clone, Copy, Debug, PartialEq, Eq)]
 pub struct Reached {
     /// The number of expansions, or 2^64 - 1 if it is greater.
     pub expanded: u64,
-    /// The number of states that are kept, or 2^64 - 1 if it is greater.
+    /// The number of stored states, or 2^64 - 1 if it is greater.
     pub kept: u64,
     /// The least f-value of the states that are yet to be expanded, infinite if there is none.
     pub least_open: Dist,
@@ -22,9 +22,9 @@ pub struct Reached {
     pub best: Dist,
 }
 
-/// Told how far a simulation is. Nothing that a simulation answers depends on it.
+/// Receives progress reports of a simulation. No result of a simulation depends on it.
 pub trait Observer {
-    /// Told once in `STEPS_BETWEEN_REPORTS` steps what the owners have come to after `steps` of them.
+    /// Called once in `STEPS_BETWEEN_REPORTS` steps, with the progress of the owners after `steps` steps.
     fn observe(&self, steps: u64, reached: Reached);
 }
 
@@ -36,7 +36,7 @@ impl Observer for Unobserved {
     fn observe(&self, _steps: u64, _reached: Reached) {}
 }
 
-/// What these owners have come to, after this many expansions.
+/// Returns the progress of these owners, after `expanded` expansions.
 fn sum_of<'a, S: Spread + Drop, F: StateForm + Drop>(
     owners: &[Owner<'a, S, F>],
     expanded: u64,
@@ -55,7 +55,7 @@ fn sum_of<'a, S: Spread + Drop, F: StateForm + Drop>(
     }
 }
 
-/// How many steps of a simulation are done, and how many of them were expansions.
+/// The numbers of steps and of expansions of a simulation.
 #[derive(Drop)]
 pub(crate) struct Tally {
     steps: u64,
@@ -63,7 +63,7 @@ pub(crate) struct Tally {
 }
 
 impl Tally {
-    /// None yet.
+    /// Creates the counters, at 0.
     pub(crate) fn new() -> Tally {
         Tally {
             steps: 0,
@@ -71,7 +71,7 @@ impl Tally {
         }
     }
 
-    /// Counts a step after which the owners are these, and tells the observer where it is due.
+    /// Counts a step after which the owners are these, and reports to the observer if a report is due.
     pub(crate) fn count<'a, S: Spread + Drop, F: StateForm + Drop, O: Observer>(
         &mut self,
         step: WorldStep,

@@ -11,12 +11,13 @@ pub const MAX_WORKERS: usize = 64;
 /// The greatest number of abstract states of a table, 2^24.
 pub const MAX_TABLE: usize = 16_777_216;
 
-/// The greatest room of a link, in messages.
+/// The greatest capacity of a link, in messages.
 pub const MAX_RING: usize = 65_536;
 
 /// How a task is solved: the number of owners (1 to 64), the greatest number of abstract states of a table (1 to 2^24),
-/// the limit on the nodes that each owner expands, if there is one, the room of a link between two workers in messages (1 to 65,536),
-/// the greatest number of steps of a simulation, and the order of expansion among nodes of the same f-value.
+/// the limit on the nodes that each owner expands, if there is one, the capacity of a link between two workers in
+/// messages (1 to 65,536), the greatest number of steps of a simulation, and the order of expansion among nodes of the
+/// same f-value.
 #[derive(Debug, Drop)]
 pub struct Options {
     workers: usize,
@@ -39,8 +40,8 @@ impl Model for Options {
 }
 
 impl Options {
-    /// The defaults: 4 owners, tables of at most 100,000 abstract states, no limit on expansions, links with room for 64 messages,
-    /// 1,000,000 steps of a simulation, and the order `Shallow`.
+    /// Returns the defaults: 4 owners, tables of at most 100,000 abstract states, no limit on expansions, links with
+    /// room for 64 messages, 1,000,000 steps of a simulation, and the order `Shallow`.
     pub fn new() -> Options
         ensures { result ≡ record { workers = 4; table = 100000; limit = None; ring = 64; steps = 1000000; ties = Ties.Shallow } }
     {
@@ -54,7 +55,7 @@ impl Options {
         }
     }
 
-    /// These options with this number of owners, 1 to 64.
+    /// Returns these options with `workers` owners, 1 to 64.
     pub fn with_workers(self, workers: usize) -> Options
         requires some { 1 ≤ workers }
         requires few { workers ≤ 64 }
@@ -63,7 +64,7 @@ impl Options {
         Options { workers, ..self }
     }
 
-    /// These options with tables of at most this number of abstract states, 1 to 2^24.
+    /// Returns these options with tables of at most `table` abstract states, 1 to 2^24.
     pub fn with_table(self, table: usize) -> Options
         requires some { 1 ≤ table }
         requires few { table ≤ 2 ^ 24 }
@@ -72,7 +73,7 @@ impl Options {
         Options { table, ..self }
     }
 
-    /// These options with this limit on the number of nodes that each owner expands.
+    /// Returns these options with this limit on the number of nodes that each owner expands.
     pub fn with_limit(self, limit: u64) -> Options
         ensures { result ≡ record self { limit = Some limit } }
     {
@@ -82,7 +83,7 @@ impl Options {
         }
     }
 
-    /// These options with links that have room for this number of messages, 1 to 65,536.
+    /// Returns these options with links that have room for `ring` messages, 1 to 65,536.
     pub fn with_ring(self, ring: usize) -> Options
         requires some { 1 ≤ ring }
         requires few { ring ≤ 2 ^ 16 }
@@ -91,21 +92,21 @@ impl Options {
         Options { ring, ..self }
     }
 
-    /// These options with this greatest number of steps of a simulation.
+    /// Returns these options with at most `steps` steps of a simulation.
     pub fn with_steps(self, steps: u64) -> Options
         ensures { result ≡ record self { steps = steps } }
     {
         Options { steps, ..self }
     }
 
-    /// These options with this order of expansion among nodes of the same f-value.
+    /// Returns these options with this order of expansion among nodes of the same f-value.
     pub fn with_ties(self, ties: Ties) -> Options
         ensures { result ≡ record self { ties = ties } }
     {
         Options { ties, ..self }
     }
 
-    /// The number of owners.
+    /// Returns the number of owners.
     pub fn workers(&self) -> usize
         ensures value { result ≡ self.now.workers }
         ensures some { 1 ≤ result }
@@ -114,7 +115,7 @@ impl Options {
         self.workers
     }
 
-    /// The greatest number of abstract states of a table.
+    /// Returns the greatest number of abstract states of a table.
     pub fn table(&self) -> usize
         ensures value { result ≡ self.now.table }
         ensures some { 1 ≤ result }
@@ -123,14 +124,14 @@ impl Options {
         self.table
     }
 
-    /// The greatest number of nodes that each owner may expand, if there is a limit.
+    /// Returns the greatest number of nodes that each owner may expand, if there is a limit.
     pub fn limit(&self) -> Option<u64>
         ensures { result ≡ self.now.limit }
     {
         self.limit
     }
 
-    /// The room of a link between two workers, in messages.
+    /// Returns the capacity of a link between two workers, in messages.
     pub fn ring(&self) -> usize
         ensures value { result ≡ self.now.ring }
         ensures some { 1 ≤ result }
@@ -139,14 +140,14 @@ impl Options {
         self.ring
     }
 
-    /// The greatest number of steps of a simulation.
+    /// Returns the greatest number of steps of a simulation.
     pub fn steps(&self) -> u64
         ensures { result ≡ self.now.steps }
     {
         self.steps
     }
 
-    /// The order of expansion among nodes of the same f-value.
+    /// Returns the order of expansion among nodes of the same f-value.
     pub fn ties(&self) -> Ties
         ensures { result ≡ self.now.ties }
     {

@@ -29,10 +29,10 @@ use std::sync::Wait;
 use std::thread::Threads;
 use std::time::Clock;
 
-/// The answer for a finite-domain task: a plan is given by the numbers of its operators, counted from 0.
+/// The answer for a finite-domain task: a plan is the list of its operators' numbers, counted from 0.
 pub type SasAnswer = Answer<Vec<usize>>;
 
-/// The task that the text spells. Fails with the first fault of the text, or if allocation fails.
+/// Returns the task that the text spells. Fails with the first fault of the text, or if allocation fails.
 fn read_task(alloc: Global, sas: &[u8]) -> Result<FdrTask, SasSolveFault>
     ensures found { IfOk result (λ task. SpellsTask sas.now task) }
     ensures fault { IfErr result (IsSasRefusal sas.now (λ task e. ⊥)) }
@@ -44,7 +44,7 @@ fn read_task(alloc: Global, sas: &[u8]) -> Result<FdrTask, SasSolveFault>
     }
 }
 
-/// The plan with its text. Fails only if allocation fails.
+/// Returns the plan with its text.
 fn plan_text(
     alloc: Global,
     task: &FdrTask,
@@ -62,7 +62,7 @@ fn plan_text(
     })
 }
 
-/// The best plan so far with its text, if there is one. Fails only if allocation fails.
+/// Returns the best plan so far with its text, if there is one.
 fn best_text(
     alloc: Global,
     task: &FdrTask,
@@ -77,7 +77,7 @@ fn best_text(
     }
 }
 
-/// The solution with the texts of its plan and its certificate. Fails only if allocation fails.
+/// Returns the solution with the texts of its plan and its certificate.
 fn solution_texts(
     alloc: Global,
     task: &FdrTask,
@@ -92,7 +92,7 @@ fn solution_texts(
     Ok(CheapestPlan { found, cert })
 }
 
-/// What is known so far with the texts of the best plan and of the certificate. Fails only if allocation fails.
+/// Returns the result so far with the texts of the best plan and of the certificate.
 fn known_texts(
     alloc: Global,
     task: &FdrTask,
@@ -112,7 +112,7 @@ fn known_texts(
     })
 }
 
-/// The answer with the texts of what a search has found. Fails only if allocation fails.
+/// Returns the answer with the texts of the finding of a search.
 fn answer_texts(alloc: Global, task: &FdrTask, found: Found) -> Result<SasAnswer, AllocError>
     requires { IsTrueOf task.now FiniteDomain found }
     ensures { (sas : List ℕ) (e : EndOf spread.Zobrist) → SpellsTask sas task.now → e.space.task ≡ task.now →
@@ -125,9 +125,10 @@ fn answer_texts(alloc: Global, task: &FdrTask, found: Found) -> Result<SasAnswer
     }
 }
 
-/// The answer for the task that the text spells, after these steps of a world of owners, with a certificate that the checker accepts
-/// if its text has at most 2^30 bytes: a cheapest plan, or that there is none; `Limit` with a bound and the best plan so far if the
-/// owners are not settled. No step is done from the first on that asks an owner for more nodes than its limit allows.
+/// Returns the answer for the task that the text spells, after these steps of a world of owners, with a certificate
+/// that the checker accepts if its text has at most 2^30 bytes: a cheapest plan, or that there is none; `Limit` with a
+/// bound and the best plan so far if the owners are not settled. Stops before the first step that asks an owner for
+/// more nodes than its limit allows.
 ///
 /// Fails with the first fault of the text, with `TotalTooLarge` if a path would have a cost or a number of operators
 /// above 2^62, or if allocation fails.
@@ -146,9 +147,10 @@ pub fn solve_sas_steps<R: AllocGlobal + Threads + Sync>(
     Ok(answer_texts(alloc, &task, found)?)
 }
 
-/// The answer for the task that the text spells, after steps drawn from the seed, at most as many as the options allow:
-/// each is the step whose number is the next word of Xoshiro256++ modulo the number of steps that would change something.
-/// The guarantees are those of `solve_sas_steps` for these steps. The observer is told how far they are.
+/// Returns the answer for the task that the text spells, after random steps from the seed, at most as many as the
+/// options allow: each is the step whose number is the next output of Xoshiro256++ modulo the number of steps that
+/// would change something. The guarantees are those of `solve_sas_steps` for these steps. Reports progress to the
+/// observer.
 pub fn simulate_sas<R: AllocGlobal + Threads + Sync, O: Observer>(
     rt: &R,
     sas: &[u8],
@@ -166,13 +168,14 @@ pub fn simulate_sas<R: AllocGlobal + Threads + Sync, O: Observer>(
     Ok(answer_texts(alloc, &task, found)?)
 }
 
-/// The answer for the task that the text spells, by the chosen number of workers, each in a thread of its own, with a certificate that the
-/// checker accepts if its text has at most 2^30 bytes: a cheapest plan, or that there is none; `Limit` with a bound and the best plan so
-/// far if one of the owners has reached its limit, or the gate ended the search, before they were settled.
+/// Returns the answer for the task that the text spells, by the chosen number of workers, each in a thread of its own,
+/// with a certificate that the checker accepts if its text has at most 2^30 bytes: a cheapest plan, or that there is
+/// none; `Limit` with a bound and the best plan so far if one of the owners reached its limit, or the gate ended the
+/// search, before they were settled.
 ///
 /// Fails with the first fault of the text, with `TotalTooLarge` if a path would have a cost or a number of operators
-/// above 2^62, with `Gate` if the gate makes the search fail, or if allocation fails. Whether it ends at all is not promised: the workers
-/// go on as long as the scheduler lets none of them get on.
+/// above 2^62, with `Gate` if the gate makes the search fail, or if allocation fails. Termination is not guaranteed: an
+/// unfair scheduler may keep every worker from making progress.
 pub fn solve_sas<R: Threads + Wait + Clock + Sync + AllocGlobal, G: Gate + Sync>(
     rt: &R,
     sas: &[u8],

@@ -1,4 +1,4 @@
-//! Schedules that are drawn from a seed.
+//! Random schedules from a seed.
 
 ghost use Rattle.std.specs.Prelude.{◌≡◌, ℕ, ◌<◌, ◌+◌, length, IfOk, IfErr};
 ghost use Rattle.fdr.specs.Tasks.{ranges};
@@ -14,8 +14,8 @@ use rand_core::{Rng, SeedableRng};
 use rand_xoshiro::Xoshiro256PlusPlus;
 use std::alloc::Global;
 
-/// The step that the next word draws: of the steps that would change something, the one whose number is the word modulo
-/// their number.
+/// Returns the step that the next output of the generator selects: of the steps that would change something, the one
+/// whose number is the output modulo their number.
 fn drawn<'a, S: Spread + Drop, F: StateForm + Drop>(
     world: &World<'a, S, F>,
     generator: &mut Xoshiro256PlusPlus,
@@ -28,10 +28,10 @@ fn drawn<'a, S: Spread + Drop, F: StateForm + Drop>(
     world.possible_step(word % world.possible_count()).unwrap()
 }
 
-/// The world after steps drawn one after another: each is, of the steps that would change something, in the world's order,
-/// the one whose number is the next word of Xoshiro256++ (Blackman and Vigna 2021) from this seed modulo their number.
-/// The run ends when the world's count is 0, after `steps` steps, or before a step that asks an owner for more nodes than its limit
-/// allows. A fault is that of a step, or `OutOfMemory`. The observer is told how far the run is.
+/// Returns the world after a run of random steps: each is, of the steps that would change something, in the world's
+/// order, the one whose number is the next output of Xoshiro256++ (Blackman and Vigna 2021) from this seed modulo their
+/// number. The run ends when the world's count is 0, after `steps` steps, or before a step that asks an owner for more
+/// nodes than its limit allows. A fault is that of a step, or `OutOfMemory`. Reports progress to the observer.
 pub fn simulated<'a, S: Spread + Drop, O: Observer, F: StateForm + Drop>(
     alloc: Global,
     space: &'a Space<'a, S>,

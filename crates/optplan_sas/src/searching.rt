@@ -1,4 +1,4 @@
-//! Searches for a plan of a task, by threads or by a schedule that is given or drawn.
+//! Searches for a plan of a task, with threads or by a schedule, which is a list of steps or random.
 
 ghost use Rattle.std.specs.Prelude.{◌≡◌, IfOk, IfErr};
 ghost use Rattle.cert_value.specs.Views.{kind_of};
@@ -24,8 +24,8 @@ use std::sync::Wait;
 use std::thread::Threads;
 use std::time::Clock;
 
-/// The search space for a task: columns of tables of the size that the options allow, and this spread of the states. Fails
-/// only if allocation fails.
+/// Returns the search space for a task: columns of tables of the size that the options allow, and this spread of the
+/// states.
 fn space_for<'a, R: Threads + Sync>(
     rt: &R,
     alloc: Global,
@@ -41,8 +41,7 @@ fn space_for<'a, R: Threads + Sync>(
     Space::new(alloc, task, columns, spread, limit, ties)
 }
 
-/// The search space of a search by one thread, whose states are spread by a hash of all variables. Fails only if allocation
-/// fails.
+/// Returns the search space of a single-threaded search, whose states are spread by a hash of all variables.
 fn simulated_space<'a, R: Threads + Sync>(
     rt: &R,
     alloc: Global,
@@ -54,8 +53,8 @@ fn simulated_space<'a, R: Threads + Sync>(
     space_for(rt, alloc, task, options, Zobrist::new(alloc, task)?)
 }
 
-/// The search space of a search by threads, whose states are spread by a hash of the variables that seldom change, so that
-/// few messages are sent. Fails only if allocation fails.
+/// Returns the search space of a multi-threaded search, whose states are spread by a hash of the variables that seldom
+/// change, so that few messages are sent.
 fn threaded_space<'a, R: Threads + Sync>(
     rt: &R,
     alloc: Global,
@@ -67,7 +66,7 @@ fn threaded_space<'a, R: Threads + Sync>(
     space_for(rt, alloc, task, options, Zobrist::projected(alloc, task)?)
 }
 
-/// The finding after these steps of a world of owners, as `found_after` returns it, whose states have the form `F`.
+/// Returns the finding after these steps of a world of owners, as `found_after` does, for states of the form `F`.
 fn after_steps<'a, F: StateForm + Drop>(
     alloc: Global,
     space: &'a Space<'a, Zobrist<'a>>,
@@ -88,7 +87,7 @@ fn after_steps<'a, F: StateForm + Drop>(
     }
 }
 
-/// The finding after steps drawn from the seed, as `found_by_seed` returns it, of owners whose states have the form `F`.
+/// Returns the finding after random steps from the seed, as `found_by_seed` does, for states of the form `F`.
 fn by_seed<'a, O: Observer, F: StateForm + Drop>(
     alloc: Global,
     space: &'a Space<'a, Zobrist<'a>>,
@@ -117,7 +116,7 @@ fn by_seed<'a, O: Observer, F: StateForm + Drop>(
     }
 }
 
-/// The finding of a search by threads, as `found_by_threads` returns it, of owners whose states have the form `F`.
+/// Returns the finding of a multi-threaded search, as `found_by_threads` does, for states of the form `F`.
 fn by_threads<'a, R: Threads + Wait + Clock + Sync, G: Gate + Sync, F: StateForm + Drop + Send>(
     rt: &R,
     alloc: Global,
@@ -141,7 +140,7 @@ fn by_threads<'a, R: Threads + Wait + Clock + Sync, G: Gate + Sync, F: StateForm
     }
 }
 
-/// The finding after these steps, of owners whose states have the smallest form.
+/// Returns the finding after these steps, of owners whose states have the smallest form.
 fn after_steps_in_smallest_form<'a>(
     alloc: Global,
     space: &'a Space<'a, Zobrist<'a>>,
@@ -159,7 +158,7 @@ fn after_steps_in_smallest_form<'a>(
     )
 }
 
-/// The finding after steps drawn from the seed, of owners whose states have the smallest form.
+/// Returns the finding after random steps from the seed, of owners whose states have the smallest form.
 fn by_seed_in_smallest_form<'a, O: Observer>(
     alloc: Global,
     space: &'a Space<'a, Zobrist<'a>>,
@@ -178,7 +177,7 @@ fn by_seed_in_smallest_form<'a, O: Observer>(
     )
 }
 
-/// The finding of a search by threads, of owners whose states have the smallest form.
+/// Returns the finding of a multi-threaded search, of owners whose states have the smallest form.
 fn by_threads_in_smallest_form<'a, R: Threads + Wait + Clock + Sync, G: Gate + Sync>(
     rt: &R,
     alloc: Global,
@@ -197,9 +196,9 @@ fn by_threads_in_smallest_form<'a, R: Threads + Wait + Clock + Sync, G: Gate + S
     )
 }
 
-/// The finding for the task after these steps of a world of owners, with a certificate of that kind: a cheapest plan, or that there is
-/// none; where the owners are not settled, what is known so far. No step is done from the first on that asks an owner for more nodes
-/// than its limit allows.
+/// Returns the finding for the task after these steps of a world of owners, with a certificate of that kind: a cheapest
+/// plan, or that there is none; if the owners are not settled, a bound and the best plan so far. Stops before the first
+/// step that asks an owner for more nodes than its limit allows.
 ///
 /// Fails with `TotalTooLarge` if a path would have a cost or a number of operators above 2^62, or if allocation fails.
 pub fn found_after<'a, R: Threads + Sync>(
@@ -217,9 +216,9 @@ pub fn found_after<'a, R: Threads + Sync>(
     after_steps_in_smallest_form(alloc, &space, options, steps, kind)
 }
 
-/// The finding for the task after steps drawn from the seed, at most as many as the options allow, with a certificate of that kind: a
-/// cheapest plan, or that there is none; where the owners are not settled, what is known so far. No step is done from the first on
-/// that asks an owner for more nodes than its limit allows.
+/// Returns the finding for the task after random steps from the seed, at most as many as the options allow, with a
+/// certificate of that kind: a cheapest plan, or that there is none; if the owners are not settled, a bound and the
+/// best plan so far. Stops before the first step that asks an owner for more nodes than its limit allows.
 ///
 /// Fails with `TotalTooLarge` if a path would have a cost or a number of operators above 2^62, or if allocation fails.
 pub fn found_by_seed<'a, R: Threads + Sync, O: Observer>(
@@ -238,11 +237,13 @@ pub fn found_by_seed<'a, R: Threads + Sync, O: Observer>(
     by_seed_in_smallest_form(alloc, &space, options, seed, kind, observer)
 }
 
-/// The finding for the task by the chosen number of workers, each in a thread of its own, with a certificate of that kind: a cheapest plan,
-/// or that there is none; where one of the owners has reached its limit before, or the gate ended the search, what is known so far.
+/// Returns the finding for the task by the chosen number of workers, each in a thread of its own, with a certificate of
+/// that kind: a cheapest plan, or that there is none; if one of the owners reached its limit, or the gate ended the
+/// search, before they were settled, a bound and the best plan so far.
 ///
-/// Fails with `TotalTooLarge` if a path would have a cost or a number of operators above 2^62, with `Gate` if the gate makes it fail, or
-/// if allocation fails. Whether it ends at all is not promised.
+/// Fails with `TotalTooLarge` if a path would have a cost or a number of operators above 2^62, with `Gate` if the gate
+/// makes it fail, or if allocation fails. Termination is not guaranteed: an unfair scheduler may keep every worker from
+/// making progress.
 pub fn found_by_threads<'a, R: Threads + Wait + Clock + Sync, G: Gate + Sync>(
     rt: &R,
     alloc: Global,

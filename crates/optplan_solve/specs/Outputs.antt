@@ -1,4 +1,4 @@
--- What is written and printed for an answer, and the exit status.
+-- The files and the output of an answer, and the exit status.
 use Rattle.std.specs.Prelude.{◌≡◌, ℕ, ◌⊎◌, List, [], ◌∷◌, ◌++◌, Option, Some, None, codes, decimal, string_bytes}
 use Rattle.std.specs.Option.{option_map}
 use Rattle.optplan_device.specs.Events.{Event, HasWritten, HasPut}
@@ -13,7 +13,7 @@ use Rattle.optplan_replies.specs.Faults.{fault_status}
 use Rattle.optplan_replies.specs.Runs.{IsQuiet}
 use Rattle.optplan_solve.specs.declared.settings.Settings.{Settings}
 
--- the names of the files that are written beside standard output
+-- the names of the files that are written besides standard output
 pub record OutputFiles : Type 0 where
   pub plan : Option (List ℕ)
   pub cert : Option (List ℕ)
@@ -43,17 +43,17 @@ abbrev pub best_text : {P : Type 0} → Option (WrittenPlan P) → List ℕ
 best_text None = []
 best_text (Some best) = string_bytes best.plan_text
 
--- what is printed at a limit: a line with the bound, and behind it the best plan so far
+-- the output at a limit: a line with the bound, followed by the best plan so far
 abbrev pub limit_text : {P : Type 0} → KnownSoFar P → List ℕ
 limit_text known = codes "limit " ++ decimal known.bound ++ codes "\n" ++ best_text known.best
 
--- what is printed: the plan, or a line, behind which the best plan so far stands at a limit
+-- the output: the plan, or a line, which at a limit is followed by the best plan so far
 abbrev pub answer_text : {P : Type 0} → Answer P → List ℕ
 answer_text (Solved s) = string_bytes s.found.plan_text
 answer_text (Unsolvable cert) = codes "unsolvable\n"
 answer_text (Limit known) = limit_text known
 
--- what is written and then printed
+-- the files that are written, and then the output
 abbrev pub outputs : {P : Type 0} → OutputFiles → Answer P → List Event
 outputs files answer = answer_writes files answer ++ HasPut (answer_text answer) ∷ []
 
@@ -63,7 +63,8 @@ answer_status (Solved s) = exit.Done
 answer_status (Unsolvable cert) = exit.Unsolvable
 answer_status (Limit known) = exit.Limited
 
--- what follows the reading of the files of a task, and the exit status: an answer is written and printed, or a text is refused
+-- the events after the reading of the files of a task, and the exit status: an answer is written and printed, or a text
+-- is refused
 abbrev pub Replies : {P : Type 0} → (Answer P → Type 0) → (Fault → Type 0) → OutputFiles → List Event → Status → Type 0
 Replies {P = P} IsAnswer IsRefusal files later status =
     ((answer : Answer P) × IsAnswer answer × (later ≡ outputs files answer) × (status ≡ answer_status answer))

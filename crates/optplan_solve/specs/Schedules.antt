@@ -1,4 +1,4 @@
--- Where a search by a schedule may end, and why it may be refused.
+-- The ends that a search by a schedule may have, and why it may be refused.
 use Rattle.std.specs.Prelude.{◌≡◌, ℕ, ◌⊎◌, Some}
 use Rattle.fdr.specs.Tasks.{FiniteDomainTask}
 use Rattle.packed_spread.specs.Spreads as spread
@@ -12,21 +12,22 @@ use Rattle.optplan_solve.specs.declared.settings.Watch.{Watch}
 use Rattle.optplan_solve.specs.declared.settings.Schedule.{Schedule}
 use Rattle.optplan_solve.specs.declared.settings.Schedule.TheVariants.{Threads, Drawn}
 
--- seconds or a memory are given
+-- seconds or a memory are specified
 abbrev pub IsLimited : Watch → Type 0
 IsLimited watch = ((s : ℕ) × (watch.seconds ≡ Some s)) ⊎ ((m : ℕ) × (watch.mebibytes ≡ Some m))
 
--- how a search that is watched so may be ended from outside: as at a limit, before any turn of any worker, and only where seconds or a memory
--- are given
+-- how a search with these external limits may be ended: as at a limit, before any turn of any worker, and only if
+-- seconds or a memory are specified
 abbrev pub ends_in : Watch → MayStop
 ends_in watch worker turn stop = (stop ≡ Limit) × IsLimited watch
 
--- the end of a search for a task: by threads, within the seconds and the memory that they have, if these are given, or by steps that are drawn from a seed
+-- the end of a search for a task: with threads, within the seconds and the memory if these are specified, or by random
+-- steps from a seed
 abbrev pub EndsBy : Choices → Schedule → FiniteDomainTask → EndOf spread.Zobrist → Type 0
 EndsBy choices (Threads watch) = EndsByThreads choices (ends_in watch)
 EndsBy choices (Drawn seed) = EndsBySeed choices seed
 
--- why such a search may be refused
+-- the reason why such a search may be refused
 abbrev pub IsRefusedBy : Choices → Schedule → FiniteDomainTask → SearchFault → Type 0
 IsRefusedBy choices (Threads watch) = IsRefusedByThreads choices (ends_in watch)
 IsRefusedBy choices (Drawn seed) = IsRefusedBySeed choices seed

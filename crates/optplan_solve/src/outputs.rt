@@ -1,4 +1,4 @@
-//! What is written and printed for an answer.
+//! The files and the output of an answer.
 
 ghost use Rattle.std.specs.Prelude.{◌≡◌, ◌≢◌, ◌≤◌, ◌+◌, ◌++◌, List, Some, IfOk, IfErr, OnOk, string_bytes};
 ghost use Rattle.std.specs.Option.{option_map};
@@ -13,7 +13,7 @@ use optplan_replies::{Fault, FileWord, Status, put_text, report};
 use optplan_sas::{Answer, KnownSoFar, WrittenPlan};
 use std::alloc::{AllocError, Global};
 
-/// The text of the best plan so far, empty if there is none.
+/// Returns the text of the best plan so far, empty if there is none.
 fn best_text<P: Drop>(best: &Option<WrittenPlan<P>>) -> &str
     ensures { result.now ≡ best_text best.now }
 {
@@ -23,7 +23,7 @@ fn best_text<P: Drop>(best: &Option<WrittenPlan<P>>) -> &str
     }
 }
 
-/// What is printed at a limit: a line with the bound, and behind it the best plan so far. Fails only if allocation fails.
+/// Returns the output at a limit: a line with the bound, followed by the best plan so far.
 fn limit_text<P: Drop>(alloc: Global, known: &KnownSoFar<P>) -> Result<String, AllocError>
     ensures { IfOk result (λ text. string_bytes text ≡ limit_text known.now) }
 {
@@ -32,7 +32,7 @@ fn limit_text<P: Drop>(alloc: Global, known: &KnownSoFar<P>) -> Result<String, A
     format!(in alloc; "limit {bound}\n{best}")
 }
 
-/// What is printed: the plan, or a line, behind which the best plan so far stands at a limit. Fails only if allocation fails.
+/// Returns the output: the plan, or a line, which at a limit is followed by the best plan so far.
 fn answer_text<P: Drop>(alloc: Global, answer: &Answer<P>) -> Result<String, AllocError>
     ensures { IfOk result (λ text. string_bytes text ≡ answer_text answer.now) }
 {
@@ -43,7 +43,7 @@ fn answer_text<P: Drop>(alloc: Global, answer: &Answer<P>) -> Result<String, All
     }
 }
 
-/// The exit status of an answer.
+/// Returns the exit status of an answer.
 fn answer_status<P: Drop>(answer: &Answer<P>) -> Status
     ensures status { result ≡ answer_status answer.now }
     ensures answered { (result ≢ Status.OutOfMemory) × (result ≢ Status.DeviceFailed) }
@@ -120,8 +120,8 @@ fn write_files<D: Device, P: Drop>(
     }
 }
 
-/// Writes an answer's files and prints its plan or line, and returns the exit status. What is printed is made before anything
-/// is written.
+/// Writes an answer's files and prints its plan or line, and returns the exit status. The output is made before
+/// anything is written, so that running out of memory for it leaves no files.
 fn put_answer<D: Device, P: Drop>(
     alloc: Global,
     device: &mut D,

@@ -19,7 +19,7 @@ use std::sync::Wait;
 use std::thread::Threads;
 use std::time::Clock;
 
-/// The solver's fault as the program's, whose gates make no search fail.
+/// Converts the solver's fault into the program's. The gates of the commands make no search fail.
 fn solve_fault(fault: SasSolveFault) -> Fault
     requires { (sas : List ℕ) × ((choices : Choices) × ((schedule : Schedule) × IsSasRefusal sas (IsRefusedBy choices schedule) fault)) }
     ensures { (sas : List ℕ) (choices : Choices) (schedule : Schedule) → IsSasRefusal sas (IsRefusedBy choices schedule) fault → IsSasSolveRefusal sas choices schedule result }
@@ -32,8 +32,8 @@ fn solve_fault(fault: SasSolveFault) -> Fault
     }
 }
 
-/// The answer for the task that the text spells, by the schedule that the settings request, whose seconds count from now on. Fails as the
-/// solver does.
+/// Returns the answer for the task that the text spells, by the schedule of the settings, whose seconds count from this
+/// call. Fails as the solver does.
 fn solved<R: Threads + Wait + Clock + Eprint + Sync + AllocGlobal>(
     rt: &R,
     sas: &[u8],
@@ -55,7 +55,7 @@ fn solved<R: Threads + Wait + Clock + Eprint + Sync + AllocGlobal>(
     }
 }
 
-/// The answer for the task that the text spells.
+/// Returns the answer for the task that the text spells.
 ///
 /// Fails with the first fault of the text, with `TotalTooLarge` if a path's total is too large, or with `OutOfMemory`.
 fn answer_of<R: Threads + Wait + Clock + Eprint + Sync + AllocGlobal>(
@@ -72,11 +72,12 @@ fn answer_of<R: Threads + Wait + Clock + Eprint + Sync + AllocGlobal>(
     }
 }
 
-/// Solves a finite-domain task by threads, or by steps drawn from a seed: reads the file; then writes the certificate and the plan, if
-/// requested, and prints the plan, `unsolvable`, or `limit` with a bound and the best plan so far; or reports a fault.
+/// Solves a finite-domain task with threads, or by random steps from a seed: reads the file; then writes the
+/// certificate and the plan, if requested, and prints the plan, `unsolvable`, or `limit` with a bound and the best plan
+/// so far; or reports a fault.
 ///
-/// Returns the exit status: `Done` with a cheapest plan, `Unsolvable` if there is none, `Limited` at a limit, or the fault's.
-/// No plan is written where there is none.
+/// Returns the exit status: `Done` with a cheapest plan, `Unsolvable` if there is none, `Limited` at a limit, or the
+/// fault's. No plan is written if there is none.
 pub fn run_solve_sas<D: Device, R: Threads + Wait + Clock + Eprint + Sync + AllocGlobal>(
     rt: &R,
     device: &mut D,

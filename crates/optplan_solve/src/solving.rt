@@ -20,7 +20,7 @@ use std::sync::Wait;
 use std::thread::Threads;
 use std::time::Clock;
 
-/// The planner's fault as the program's, whose gates make no search fail.
+/// Converts the planner's fault into the program's. The gates of the commands make no search fail.
 fn solve_fault(alloc: Global, fault: PlanningFault, domain: &[u8], problem: &[u8]) -> Fault
     requires { (choices : Choices) × ((schedule : Schedule) × IsPlanningRefusal domain.now problem.now (IsRefusedBy choices schedule) fault) }
     ensures { (choices : Choices) (schedule : Schedule) → IsPlanningRefusal domain.now problem.now (IsRefusedBy choices schedule) fault →
@@ -36,8 +36,8 @@ fn solve_fault(alloc: Global, fault: PlanningFault, domain: &[u8], problem: &[u8
     }
 }
 
-/// The answer for the task that the texts spell, by the schedule that the settings request, whose seconds count from now on. Fails as the
-/// planner does.
+/// Returns the answer for the task that the texts spell, by the schedule of the settings, whose seconds count from this
+/// call. Fails as the planner does.
 fn planned<R: Threads + Wait + Clock + Eprint + Sync + AllocGlobal>(
     rt: &R,
     domain: &[u8],
@@ -60,10 +60,10 @@ fn planned<R: Threads + Wait + Clock + Eprint + Sync + AllocGlobal>(
     }
 }
 
-/// The answer for the task that the texts spell.
+/// Returns the answer for the task that the texts spell.
 ///
-/// Fails with the fault of the texts that comes first, if the task, its translation or a path's total exceeds a limit, or
-/// with `OutOfMemory`.
+/// Fails with the fault of the texts that comes first, if the task, its translation or a path's total exceeds a limit,
+/// or with `OutOfMemory`.
 fn answer_of<R: Threads + Wait + Clock + Eprint + Sync + AllocGlobal>(
     rt: &R,
     domain: &[u8],
@@ -79,11 +79,12 @@ fn answer_of<R: Threads + Wait + Clock + Eprint + Sync + AllocGlobal>(
     }
 }
 
-/// Solves a planning task by threads, or by steps drawn from a seed: reads the two files; then writes the certificate and the plan, if
-/// requested, and prints the plan, `unsolvable`, or `limit` with a bound and the best plan so far; or reports a fault.
+/// Solves a planning task with threads, or by random steps from a seed: reads the two files; then writes the
+/// certificate and the plan, if requested, and prints the plan, `unsolvable`, or `limit` with a bound and the best plan
+/// so far; or reports a fault.
 ///
-/// Returns the exit status: `Done` with a cheapest plan, `Unsolvable` if there is none, `Limited` at a limit, or the fault's.
-/// No plan is written where there is none.
+/// Returns the exit status: `Done` with a cheapest plan, `Unsolvable` if there is none, `Limited` at a limit, or the
+/// fault's. No plan is written if there is none.
 pub fn run_solve<D: Device, R: Threads + Wait + Clock + Eprint + Sync + AllocGlobal>(
     rt: &R,
     device: &mut D,

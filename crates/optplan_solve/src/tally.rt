@@ -1,32 +1,32 @@
-//! How far a search by threads is, as its workers have told.
+//! The progress of a multi-threaded search, from the reports of its workers.
 
 use cost::{Dist, MAX_DISTANCE};
 use optplan_sas::{Progress, Reached};
 use std::alloc::{AllocError, Global};
 use std::sync::atomic::{AtomicU64, Ordering};
 
-/// The number that stands for the infinite distance: one that no distance has.
+/// The number that denotes the infinite distance; no distance has it.
 const INFINITE: u64 = MAX_DISTANCE + 1;
 
-/// What a worker has told last.
+/// The last report of a worker.
 #[derive(Drop)]
 struct Row {
-    /// The turns that it began with a state to expand below the least cost known by then: an expansion in each, unless the worker
-    /// learned of a lesser cost meanwhile.
+    /// The number of turns that it began with a state to expand below the least cost known by then: each is an
+    /// expansion, unless the worker read a lesser cost in that turn.
     expanded: AtomicU64,
-    /// The states that it keeps.
+    /// The number of states that it stores.
     kept: AtomicU64,
     /// The least f-value of its open states.
     least_open: AtomicU64,
 }
 
-/// What the workers have told, and when the next line is due.
+/// The last reports of the workers, and when the next line is due.
 #[derive(Drop)]
 pub(crate) struct Tally {
     rows: Vec<Row>,
     /// The least cost at which any of them has taken a goal state.
     best: AtomicU64,
-    /// The second from which on the next line may be printed.
+    /// The second from which the next line may be printed.
     due: AtomicU64,
 }
 
@@ -39,7 +39,7 @@ fn distance_of(number: u64) -> Dist {
 }
 
 impl Tally {
-    /// Nothing is told yet by any of this many workers. Fails only if allocation fails.
+    /// Creates the tally of `workers` workers, none of which has reported.
     pub(crate) fn new(alloc: Global, workers: usize) -> Result<Tally, AllocError> {
         let mut rows = Vec::new(alloc);
         for _ in 0..workers {
@@ -56,7 +56,7 @@ impl Tally {
         })
     }
 
-    /// Notes what a worker has come to before a turn.
+    /// Records the progress of a worker before a turn.
     pub(crate) fn note(&self, worker: usize, progress: &Progress) {
         let Some(row) = self.rows.get(worker) else {
             return;
@@ -71,7 +71,8 @@ impl Tally {
         }
     }
 
-    /// Whether a line is to be printed at this second, by who asks: once in a second at most, and not in the first one.
+    /// Returns whether the caller is to print a line at this second: at most once in a second, and not in the first
+    /// one.
     pub(crate) fn is_due(&self, second: u64) -> bool {
         let due = self.due.load(Ordering::Relaxed);
         let next = second.saturating_add(1);
@@ -83,7 +84,7 @@ impl Tally {
                 .is_ok()
     }
 
-    /// What the workers have come to together, as each told last.
+    /// Returns the progress of all workers together, from the last report of each.
     pub(crate) fn reached(&self) -> Reached {
         let (mut expanded, mut kept, mut least_open) = (0u64, 0u64, INFINITE);
         for row in &self.rows {

@@ -1,4 +1,5 @@
-//! What ends a search from outside, as at a limit, and what tells how far it is.
+//! The gate of multi-threaded searches, which applies external limits and reports progress, and the observer of
+//! simulations.
 
 ghost use Rattle.std.specs.Prelude.{◌≡◌, IfOk};
 
@@ -8,16 +9,16 @@ use optplan_sas::{Gate, Observer, Progress, Reached, Stop};
 use std::alloc::{AllocError, Global};
 use std::time::{Clock, Instant};
 
-/// The bytes that a state or a message takes beside the words of its values: its entry, its hash, its place in the index, and in
-/// the open list.
+/// The bytes that a state or a message takes in addition to the words of its values: its entry, its hash, its slot in
+/// the index, and its entry in the open list.
 const BYTES_BESIDE_WORDS: u128 = 72;
 
 const BYTES_OF_A_WORD: u128 = 8;
 
 const BYTES_OF_A_MEBIBYTE: u128 = 1_048_576;
 
-/// The gate that ends a search as at a limit once its seconds have passed since the gate was made, or a worker keeps more than its share
-/// of the memory; and that tells once a second how far the search is, where it is to.
+/// The gate that ends a search as at a limit once its seconds have passed since the gate was made, or a worker stores
+/// more than its share of the memory; and that reports progress once a second, if requested.
 #[derive(Drop)]
 pub(crate) struct Watcher<'a, R: Clock + Eprint + Sync> {
     rt: &'a R,
@@ -26,11 +27,12 @@ pub(crate) struct Watcher<'a, R: Clock + Eprint + Sync> {
     workers: usize,
     /// When it was made; `None` if the clock could not be read, or need not be.
     start: Option<Instant>,
-    /// What the workers have told; `None` if no line is to be printed.
+    /// The reports of the workers; `None` if no line is to be printed.
     tally: Option<Tally>,
 }
 
-/// Whether a worker, one of this number, keeps more than its share of the memory: its states and the messages in its outboxes, as packed.
+/// Returns whether a worker, one of `workers`, stores more than its share of the memory: its states and the messages in
+/// its outboxes, as packed.
 fn is_past(mebibytes: u64, workers: usize, progress: &Progress) -> bool {
     let count = (progress.states as u128).saturating_add(progress.messages);
     let words = (progress.words as u128).saturating_mul(BYTES_OF_A_WORD);
@@ -39,8 +41,8 @@ fn is_past(mebibytes: u64, workers: usize, progress: &Progress) -> bool {
 }
 
 impl<'a, R: Clock + Eprint + Sync> Watcher<'a, R> {
-    /// The watcher of a search by this many workers, which tells how far it is or does not. The time runs from now on; where the clock cannot
-    /// be read now, no time ends the search, and nothing is told. Fails only if allocation fails.
+    /// Creates the watcher of a search by `workers` workers, which reports progress or does not. The time counts from
+    /// this call; if the clock cannot be read, no time ends the search, and no progress is reported.
     pub(crate) fn new(
         rt: &'a R,
         alloc: Global,
@@ -75,8 +77,8 @@ impl<'a, R: Clock + Eprint + Sync> Gate for Watcher<'a, R> {
 
     ghost may_stop = { λ g worker turn stop. ends_in g.watch worker turn stop };
 
-    /// Lets a turn pass where the clock cannot be read, and does not read it where there is no need. A line that cannot be printed is
-    /// left out.
+    /// Lets a turn pass if the clock cannot be read, and reads it only if needed. A line that cannot be printed is
+    /// skipped.
     fn turn(&self, worker: usize, _turn: u64, progress: Progress) -> Result<(), Stop> {
         if let Some(mebibytes) = self.watch.mebibytes {
             if is_past(mebibytes, self.workers, &progress) {
@@ -109,7 +111,7 @@ impl<'a, R: Clock + Eprint + Sync> Gate for Watcher<'a, R> {
     }
 }
 
-/// Tells how far a search by drawn steps is, where it is to.
+/// The observer that reports the progress of a search by random steps, if requested.
 #[derive(Drop)]
 pub(crate) struct Narrator<'a, R: Eprint> {
     rt: &'a R,
@@ -123,7 +125,7 @@ impl<'a, R: Eprint> Narrator<'a, R> {
 }
 
 impl<'a, R: Eprint> Observer for Narrator<'a, R> {
-    /// A line that cannot be printed is left out.
+    /// Prints a line, if requested; a line that cannot be printed is skipped.
     fn observe(&self, steps: u64, reached: Reached) {
         if self.tells {
             let _ = eprintln!(self.rt;

@@ -1,4 +1,4 @@
--- The commands of the program, with their operands and options, as the parser of command lines sees them.
+-- The commands of the program, with their operands and options, in the definitions of `clap`.
 use Rattle.std.specs.Prelude.{◌≡◌, true, false, List, [], ◌∷◌, ◌++◌, Some, codes}
 use Rattle.clap.specs.Words.{App, Rule, Shape, Text, app_of, new_rule, rule_of}
 use Rattle.clap.specs.Simple.{new_shape}
@@ -17,7 +17,7 @@ operand name = record (new_rule name) { required = true }
 abbrev pub option : Text → Rule
 option name = record (new_rule name) { long = Some name; value_names = 1 }
 
--- an option that has this value where the words do not name it
+-- an option that has this value if the arguments omit it
 abbrev pub option_or : Text → Text → Rule
 option_or name value = record (option name) { defaults = value ∷ [] }
 
@@ -61,15 +61,15 @@ translate = command (codes "translate") (operand (codes "DOMAIN") ∷ operand (c
 abbrev pub migrate_cert : Shape
 migrate_cert = command (codes "migrate-cert") (operand (codes "CERT") ∷ [])
 
--- the command that solves a planning task, by this name
+-- the command that solves a planning task, under this name
 abbrev pub solve : Text → Shape
 solve name = command name (operand (codes "DOMAIN") ∷ operand (codes "PROBLEM") ∷ options)
 
--- the command that solves a finite-domain task, by this name
+-- the command that solves a finite-domain task, under this name
 abbrev pub solve_sas : Text → Shape
 solve_sas name = command name (operand (codes "SAS") ∷ options)
 
--- one of the program's commands must be named, and without words it prints its help
+-- one of the program's commands must be named, and without arguments it prints its help
 abbrev pub bare_program : Shape
 bare_program = record (new_shape (codes "optplan")) {
   has_version = true;
@@ -84,20 +84,20 @@ program = record {
   subs = validate ∷ check_sas ∷ check ∷ translate ∷ solve (codes "solve") ∷ solve_sas (codes "solve-sas") ∷ migrate_cert ∷ [];
 }
 
--- ---- what is made of them
+-- ---- properties of commands and arguments
 
--- the command has this shape, no commands of its own, and no argument that commands below it have too
+-- the command has this shape, no subcommands, and no argument that subcommands inherit
 abbrev pub IsCommand : Shape → Command → Type 0
 IsCommand shape c = (app_of c ≡ record { top = shape; subs = [] }) × ((out-Command c).has_globals ≡ false)
 
--- the application with these operands and options behind its own
+-- the application with these operands and options appended to its own
 abbrev pub with_rules : App → List Rule → App
 with_rules a rules = record a { top = record a.top { rules = a.top.rules ++ rules } }
 
--- the second command is the first with these operands and options behind its own
+-- the second command is the first with these operands and options appended
 abbrev pub AddsRules : Command → List Rule → Command → Type 0
 AddsRules old rules new = (app_of new ≡ with_rules (app_of old) rules) × ((out-Command new).has_globals ≡ (out-Command old).has_globals)
 
--- the argument is of this rule, and of one command alone
+-- the argument has this rule, and subcommands do not inherit it
 abbrev pub IsArg : Rule → Arg → Type 0
 IsArg rule a = (rule_of a ≡ rule) × (a.global ≡ false)

@@ -8,14 +8,14 @@ ghost use Rattle.optplan_words.specs.Commands.{IsArg, AddsRules};
 use clap::{Arg, ArgAction, Command};
 use std::alloc::{AllocError, Global};
 
-/// An operand that names a file.
+/// Creates an operand that names a file.
 pub(crate) fn file<'a>(alloc: Global, name: &'a str, help: &'a str) -> Arg<'a>
     ensures { IsArg (spec.operand name.entry.now) result }
 {
     Arg::new(alloc, name).required(true).help(help)
 }
 
-/// An option that takes a value.
+/// Creates an option that takes a value.
 pub(crate) fn option<'a>(alloc: Global, name: &'a str, value: &'a str, help: &'a str) -> Arg<'a>
     ensures { IsArg (spec.option name.entry.now) result }
 {
@@ -25,7 +25,7 @@ pub(crate) fn option<'a>(alloc: Global, name: &'a str, value: &'a str, help: &'a
         .help(help)
 }
 
-/// An option that takes a value, and has this one where the words do not name it.
+/// Creates an option that takes a value, with a default.
 pub(crate) fn option_or<'a>(
     alloc: Global,
     name: &'a str,
@@ -42,7 +42,7 @@ pub(crate) fn option_or<'a>(
         .help(help)
 }
 
-/// An option without a value.
+/// Creates an option without a value.
 pub(crate) fn flag<'a>(alloc: Global, name: &'a str, help: &'a str) -> Arg<'a>
     ensures { IsArg (spec.flag name.entry.now) result }
 {
@@ -52,7 +52,7 @@ pub(crate) fn flag<'a>(alloc: Global, name: &'a str, help: &'a str) -> Arg<'a>
         .help(help)
 }
 
-/// The command with one more operand or option, which no command below it has. Fails only if allocation fails.
+/// Adds an operand or option to the command; subcommands do not inherit it.
 pub(crate) fn with_arg<'a>(command: Command<'a>, arg: Arg<'a>) -> Result<Command<'a>, AllocError>
     requires { arg.global ≡ false }
     ensures { IfOk result (AddsRules command.entry (rule_of arg.entry ∷ [])) }

@@ -1,4 +1,4 @@
-//! The words of the commands that work on files alone.
+//! The commands that work on files alone, with their operands and help.
 
 ghost use Rattle.std.specs.Prelude.{◌≡◌, IfOk};
 ghost use Rattle.optplan_words.specs.Commands as spec;
@@ -8,27 +8,26 @@ use crate::arguments::{file, with_arg};
 use clap::Command;
 use std::alloc::{AllocError, Global};
 
-const VALIDATE_ABOUT: &str = "Says whether a plan is valid and what it costs";
+const VALIDATE_ABOUT: &str = "Validates a plan, and prints its cost";
 
-const VALIDATE_LONG: &str =
-    "Says whether a plan is valid and what it costs, or the first step that is at fault.
+const VALIDATE_LONG: &str = "Validates a plan, and prints its cost or the first step that fails.
 
 Reads a domain and a problem in PDDL 2.1 level 1 with types, negative preconditions and action costs, and a plan with
 one (name arguments) a step, as VAL does, and prints one line:
 
   valid N                     the plan is valid and costs N (status 0)
   no such action S            step S names no action of the task (status 3)
-  not applicable S LITERAL    step S does not apply, since LITERAL does not hold (status 3)
+  not applicable S LITERAL    step S does not apply, because LITERAL does not hold (status 3)
   goal open LITERAL           every step applies, and LITERAL of the goal does not hold at the end (status 3)
 
-Steps count from 1. With the metric minimize (total-cost) an action costs what it increases the total cost by, without
-it each action costs 1. A text that cannot be read is refused with one line on standard error (status 1).";
+Steps count from 1. With the metric minimize (total-cost) an action costs the sum of its increases of the total cost,
+without it each action costs 1. A text that cannot be read is refused with one line on standard error (status 1).";
 
 const CHECK_SAS_ABOUT: &str =
-    "Says whether a certificate proves that every plan costs at least its bound";
+    "Checks that a certificate proves its bound on the cost of every plan";
 
 const CHECK_SAS_LONG: &str =
-    "Says whether a certificate proves that every plan costs at least its bound, or where it fails first.
+    "Checks that a certificate proves its bound on the cost of every plan, and else prints the first clause that fails.
 
 Reads a finite-domain task as Fast Downward's translator writes it (output.sas, version 3, without axioms and conditional
 effects) and a certificate for it, and prints one line:
@@ -41,10 +40,10 @@ Columns, tables, states and operators count from 0. A text that cannot be read i
 error (status 1).";
 
 const CHECK_ABOUT: &str =
-    "Says whether a certificate proves that every valid plan costs at least its bound";
+    "Checks that a certificate proves its bound on the cost of every valid plan";
 
 const CHECK_LONG: &str =
-    "Says whether a certificate proves that every valid plan costs at least its bound, or where it fails first.
+    "Checks that a certificate proves its bound on the cost of every valid plan, and else prints the first clause that fails.
 
 Reads a domain and a problem in PDDL 2.1 level 1 with types, negative preconditions and action costs, and a certificate
 for them, and prints one line:
@@ -66,16 +65,16 @@ Reads a domain and a problem in PDDL 2.1 level 1 with types, negative preconditi
 task as output.sas, version 3, as Fast Downward's search reads it (status 0). A text that cannot be read is refused with
 one line on standard error (status 1).";
 
-const MIGRATE_CERT_ABOUT: &str = "Prints a certificate as version 2";
+const MIGRATE_CERT_ABOUT: &str = "Converts a certificate to version 2";
 
 const MIGRATE_CERT_LONG: &str =
-    "Prints a certificate as version 2, in which a table may be one of a domain abstraction.
+    "Converts a certificate to version 2, in which a table may be that of a domain abstraction.
 
 Reads a certificate of version 1 or 2, and prints the same certificate as version 2 (status 0): only the first line differs,
-and what check and check-sas say of it stays the same. A text that cannot be read is refused with one line on standard
+and the verdict of check and check-sas is the same. A text that cannot be read is refused with one line on standard
 error (status 1).";
 
-/// The command `validate`. Fails only if allocation fails.
+/// Returns the command `validate`.
 pub(crate) fn validate_command<'a>(alloc: Global) -> Result<Command<'a>, AllocError>
     ensures { IfOk result (IsCommand spec.validate) }
 {
@@ -87,7 +86,7 @@ pub(crate) fn validate_command<'a>(alloc: Global) -> Result<Command<'a>, AllocEr
     with_arg(command, file(alloc, "PLAN", "The plan's file"))
 }
 
-/// The command `check`. Fails only if allocation fails.
+/// Returns the command `check`.
 pub(crate) fn check_command<'a>(alloc: Global) -> Result<Command<'a>, AllocError>
     ensures { IfOk result (IsCommand spec.check) }
 {
@@ -99,7 +98,7 @@ pub(crate) fn check_command<'a>(alloc: Global) -> Result<Command<'a>, AllocError
     with_arg(command, file(alloc, "CERT", "The certificate's file"))
 }
 
-/// The command `check-sas`. Fails only if allocation fails.
+/// Returns the command `check-sas`.
 pub(crate) fn check_sas_command<'a>(alloc: Global) -> Result<Command<'a>, AllocError>
     ensures { IfOk result (IsCommand spec.check_sas) }
 {
@@ -110,7 +109,7 @@ pub(crate) fn check_sas_command<'a>(alloc: Global) -> Result<Command<'a>, AllocE
     with_arg(command, file(alloc, "CERT", "The certificate's file"))
 }
 
-/// The command `translate`. Fails only if allocation fails.
+/// Returns the command `translate`.
 pub(crate) fn translate_command<'a>(alloc: Global) -> Result<Command<'a>, AllocError>
     ensures { IfOk result (IsCommand spec.translate) }
 {
@@ -121,7 +120,7 @@ pub(crate) fn translate_command<'a>(alloc: Global) -> Result<Command<'a>, AllocE
     with_arg(command, file(alloc, "PROBLEM", "The problem's file"))
 }
 
-/// The command `migrate-cert`. Fails only if allocation fails.
+/// Returns the command `migrate-cert`.
 pub(crate) fn migrate_cert_command<'a>(alloc: Global) -> Result<Command<'a>, AllocError>
     ensures { IfOk result (IsCommand spec.migrate_cert) }
 {

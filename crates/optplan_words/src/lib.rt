@@ -1,4 +1,4 @@
-//! The words of the program: its commands, operands and options, and what a line of words requests.
+//! The command line of the program: its commands, operands and options, and what a list of arguments requests.
 #![tactic(auto)]
 
 mod arguments;

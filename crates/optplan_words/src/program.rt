@@ -17,9 +17,9 @@ use std::alloc::{AllocError, Global};
 const VERSION: &str = "0.1.0";
 
 const ABOUT: &str =
-    "Validates PDDL plans, checks certificates of lower bounds, and translates and solves planning tasks, with a proved verdict";
+    "Validates PDDL plans, solves and translates planning tasks, and checks certificates of optimality, with proved verdicts";
 
-/// The program without its commands.
+/// Returns the program without its commands.
 fn bare_program<'a>(alloc: Global) -> Command<'a>
     ensures { IsCommand spec.bare_program result }
 {
@@ -31,7 +31,7 @@ fn bare_program<'a>(alloc: Global) -> Command<'a>
         .disable_help_subcommand(true)
 }
 
-/// The program: its commands, help and version. Fails only if allocation fails.
+/// Returns the program: its commands, help and version.
 fn program_command<'a>(alloc: Global) -> Result<Command<'a>, AllocError>
     ensures { IfOk result (λ c. app_of c ≡ program) }
 {
@@ -45,8 +45,9 @@ fn program_command<'a>(alloc: Global) -> Result<Command<'a>, AllocError>
     program.subcommand(migrate_cert_command(alloc)?)
 }
 
-/// What these words request, the first of which is the program's name: a command with the values of its operands and options. Fails
-/// with the error in the words, with help or the version if they are requested, or if allocation fails.
+/// Returns the request of these arguments, the first of which is the program's name: a command with the values of its
+/// operands and options. Fails with the error in the arguments, with help or the version if they are requested, or if
+/// allocation fails.
 pub fn requested<'a>(alloc: Global, words: &'a [String]) -> Result<ArgMatches<'a>, Error>
     ensures found { IfOk result (λ m. subcommand_rows_of m ≡ subcommand_of program (map string_bytes words.now)) }
     ensures fails { FailsBy (fault_of program (map string_bytes words.now)) result }

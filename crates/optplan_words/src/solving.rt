@@ -1,4 +1,4 @@
-//! The words of the commands that solve a task.
+//! The commands that solve a task, with their operands, options and help.
 
 ghost use Rattle.std.specs.Prelude.{◌≡◌, IfOk};
 ghost use Rattle.optplan_words.specs.Commands as spec;
@@ -8,94 +8,90 @@ use crate::arguments::{file, flag, option, option_or, with_arg};
 use clap::Command;
 use std::alloc::{AllocError, Global};
 
-const SOLVE_ABOUT: &str = "Finds a plan that no plan is cheaper than, or that there is no plan";
+const SOLVE_ABOUT: &str = "Finds a cheapest plan, or that there is none";
 
-const SOLVE_LONG: &str = "Finds a plan that no plan is cheaper than, or that there is no plan.
+const SOLVE_LONG: &str = "Finds a cheapest plan, or that there is none.
 
 Reads a domain and a problem in PDDL 2.1 level 1 with types, negative preconditions and action costs, and prints:
 
   the plan                    one (name arguments) a step, and a line with its cost (status 0)
   unsolvable                  there is no plan (status 4)
-  limit N                     the search came to --limit, --time, --memory or --steps first: no plan costs less than N;
-                              behind this line stands the cheapest plan that was found by then, if there is one (status 5)
+  limit N                     --limit, --time, --memory or --steps ended the search: no plan costs less than N;
+                              the cheapest plan found so far follows, if there is one (status 5)
 
-Workers in threads of their own share the states. With --simulate one thread does their steps, in an order that is drawn
-from the seed, so it finds the same plan each time. The seconds of --time count from when the files are read, but only
-the search can be ended: what comes before it may take longer. --memory counts the states and the messages of a search by
-threads, of which each worker may keep its share, and no tables. --progress prints lines such as
+The states are divided among workers, each in a thread of its own, so the plan may differ from run to run; its cost does
+not. With --simulate one thread does the workers' steps in a random order from the seed, and always finds the same plan.
+--time counts from when the files are read, but ends only the search: what comes before and after it may take longer.
+--memory limits the states and messages of a multi-threaded search, divided equally among the workers; tables and the
+certificate are not counted. --progress prints lines such as
 
   optplan: 3 s, 1200000 expanded, 900000 kept, least open f 12, best cost inf
 
-about once a second, with --simulate once in 100000 steps: the states that were expanded and are kept, the least f-value of
-those yet to be expanded, and the least cost of a plan so far.
+about once a second, with --simulate once in 100000 steps: the numbers of expanded and of stored states, the least f-value
+of an open state, and the least cost of a plan so far.
 
-Among states of the same f-value, the cost to reach the state plus the lower bound for what is left, --ties shallow expands
-the one reached at the least cost first, which is the order of earlier versions, and --ties deep the one reached at the
-greatest. deep mostly finds a plan after fewer expansions where many states have the f-value of the cheapest plan.
+Among open states of the least f-value (the cost to reach the state plus its heuristic value), --ties shallow expands one
+with the least cost to reach it, and --ties deep one with the greatest. deep usually needs fewer expansions if many states
+have the f-value of a cheapest plan.
 
-With the metric minimize (total-cost) an action costs what it increases the total cost by, without it each action costs
-1. The certificate that --cert asks for is what the command check takes, beside the domain and the problem. A text that
-cannot be read is refused with one line on standard error, and so is a task that is too large (status 1).";
+With the metric minimize (total-cost) an action costs the sum of its increases of the total cost, without it each action
+costs 1. The command check checks the certificate that --cert writes. A text that cannot be read is refused with one line
+on standard error, and so is a task that is too large (status 1).";
 
 const SOLVE_SAS_ABOUT: &str =
-    "Finds a plan of a finite-domain task that no plan is cheaper than, or that there is no plan";
+    "Finds a cheapest plan of a finite-domain task, or that there is none";
 
-const SOLVE_SAS_LONG: &str =
-    "Finds a plan of a finite-domain task that no plan is cheaper than, or that there is no plan.
+const SOLVE_SAS_LONG: &str = "Finds a cheapest plan of a finite-domain task, or that there is none.
 
 Reads a finite-domain task as Fast Downward's translator writes it (output.sas, version 3, without axioms and conditional
 effects), and prints:
 
   the plan                    one (operator) a step, and a line with its cost (status 0)
   unsolvable                  there is no plan (status 4)
-  limit N                     the search came to --limit, --time, --memory or --steps first: no plan costs less than N;
-                              behind this line stands the cheapest plan that was found by then, if there is one (status 5)
+  limit N                     --limit, --time, --memory or --steps ended the search: no plan costs less than N;
+                              the cheapest plan found so far follows, if there is one (status 5)
 
-Workers in threads of their own share the states. With --simulate one thread does their steps, in an order that is drawn
-from the seed, so it finds the same plan each time. The seconds of --time count from when the files are read, but only
-the search can be ended: what comes before it may take longer. --memory counts the states and the messages of a search by
-threads, of which each worker may keep its share, and no tables. --progress prints lines such as
+The states are divided among workers, each in a thread of its own, so the plan may differ from run to run; its cost does
+not. With --simulate one thread does the workers' steps in a random order from the seed, and always finds the same plan.
+--time counts from when the files are read, but ends only the search: what comes before and after it may take longer.
+--memory limits the states and messages of a multi-threaded search, divided equally among the workers; tables and the
+certificate are not counted. --progress prints lines such as
 
   optplan: 3 s, 1200000 expanded, 900000 kept, least open f 12, best cost inf
 
-about once a second, with --simulate once in 100000 steps: the states that were expanded and are kept, the least f-value of
-those yet to be expanded, and the least cost of a plan so far.
+about once a second, with --simulate once in 100000 steps: the numbers of expanded and of stored states, the least f-value
+of an open state, and the least cost of a plan so far.
 
-Among states of the same f-value, the cost to reach the state plus the lower bound for what is left, --ties shallow expands
-the one reached at the least cost first, which is the order of earlier versions, and --ties deep the one reached at the
-greatest. deep mostly finds a plan after fewer expansions where many states have the f-value of the cheapest plan.
+Among open states of the least f-value (the cost to reach the state plus its heuristic value), --ties shallow expands one
+with the least cost to reach it, and --ties deep one with the greatest. deep usually needs fewer expansions if many states
+have the f-value of a cheapest plan.
 
-The certificate that --cert asks for is what the command check-sas takes, beside the task. A text that cannot be read is
-refused with one line on standard error, and so is a task that is too large (status 1).";
+The command check-sas checks the certificate that --cert writes. A text that cannot be read is refused with one line on
+standard error, and so is a task that is too large (status 1).";
 
-/// Adds the options that end the search.
+/// Adds the options that limit the search.
 fn with_ending_options<'a>(alloc: Global, command: Command<'a>) -> Result<Command<'a>, AllocError>
     ensures { IfOk result (AddsRules command.entry spec.ending_options) }
 {
-    let limit = option(
-        alloc,
-        "limit",
-        "N",
-        "How many states each worker may expand",
-    );
+    let limit = option(alloc, "limit", "N", "Expands at most N states per worker");
     let time = option(
         alloc,
         "time",
         "SECONDS",
-        "Ends the search by threads after so many seconds, as at a limit",
+        "Ends a multi-threaded search after SECONDS seconds, as at a limit",
     );
     let memory = option(
         alloc,
         "memory",
         "MIB",
-        "Ends the search by threads once its states take so many MiB, as at a limit",
+        "Ends a multi-threaded search once its states and messages take MIB MiB, as at a limit",
     );
     let steps = option_or(
         alloc,
         "steps",
         "N",
         "1000000",
-        "How many steps may be drawn with --simulate",
+        "Does at most N steps with --simulate",
     );
     let command = with_arg(command, limit)?;
     let command = with_arg(command, time)?;
@@ -103,7 +99,7 @@ fn with_ending_options<'a>(alloc: Global, command: Command<'a>) -> Result<Comman
     with_arg(command, steps)
 }
 
-/// Adds the options of how states are searched.
+/// Adds the options of the search: its schedule, workers, links, tables and tie-breaking.
 fn with_search_options<'a>(alloc: Global, command: Command<'a>) -> Result<Command<'a>, AllocError>
     ensures { IfOk result (AddsRules command.entry spec.search_options) }
 {
@@ -111,35 +107,35 @@ fn with_search_options<'a>(alloc: Global, command: Command<'a>) -> Result<Comman
         alloc,
         "simulate",
         "SEED",
-        "Searches in one thread, by steps that are drawn from this seed",
+        "Searches in one thread, in a random order of steps from this seed",
     );
     let workers = option_or(
         alloc,
         "workers",
         "N",
         "4",
-        "How many workers share the states, each in a thread of its own, 1 to 64",
+        "Searches with N workers, each in a thread of its own, 1 to 64",
     );
     let ring = option_or(
         alloc,
         "ring",
         "N",
         "64",
-        "How many messages may be underway from one worker to another, 1 to 65536; a search by drawn steps has no such bound",
+        "Capacity of the ring of messages from one worker to another, 1 to 65536; without effect with --simulate",
     );
     let table = option_or(
         alloc,
         "table",
         "N",
         "100000",
-        "How many entries a table of lower bounds may have, 1 to 16777216",
+        "Greatest number of abstract states of a table of the heuristic, 1 to 16777216",
     );
     let ties = option_or(
         alloc,
         "ties",
         "ORDER",
         "shallow",
-        "Which of the states of the same f-value is expanded first, shallow or deep: the one of the least cost, or the greatest",
+        "Tie-breaking among states of equal f-value: shallow (least cost to reach it first) or deep (greatest first)",
     );
     let command = with_arg(command, simulate)?;
     let command = with_arg(command, workers)?;
@@ -148,16 +144,21 @@ fn with_search_options<'a>(alloc: Global, command: Command<'a>) -> Result<Comman
     with_arg(command, ties)
 }
 
-/// Adds the options for what is written beside the answer.
+/// Adds the options for output besides the answer.
 fn with_output_options<'a>(alloc: Global, command: Command<'a>) -> Result<Command<'a>, AllocError>
     ensures { IfOk result (AddsRules command.entry spec.output_options) }
 {
     let progress = flag(
         alloc,
         "progress",
-        "Tells on standard error, about once a second, how far the search is",
+        "Reports the search's progress on standard error, about once a second",
     );
-    let plan = option(alloc, "plan", "FILE", "Writes the plan to this file too");
+    let plan = option(
+        alloc,
+        "plan",
+        "FILE",
+        "Writes the plan to this file as well",
+    );
     let cert = option(
         alloc,
         "cert",
@@ -178,7 +179,7 @@ fn with_options<'a>(alloc: Global, command: Command<'a>) -> Result<Command<'a>, 
     with_output_options(alloc, command)
 }
 
-/// The command that solves a planning task, by this name. Fails only if allocation fails.
+/// Returns the command that solves a planning task, under this name.
 pub fn solve_command<'a>(alloc: Global, name: &'a str) -> Result<Command<'a>, AllocError>
     ensures { IfOk result (IsCommand (spec.solve name.entry.now)) }
 {
@@ -190,7 +191,7 @@ pub fn solve_command<'a>(alloc: Global, name: &'a str) -> Result<Command<'a>, Al
     with_options(alloc, command)
 }
 
-/// The command that solves a finite-domain task, by this name. Fails only if allocation fails.
+/// Returns the command that solves a finite-domain task, under this name.
 pub fn solve_sas_command<'a>(alloc: Global, name: &'a str) -> Result<Command<'a>, AllocError>
     ensures { IfOk result (IsCommand (spec.solve_sas name.entry.now)) }
 {

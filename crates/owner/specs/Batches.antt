@@ -1,5 +1,5 @@
--- The successors of a node that is to be expanded, before the node is marked: the owner's own are kept in a batch, and the
--- others are in the outboxes of their owners, from which they can be withdrawn.
+-- The successors of a node that is to be expanded, before the node is marked: the owner's own are in a batch, and the
+-- others are in the outboxes for their owners, from which they can be withdrawn.
 use Rattle.std.specs.Prelude.{◌≡◌, ℕ, ◌+◌, ◌<◌, ◌≤◌, ◌^◌, List, length, map, fold, All}
 use Rattle.cost.specs.Distances.{Distance, Finite, ◌+ᵈ◌}
 use Rattle.fdr.specs.Tasks.{ranges}

@@ -1,5 +1,5 @@
--- One owner of states as it is stored, and what expanding its next node does (hash distributed A*: Kishimoto, Fukunaga
--- and Botea 2013).
+-- One owner of states as it is stored, and the expansion of its next node (hash distributed A*: Kishimoto, Fukunaga and
+-- Botea 2013).
 use Rattle.std.specs.Prelude.{◌≡◌, ◌≢◌, ℕ, suc, ◌+◌, ◌<◌, ◌≤◌, ◌^◌, ◌⊎◌, Bool, true, false, ◌&&◌, ◌||◌, not, ◌==◌, nat_le, if◌then◌else◌, List, [], ◌∷◌, length, Option, Some, None, is_some}
 use Rattle.cost.specs.Distances.{Distance, Infinite, is_at_most, lesser}
 use Rattle.fdr.specs.Tasks.{FiniteDomainTask, ranges, IsState, applies_at, cost_of}
@@ -25,7 +25,7 @@ pub record OwnerOf (S : Type 0) : Type 0 where
 abbrev pub space_of : {S : Type 0} → (S → List ℕ → ℕ → ℕ) → OwnerOf S → SearchSpace
 space_of owner o = searched owner o.space (length o.outboxes)
 
--- the owner, where this is the bound that it has seen last
+-- the owner with `bound` as the bound that it has read last
 abbrev pub under : {S : Type 0} → OwnerOf S → Distance → Owner
 under o bound = record { nodes = o.nodes; outboxes = o.outboxes; bound = bound; best = o.best }
 
@@ -33,8 +33,8 @@ under o bound = record { nodes = o.nodes; outboxes = o.outboxes; bound = bound; 
 abbrev pub max_total : ℕ
 max_total = 2 ^ 62
 
--- a message that may be handed to this owner: its state is a state of the task and this owner's, and its cost and number
--- of operators are at most 2^62
+-- a message that owner `to` may receive: its state is a state of the task and belongs to this owner, and its cost and
+-- number of operators are at most 2^62
 pub record IsMessageTo (space : SearchSpace) (to : ℕ) (m : Message) : Type 0 where
   pub state : IsState (ranges space.task) m.state
   pub owner : space.owner_of m.state ≡ to
@@ -43,15 +43,15 @@ pub record IsMessageTo (space : SearchSpace) (to : ℕ) (m : Message) : Type 0 w
 
 -- ---- the next node
 
--- the order of expansion among nodes of the same f-value: lesser ranks first, then earlier places; or greater ranks first,
--- then later places
+-- the tie-breaking rule, the order of expansion among nodes of the same f-value: lesser ranks first, then lower
+-- indices; or greater ranks first, then higher indices
 abbrev pub ties_first : Ties → ℕ → Node → ℕ → Node → Bool
 ties_first Shallow i m j n =
     rank_less m.cost m.steps n.cost n.steps || ((m.cost == n.cost) && ((m.steps == n.steps) && nat_le i j))
 ties_first Deep i m j n =
     rank_less n.cost n.steps m.cost m.steps || ((m.cost == n.cost) && ((m.steps == n.steps) && nat_le j i))
 
--- the order of expansion: by f, then by ties
+-- the order of expansion: by f, then by the tie-breaking rule
 abbrev pub goes_before : Ties → SearchSpace → ℕ → Node → ℕ → Node → Bool
 goes_before ties space i m j n =
     not (is_at_most (f_value space n.state n.cost) (f_value space m.state m.cost))
@@ -61,7 +61,7 @@ goes_before ties space i m j n =
 abbrev pub is_open : SearchSpace → Node → Bool
 is_open space n = not n.expanded && not (is_at_most Infinite (f_value space n.state n.cost))
 
--- the node at the place is open, its f-value is below the bound, and it comes first of all open nodes
+-- node `i` is open, its f-value is below the bound, and it comes first of all open nodes
 pub record IsNext (ties : Ties) (space : SearchSpace) (nodes : List Node) (bound : Distance) (i : ℕ) (n : Node) : Type 0 where
   pub there : At nodes i n
   pub open_node : is_open space n ≡ true
@@ -95,13 +95,13 @@ pub record Expands {S : Type 0} (owner : S → List ℕ → ℕ → ℕ) (bound 
   pub worker : new.worker ≡ old.worker
   pub counted : new.expansions ≡ (if is_some old.space.limit then suc old.expansions else old.expansions)
 
--- the result of a call to expand the next node: none if no node has an f-value below the bound, else the number of
+-- the result of a call to expand the next node: none if no node has an f-value below the bound, otherwise the number of
 -- messages put into outboxes
 abbrev pub IsExpansion : {S : Type 0} → (S → List ℕ → ℕ → ℕ) → Distance → OwnerOf S → OwnerOf S → Option ℕ → Type 0
 IsExpansion owner bound old new None = (no_open (space_of owner old) (under old bound) ≡ true) × (new ≡ old)
 IsExpansion owner bound old new (Some posted) = Expands owner bound old posted new
 
--- why a call to expand is refused; the owner is as it was. Memory is asked for only where a node is to be expanded
+-- why a call to expand is refused; the owner is unchanged. Memory is requested only if a node is to be expanded
 abbrev pub IsRefusal : {S : Type 0} → (S → List ℕ → ℕ → ℕ) → Distance → OwnerOf S → OwnerOf S → OwnerFault → Type 0
 IsRefusal owner bound old new OutOfMemory =
     (no_open (space_of owner old) (under old bound) ≡ false) × (old.space.limit ≢ Some old.expansions) × (new ≡ old)
@@ -119,7 +119,8 @@ least_open space [] = Infinite
 least_open space (n ∷ ns) =
     lesser (if n.expanded then Infinite else f_value space n.state n.cost) (least_open space ns)
 
--- the node's state is a state of the task and the owner's, and its cost and number of operators are at most 2^62
+-- the node's state is a state of the task and belongs to the owner, and its cost and number of operators are at most
+-- 2^62
 pub record IsKept (space : SearchSpace) (worker : ℕ) (n : Node) : Type 0 where
   pub state : IsState (ranges space.task) n.state
   pub owner : space.owner_of n.state ≡ worker

@@ -1,8 +1,8 @@
--- The open list of an owner and its nodes. Stale entries stay in the list: of nodes that have since been reached at a
--- lesser rank, or have been expanded. The first entry is never stale.
+-- The open list of an owner and its nodes. Stale entries stay in the list: those of nodes that have since been reached
+-- at a lesser rank, or have been expanded. The first entry is never stale.
 --
--- The list is in the order of Shallow. For Deep, entries are turned over as they go into the list, and turned back as they
--- come out.
+-- The list is in the order of Shallow. For Deep, entries are stored keyed by the tie-breaking rule, which is applied
+-- again when they are popped.
 use Rattle.std.specs.Prelude.{◌≡◌, ℕ, ◌<◌, ◌≤◌, ◌^◌, true, false, ◌&&◌, ◌||◌, ◌==◌, nat_lt, List, [], ◌∷◌, map, All, Option, Some, None, Contains}
 use Rattle.cost.specs.Distances.{Distance, Finite, ◌+ᵈ◌}
 use Rattle.checker_clauses.specs.Clauses.{heuristic_of}
@@ -20,7 +20,7 @@ use Rattle.owner_space.specs.Turned.{turned}
 use Rattle.owner_space.specs.Spaces.{SpaceOf}
 use Rattle.owner.specs.Owned.{ties_first}
 
--- the space and the states that were reached in it
+-- the space and the states reached in it
 pub record ReachedOf (S : Type 0) : Type 0 where
   pub space : SpaceOf S
   pub nodes : List Node
@@ -32,7 +32,7 @@ h_of space = heuristic_of space.task space.columns
 abbrev pub message_at : List ℕ → Rank → Parent → machine.Message
 message_at state rank parent = record { state = state; cost = rank.cost; steps = rank.steps; parent = parent_of parent }
 
--- the numbers that are turned over have at most 64 bits
+-- the numbers that the tie-breaking rule counts down have at most 64 bits
 pub record HasWords (e : OpenEntry) : Type 0 where
   pub cost : e.rank.cost < 2 ^ 64
   pub steps : e.rank.steps < 2 ^ 64
@@ -57,19 +57,19 @@ pub record IsCurrent (nodes : List Node) (e : OpenEntry) : Type 0 where
   pub cost : node.cost ≡ e.rank.cost
   pub steps : node.steps ≡ e.rank.steps
 
--- each open node has an entry, and each entry is of a node
+-- each open node has an entry, and each entry belongs to a node
 pub record AreQueued (h : List ℕ → Distance) (nodes : List Node) (entries : List OpenEntry) : Type 0 where
   pub complete : (i : ℕ) (n : Node) (f : ℕ) → At nodes i n → n.expanded ≡ false → Finite n.cost +ᵈ h n.state ≡ Finite f
       → Contains entries (entry_of f n.cost n.steps i)
   pub sound : (e : OpenEntry) → Contains entries e → IsOf h nodes e
 
--- the same of these entries turned back, and the first entry, turned back, is current
+-- the entries, with the tie-breaking rule applied again, belong to the nodes, and the first of them is current
 pub record IsQueue (ties : Ties) (h : List ℕ → Distance) (nodes : List Node) (entries : List OpenEntry) : Type 0 where
   pub words : All HasWords entries
   pub queued : AreQueued h nodes (map (turned ties) entries)
   pub top : (e : OpenEntry) → Contains entries e → IsFirst e entries → IsCurrent nodes (turned ties e)
 
--- the entry is of an open node that comes first of all open nodes
+-- the entry belongs to an open node that comes first of all open nodes
 pub record IsLeast (ties : Ties) (h : List ℕ → Distance) (nodes : List Node) (e : OpenEntry) : Type 0 where
   pub node : Node
   pub there : At nodes e.index node
@@ -85,7 +85,8 @@ pub record IsLeast (ties : Ties) (h : List ℕ → Distance) (nodes : List Node)
 abbrev pub HasNoneOpen : (List ℕ → Distance) → List Node → Type 0
 HasNoneOpen h nodes = (i : ℕ) (n : Node) (f : ℕ) → At nodes i n → n.expanded ≡ false → Finite n.cost +ᵈ h n.state ≡ Finite f → ⊥
 
--- the entry that goes into the open list, turned over, when a state is reached at this f-value, if that is finite
+-- the entry for the open list, before it is keyed, when a state is reached at this f-value; none if that is infinite or
+-- the state is not new or improved
 abbrev pub added : Option ℕ → Rank → Outcome → List OpenEntry
 added None rank outcome = []
 added (Some f) rank (New i) = record { f = f; rank = rank; index = i } ∷ []

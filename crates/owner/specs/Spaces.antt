@@ -1,2 +1,2 @@
--- What owners search, as it stands in a library of its own.
+-- The search space of owners, from the crate that defines it.
 pub use Rattle.owner_space.specs.Spaces.{SpaceOf, searched}

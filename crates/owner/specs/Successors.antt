@@ -1,4 +1,4 @@
--- The successors of a node, and those of which it is known that nothing changes when they are treated.
+-- The successors of a node, and those that are known to be duplicates that change nothing.
 use Rattle.std.specs.Prelude.{◌≡◌, ℕ, ◌<◌, true, false, List, Some, slice_index, slice_index_or, Bool}
 use Rattle.fdr.specs.Tasks.{ranges, step, is_goal_state}
 use Rattle.owner_theory.specs.Owners.{SearchSpace, Message, Node, node_of, message_to}
@@ -6,7 +6,8 @@ use Rattle.closed.specs.declared.table.Outcome.TheVariants.{Kept}
 use Rattle.closed.specs.Tables.{outcome_of}
 use Rattle.owner.specs.declared.successors.Successor.{Successor}
 
--- the successor of the state by its operator, where forms have these values, with what is said about it
+-- the successor of the state by its operator, with correct owner and goal test, if `values` returns the values of a
+-- form
 pub record IsSuccessor {F : Type 0} (IsForm : List ℕ → F → Type 0) (values : List ℕ → F → List ℕ) (space : SearchSpace)
     (state : List ℕ) (s : Successor F) : Type 0 where
   pub form : IsForm (ranges space.task) s.state
@@ -15,14 +16,14 @@ pub record IsSuccessor {F : Type 0} (IsForm : List ℕ → F → Type 0) (values
   pub there : s.owner < space.owners
   pub goal : s.is_goal ≡ is_goal_state space.task (values (ranges space.task) s.state)
 
--- the message's state is this owner's and no goal state, and is known at the message's rank or a lesser one, so that
--- nothing changes when it is treated
+-- the message's state belongs to this owner, is no goal state, and was reached at the message's rank or a lesser one,
+-- so that the message changes nothing
 pub record ChangesNothing (space : SearchSpace) (me : ℕ) (nodes : List Node) (m : Message) : Type 0 where
   pub own : space.owner_of m.state ≡ me
   pub no_goal : is_goal_state space.task m.state ≡ false
   pub kept : outcome_of nodes (node_of m) ≡ Kept
 
--- where it is known of the successor by one of these operators that it changes nothing, that is so
+-- every successor that `known` marks changes nothing
 abbrev pub AreKnown : SearchSpace → ℕ → ℕ → Node → List Node → List ℕ → List Bool → Type 0
 AreKnown space me index n nodes operators known =
     (k : ℕ) → slice_index_or known k false ≡ true → (t : List ℕ) → step space.task n.state (slice_index operators k) ≡ Some t

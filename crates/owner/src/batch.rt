@@ -22,24 +22,24 @@ use packed_spread::Spread;
 use scp::Places;
 use std::alloc::{AllocError, Global};
 
-/// What the successors of a node come to. Nothing is taken before there is memory for all, so that an expansion that is
-/// refused has only messages to withdraw.
+/// The effects of a node's successors. No successor is taken before there is memory for all, so that an expansion that
+/// fails only has messages to withdraw.
 #[derive(Drop)]
 pub(crate) struct Batch<F: StateForm + Drop> {
-    /// The successors that are the owner's own.
+    /// The successors that belong to this owner.
     pub(crate) own: Vec<Message<F>>,
     /// Their f-values.
     pub(crate) fs: Vec<u64>,
     /// The owners of the others, into whose outboxes these were put, in that order.
     pub(crate) receivers: Vec<usize>,
-    /// The least cost at which a goal state was taken, with those of the owner's own successors.
+    /// The least cost at which a goal state was taken, including the owner's own successors.
     pub(crate) best: Dist,
-    /// A buffer for what comes of taking them.
+    /// A buffer for the outcomes of taking them.
     pub(crate) outcomes: Vec<Outcome>,
 }
 
 impl<F: StateForm + Drop> Batch<F> {
-    /// A batch of nothing.
+    /// Returns an empty batch.
     pub(crate) fn new(alloc: Global) -> Batch<F> {
         Batch {
             own: Vec::new(alloc),
@@ -64,8 +64,8 @@ impl<F: StateForm + Drop> Batch<F> {
     }
 }
 
-/// Adds a successor's message, of this f-value, to the batch if it is for this owner, and else puts it into the outbox for
-/// its owner. Fails only if allocation fails.
+/// Adds a successor's message, with f-value `f`, to the batch if it is for this owner, and otherwise puts it into the
+/// outbox for owner `to`.
 fn put<S: Spread + Drop, F: StateForm + Drop>(
     holdings: &mut Holdings<'_, S, F>,
     batch: &mut Batch<F>,
@@ -96,9 +96,8 @@ fn put<S: Spread + Drop, F: StateForm + Drop>(
     Ok(())
 }
 
-/// Places a successor of the state whose places these are: it is dropped if its f-value reaches the bound, added to the
-/// batch if it is this owner's, and else put into the outbox for its owner; `values` is a buffer. Fails only if allocation
-/// fails.
+/// Routes a successor of the state whose table indices are cached: drops it if its f-value reaches the bound, adds it
+/// to the batch if it belongs to this owner, and otherwise puts it into the outbox for its owner. `values` is a buffer.
 fn place<S: Spread + Drop, F: StateForm + Drop>(
     alloc: Global,
     holdings: &mut Holdings<'_, S, F>,
@@ -150,8 +149,8 @@ fn place<S: Spread + Drop, F: StateForm + Drop>(
     Ok(())
 }
 
-/// Places the successors of the state whose places these are, in their order, without those of which it is known that
-/// nothing changes when they are treated; `values` is a buffer. Fails only if allocation fails.
+/// Routes the successors of the state whose table indices are cached, in their order, except those that `known` marks
+/// as changing nothing. `values` is a buffer.
 pub(crate) fn place_unknown<S: Spread + Drop, F: StateForm + Drop>(
     alloc: Global,
     holdings: &mut Holdings<'_, S, F>,

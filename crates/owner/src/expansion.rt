@@ -27,15 +27,15 @@ pub(crate) struct Buffers<F: StateForm + Drop> {
     /// The values of a successor.
     values: Vec<u32>,
     successors: Vec<Successor<F>>,
-    /// Where the look-up of each successor begins.
+    /// For each successor the hint of its look-up.
     leads: Vec<Lead>,
-    /// For each successor whether it is known that nothing changes when it is treated.
+    /// For each successor whether it is known to change nothing.
     known: Vec<bool>,
     batch: Batch<F>,
 }
 
 impl<F: StateForm + Drop> Buffers<F> {
-    /// Buffers for states of this many variables. Fails only if allocation fails.
+    /// Returns buffers for states of `width` variables.
     pub(crate) fn new(alloc: Global, width: usize) -> Result<Buffers<F>, AllocError>
         ensures { IfOk result (λ b. length b.values.items ≡ width) }
     {
@@ -49,9 +49,10 @@ impl<F: StateForm + Drop> Buffers<F> {
     }
 }
 
-/// Expands the owner's next node, whose state's places these are, by these operators in their order: all successors are
-/// made, then all are looked up, then those are placed that may change something, and then the node is marked and the
-/// owner's own successors are taken. Fails only if allocation fails, and then the messages to withdraw are noted.
+/// Expands the owner's next node, whose state's table indices are cached, by these operators in their order: all
+/// successors are generated, then all are looked up, then those that may change something are routed, and then the node
+/// is marked and the owner's own successors are taken. On failure the batch's `receivers` lists the outboxes from which
+/// messages are to be withdrawn.
 fn try_to_expand<S: Spread + Drop, F: StateForm + Drop>(
     alloc: Global,
     holdings: &mut Holdings<'_, S, F>,
@@ -109,8 +110,8 @@ fn try_to_expand<S: Spread + Drop, F: StateForm + Drop>(
     Ok(())
 }
 
-/// Expands the owner's next node, whose state's places these are, by these operators in their order. Returns the number of
-/// successors that were put into outboxes. Fails only if allocation fails, and then changes nothing.
+/// Expands the owner's next node, whose state's table indices are cached, by these operators in their order. Returns
+/// the number of successors that were put into outboxes. On failure nothing is changed.
 pub(crate) fn expand_node<S: Spread + Drop, F: StateForm + Drop>(
     alloc: Global,
     holdings: &mut Holdings<'_, S, F>,

@@ -5,7 +5,7 @@ ghost use Rattle.owner.specs.declared.fault.OwnerFault.TheVariants.{OutOfMemory}
 
 use std::alloc::AllocError;
 
-/// Why an owner does not expand its next node.
+/// The reason why an owner does not expand its next node.
 #[derive(Clone, Copy, Debug, PartialEq, Eq)]
 pub enum OwnerFault {
     /// Memory ran out.

@@ -1,4 +1,4 @@
-//! What an owner has, without its buffers.
+//! The data of an owner, without its buffers.
 
 ghost use Rattle.std.specs.Prelude.{◌≡◌, ◌≢◌, ◌⊎◌, suc, ◌+◌, ◌<◌, ◌≤◌, ◌^◌, ◌++◌, ◌∷◌, [], ◌==◌, length, map, fold, All, slice_set, Option, Some, None, true, false, is_some, if◌then◌else◌, IsTrue, ◌↔◌, IfOk, IfSome, IfNone, OnOk, OnErr};
 ghost use Rattle.std.specs.Option.{option_to_list};
@@ -31,8 +31,8 @@ use std::alloc::{AllocError, Global};
 use std::collections::VecDeque;
 use std::marker::Model;
 
-/// What an owner has: the states that it has taken, an outbox for each owner, and the least cost at which it has taken a
-/// goal state. A contract sees it as the owner.
+/// The data of an owner: the states that it has taken, an outbox for each owner, and the least cost at which it has
+/// taken a goal state. In contracts its value is the owner.
 #[derive(Drop)]
 pub(crate) struct Holdings<'a, S: Spread + Drop, F: StateForm + Drop> {
     worker: usize,
@@ -69,14 +69,14 @@ impl<'a, S: Spread + Drop, F: StateForm + Drop> Model for Holdings<'a, S, F> {
     }) };
 }
 
-/// Whether the first distance is at most the second.
+/// Returns whether the first distance is at most the second.
 pub(crate) fn is_within(distance: Dist, other: Dist) -> bool
     ensures { result ≡ is_at_most distance other }
 {
     distance <= other
 }
 
-/// The distance of a number that is at most 2^63.
+/// Returns the distance of a number that is at most 2^63.
 fn finite(value: u64) -> Dist
     requires { value ≤ 2 ^ 63 }
     ensures { result ≡ Finite value }
@@ -84,8 +84,8 @@ fn finite(value: u64) -> Dist
     Dist::fin(value).unwrap()
 }
 
-/// The least cost at which a goal state was taken, where that was `best` before a state was taken at this cost, which is a
-/// goal state or not.
+/// Returns the least cost at which a goal state was taken, including a state taken at `cost` if that is a goal state;
+/// `best` is the least cost before.
 pub(crate) fn best_with(best: Dist, is_goal: bool, cost: u64) -> Dist
     requires { cost ≤ 2 ^ 63 }
     ensures { result ≡ (if is_goal then lesser best (Finite cost) else best) }
@@ -98,7 +98,7 @@ pub(crate) fn best_with(best: Dist, is_goal: bool, cost: u64) -> Dist
 }
 
 impl<'a, S: Spread + Drop, F: StateForm + Drop> Holdings<'a, S, F> {
-    /// What worker `worker` of `owners`, counted from 0, has at the start. Fails only if allocation fails.
+    /// Returns the data of worker `worker` of `owners`, counted from 0, at the start.
     pub(crate) fn start(
         alloc: Global,
         space: &'a Space<'a, S>,
@@ -131,7 +131,7 @@ impl<'a, S: Spread + Drop, F: StateForm + Drop> Holdings<'a, S, F> {
         })
     }
 
-    /// Takes a state of its own. Fails only if allocation fails, and then changes nothing.
+    /// Takes a state of its own. On failure nothing is changed.
     pub(crate) fn take(
         &mut self,
         state: &[u32],
@@ -151,7 +151,7 @@ impl<'a, S: Spread + Drop, F: StateForm + Drop> Holdings<'a, S, F> {
         Ok(())
     }
 
-    /// The outcome that reaching the state of a form at a rank would have, whatever the lead.
+    /// Returns the outcome that reaching the state of a form at a rank would have, whatever the hint.
     pub(crate) fn look_led(&self, form: &F, rank: Rank, lead: Lead) -> Outcome
         requires { F.IsForm (ranges self.now.space.task) form.now }
         ensures { (parent : Option Parent) →
@@ -160,8 +160,8 @@ impl<'a, S: Spread + Drop, F: StateForm + Drop> Holdings<'a, S, F> {
         self.reached.look_led(form, rank, lead)
     }
 
-    /// Whether it is known that nothing changes when the message is taken: its state was reached at its rank or a lesser one,
-    /// and is no goal state. The message need not be one for this owner.
+    /// Returns whether the message is a duplicate that changes nothing when it is taken: its state was reached at its
+    /// rank or a lesser one, and is no goal state. The message need not be one for this owner.
     pub(crate) fn knows(&self, message: &Message<F>) -> bool
         ensures form { IsTrue result → F.IsForm (ranges self.now.space.task) message.now.state }
         ensures known { IsTrue result →
@@ -178,8 +178,8 @@ impl<'a, S: Spread + Drop, F: StateForm + Drop> Holdings<'a, S, F> {
         !is_goal_form(space.task(), space.layout(), &message.state)
     }
 
-    /// Puts a message into the outbox for its state's owner, which is then the last of the receivers. Fails only if
-    /// allocation fails, and then changes nothing.
+    /// Puts a message into the outbox for owner `to`, its state's owner, and appends that owner to `receivers`. On
+    /// failure nothing is changed.
     pub(crate) fn post(
         &mut self,
         to: usize,
@@ -200,7 +200,7 @@ impl<'a, S: Spread + Drop, F: StateForm + Drop> Holdings<'a, S, F> {
         Ok(())
     }
 
-    /// Removes the newest message of the outbox for each of these receivers, that for the last one first.
+    /// Removes the newest message of the outbox for each of these receivers, starting with the last.
     pub(crate) fn withdraw(&mut self, receivers: &mut Vec<usize>)
         requires { All (λ to. to < length self.old.outboxes) receivers.old.items }
         ensures { self.new ≡ record self.old { outboxes = withdrawn receivers.old.items self.old.outboxes } }
@@ -208,7 +208,7 @@ impl<'a, S: Spread + Drop, F: StateForm + Drop> Holdings<'a, S, F> {
         self.outboxes.withdraw(receivers);
     }
 
-    /// The entry of the open node that is to be expanded next, if its f-value is below the bound.
+    /// Returns the entry of the open node that is to be expanded next, if its f-value is below the bound.
     pub(crate) fn next(&self, bound: Dist) -> Option<OpenEntry>
         ensures some { IfSome result (λ e. IsLeast self.now.space.ties (h_of self.now.space) self.now.nodes e × (is_at_most bound (Finite e.f) ≡ false)) }
         ensures none { result ≡ None → no_open (space_of S.owner self.now) (under self.now bound) ≡ true }
@@ -220,15 +220,15 @@ impl<'a, S: Spread + Drop, F: StateForm + Drop> Holdings<'a, S, F> {
         Some(entry)
     }
 
-    /// Whether it has expanded as many nodes as its limit allows.
+    /// Returns whether the owner has expanded as many nodes as its limit allows.
     pub(crate) fn is_at_limit(&self) -> bool
         ensures { IsTrue result ↔ (self.now.space.limit ≡ Some self.now.expansions) }
     {
         self.reached.space().limit() == Some(self.expansions)
     }
 
-    /// Marks the node that is to be expanded next as expanded, and takes the batch's messages. Fails only if allocation
-    /// fails, and then changes nothing.
+    /// Marks the node that is to be expanded next as expanded, and takes the batch's messages. On failure nothing is
+    /// changed.
     pub(crate) fn expand_next(&mut self, batch: &mut Batch<F>) -> Result<(), AllocError>
         requires allowed { self.old.space.limit ≢ Some self.old.expansions }
         requires some { (e : EntryOf) × IsLeast self.old.space.ties (h_of self.old.space) self.old.nodes e }
@@ -251,7 +251,7 @@ impl<'a, S: Spread + Drop, F: StateForm + Drop> Holdings<'a, S, F> {
         Ok(())
     }
 
-    /// Removes and returns the oldest message for that owner, or returns `None` if there is none.
+    /// Removes and returns the oldest message for owner `to`, or returns `None` if there is none.
     pub(crate) fn next_out(&mut self, to: usize) -> Option<Message<F>>
         requires { to < length self.old.outboxes }
         ensures first { list_at self.old.outboxes to ≡ map (message_of (F.values (ranges self.old.space.task))) (option_to_list result) ++ list_at self.new.outboxes to }
@@ -262,14 +262,14 @@ impl<'a, S: Spread + Drop, F: StateForm + Drop> Holdings<'a, S, F> {
         self.outboxes.take_out(to)
     }
 
-    /// Whether there is no node to expand below the bound and no message to hand out.
+    /// Returns whether there is no node to expand below the bound and no message to send.
     pub(crate) fn is_idle(&self, bound: Dist) -> bool
         ensures { result ≡ idle (space_of S.owner self.now) (under self.now bound) }
     {
         self.next(bound).is_none() && self.outboxes.are_empty()
     }
 
-    /// The least f-value of the nodes that are not expanded, infinite if there is none.
+    /// Returns the least f-value of the nodes that are not expanded, infinite if there is none.
     pub(crate) fn least_open(&self) -> Dist
         ensures { result ≡ least_open (space_of S.owner self.now) self.now.nodes }
     {
@@ -298,7 +298,7 @@ impl<'a, S: Spread + Drop, F: StateForm + Drop> Holdings<'a, S, F> {
         self.outboxes.outbox(to)
     }
 
-    /// The number of owners.
+    /// Returns the number of owners.
     pub(crate) fn owners(&self) -> usize
         ensures { result ≡ length self.now.outboxes }
     {
@@ -311,7 +311,7 @@ impl<'a, S: Spread + Drop, F: StateForm + Drop> Holdings<'a, S, F> {
         self.outboxes.messages()
     }
 
-    /// What holds of every owner: the type's invariant, stated as a contract.
+    /// Proves the type's invariant, which holds of every owner (only for the proof).
     pub(crate) fn recall(&self)
         ensures owner { IsOwner S.owner self.now }
         ensures fits { F.Fits (ranges self.now.space.task) }

@@ -1,4 +1,5 @@
-//! One owner of states of a search that is divided among several (hash distributed A*: Kishimoto, Fukunaga and Botea 2013).
+//! One owner of states of a search that is divided among several (hash distributed A*: Kishimoto, Fukunaga and Botea
+//! 2013).
 #![tactic(auto)]
 
 mod batch;

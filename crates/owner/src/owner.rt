@@ -27,9 +27,9 @@ use std::alloc::{AllocError, Global};
 use std::collections::VecDeque;
 use std::marker::Model;
 
-/// One owner of states: the states that it has taken, those of them that it has yet to expand, an outbox for each owner,
-/// and the least cost at which it has taken a goal state. A contract sees it without the bound that it has seen last,
-/// which is an argument of each call that needs it.
+/// One owner of states: the states that it has taken, those of them that it has yet to expand, an outbox for each
+/// owner, and the least cost at which it has taken a goal state. In contracts its value lacks the bound that it has
+/// read last, which is an argument of each call that needs it.
 #[derive(Drop)]
 pub struct Owner<'a, S: Spread + Drop, F: StateForm + Drop> {
     alloc: Global,
@@ -40,7 +40,7 @@ pub struct Owner<'a, S: Spread + Drop, F: StateForm + Drop> {
     applicable: Vec<usize>,
     /// Buffers for the successors of that state.
     buffers: Buffers<F>,
-    /// The places of that state in the columns, while its successors are treated.
+    /// The cached table indices of that state, while its successors are generated.
     places: Places<'a>,
 }
 
@@ -69,7 +69,7 @@ fn unpack<F: StateForm + Drop>(message: &Message<F>, layout: &Layout, state: &mu
     message.state.unpack(layout, state);
 }
 
-/// Writes the values of the state at that place into `state`.
+/// Writes the values of the state at the index into `state`.
 fn read_state<S: Spread + Drop, F: StateForm + Drop>(
     holdings: &Holdings<'_, S, F>,
     index: usize,
@@ -84,8 +84,8 @@ fn read_state<S: Spread + Drop, F: StateForm + Drop>(
 }
 
 impl<'a, S: Spread + Drop, F: StateForm + Drop> Owner<'a, S, F> {
-    /// An owner at the start: worker `worker` of `owners`, counted from 0. States of the task have the form `F`. The owner of
-    /// the initial state has it, at cost 0. Fails only if allocation fails.
+    /// Returns an owner at the start: worker `worker` of `owners`, counted from 0. States of the task have the form
+    /// `F`. The owner of the initial state starts with that state, at cost 0.
     pub fn start(
         alloc: Global,
         space: &'a Space<'a, S>,
@@ -114,7 +114,7 @@ impl<'a, S: Spread + Drop, F: StateForm + Drop> Owner<'a, S, F> {
         })
     }
 
-    /// Takes a message. Fails only if allocation fails, and then returns the message and leaves the owner as it was.
+    /// Takes a message. On failure returns the message, and the owner is unchanged.
     pub fn take(&mut self, message: Message<F>) -> Result<(), (Message<F>, AllocError)>
         requires { IsMessageTo (space_of S.owner self.old) self.old.worker (message_of (F.values (ranges self.old.space.task)) message) }
         ensures taken { OnOk result ((bound : Distance) → under self.new bound ≡ took (space_of S.owner self.old) (under self.old bound) (message_of (F.values (ranges self.old.space.task)) message)) }
@@ -134,8 +134,9 @@ impl<'a, S: Spread + Drop, F: StateForm + Drop> Owner<'a, S, F> {
         }
     }
 
-    /// Whether the owner knows the message's state at the message's rank or a lesser one, and the state is no goal state: then
-    /// nothing changes when it takes the message. The message need not be one for this owner.
+    /// Returns whether the owner has the message's state at the message's rank or a lesser one, and the state is no
+    /// goal state: the message is then a duplicate that changes nothing when it is taken. It need not be one for this
+    /// owner.
     pub fn knows(&self, message: &Message<F>) -> bool
         ensures state { IsTrue result → IsState (ranges self.now.space.task) (F.values (ranges self.now.space.task) message.now.state) }
         ensures owner { IsTrue result → (space_of S.owner self.now).owner_of (F.values (ranges self.now.space.task) message.now.state) ≡ self.now.worker }
@@ -147,12 +148,12 @@ impl<'a, S: Spread + Drop, F: StateForm + Drop> Owner<'a, S, F> {
         self.holdings.knows(message)
     }
 
-    /// Expands the next node whose f-value is below `bound`, the bound that the owner has seen last: the node of least f,
-    /// and among these the one that is first by the space's ties. Its successors whose f-value reaches the bound are
-    /// dropped, those that are this owner's are taken, and the others are put into outboxes.
+    /// Expands the next node whose f-value is below `bound`, the bound that the owner has read last: the node of least
+    /// f, and among these the first by the tie-breaking rule of the space. Its successors whose f-value reaches the
+    /// bound are dropped, those that belong to this owner are taken, and the others are put into outboxes.
     ///
     /// Returns the number of messages that were put into outboxes, or `None` if there is no such node, which changes
-    /// nothing. A fault leaves the owner as it was.
+    /// nothing. On a fault the owner is unchanged.
     pub fn expand(&mut self, bound: Dist) -> Result<Option<usize>, OwnerFault>
         ensures expanded { IfOk result (IsExpansion S.owner bound self.old self.new) }
         ensures refused { IfErr result (IsRefusal S.owner bound self.old self.new) }
@@ -186,7 +187,7 @@ impl<'a, S: Spread + Drop, F: StateForm + Drop> Owner<'a, S, F> {
         Ok(Some(posted))
     }
 
-    /// Removes and returns the oldest message for that owner, or returns `None` if there is none. Allocates nothing.
+    /// Removes and returns the oldest message for owner `to`, or returns `None` if there is none.
     pub fn next_out(&mut self, to: usize) -> Option<Message<F>>
         requires { to < length self.old.outboxes }
         ensures first { list_at self.old.outboxes to ≡ map (message_of (F.values (ranges self.old.space.task))) (option_to_list result) ++ list_at self.new.outboxes to }
@@ -197,28 +198,28 @@ impl<'a, S: Spread + Drop, F: StateForm + Drop> Owner<'a, S, F> {
         self.holdings.next_out(to)
     }
 
-    /// Whether there is no node to expand below the bound and no message to hand out. Allocates nothing.
+    /// Returns whether there is no node to expand below the bound and no message to send.
     pub fn is_idle(&self, bound: Dist) -> bool
         ensures { result ≡ idle (space_of S.owner self.now) (under self.now bound) }
     {
         self.holdings.is_idle(bound)
     }
 
-    /// The least cost at which a goal state was taken, infinite if none was. Allocates nothing.
+    /// Returns the least cost at which a goal state was taken, infinite if none was.
     pub fn best_goal(&self) -> Dist
         ensures { result ≡ self.now.best }
     {
         self.holdings.best
     }
 
-    /// The least f-value of the nodes that are not expanded, infinite if there is none. Allocates nothing.
+    /// Returns the least f-value of the nodes that are not expanded, infinite if there is none.
     pub fn least_open(&self) -> Dist
         ensures { result ≡ least_open (space_of S.owner self.now) self.now.nodes }
     {
         self.holdings.least_open()
     }
 
-    /// The number of messages in the outbox for that owner.
+    /// Returns the number of messages in the outbox for owner `to`.
     pub fn outbox_len(&self, to: usize) -> usize
         requires { to < length self.now.outboxes }
         ensures { result ≡ length (list_at self.now.outboxes to) }
@@ -226,7 +227,7 @@ impl<'a, S: Spread + Drop, F: StateForm + Drop> Owner<'a, S, F> {
         self.holdings.outbox(to).len()
     }
 
-    /// The messages in the outbox for that owner, the oldest first.
+    /// Returns the messages in the outbox for owner `to`, the oldest first.
     pub fn outbox(&self, to: usize) -> &VecDeque<Message<F>>
         requires { to < length self.now.outboxes }
         ensures { map (message_of (F.values (ranges self.now.space.task))) result.now.items ≡ list_at self.now.outboxes to }
@@ -234,42 +235,42 @@ impl<'a, S: Spread + Drop, F: StateForm + Drop> Owner<'a, S, F> {
         self.holdings.outbox(to)
     }
 
-    /// The number of outboxes with a message.
+    /// Returns the number of outboxes with a message.
     pub fn outboxes_in_use(&self) -> usize
         ensures { result ≡ count_in_use self.now.outboxes }
     {
         self.holdings.outboxes.in_use()
     }
 
-    /// The number of messages in all outboxes.
+    /// Returns the number of messages in all outboxes.
     pub fn messages(&self) -> u128
         ensures { result ≡ waiting self.now.outboxes }
     {
         self.holdings.messages()
     }
 
-    /// The number of nodes that it has expanded, counted only if there is a limit on it, and 0 otherwise.
+    /// Returns the number of nodes that the owner has expanded if there is a limit on it, and 0 otherwise.
     pub fn expansions(&self) -> u64
         ensures { result ≡ self.now.expansions }
     {
         self.holdings.expansions
     }
 
-    /// The space that it searches.
+    /// Returns the space that the owner searches.
     pub fn space(&self) -> &'a Space<'a, S>
         ensures { result.now ≡ self.now.space }
     {
         self.holdings.space()
     }
 
-    /// The number of states that it has taken.
+    /// Returns the number of states that the owner has taken.
     pub fn len(&self) -> usize
         ensures { result ≡ length self.now.nodes }
     {
         self.holdings.reached.len()
     }
 
-    /// The entry of the state at that place, counted from 0.
+    /// Returns the entry of the state at the index.
     pub fn entry(&self, index: usize) -> Entry
         requires { index < length self.now.nodes }
         ensures { (n : Node) → slice_get self.now.nodes index ≡ Some n → n ≡ node_with n.state result }
@@ -277,7 +278,7 @@ impl<'a, S: Spread + Drop, F: StateForm + Drop> Owner<'a, S, F> {
         self.holdings.reached.entry(index)
     }
 
-    /// Writes the values of the state at that place, counted from 0, into `state`.
+    /// Writes the values of the state at the index into `state`.
     pub fn copy_state(&self, index: usize, state: &mut [u32])
         requires index { index < length self.now.nodes }
         requires len { length state.old ≡ length self.now.space.task.value_names }
@@ -286,9 +287,10 @@ impl<'a, S: Spread + Drop, F: StateForm + Drop> Owner<'a, S, F> {
         self.holdings.reached.copy_state(index, state)
     }
 
-    /// What holds of every owner, the type's invariant stated as a contract: the space is a search space whose heuristic
-    /// is a lower bound, nodes have states of the task that are this owner's, messages have states of the task that are
-    /// their receiver's, costs and numbers of operators are at most 2^62, and states of the task have the form.
+    /// Proves the type's invariant, which holds of every owner (only for the proof): the space is a search space whose
+    /// heuristic is a lower bound, nodes have states of the task that belong to this owner, messages have states of the
+    /// task that belong to their receiver, costs and numbers of operators are at most 2^62, and states of the task have
+    /// the form.
     pub fn recall(&self)
         ensures space { IsSearchSpace (space_of S.owner self.now) }
         ensures lower { IsLowerBound self.now.space.task (space_of S.owner self.now).heuristic }

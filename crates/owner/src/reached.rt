@@ -1,4 +1,4 @@
-//! The states that an owner has reached, and which of them it expands next.
+//! The states that an owner has reached, and the order in which it expands them.
 
 ghost use Rattle.std.specs.Prelude.{◌≡◌, ◌≢◌, false, ℕ, ◌<◌, ◌≤◌, ◌^◌, ◌++◌, ◌∷◌, [], length, map, fold, slice_get, slice_set, Some, List, All, Option, IfOk, OnOk, OnErr, IfSome, IfNone, IsTrue};
 ghost use Rattle.std.specs.List.Sorted.{IsPermutation};
@@ -21,14 +21,14 @@ use packed_spread::Spread;
 use std::alloc::{AllocError, Global};
 use std::marker::Model;
 
-/// The states that were reached, and the open ones in the order in which they are to be expanded. A contract sees the
+/// The reached states, and the open ones in the order in which they are to be expanded. In contracts its value is the
 /// space and a node for each state.
 #[derive(Drop)]
 pub(crate) struct Reached<'a, S: Spread + Drop, F: StateForm + Drop> {
     space: &'a Space<'a, S>,
     table: ClosedTable<F>,
-    /// The open nodes, and stale entries: nodes as they were before they were improved or expanded. Each entry is turned
-    /// over by the space's ties, so that the list's order is theirs.
+    /// The open nodes, and stale entries: nodes as they were before they were improved or expanded. Each entry is keyed
+    /// by the space's tie-breaking rule, so that the list pops entries in that order.
     queue: Buckets,
 }
 
@@ -45,7 +45,7 @@ impl<'a, S: Spread + Drop, F: StateForm + Drop> Model for Reached<'a, S, F> {
     ghost invariant = { λ r. (r.table.ranges ≡ ranges r.space.now.task) × IsQueue r.space.now.ties (h_of r.space.now) r.table.nodes (all_entries r.queue) };
 }
 
-/// Makes room for an entry of this f-value, if it is finite. Fails only if allocation fails.
+/// Makes room for an entry of this f-value, if it is finite.
 fn make_room<L: OpenList>(list: &mut L, f: Option<u64>) -> Result<(), AllocError>
     ensures entries { IsPermutation (L.entries list.old) (L.entries list.new) }
     ensures room { OnOk result (IfSome f (λ f. (fs : List ℕ) × L.HasRoom list.new (f ∷ fs))) }
@@ -56,7 +56,7 @@ fn make_room<L: OpenList>(list: &mut L, f: Option<u64>) -> Result<(), AllocError
     }
 }
 
-/// Adds the entry of a state that was reached, turned over, if it is new or was improved, and its f-value is finite.
+/// Pushes an open entry, keyed by the tie-breaking rule, if the state is new or improved and f is finite.
 fn put_in<L: OpenList>(list: &mut L, ties: Ties, f: Option<u64>, rank: Rank, outcome: Outcome)
     requires { IfSome f (λ f. (fs : List ℕ) × L.HasRoom list.old (f ∷ fs)) }
     ensures entries { IsPermutation (map (turned ties) (added f rank outcome) ++ L.entries list.old) (L.entries list.new) }
@@ -69,7 +69,8 @@ fn put_in<L: OpenList>(list: &mut L, ties: Ties, f: Option<u64>, rank: Rank, out
     }
 }
 
-/// Adds the entries of the states of messages that were reached, turned over, each with its f-value and its outcome.
+/// Pushes open entries, keyed by the tie-breaking rule, for the states of messages that were reached, each with its
+/// f-value and its outcome.
 fn put_all_in<L: OpenList, F: StateForm + Drop>(
     list: &mut L,
     ties: Ties,
@@ -92,7 +93,7 @@ fn put_all_in<L: OpenList, F: StateForm + Drop>(
     }
 }
 
-/// Whether the entry's node is not expanded and has the entry's rank.
+/// Returns whether the entry's node is not expanded and has the entry's rank.
 fn is_current<F: StateForm + Drop>(table: &ClosedTable<F>, entry: OpenEntry) -> bool
     requires { entry.index < length table.now.nodes }
     ensures current { IsTrue result → IsCurrent table.now.nodes entry }
@@ -102,7 +103,7 @@ fn is_current<F: StateForm + Drop>(table: &ClosedTable<F>, entry: OpenEntry) -> 
     !node.expanded && node.rank == entry.rank
 }
 
-/// Removes stale entries from the top, until the first entry is current or none is left.
+/// Pops stale entries until the first entry is current or none is left.
 fn drop_stale<F: StateForm + Drop, L: OpenList>(table: &ClosedTable<F>, ties: Ties, list: &mut L)
     requires { All (λ e. e.index < length table.now.nodes) (map (turned ties) (L.entries list.old)) }
     ensures { (h : List ℕ → Distance) → All HasWords (L.entries list.old) →
@@ -118,7 +119,7 @@ fn drop_stale<F: StateForm + Drop, L: OpenList>(table: &ClosedTable<F>, ties: Ti
 }
 
 impl<'a, S: Spread + Drop, F: StateForm + Drop> Reached<'a, S, F> {
-    /// An empty table and an empty open list. Fails only if allocation fails.
+    /// Returns an empty table with an empty open list.
     pub(crate) fn new(
         alloc: Global,
         space: &'a Space<'a, S>,
@@ -133,21 +134,21 @@ impl<'a, S: Spread + Drop, F: StateForm + Drop> Reached<'a, S, F> {
         })
     }
 
-    /// States of the task have the form: it follows from the type's invariant.
+    /// Proves, from the type's invariant, that states of the task have the form (only for the proof).
     pub(crate) fn recall(&self)
         ensures { F.Fits (ranges self.now.space.task) }
     {
         self.table.recall();
     }
 
-    /// The space that is searched.
+    /// Returns the space that is searched.
     pub(crate) fn space(&self) -> &'a Space<'a, S>
         ensures { result.now ≡ self.now.space }
     {
         self.space
     }
 
-    /// The outcome that reaching a state at a rank would have. Nothing is changed.
+    /// Returns the outcome that reaching a state at a rank would have. Nothing is changed.
     pub(crate) fn look(&mut self, state: &[u32], rank: Rank) -> Outcome
         requires { IsState (ranges self.old.space.task) state.now }
         ensures outcome { (parent : Option Parent) → result ≡ outcome_of self.old.nodes (fresh state.now rank parent) }
@@ -156,8 +157,8 @@ impl<'a, S: Spread + Drop, F: StateForm + Drop> Reached<'a, S, F> {
         self.table.look(state, rank)
     }
 
-    /// Records that a state of this f-value was reached, where `look` told the outcome. Fails only if allocation fails, and
-    /// then changes nothing.
+    /// Records that a state of this f-value was reached, with the outcome that `look` returned. On failure nothing is
+    /// changed.
     pub(crate) fn reach_at(
         &mut self,
         state: &[u32],
@@ -184,8 +185,8 @@ impl<'a, S: Spread + Drop, F: StateForm + Drop> Reached<'a, S, F> {
         Ok(())
     }
 
-    /// Records that a state was reached. The heuristic is computed only if that changes anything. Fails only if allocation
-    /// fails, and then changes nothing.
+    /// Records that a state was reached. The heuristic is computed only if this changes something. On failure nothing
+    /// is changed.
     pub(crate) fn reach(
         &mut self,
         state: &[u32],
@@ -207,7 +208,7 @@ impl<'a, S: Spread + Drop, F: StateForm + Drop> Reached<'a, S, F> {
         }
     }
 
-    /// The entry of the open node that is to be expanded next, or `None` if no node is open.
+    /// Returns the entry of the open node that is to be expanded next, or `None` if no node is open.
     pub(crate) fn least(&self) -> Option<OpenEntry>
         ensures some { IfSome result (IsLeast self.now.space.ties (h_of self.now.space) self.now.nodes) }
         ensures none { IfNone result (HasNoneOpen (h_of self.now.space) self.now.nodes) }
@@ -216,9 +217,8 @@ impl<'a, S: Spread + Drop, F: StateForm + Drop> Reached<'a, S, F> {
         Some(self.space.ties().turned(entry))
     }
 
-    /// Expands the node that is to be expanded next: marks it, and records that the states of these messages, whose f-values
-    /// are these, were reached, one after the other. `outcomes` is a buffer. Fails only if allocation fails, and then
-    /// changes nothing.
+    /// Expands the node that is to be expanded next: marks it, and records that the states of these messages, with
+    /// f-values `fs`, were reached, one after the other. `outcomes` is a buffer. On failure nothing is changed.
     pub(crate) fn expand_least(
         &mut self,
         messages: &[Message<F>],
@@ -250,14 +250,14 @@ impl<'a, S: Spread + Drop, F: StateForm + Drop> Reached<'a, S, F> {
         Ok(())
     }
 
-    /// The number of states.
+    /// Returns the number of states.
     pub(crate) fn len(&self) -> usize
         ensures { result ≡ length self.now.nodes }
     {
         self.table.len()
     }
 
-    /// The entry of the state at that place, counted from 0.
+    /// Returns the entry of the state at the index.
     pub(crate) fn entry(&self, index: usize) -> Entry
         requires { index < length self.now.nodes }
         ensures { (n : Node) → slice_get self.now.nodes index ≡ Some n → n ≡ node_with n.state result }
@@ -265,7 +265,7 @@ impl<'a, S: Spread + Drop, F: StateForm + Drop> Reached<'a, S, F> {
         self.table.entry(index)
     }
 
-    /// Writes the values of the state at that place, counted from 0, into `state`.
+    /// Writes the values of the state at the index into `state`.
     pub(crate) fn copy_state(&self, index: usize, state: &mut [u32])
         requires index { index < length self.now.nodes }
         requires len { length state.old ≡ length self.now.space.task.value_names }
@@ -274,12 +274,12 @@ impl<'a, S: Spread + Drop, F: StateForm + Drop> Reached<'a, S, F> {
         self.table.copy_state(index, state)
     }
 
-    /// Where the look-up of a form begins.
+    /// Reads the first slots for `form` and returns the row that they name, as a hint.
     pub(crate) fn lead(&self, form: &F) -> Lead {
         self.table.lead(form)
     }
 
-    /// The outcome that reaching the state of a form at a rank would have, whatever the lead.
+    /// Returns the outcome that reaching the state of a form at a rank would have, whatever the hint.
     pub(crate) fn look_led(&self, form: &F, rank: Rank, lead: Lead) -> Outcome
         requires { F.IsForm (ranges self.now.space.task) form.now }
         ensures { (parent : Option Parent) →
@@ -288,8 +288,8 @@ impl<'a, S: Spread + Drop, F: StateForm + Drop> Reached<'a, S, F> {
         self.table.look_led(form, rank, lead)
     }
 
-    /// Whether the state of this form was reached at this rank or a lesser one, so that reaching it again would change
-    /// nothing. The form need not be that of a state.
+    /// Returns whether the state of this form was reached at this rank or a lesser one, so that reaching it again is a
+    /// duplicate. The form need not be that of a state.
     pub(crate) fn knows(&self, form: &F, rank: Rank) -> bool
         ensures form { IsTrue result → F.IsForm (ranges self.now.space.task) form.now }
         ensures known { IsTrue result → (parent : Option Parent) →

@@ -23,7 +23,7 @@ use std::alloc::{AllocError, Global};
 /// The greatest cost of a path, and the greatest number of operators on it: 2^62.
 pub const MAX_TOTAL: u64 = 4_611_686_018_427_387_904;
 
-/// Whether the successor by one of these operators would have a cost or a number of operators above 2^62.
+/// Returns whether the successor by one of these operators would have a cost or a number of operators above 2^62.
 pub(crate) fn has_large_successor(task: &FdrTask, operators: &[usize], rank: Rank) -> bool
     requires cost { rank.cost ≤ max_total }
     requires steps { rank.steps ≤ max_total }
@@ -37,7 +37,7 @@ pub(crate) fn has_large_successor(task: &FdrTask, operators: &[usize], rank: Ran
 /// A successor of a node.
 #[derive(Drop)]
 pub(crate) struct Successor<F: StateForm + Drop> {
-    /// The number of the operator that leads to it.
+    /// The number of the operator that generates it.
     pub(crate) operator: usize,
     /// The form of its state.
     pub(crate) state: F,
@@ -47,7 +47,7 @@ pub(crate) struct Successor<F: StateForm + Drop> {
     pub(crate) is_goal: bool,
 }
 
-/// The rank at which the operator leads from a state that has this rank.
+/// Returns the rank of the successor, by this operator, of a state that has rank `rank`.
 pub(crate) fn rank_after(task: &FdrTask, rank: Rank, operator: usize) -> Rank
     requires { IsSmallStep task.now rank operator }
     ensures cost { result.cost ≡ rank.cost + cost_of task.now operator }
@@ -59,8 +59,8 @@ pub(crate) fn rank_after(task: &FdrTask, rank: Rank, operator: usize) -> Rank
     }
 }
 
-/// The successor, by one operator, of the state of this form, of which the spread gives this hash: it is made of what the
-/// operator changes, and its values are not written. Fails only if allocation fails.
+/// Returns the successor, by one operator, of the state of this form, with spread hash `hash`. It is built from the
+/// operator's changes alone; the values are not written out.
 fn make_successor<S: Spread + Drop, F: StateForm + Drop>(
     alloc: Global,
     holdings: &Holdings<'_, S, F>,
@@ -92,8 +92,7 @@ fn make_successor<S: Spread + Drop, F: StateForm + Drop>(
     })
 }
 
-/// Replaces the content of `successors` by the successors, by these operators in their order, of a state. Fails only if
-/// allocation fails.
+/// Replaces the content of `successors` by the successors of a state by these operators, in their order.
 pub(crate) fn make_successors<S: Spread + Drop, F: StateForm + Drop>(
     alloc: Global,
     holdings: &Holdings<'_, S, F>,
@@ -118,8 +117,8 @@ pub(crate) fn make_successors<S: Spread + Drop, F: StateForm + Drop>(
     Ok(())
 }
 
-/// Replaces the content of `leads` by where the look-up of each successor begins that is this owner's. They are read one after
-/// the other, so that the processor loads them at once. Fails only if allocation fails.
+/// Replaces the content of `leads` by the hints of this owner's successors, and by empty hints for the others. The
+/// slots are read in one loop, so that cache misses overlap.
 fn read_leads<S: Spread + Drop, F: StateForm + Drop>(
     holdings: &Holdings<'_, S, F>,
     successors: &[Successor<F>],
@@ -138,8 +137,9 @@ fn read_leads<S: Spread + Drop, F: StateForm + Drop>(
     Ok(())
 }
 
-/// Whether nothing changes when this successor, of a state with this rank, is treated: its state is the owner's own and no
-/// goal state, and is known at the successor's rank or a lesser one. That is so whatever the lead.
+/// Returns whether this successor, of a state with rank `rank`, is a duplicate that changes nothing: its state belongs
+/// to this owner, is no goal state, and was reached at the successor's rank or a lesser one. The result does not depend
+/// on the hint.
 fn changes_nothing<S: Spread + Drop, F: StateForm + Drop>(
     holdings: &Holdings<'_, S, F>,
     rank: Rank,
@@ -162,9 +162,9 @@ fn changes_nothing<S: Spread + Drop, F: StateForm + Drop>(
     }
 }
 
-/// Replaces the content of `known` by whether nothing changes when the successor is treated, for each successor of the node
-/// at this place, whose state is given with its rank. All slots are read, and then all entries, in each case one after the
-/// other, so that the processor loads them at once; `leads` is a buffer. Fails only if allocation fails.
+/// Replaces the content of `known` by whether each successor of the node `next`, whose state is `state`, is a duplicate
+/// that changes nothing. All slots are read before all entries, each in one loop, so that cache misses overlap. `leads`
+/// is a buffer.
 pub(crate) fn look_up<S: Spread + Drop, F: StateForm + Drop>(
     holdings: &Holdings<'_, S, F>,
     next: OpenEntry,

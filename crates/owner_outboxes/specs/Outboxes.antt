@@ -11,7 +11,7 @@ use Rattle.closed.specs.Tables.{message_of}
 abbrev pub boxes_of : {X Y : Type 0} → List (VecDeque X Y) → List (List X)
 boxes_of queues = map (λ q. q.items) queues
 
--- the messages of each outbox, where a form of a state has these values
+-- the messages of each outbox, if `values` returns the values of a form
 abbrev pub shown : {F : Type 0} → (F → List ℕ) → List (List (Message F)) → List (List machine.Message)
 shown values boxes = map (map (message_of values)) boxes
 
@@ -29,7 +29,7 @@ message_count (b ∷ bs) = length b + message_count bs
 abbrev pub without_last : {X : Type 0} → List X → List X
 without_last xs = take (length xs - 1) xs
 
--- the outboxes without the newest message of each of these receivers' outboxes; that of the last receiver is removed first
+-- the outboxes without the newest message for each of these receivers, starting with the last
 abbrev pub withdrawn : {X : Type 0} → List ℕ → List (List X) → List (List X)
 withdrawn [] boxes = boxes
 withdrawn (v ∷ vs) boxes = slice_set (withdrawn vs boxes) v (without_last (list_at (withdrawn vs boxes) v))

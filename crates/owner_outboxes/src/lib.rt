@@ -1,4 +1,4 @@
-//! The outboxes of an owner of states: the messages that are to be handed out, for each receiver.
+//! The outboxes of an owner of states: the messages to be sent, for each receiver.
 #![tactic(auto)]
 
 mod queues;

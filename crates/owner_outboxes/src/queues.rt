@@ -13,11 +13,12 @@ use std::alloc::{AllocError, Global};
 use std::collections::VecDeque;
 use std::marker::Model;
 
-/// An outbox for each owner. A contract sees the messages of each, the oldest first.
+/// An outbox for each owner. In contracts its value is the messages of each, the oldest first.
 #[derive(Drop)]
 pub struct Outboxes<F: StateForm + Drop> {
     queues: Vec<VecDeque<Message<F>>>,
-    /// The number of outboxes with a message. It is kept, as is `messages`, so that no query goes through all outboxes.
+    /// The number of outboxes with a message. It is stored, as is `messages`, so that no query has to visit all
+    /// outboxes.
     in_use: usize,
     /// The number of messages in all outboxes.
     messages: u128,
@@ -37,7 +38,7 @@ impl<F: StateForm + Drop> Model for Outboxes<F> {
         × (o.messages ≡ message_count (boxes_of o.queues.items)) };
 }
 
-/// `owners` empty queues. Fails only if allocation fails.
+/// Returns `owners` empty queues.
 fn empty_queues<F: StateForm + Drop>(
     alloc: Global,
     owners: usize,
@@ -51,8 +52,7 @@ fn empty_queues<F: StateForm + Drop>(
     Ok(queues)
 }
 
-/// Appends a message to the queue of that number. Fails only if allocation fails, and then leaves the queues as they
-/// were.
+/// Appends a message to queue `to`. On failure the queues are unchanged.
 fn push_last<F: StateForm + Drop>(
     queues: &mut Vec<VecDeque<Message<F>>>,
     to: usize,
@@ -66,7 +66,7 @@ fn push_last<F: StateForm + Drop>(
     Ok(())
 }
 
-/// Removes and returns the oldest message of the queue of that number, or returns `None` if it is empty.
+/// Removes and returns the oldest message of queue `to`, or returns `None` if it is empty.
 fn pop_oldest<F: StateForm + Drop>(
     queues: &mut Vec<VecDeque<Message<F>>>,
     to: usize,
@@ -80,7 +80,7 @@ fn pop_oldest<F: StateForm + Drop>(
     queues[to].pop_front()
 }
 
-/// Removes and returns the newest message of the queue of that number, or returns `None` if it is empty.
+/// Removes and returns the newest message of queue `to`, or returns `None` if it is empty.
 fn pop_newest<F: StateForm + Drop>(
     queues: &mut Vec<VecDeque<Message<F>>>,
     to: usize,
@@ -94,7 +94,7 @@ fn pop_newest<F: StateForm + Drop>(
 }
 
 impl<F: StateForm + Drop> Outboxes<F> {
-    /// `owners` empty outboxes. Fails only if allocation fails.
+    /// Returns `owners` empty outboxes.
     pub fn empty(alloc: Global, owners: usize) -> Result<Outboxes<F>, AllocError>
         ensures { IfOk result (λ outboxes. outboxes ≡ replicate owners []) }
     {
@@ -105,8 +105,7 @@ impl<F: StateForm + Drop> Outboxes<F> {
         })
     }
 
-    /// Appends a message to the outbox for that owner. Fails only if allocation fails, and then leaves the outboxes as
-    /// they were.
+    /// Appends a message to the outbox for owner `to`. On failure the outboxes are unchanged.
     pub fn post(&mut self, to: usize, message: Message<F>) -> Result<(), AllocError>
         requires { to < length self.old }
         ensures posted { OnOk result (self.new ≡ slice_set self.old to (list_at self.old to ++ message ∷ [])) }
@@ -121,7 +120,7 @@ impl<F: StateForm + Drop> Outboxes<F> {
         Ok(())
     }
 
-    /// Removes and returns the oldest message of the outbox for that owner, or returns `None` if it is empty.
+    /// Removes and returns the oldest message of the outbox for owner `to`, or returns `None` if it is empty.
     pub fn take_out(&mut self, to: usize) -> Option<Message<F>>
         requires { to < length self.old }
         ensures first { list_at self.old to ≡ option_to_list result ++ list_at self.new to }
@@ -136,7 +135,7 @@ impl<F: StateForm + Drop> Outboxes<F> {
         Some(message)
     }
 
-    /// Removes the newest message of the outbox for that owner, if there is one.
+    /// Removes the newest message of the outbox for owner `to`, if there is one.
     fn remove_newest(&mut self, to: usize)
         requires { to < length self.old }
         ensures { self.new ≡ slice_set self.old to (without_last (list_at self.old to)) }
@@ -151,7 +150,7 @@ impl<F: StateForm + Drop> Outboxes<F> {
         }
     }
 
-    /// Removes the newest message of the outbox for each of these owners, that for the last one first.
+    /// Removes the newest message of the outbox for each of these owners, starting with the last.
     pub fn withdraw(&mut self, receivers: &mut Vec<usize>)
         requires { All (λ to. to < length self.old) receivers.old.items }
         ensures { self.new ≡ withdrawn receivers.old.items self.old }
@@ -161,7 +160,7 @@ impl<F: StateForm + Drop> Outboxes<F> {
         }
     }
 
-    /// The outbox for that owner.
+    /// Returns the outbox for owner `to`.
     pub fn outbox(&self, to: usize) -> &VecDeque<Message<F>>
         requires { to < length self.now }
         ensures { result.now.items ≡ list_at self.now to }
@@ -169,28 +168,28 @@ impl<F: StateForm + Drop> Outboxes<F> {
         &self.queues[to]
     }
 
-    /// The number of owners.
+    /// Returns the number of owners.
     pub fn len(&self) -> usize
         ensures { result ≡ length self.now }
     {
         self.queues.len()
     }
 
-    /// The number of outboxes with a message.
+    /// Returns the number of outboxes with a message.
     pub fn in_use(&self) -> usize
         ensures { result ≡ count_in_use self.now }
     {
         self.in_use
     }
 
-    /// The number of messages in all outboxes.
+    /// Returns the number of messages in all outboxes.
     pub fn messages(&self) -> u128
         ensures { result ≡ message_count self.now }
     {
         self.messages
     }
 
-    /// Whether all outboxes are empty.
+    /// Returns whether all outboxes are empty.
     pub fn are_empty(&self) -> bool
         ensures { result ≡ list_all is_empty self.now }
     {

@@ -1,5 +1,5 @@
--- What owners of states search: a task with the columns of its heuristic, a spread of its states over owners, a limit on
--- the number of states that each may expand, and the order among states of the same f-value.
+-- The search space of owners: a task with the columns of its heuristic, a spread of its states over owners, a limit on
+-- the number of states that each may expand, and the tie-breaking rule among states of the same f-value.
 use Rattle.std.specs.Prelude.{ℕ, List, Option}
 use Rattle.fdr.specs.Tasks.{FiniteDomainTask}
 use Rattle.cert_value.specs.Certificates.{Table}
@@ -15,7 +15,7 @@ pub record SpaceOf (S : Type 0) : Type 0 where
   pub limit : Option ℕ
   pub ties : Ties
 
--- the search space for n owners, where `owner` specifies the owner that the spread gives a state
+-- the search space for `n` owners, if `owner` specifies the owner that the spread assigns to a state
 abbrev pub searched : {S : Type 0} → (S → List ℕ → ℕ → ℕ) → SpaceOf S → ℕ → SearchSpace
 searched owner space n =
     record {

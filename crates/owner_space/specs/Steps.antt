@@ -1,4 +1,4 @@
--- What an operator does.
+-- The effects of operators.
 use Rattle.std.specs.Prelude.{ℕ, List, [], slice_get}
 use Rattle.std.specs.Option.{option_map_or}
 use Rattle.fdr.specs.declared.fact.Fact.{Fact}

@@ -1,4 +1,4 @@
-//! The space that owners search, and the steps that lead through it.
+//! The space that owners search, and the steps of its task.
 #![tactic(auto)]
 
 mod space;

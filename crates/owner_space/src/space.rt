@@ -18,9 +18,9 @@ use scp::{Columns, Places};
 use std::alloc::{AllocError, Global};
 use std::marker::Model;
 
-/// What owners search: a task, the columns of its heuristic, the owner of each state, how many nodes each owner may
-/// expand, if there is a limit, and which of the nodes of the same f-value an owner expands first. A contract sees the
-/// task, the tables, the spread, the limit and the order.
+/// The search space of owners: a task, the columns of its heuristic, the owner of each state, the number of nodes that
+/// each owner may expand, if there is a limit, and the tie-breaking rule among nodes of the same f-value. In contracts
+/// its value is the task, the tables, the spread, the limit and the rule.
 #[derive(Drop)]
 pub struct Space<'a, S: Spread + Drop> {
     task: &'a FdrTask,
@@ -44,7 +44,7 @@ impl<'a, S: Spread + Drop> Model for Space<'a, S> {
     ghost view = { λ s. record { task = s.task.now; columns = s.columns.columns; spread = s.spread; limit = s.limit; ties = s.ties } };
 }
 
-/// The cost, which is at most 2^62, plus the heuristic value.
+/// Returns the cost, which is at most 2^62, plus the heuristic value.
 fn sum(cost: u64, h: Dist) -> Dist
     requires cost { cost ≤ 2 ^ 62 }
     requires small { IsWithin (2 ^ 61) h }
@@ -56,8 +56,8 @@ fn sum(cost: u64, h: Dist) -> Dist
     }
 }
 
-/// The f-value of the successor, by the operator, of the state whose places these are, where that is reached at this
-/// cost, as `Space::f` gives it.
+/// Returns the f-value of the successor by the operator, reached at this cost, of the state whose table indices
+/// `places` caches. It is the same as `Space::f`.
 pub fn f_after(places: &mut Places<'_>, operator: usize, successor: &[u32], cost: u64) -> Dist
     requires step { step places.old.task places.old.state operator ≡ Some successor.now }
     requires cost { cost ≤ 2 ^ 62 }
@@ -68,7 +68,7 @@ pub fn f_after(places: &mut Places<'_>, operator: usize, successor: &[u32], cost
 }
 
 impl<'a, S: Spread + Drop> Space<'a, S> {
-    /// The space of a task. Fails only if allocation fails.
+    /// Returns the space of a task.
     pub fn new(
         alloc: Global,
         task: &'a FdrTask,
@@ -94,29 +94,29 @@ impl<'a, S: Spread + Drop> Space<'a, S> {
         })
     }
 
-    /// The task.
+    /// Returns the task.
     pub fn task(&self) -> &'a FdrTask
         ensures { result.now ≡ self.now.task }
     {
         self.task
     }
 
-    /// The columns of the heuristic.
+    /// Returns the columns of the heuristic.
     pub fn columns(&self) -> &Columns<'a>
         ensures { result.now ≡ record { task = self.now.task; columns = self.now.columns } }
     {
         &self.columns
     }
 
-    /// What the forms of its states need of the task.
+    /// Returns the layout of the forms of its states.
     pub fn layout(&self) -> &Layout
         ensures { result.now ≡ tasks.ranges self.now.task }
     {
         &self.layout
     }
 
-    /// The f-value of a state that was reached at this cost, which is at most 2^62: the cost plus the state's heuristic
-    /// value, f = g + h.
+    /// Returns the f-value of a state that was reached at this cost, which is at most 2^62: the cost plus the state's
+    /// heuristic value, f = g + h.
     pub fn f(&self, state: &[u32], cost: u64) -> Dist
         requires state { IsState (tasks.ranges self.now.task) state.now }
         requires cost { cost ≤ 2 ^ 62 }
@@ -125,7 +125,7 @@ impl<'a, S: Spread + Drop> Space<'a, S> {
         sum(cost, self.columns.h(state))
     }
 
-    /// The owner of a state, given the number of owners. Owners are counted from 0.
+    /// Returns the owner of a state, given the number of owners. Owners are counted from 0.
     pub fn owner_of(&self, state: &[u32], owners: usize) -> usize
         requires owners { 0 < owners }
         requires state { IsState (tasks.ranges self.now.task) state.now }
@@ -135,7 +135,7 @@ impl<'a, S: Spread + Drop> Space<'a, S> {
         self.spread.owner_of(state, owners)
     }
 
-    /// The number of a state that `owner_after` takes.
+    /// Returns the hash of a state that `owner_after` takes.
     pub fn hash_of(&self, state: &[u32]) -> u64
         requires { IsState (tasks.ranges self.now.task) state.now }
         ensures { result ≡ S.state_hash self.now.spread state.now }
@@ -143,8 +143,8 @@ impl<'a, S: Spread + Drop> Space<'a, S> {
         self.spread.hash_of(state)
     }
 
-    /// The owner, given the number of owners, of the state in which the variables of these facts have the facts' values, and
-    /// the others those of `state`, of which `hash_of` gave `hash`.
+    /// Returns the owner, given the number of owners, of the state in which the variables of these facts have the
+    /// facts' values, and all others their value in `state`; `hash` is the result of `hash_of` for `state`.
     pub fn owner_after(&self, state: &[u32], hash: u64, facts: &[Fact], owners: usize) -> usize
         requires owners { 0 < owners }
         requires state { IsState (tasks.ranges self.now.task) state.now }
@@ -156,8 +156,8 @@ impl<'a, S: Spread + Drop> Space<'a, S> {
         self.spread.owner_after(state, hash, facts, owners)
     }
 
-    /// Replaces the content of `found` by the numbers of the operators that apply in the state, in increasing order.
-    /// Fails only if allocation fails, and then leaves `found` empty.
+    /// Replaces the content of `found` by the numbers of the operators that apply in the state, in increasing order. On
+    /// failure `found` is empty.
     pub fn applicable(&self, state: &[u32], found: &mut Vec<usize>) -> Result<(), AllocError>
         requires { length state.now ≡ length self.now.task.value_names }
         ensures found { OnOk result (found.new.items ≡ applicable_operators self.now.task state.now) }
@@ -166,8 +166,8 @@ impl<'a, S: Spread + Drop> Space<'a, S> {
         self.generator.applicable(state, found)
     }
 
-    /// What holds of every space, the invariant of its parts stated as a contract: the task is a finite-domain task, and
-    /// the heuristic of a state is at most the cost of any operators that lead from it to a goal state.
+    /// Proves the invariant of the space (only for the proof): the task is a finite-domain task, and the heuristic of a
+    /// state is at most the cost of any operators from it to a goal state.
     pub fn recall(&self)
         ensures task { IsTask self.now.task }
         ensures lower { IsLowerBound self.now.task (heuristic_of self.now.task self.now.columns) }
@@ -176,14 +176,14 @@ impl<'a, S: Spread + Drop> Space<'a, S> {
         self.columns.recall();
     }
 
-    /// The greatest number of nodes that each owner may expand, if there is a limit.
+    /// Returns the greatest number of nodes that each owner may expand, if there is a limit.
     pub fn limit(&self) -> Option<u64>
         ensures { result ≡ self.now.limit }
     {
         self.limit
     }
 
-    /// Which of the nodes of the same f-value an owner expands first.
+    /// Returns the tie-breaking rule among nodes of the same f-value.
     pub fn ties(&self) -> Ties
         ensures { result ≡ self.now.ties }
     {

@@ -1,4 +1,4 @@
-//! Steps of a task: what an operator does to a state.
+//! Steps of a task: the successors of a state.
 
 ghost use Rattle.std.specs.Prelude.{◌≡◌, length, Some, true};
 ghost use Rattle.fdr.specs.Tasks.{ranges, IsState, IsAssignment, is_goal_state, applies_at, step};
@@ -7,7 +7,7 @@ ghost use Rattle.owner_space.specs.Steps.{effect_at};
 use fdr::{Fact, FdrTask};
 use packed::{Layout, StateForm};
 
-/// The effect of the operator with this number, which is empty if there is no such operator.
+/// Returns the effect of the operator with this number, which is empty if there is no such operator.
 pub fn effect_of(task: &FdrTask, operator: usize) -> &[Fact]
     ensures effect { result.now ≡ effect_at task.now operator }
     ensures assignment { IsAssignment (ranges task.now) result.now }
@@ -18,7 +18,7 @@ pub fn effect_of(task: &FdrTask, operator: usize) -> &[Fact]
     }
 }
 
-/// Writes the successor, by an operator that applies, of a state into `values`.
+/// Writes the successor of a state, by an operator that applies, into `values`.
 pub fn write_successor(task: &FdrTask, state: &[u32], operator: usize, values: &mut [u32])
     requires state { IsState (ranges task.now) state.now }
     requires applies { applies_at task.now operator state.now ≡ true }
@@ -31,8 +31,8 @@ pub fn write_successor(task: &FdrTask, state: &[u32], operator: usize, values: &
     task.advance(operator, values);
 }
 
-/// Whether the state of a form is a goal state. It reads the values of the goal's variables, up to the first that is not the
-/// goal's.
+/// Returns whether the state of a form is a goal state. It reads the values of the goal's variables, up to the first
+/// that differs from the goal's.
 pub fn is_goal_form<F: StateForm + Drop>(task: &FdrTask, layout: &Layout, form: &F) -> bool
     requires layout { layout.now ≡ ranges task.now }
     requires fits { F.Fits (ranges task.now) }

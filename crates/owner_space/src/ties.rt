@@ -1,10 +1,10 @@
-//! The order of expansion among open states of the same f-value.
+//! The tie-breaking rule: the order of expansion among open states of the same f-value.
 
 ghost use Rattle.std.specs.Prelude.{◌≡◌};
 
 use openlist::{OpenEntry, Rank};
 
-/// Which of the open states of the least f-value is expanded first.
+/// The rule by which the first of the open states of the least f-value is chosen.
 #[derive(Clone, Copy, Debug, PartialEq, Eq)]
 pub enum Ties {
     /// The one reached at the least cost, which has the greatest heuristic value; among these the one of the fewest
@@ -18,8 +18,8 @@ pub enum Ties {
 impl Ties {
     ghost use Rattle.owner_space.specs.Turned.{turned};
 
-    /// The entry as an open list keeps it, which gives the least rank first, and among equal ranks the earliest place. An
-    /// entry that is turned twice is as it was.
+    /// Returns the entry keyed by the tie-breaking rule, as it is stored in an open list, which pops the least rank
+    /// first, and among equal ranks the lowest index. Applied twice it returns the entry itself.
     pub fn turned(self, entry: OpenEntry) -> OpenEntry
         ensures { result ≡ turned self entry }
     {

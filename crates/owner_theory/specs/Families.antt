@@ -1,5 +1,5 @@
--- Families of owners of states, with no order between the events of different owners (after hash distributed A*: Kishimoto,
--- Fukunaga and Botea 2013): when such a family is lawful, when it is settled, and what closed list and plan it gives.
+-- Families of owners of states, with no order between the events of different owners (after hash distributed A*:
+-- Kishimoto, Fukunaga and Botea 2013): when such a family is lawful, when it is settled, and its closed list and plan.
 use Rattle.std.specs.Prelude.{◌≡◌, ℕ, zero, suc, ◌+◌, ◌<◌, ◌⊎◌, Bool, true, false, ◌&&◌, ◌==◌, if◌then◌else◌, List, [], ◌∷◌, ◌++◌, Some, None, AllPairs}
 use Rattle.cost.specs.Distances.{Distance, Finite, Infinite, ◌≤ᵈ◌, lesser}
 use Rattle.fdr.specs.Tasks.{FiniteDomainTask, ranges, IsTask, IsState, LeadsToGoal, is_goal_state, plan_cost}
@@ -11,7 +11,7 @@ pub record IsSearchSpace (space : SearchSpace) : Type 0 where
   pub task : IsTask space.task
   pub owner : (state : List ℕ) → space.owner_of state < space.owners
 
--- the heuristic of a state of the task is at most the cost of any operators that lead from it to a goal state
+-- the heuristic of a state of the task is at most the cost of any operators from it to a goal state
 abbrev pub IsLowerBound : FiniteDomainTask → (List ℕ → Distance) → Type 0
 IsLowerBound task h =
     (plan state : List ℕ) → IsState (ranges task) state → LeadsToGoal task state plan → h state ≤ᵈ Finite (plan_cost task plan)
@@ -24,12 +24,12 @@ same_message m n =
     same_state m.state n.state && ((m.cost == n.cost) && ((m.steps == n.steps) && ((m.parent.worker == n.parent.worker)
     && ((m.parent.index == n.parent.index) && (m.parent.operator == n.parent.operator)))))
 
--- how often the message is in the list
+-- the number of occurrences of the message in the list
 abbrev pub copies : Message → List Message → ℕ
 copies m [] = 0
 copies m (x ∷ xs) = (if same_message m x then 1 else 0) + copies m xs
 
--- how often the list has the message from this sender
+-- the number of occurrences of the message from sender `w` in the list
 abbrev pub copies_from : ℕ → Message → List Packet → ℕ
 copies_from w m [] = 0
 copies_from w m (p ∷ ps) = (if (w == p.sender) && same_message m p.message then 1 else 0) + copies_from w m ps
@@ -40,13 +40,14 @@ pub record Family : Type 0 where
   pub logs : ℕ → Log
   pub left : List Packet
 
--- the least of f 0 to f (n - 1), infinite where n is 0
+-- the least of f 0 to f (n - 1), infinite if n is 0
 abbrev pub least_of : ℕ → (ℕ → Distance) → Distance
 least_of zero f = Infinite
 least_of (suc n) f = lesser (least_of n f) (f n)
 
--- each log is the end of a run; for each message, what a worker handed out is what the message's owner took from that
--- worker plus what is left of it; each bound that was seen is at least the least cost that was offered
+-- each log is the end of a run; each message was handed out by a worker as often as its owner took it from that worker
+-- plus as often as it is left over from that worker; each bound that was read is at least the least cost that was
+-- offered
 pub record IsLawful (space : SearchSpace) (family : Family) : Type 0 where
   pub runs : (w : ℕ) → IsRun space w (family.logs w)
   pub links : (w : ℕ) (m : Message)
@@ -98,7 +99,7 @@ NoTwice closed = AllPairs (λ d e. d.state ≡ e.state → ⊥) closed
 
 -- ---- the plan
 
--- following parents from node i of worker w leads to a node without a parent, over these operators, the last one first
+-- following parents from node i of worker w ends at a node without a parent, over these operators, the last one first
 abbrev pub Follows : Family → ℕ → ℕ → List ℕ → Type 0
 Follows family w i [] = (n : Node) × At (family.logs w).owner.nodes i n × (n.parent ≡ None)
 Follows family w i (o ∷ back) =

@@ -1,5 +1,5 @@
--- Optimal search divided among owners of states (hash distributed A*: Kishimoto, Fukunaga and Botea 2013): one owner, its
--- nodes, its outboxes, and its runs, which are lists of its own events. Worker w runs owner w.
+-- Optimal search divided among owners of states (hash distributed A*: Kishimoto, Fukunaga and Botea 2013): one owner,
+-- its nodes, its outboxes, and its runs, which are lists of its own events. Worker w runs owner w.
 use Rattle.std.specs.Prelude.{◌≡◌, ℕ, zero, suc, ◌+◌, Bool, true, false, ◌&&◌, ◌||◌, not, ◌==◌, nat_lt, nat_eq, if◌then◌else◌, List, [], ◌∷◌, ◌++◌, length, Option, Some, None, slice_get, slice_set, replicate, filter_map}
 use Rattle.std.specs.List.{list_all, range_with_len}
 use Rattle.std.specs.Option.{option_map}
@@ -10,13 +10,13 @@ use Rattle.checker_clauses.specs.Clauses.{is_state}
 
 -- ---- lists
 
--- x is the element at a place, counted from 0
+-- x is the element at index `i`
 abbrev pub At : {X : Type 0} → List X → ℕ → X → Type 0
 At [] i x = ⊥
 At (y ∷ ys) zero x = y ≡ x
 At (y ∷ ys) (suc i) x = At ys i x
 
--- the list at a place, empty past the end
+-- the list at index `v`, empty past the end
 abbrev pub list_at : {X : Type 0} → List (List X) → ℕ → List X
 list_at [] v = []
 list_at (q ∷ qs) zero = q
@@ -41,13 +41,13 @@ f_value space state cost = Finite cost +ᵈ space.heuristic state
 
 -- ---- what an owner has
 
--- where a state was reached from: a worker, the place of one of its nodes, and the number of an operator
+-- the origin of a reached state: a worker, the index of one of its nodes, and the number of an operator
 pub record Parent : Type 0 where
   pub worker : ℕ
   pub index : ℕ
   pub operator : ℕ
 
--- a state that was reached, with the cost, the number of operators and the parent
+-- a reached state, with the cost, the number of operators and the parent
 pub record Message : Type 0 where
   pub state : List ℕ
   pub cost : ℕ
@@ -62,12 +62,12 @@ pub record Node : Type 0 where
   pub parent : Option Parent
   pub expanded : Bool
 
--- a message with the worker that handed it out; its receiver is the owner of its state
+-- a message with the worker that handed it out (removed it from its outbox); its receiver is the owner of its state
 pub record Packet : Type 0 where
   pub sender : ℕ
   pub message : Message
 
--- an owner: its nodes, an outbox for each owner (the oldest message first), the bound that it has seen last, and the
+-- an owner: its nodes, an outbox for each owner (the oldest message first), the bound that it has read last, and the
 -- least cost at which it has taken a goal state
 pub record Owner : Type 0 where
   pub nodes : List Node
@@ -75,8 +75,8 @@ pub record Owner : Type 0 where
   pub bound : Distance
   pub best : Distance
 
--- an owner and its history: messages taken and handed out (the last one first), the least bound seen, and the least cost
--- offered
+-- an owner and its history: messages taken and handed out (the last one first), the least bound read, and the least
+-- cost offered
 pub record Log : Type 0 where
   pub owner : Owner
   pub taken : List Packet
@@ -127,8 +127,8 @@ posted space o m =
 
 -- ---- expanding a node
 
--- a successor is dropped if its f-value reaches the bound; else this owner takes it if the state is its own, or puts it
--- into an outbox
+-- a successor is dropped if its f-value reaches the bound; otherwise this owner takes it if the state is its own, or
+-- puts it into an outbox
 abbrev pub treat : SearchSpace → ℕ → Owner → Message → Owner
 treat space me o m =
     if is_at_most o.bound (f_value space m.state m.cost)
@@ -139,7 +139,7 @@ abbrev pub treat_all : SearchSpace → ℕ → Owner → List Message → Owner
 treat_all space me o [] = o
 treat_all space me o (m ∷ ms) = treat_all space me (treat space me o m) ms
 
--- the message for the state that an operator leads to from a node of this worker
+-- the message for the state that an operator reaches from a node of this worker
 abbrev pub message_to : FiniteDomainTask → ℕ → ℕ → Node → ℕ → List ℕ → Message
 message_to task me index n o state =
     record {
@@ -169,7 +169,7 @@ may_expand space o n =
     not n.expanded && (not (is_at_most o.bound (f_value space n.state n.cost))
     && list_all (λ x. x.expanded || is_at_most (f_value space n.state n.cost) (f_value space x.state x.cost)) o.nodes)
 
--- the owner after the node at a place is expanded, if there is one and it may be expanded
+-- the owner after the node at index `index` is expanded, if there is one and it may be expanded
 abbrev pub expanded_at : SearchSpace → ℕ → Owner → ℕ → Option Node → Owner
 expanded_at space me o index None = o
 expanded_at space me o index (Some n) =
@@ -179,12 +179,12 @@ expanded_at space me o index (Some n) =
 
 -- ---- runs
 
--- whether this owner may take a message: its state is a state of the task, and this owner's
+-- whether this owner may take a message: its state is a state of the task, and belongs to this owner
 abbrev pub fits : SearchSpace → ℕ → Message → Bool
 fits space me m = is_state (ranges space.task) m.state && (space.owner_of m.state == me)
 
--- what an owner does: take a message that a worker handed out, expand the node at a place, hand out the first message for
--- a worker, look at a bound, or offer its best cost
+-- the events of an owner: take a message that a worker handed out, expand the node at an index, hand out the first
+-- message for a worker, read a bound, or offer its best cost
 pub data Event : Type 0 where
   Take : ℕ → Message → Event
   Expand : ℕ → Event
@@ -246,11 +246,11 @@ start space me =
       offered = Infinite;
     }
 
--- the log of an owner after these events, given with the last one first
+-- the log of an owner after these events, which are listed with the last one first
 abbrev pub run : SearchSpace → ℕ → List Event → Log
 run space me [] = start space me
 run space me (e ∷ es) = happens space me (run space me es) e
 
--- some run of this owner ends in this log
+-- a run of this owner ends in this log
 abbrev pub IsRun : SearchSpace → ℕ → Log → Type 0
 IsRun space me l = (es : List Event) × (run space me es ≡ l)

@@ -1,12 +1,12 @@
--- Workers as threads, each of which runs one owner of states: the owner's run, and the messages that went through the
+-- Workers as threads, each of which runs one owner of states: the owner's run, and the messages that passed through the
 -- rings between workers.
 use Rattle.std.specs.Prelude.{◌≡◌, ℕ, ◌+◌, false, List, ◌++◌}
 use Rattle.cost.specs.Distances.{◌≤ᵈ◌}
 use Rattle.owner_theory.specs.Owners.{At, SearchSpace, Message, Packet, Log, fits, IsRun}
 use Rattle.owner_theory.specs.Families.{In, Family, copies, copies_from, least_of}
 
--- the log is the end of a run; what was handed out is what was sent into the rings plus what a full ring returned and the
--- worker holds; what was received from the rings was taken, except messages that do not fit
+-- the log is the end of a run; the messages handed out are those sent into the rings plus those that a full ring
+-- returned and the worker holds; those received from the rings were taken, except messages that do not fit
 pub record IsWorker
     (space : SearchSpace) (w : ℕ) (l : Log) (sent received : ℕ → List Message) (held : List Message) (misfits : List Packet)
     : Type 0 where
@@ -17,8 +17,8 @@ pub record IsWorker
   pub popped : (u : ℕ) (m : Message) → copies m (received u) ≡ copies_from u m l.taken + copies_from u m misfits
   pub unfit : (i : ℕ) (p : Packet) → At misfits i p → fits space w p.message ≡ false
 
--- all workers have joined; what was sent into a ring is what was received from it and what is still in it; what is left
--- is what is held or in a ring; and no bound that was seen is below the least cost that was offered
+-- all workers have joined; the messages sent into a ring are those received from it and those still in it; the messages
+-- left are those held or in a ring; and no bound that was read is below the least cost that was offered
 pub record AreJoined
     (space : SearchSpace) (family : Family) (sent received in_ring : ℕ → ℕ → List Message) (held : ℕ → List Message)
     (misfits : ℕ → List Packet)

@@ -1,5 +1,5 @@
--- Worlds of owners of states in one thread, with the messages underway delivered in any order: every run of a world is a
--- schedule of hash distributed A* (Kishimoto, Fukunaga and Botea 2013).
+-- Worlds of owners of states in one thread, with the messages underway delivered in any order: every run of a world is
+-- a schedule of hash distributed A* (Kishimoto, Fukunaga and Botea 2013).
 use Rattle.std.specs.Prelude.{◌≡◌, ℕ, zero, suc, ◌+◌, ◌<◌, ◌⊎◌, Bool, true, false, ◌&&◌, ◌||◌, ◌==◌, if◌then◌else◌, List, [], ◌∷◌, ◌++◌, Option, Some, None, length}
 use Rattle.std.specs.List.{list_all}
 use Rattle.cost.specs.Distances.{Distance, Infinite, is_at_most, lesser}
@@ -13,8 +13,8 @@ pub record World : Type 0 where
   pub bound : Distance
   pub resting : ℕ → Bool
 
--- what may happen: a worker expands its node at a place, sends its first message for another worker, is delivered a
--- message (by its number among those underway to it), offers its best cost, looks at the bound, or rests
+-- the steps of a world: a worker expands its node at an index, sends its first message for another worker, is delivered
+-- a message (by its number among those underway to it), offers its best cost, reads the bound, or rests
 pub data Step : Type 0 where
   Expands : ℕ → ℕ → Step
   Sends : ℕ → ℕ → Step
@@ -44,7 +44,7 @@ abbrev pub is_empty : {X : Type 0} → List X → Bool
 is_empty [] = true
 is_empty (x ∷ xs) = false
 
--- every node is expanded or has an f-value that reaches the bound seen last
+-- every node is expanded or has an f-value that reaches the bound read last
 abbrev pub no_open : SearchSpace → Owner → Bool
 no_open space o = list_all (λ n. n.expanded || is_at_most o.bound (f_value space n.state n.cost)) o.nodes
 
@@ -63,7 +63,7 @@ sent space world w v (m ∷ ms) =
       underway = world.underway ++ record { sender = w; message = m } ∷ [];
     }
 
--- the world after v is delivered packet k of those to it, given here; v is then not at rest
+-- the world after v is delivered packet k of those to it, if there is one; v is then not at rest
 abbrev pub delivered : SearchSpace → World → ℕ → ℕ → Option Packet → World
 delivered space world v k None = world
 delivered space world v k (Some p) =
@@ -73,7 +73,7 @@ delivered space world v k (Some p) =
       resting = put world.resting v false;
     }
 
--- the world after one step; only an idle owner comes to rest
+-- the world after one step; only an idle owner starts to rest
 abbrev pub world_after : SearchSpace → World → Step → World
 world_after space world (Expands w i) = record world { logs = put world.logs w (happens space w (world.logs w) (Expand i)) }
 world_after space world (Sends w v) = sent space world w v (list_at (world.logs w).owner.outboxes v)
@@ -133,11 +133,12 @@ pub data Request : Type 0 where
   ToLook : ℕ → Request
   ToRest : ℕ → Request
 
--- the owner has a node at this place, which it may expand
+-- the owner has a node at this index, which it may expand
 abbrev pub MayExpandAt : SearchSpace → Owner → ℕ → Type 0
 MayExpandAt space o i = (n : Node) × At o.nodes i n × (may_expand space o n ≡ true)
 
--- the step does what is requested; a request to expand leads to a node that may be expanded, unless there is none
+-- the step does what is requested; a request to expand results in the expansion of a node that may be expanded, unless
+-- there is none
 abbrev pub Does : SearchSpace → World → Request → Step → Type 0
 Does space world (ToExpand w) s =
     (i : ℕ) × (s ≡ Expands w i) × (MayExpandAt space (world.logs w).owner i ⊎ (no_open space (world.logs w).owner ≡ true))
@@ -147,7 +148,7 @@ Does space world (ToOffer w) s = s ≡ Offers w
 Does space world (ToLook w) s = s ≡ Looks w
 Does space world (ToRest w) s = s ≡ Rests w
 
--- each step does what is requested, in the world that the steps before it lead to
+-- each step does what is requested, in the world that results from the steps before it
 abbrev pub IsRunOf : SearchSpace → World → List Request → List Step → Type 0
 IsRunOf space world [] [] = Unit {0}
 IsRunOf space world (x ∷ xs) (s ∷ ss) = Does space world x s × IsRunOf space (world_after space world s) xs ss

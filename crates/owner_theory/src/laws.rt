@@ -1,4 +1,4 @@
-//! Laws of owners of states. Each function states laws as its contract, for every search space, and its body is empty.
+//! Laws of owners of states, for every search space.
 
 ghost use Rattle.std.specs.Prelude.{◌≡◌, ℕ, [], ◌∷◌, ◌++◌, Some, true, false, ◌≤◌, List, reverse};
 ghost use Rattle.cost.specs.Distances.{Distance, Finite, ◌≤ᵈ◌};
@@ -10,8 +10,8 @@ ghost use Rattle.owner_theory.specs.Worlds.{Step, Request, world_start, world_ru
 ghost use Rattle.owner_theory.specs.Threads.{IsWorker, AreJoined};
 ghost use Rattle.owner_theory.specs.Examples.{two_owners};
 
-/// If a lawful family is settled at a bound, its expanded nodes are a finished closed list for that bound, and no state
-/// is in the list twice. This holds for every heuristic.
+/// Proves that if a lawful family is settled at a bound, its expanded nodes are a finished closed list for that bound,
+/// and no state is in the list twice. This holds for every heuristic.
 pub fn settled_family_is_closed()
     ensures finished { (space : SearchSpace) (family : Family) (bound : Distance) → IsSearchSpace space → IsLawful space family →
         IsSettled space family bound → IsFinished space.task space.heuristic bound (closed_of space.owners family.logs) }
@@ -19,8 +19,8 @@ pub fn settled_family_is_closed()
         IsSettled space family bound → NoTwice (closed_of space.owners family.logs) }
 {}
 
-/// The same holds for every bound that is at most the best cost and at most every pending f-value, whether the family is
-/// settled or not.
+/// Proves the same for every bound that is at most the best cost and at most every pending f-value, whether the family
+/// is settled or not.
 pub fn bounded_family_is_closed()
     ensures finished { (space : SearchSpace) (family : Family) (bound : Distance) → IsSearchSpace space → IsLawful space family →
         bound ≤ᵈ best_of space family → PendingAbove space family bound →
@@ -29,8 +29,9 @@ pub fn bounded_family_is_closed()
         bound ≤ᵈ best_of space family → PendingAbove space family bound → NoTwice (closed_of space.owners family.logs) }
 {}
 
-/// In every lawful family, ranks fall from a node to its parent; following parents ends at the initial state; and the
-/// operators on that way, applied from the initial state, lead to the node's state at no more than its cost.
+/// Proves that in every lawful family, ranks decrease from a node to its parent; following parents ends at the initial
+/// state; and the operators on that path, applied from the initial state, reach the node's state at no more than its
+/// cost.
 pub fn parents_lead_back()
     ensures fall { (space : SearchSpace) (family : Family) → IsSearchSpace space → IsLawful space family →
         (w i : ℕ) (n : Node) (p : Parent) → At (family.logs w).owner.nodes i n → n.parent ≡ Some p → ParentBelow family n p }
@@ -42,8 +43,8 @@ pub fn parents_lead_back()
         (plan_cost space.task (reverse back) ≤ n.cost) }
 {}
 
-/// A lawful family that is settled at a finite cost has a node with a goal state and that cost. If the heuristic is a
-/// lower bound, following parents from any such node gives a plan of exactly that cost.
+/// Proves that a lawful family that is settled at a finite cost has a node with a goal state and that cost. If the
+/// heuristic is a lower bound, following parents from any such node yields a plan of exactly that cost.
 pub fn settled_family_has_plan()
     ensures found { (space : SearchSpace) (family : Family) (n : ℕ) → IsSearchSpace space → IsLawful space family →
         IsSettled space family (Finite n) → (w i : ℕ) × IsGoalNode space family w i n }
@@ -55,26 +56,28 @@ pub fn settled_family_has_plan()
         IsGoalNode space family w i n → Follows family w i back → plan_cost space.task (reverse back) ≡ n }
 {}
 
-/// Every list of steps of a world, with messages delivered in any order, leads to a lawful family.
+/// Proves that every list of steps of a world, with messages delivered in any order, ends in a lawful family.
 pub fn world_is_lawful()
     ensures { (space : SearchSpace) (steps : List Step) → IsSearchSpace space →
         IsLawful space (family_of (world_run space (world_start space) steps)) }
 {}
 
-/// If the count is 0, no message is underway or in an outbox, every owner is idle, and the family is settled.
+/// Proves that if the count is 0, no message is underway or in an outbox, every owner is idle, and the family is
+/// settled.
 pub fn nothing_left_is_settled()
     ensures { (space : SearchSpace) (steps : List Step) → IsSearchSpace space →
         count space (world_run space (world_start space) steps) ≡ 0 →
         IsQuiet space (world_run space (world_start space) steps) }
 {}
 
-/// Each list of requests has a run, whose steps specify the nodes to be expanded.
+/// Proves that each list of requests has a run, whose steps specify the nodes to be expanded.
 pub fn requests_have_runs()
     ensures { (space : SearchSpace) (requests : List Request) →
         (steps : List Step) × IsRunOf space (world_start space) requests steps }
 {}
 
-/// Two owners and one operator of cost 1: these steps leave nothing to do, and the best cost is 1.
+/// Proves a worked example, two owners and one operator of cost 1: after these steps nothing remains to be done, and
+/// the best cost is 1.
 pub fn two_owners_settle()
     ensures space { IsSearchSpace two_owners }
     ensures quiet { count two_owners (world_run two_owners (world_start two_owners)
@@ -83,8 +86,8 @@ pub fn two_owners_settle()
         (Expands 0 0 ∷ Sends 0 1 ∷ Delivers 1 0 ∷ Offers 1 ∷ Looks 0 ∷ Looks 1 ∷ Rests 0 ∷ Rests 1 ∷ []))) ≡ Finite 1 }
 {}
 
-/// For every schedule of the threads: workers that have joined, with the messages in their rings accounted for, are a
-/// lawful family, and none of them received a message that does not fit.
+/// Proves that, for every schedule of the threads, workers that have joined, with the messages in their rings accounted
+/// for, are a lawful family, and none of them received a message that does not fit.
 pub fn joined_workers_are_lawful()
     ensures lawful { (space : SearchSpace) (family : Family) (sent received in_ring : ℕ → ℕ → List Message)
         (held : ℕ → List Message) (misfits : ℕ → List Packet) → IsSearchSpace space →
@@ -94,9 +97,9 @@ pub fn joined_workers_are_lawful()
         AreJoined space family sent received in_ring held misfits → (w : ℕ) → misfits w ≡ [] }
 {}
 
-/// Each step of a worker keeps the invariant `IsWorker`: it starts, does an event that neither takes nor hands out a
-/// message, takes a message that it received, sets aside one that does not fit, hands out a message, and pushes that
-/// message into the ring to its owner.
+/// Proves that each step of a worker preserves the invariant `IsWorker`: it starts, does an event that neither takes
+/// nor hands out a message, takes a message that it received, sets aside one that does not fit, hands out a message,
+/// and pushes that message into the ring to its owner.
 pub fn worker_steps()
     ensures start { (space : SearchSpace) (w : ℕ) → IsWorker space w (start space w) (λ v. []) (λ u. []) [] [] }
     ensures act { (space : SearchSpace) (w : ℕ) (log : Log) (sent received : ℕ → List Message) (held : List Message)

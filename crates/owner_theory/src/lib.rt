@@ -1,5 +1,5 @@
-//! The theory of optimal search divided among owners of states (hash distributed A*: Kishimoto, Fukunaga and Botea 2013):
-//! what holds of every family of owners' runs, whatever the order of events between owners. Every state has one owner,
+//! The theory of optimal search divided among owners of states (hash distributed A*: Kishimoto, Fukunaga and Botea
+//! 2013): laws of every family of owners' runs, whatever the order of events between owners. Every state has one owner,
 //! which stores it, expands it, and sends each successor to the owner of that successor.
 #![tactic(auto)]
 

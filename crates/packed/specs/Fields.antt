@@ -1,30 +1,30 @@
--- Where the values of a state stand in words of 64 bits.
+-- The bits of a state's values in words of 64 bits.
 use Rattle.std.specs.Prelude.{◌≡◌, ℕ, zero, suc, ◌+◌, ◌-◌, ◌*◌, ◌/◌, ◌%◌, ◌^◌, ◌<◌, ◌≤◌, ◌==◌, nat_le, if◌then◌else◌, List, [], ◌∷◌, map, length, slice_index, All}
 use Rattle.std.specs.List.{range_with_len}
 use Rattle.std.proofs.Common.{sym, ap, subst, ◌∙◌}
 use Rattle.fdr.specs.Tasks.{IsState}
 use Rattle.packed.specs.declared.field.Field.{Field}
 
--- how many binary digits the number has, none for 0, counted up to the limit
+-- the number of binary digits of a number, 0 for 0, counted up to the limit
 abbrev pub digits_up_to : ℕ → ℕ → ℕ
 digits_up_to zero n = 0
 digits_up_to (suc limit) zero = 0
 digits_up_to (suc limit) (suc n) = digits_up_to limit (suc n / 2) + 1
 
--- how many bits a variable with this many values takes: the binary digits of its greatest value, which has at most as many
--- digits as it counts
+-- the number of bits of a variable with `range` values: the binary digits of its greatest value, of which there are at
+-- most that value
 abbrev pub width_of : ℕ → ℕ
 width_of range = digits_up_to (range - 1) (range - 1)
 
--- the field that comes next where this word is in use up to this bit: in the rest of the word if it fits there, else at the
--- beginning of the next word
+-- the next field after word `word` has been filled up to bit `bit`: in the rest of the word if it fits there, otherwise
+-- at the beginning of the next word
 abbrev pub place : ℕ → ℕ → ℕ → Field
 place word bit width =
     if nat_le (bit + width) 64
     then record { word = word; shift = bit; width = width }
     else record { word = word + 1; shift = 0; width = width }
 
--- the fields of variables with these ranges, placed in their order where this word is in use up to this bit
+-- the fields of variables with these ranges, laid out in order after word `word` has been filled up to bit `bit`
 abbrev pub fields_from : ℕ → ℕ → List ℕ → List Field
 fields_from word bit [] = []
 fields_from word bit (range ∷ ranges) =
@@ -34,24 +34,24 @@ fields_from word bit (range ∷ ranges) =
 abbrev pub fields : List ℕ → List Field
 fields ranges = fields_from 0 0 ranges
 
--- how many words are in use after these variables
+-- the number of words in use after these variables
 abbrev pub words_from : ℕ → ℕ → List ℕ → ℕ
 words_from word bit [] = word + 1
 words_from word bit (range ∷ ranges) =
     let field = place word bit (width_of range) in words_from field.word (field.shift + field.width) ranges
 
--- how many words the variables take, at least one
+-- the number of words of the variables, at least one
 abbrev pub word_count : List ℕ → ℕ
 word_count ranges = words_from 0 0 ranges
 
--- the word with this number: the sum of the values of its fields, each shifted to its field
+-- word number `k`: the sum of the values of its fields, each shifted to its field
 abbrev pub word_at : ℕ → List Field → List ℕ → ℕ
 word_at k [] values = 0
 word_at k (field ∷ fields) [] = 0
 word_at k (field ∷ fields) (value ∷ values) =
     (if field.word == k then value * 2 ^ field.shift else 0) + word_at k fields values
 
--- the first words with these values, this many of them
+-- the first `count` words of a state with these values
 abbrev pub words_of : ℕ → List ℕ → List ℕ → List ℕ
 words_of count ranges values = map (λ k. word_at k (fields ranges) values) (range_with_len 0 count)
 
@@ -68,20 +68,21 @@ pub record AreWithinLimits (ranges : List ℕ) : Type 0 where
   pub variables : length ranges ≤ 65536
   pub values : All (λ range. range ≤ 65536) ranges
 
--- what a layout keeps of these ranges: the fields and how many words they take
+-- the fields of these ranges, and the number of words that they take
 pub record IsLayout (ranges : List ℕ) (placed : List Field) (count : ℕ) : Type 0 where
   pub limits : AreWithinLimits ranges
   pub fields : placed ≡ fields ranges
   pub word_count : count ≡ word_count ranges
 
--- the field lies in one of the first words, this many and at most 65537, and has at most 16 bits
+-- the index of the field's word is below `count` and at most 65536, and the field is within that word and has at most
+-- 16 bits
 pub record IsPlaced (count : ℕ) (field : Field) : Type 0 where
   pub inside : field.word < count
   pub near : field.word ≤ 65536
   pub in_one_word : field.shift + field.width ≤ 64
   pub narrow : field.width ≤ 16
 
--- the words, this many, are those of a state over variables with these ranges
+-- the `count` words are those of a state over variables with these ranges
 pub record ArePacked (count : ℕ) (ranges words : List ℕ) : Type 0 where
   pub fits : word_count ranges ≤ count
   pub state : IsState ranges (values_in words ranges)
@@ -97,10 +98,10 @@ same_words count ranges xs ys packed packed' same =
 pub packed_alike : (count : ℕ) (ranges xs ys : List ℕ) → xs ≡ ys → ArePacked count ranges ys → ArePacked count ranges xs
 packed_alike count ranges xs ys same packed = subst (ArePacked count ranges) (sym same) packed
 
--- values that equal those of a state are those of a state
+-- values equal to those of a state are a state
 pub state_alike : (ranges xs ys : List ℕ) → xs ≡ ys → IsState ranges ys → IsState ranges xs
 state_alike ranges xs ys same state = subst (IsState ranges) (sym same) state
 
--- and equal words have equal values
+-- equal words have equal values
 pub same_values : (ranges xs ys : List ℕ) → xs ≡ ys → values_in xs ranges ≡ values_in ys ranges
 same_values ranges xs ys same = ap (λ words. values_in words ranges) same

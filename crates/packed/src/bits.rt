@@ -10,15 +10,16 @@ use crate::layout::Layout;
 use fdr::Fact;
 use std::alloc::{AllocError, Global};
 
-/// A state as `WORDS` words of 64 bits, which lie in the form itself. A variable takes as many bits as its greatest value has
-/// binary digits. The variables follow one another from the lowest bit of the first word on, and one whose bits do not fit in
-/// the rest of a word begins the next. All other bits are 0. States that take more words do not fit.
+/// A state as `WORDS` words of 64 bits, which are stored in the form itself. A variable takes as many bits as its
+/// greatest value has binary digits. The variables follow one another from the lowest bit of the first word on; one
+/// whose bits do not fit in the rest of a word starts the next. All other bits are 0. States that take more words do
+/// not fit.
 #[derive(Clone, Copy, Debug, PartialEq, Eq, Hash)]
 pub struct Bits<const WORDS: usize> {
     words: [u64; WORDS],
 }
 
-/// The words of a state.
+/// Returns the words of a state.
 fn words_of<const WORDS: usize>(layout: &Layout, state: &[u32]) -> [u64; WORDS]
     requires fits { spec.word_count layout.now ≤ WORDS }
     requires state { IsState layout.now state.now }
@@ -32,7 +33,7 @@ fn words_of<const WORDS: usize>(layout: &Layout, state: &[u32]) -> [u64; WORDS]
 }
 
 impl<const WORDS: usize> Bits<WORDS> {
-    /// The number in the bits of a field.
+    /// Returns the number in the bits of a field.
     fn number_in(&self, field: Field) -> u64
         requires { spec.IsPlaced WORDS field }
         ensures { result ≡ spec.value_in self.now.words field }
@@ -65,7 +66,7 @@ impl<const WORDS: usize> Bits<WORDS> {
         }
     }
 
-    /// Whether the number in each variable's bits is below the variable's range.
+    /// Returns whether the number in each variable's bits is below the variable's range.
     fn has_values_in_range(&self, layout: &Layout) -> bool
         requires fits { spec.word_count layout.now ≤ WORDS }
         ensures { IsTrue result ↔ IsState layout.now (spec.values_in self.now.words layout.now) }
@@ -78,7 +79,7 @@ impl<const WORDS: usize> Bits<WORDS> {
         true
     }
 
-    /// The form with every bit that is in no field set to 0.
+    /// Returns the form with every bit that is in no field set to 0.
     fn without_other_bits(&self, layout: &Layout) -> Bits<WORDS>
         requires fits { spec.word_count layout.now ≤ WORDS }
         requires state { IsState layout.now (spec.values_in self.now.words layout.now) }

@@ -1,31 +1,30 @@
-//! Fields: where the value of a variable stands in words of 64 bits.
+//! Fields: the bits of a variable's value in words of 64 bits.
 
 ghost use Rattle.std.specs.Prelude.{◌≡◌, ◌+◌, ◌<◌, ◌≤◌, All, IfOk};
 ghost use Rattle.packed.specs.Fields as spec;
 
 use std::alloc::{AllocError, Global};
 
-/// The bits of one variable. They lie in one word.
+/// The bits of one variable, all in one word.
 #[derive(Clone, Copy, Debug, PartialEq, Eq)]
 pub(crate) struct Field {
-    /// The number of the word, counted from 0.
+    /// The index of the word.
     pub(crate) word: usize,
-    /// How many bits of the word lie below the field: 64 only where the field has none.
+    /// The number of bits of the word below the field. It is 64 only if the field is empty.
     pub(crate) shift: u32,
     /// The number of bits of the field.
     pub(crate) width: u32,
 }
 
-/// How many bits a variable with this many values takes: the binary digits of its greatest value.
+/// Returns the number of bits of a variable with `range` values: the binary digits of its greatest value.
 fn width_of(range: usize) -> u32
     ensures { result ≡ spec.width_of range }
 {
     usize::BITS - range.saturating_sub(1).leading_zeros()
 }
 
-/// The field of each variable with these ranges, and how many words they take, at least one. Fields are placed in their order
-/// from the lowest bit of word 0 on, and one that does not fit in the rest of a word begins the next. Fails only if
-/// allocation fails.
+/// Returns the field of each variable with these ranges, and the number of words that they take, at least one. Fields
+/// are laid out in order from the lowest bit of word 0 on; one that does not fit in the rest of a word starts the next.
 pub(crate) fn place_fields(
     alloc: Global,
     ranges: &[usize],

@@ -20,56 +20,56 @@ pub trait StateForm: Eq + Hash {
     /// The values of the state, one for each variable.
     ghost values: { List ℕ → Self → List ℕ };
 
-    /// Whether states with the layout's ranges have this form.
+    /// Returns whether states with the layout's ranges have this form.
     fn fits(layout: &Layout) -> bool
         ensures { IsTrue result ↔ Fits layout.now };
 
-    /// The form of a state. Fails only if allocation fails.
+    /// Returns the form of a state.
     fn pack(alloc: Global, layout: &Layout, state: &[u32]) -> Result<Self, AllocError>
         requires fits { Fits layout.now }
         requires state { IsState layout.now state.now }
         ensures form { IfOk result (IsForm layout.now) }
         ensures values { IfOk result (λ f. values layout.now f ≡ state.now) };
 
-    /// Whether this is the form of a state with the layout's ranges.
+    /// Returns whether this is the form of a state with the layout's ranges.
     fn is_form(&self, layout: &Layout) -> bool
         ensures { IsTrue result ↔ IsForm layout.now self.now };
 
-    /// Whether the values are a state with the layout's ranges, in a form that states have. It need not be a form of that
-    /// state: what stands in no value plays no part.
+    /// Returns whether the values are a state with the layout's ranges, in a form that such states have. It need not be
+    /// equal to the form of that state: bits outside all values are ignored.
     fn holds_state(&self, layout: &Layout) -> bool
         requires { Fits layout.now }
         ensures { IsTrue result ↔ IsState layout.now (values layout.now self.now) };
 
-    /// Makes this the form of another state. Allocates nothing.
+    /// Makes this the form of another state.
     fn repack(&mut self, layout: &Layout, state: &[u32])
         requires form { IsForm layout.now self.old }
         requires state { IsState layout.now state.now }
         ensures form { IsForm layout.now self.new }
         ensures values { values layout.now self.new ≡ state.now };
 
-    /// Writes the values of the state into `state`. Allocates nothing.
+    /// Writes the values of the state into `state`.
     fn unpack(&self, layout: &Layout, state: &mut [u32])
         requires fits { Fits layout.now }
         requires values { IsState layout.now (values layout.now self.now) }
         requires len { length state.old ≡ length layout.now }
         ensures { state.new ≡ values layout.now self.now };
 
-    /// The value of one variable of the state. Allocates nothing.
+    /// Returns the value of one variable of the state.
     fn value(&self, layout: &Layout, variable: usize) -> u32
         requires fits { Fits layout.now }
         requires values { IsState layout.now (values layout.now self.now) }
         requires variable { variable < length layout.now }
         ensures { result ≡ slice_index (values layout.now self.now) variable };
 
-    /// Another form of the same state. Fails only if allocation fails.
+    /// Returns a copy of the form.
     fn copy(&self, alloc: Global) -> Result<Self, AllocError>
         ensures form { (ranges : List ℕ) → IsForm ranges self.now → IfOk result (IsForm ranges) }
         ensures values { (ranges : List ℕ) → IsForm ranges self.now →
             IfOk result (λ f. values ranges f ≡ values ranges self.now) };
 
-    /// The form of the state in which the variables of these facts have the facts' values, and the others those of this
-    /// form's state. Fails only if allocation fails.
+    /// Returns the form of the state in which the variables of these facts have the facts' values, and all others their
+    /// value in this form's state.
     fn changed(&self, alloc: Global, layout: &Layout, facts: &[Fact]) -> Result<Self, AllocError>
         requires form { IsForm layout.now self.now }
         requires facts { IsAssignment layout.now facts.now }
@@ -83,7 +83,7 @@ pub trait StateForm: Eq + Hash {
     ghost equal: { (ranges : List ℕ) (f g : Self) → IsForm ranges f → IsForm ranges g → values ranges f ≡ values ranges g →
         IsTrue (Self.eq f g) };
 
-    /// What equals a form of a state is one.
+    /// A value that equals the form of a state is itself one.
     ghost like: { (ranges : List ℕ) (f g : Self) → IsForm ranges g → IsTrue (Self.eq f g) → IsForm ranges f };
 
     /// Equal forms are forms of equal states.

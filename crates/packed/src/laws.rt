@@ -1,16 +1,16 @@
-//! Laws of fields. Each function states laws as its contract, for all ranges, and its body is empty.
+//! Laws of fields, for all ranges.
 
 ghost use Rattle.std.specs.Prelude.{◌≡◌, ◌*◌, ◌^◌, ◌<◌, ◌≤◌, ◌++◌, ℕ, List, [], ◌∷◌, replicate};
 ghost use Rattle.packed.specs.Fields.{width_of, word_count, words_of, values_in};
 
-/// A variable has as many bits as its greatest value has binary digits.
+/// Proves that a variable has as many bits as its greatest value has binary digits.
 pub fn widths()
     ensures one_value { width_of 1 ≡ 0 }
     ensures enough { (range : ℕ) → range ≤ 2 ^ width_of range }
     ensures no_more { (range : ℕ) → 1 < range → 2 ^ width_of range < 2 * range }
 {}
 
-/// Words of states, worked out by hand.
+/// Proves worked examples: the words of states.
 pub fn worked_examples()
     ensures four { words_of 1 (2 ∷ 3 ∷ 3 ∷ 2 ∷ []) (1 ∷ 2 ∷ 0 ∷ 1 ∷ []) ≡ 37 ∷ [] }
     ensures four_back { values_in (37 ∷ []) (2 ∷ 3 ∷ 3 ∷ 2 ∷ []) ≡ 1 ∷ 2 ∷ 0 ∷ 1 ∷ [] }

@@ -1,4 +1,4 @@
-//! What a form needs of its task: the ranges of the variables.
+//! The part of a task on which forms depend: the ranges of the variables.
 
 ghost use Rattle.std.specs.Prelude.{◌≡◌, ◌<◌, ◌↔◌, length, slice_index, IsTrue, IfOk};
 ghost use Rattle.fdr.specs.Tasks as tasks;
@@ -10,14 +10,14 @@ use fdr::FdrTask;
 use std::alloc::{AllocError, Global};
 use std::marker::Model;
 
-/// The range (number of values) of each variable of a task, from which a form computes the room it needs. A contract sees
-/// these numbers.
+/// The range (number of values) of each variable of a task, from which a form computes the room it needs. In contracts
+/// its value is the list of ranges.
 #[derive(Drop)]
 pub struct Layout {
     ranges: Vec<usize>,
     /// The bits of each variable, in a form of bits.
     fields: Vec<Field>,
-    /// How many words the fields take.
+    /// The number of words that the fields take.
     word_count: usize,
 }
 
@@ -33,7 +33,7 @@ impl Model for Layout {
 }
 
 impl Layout {
-    /// The layout of the task's states. Fails only if allocation fails.
+    /// Returns the layout of the task's states.
     pub fn new(alloc: Global, task: &FdrTask) -> Result<Layout, AllocError>
         ensures { IfOk result (λ l. l ≡ tasks.ranges task.now) }
     {
@@ -50,14 +50,14 @@ impl Layout {
         })
     }
 
-    /// The number of variables.
+    /// Returns the number of variables.
     pub fn variable_count(&self) -> usize
         ensures { result ≡ length self.now }
     {
         self.ranges.len()
     }
 
-    /// Whether these are the values of a state: as many as there are variables, each below its variable's range.
+    /// Returns whether these are the values of a state: one for each variable, below the variable's range.
     pub fn is_state(&self, values: &[u32]) -> bool
         ensures { IsTrue result ↔ IsState self.now values.now }
     {
@@ -68,14 +68,14 @@ impl Layout {
                 .all(|(value, range)| (*value as usize) < *range)
     }
 
-    /// How many words of 64 bits a state takes in a form of bits, at least one.
+    /// Returns the number of words of 64 bits that a state takes in a form of bits, at least one.
     pub fn word_count(&self) -> usize
         ensures { result ≡ spec.word_count self.now }
     {
         self.word_count
     }
 
-    /// The range of a variable.
+    /// Returns the range of a variable.
     pub(crate) fn range(&self, variable: usize) -> usize
         requires { variable < length self.now }
         ensures { result ≡ slice_index self.now variable }
@@ -83,7 +83,7 @@ impl Layout {
         self.ranges[variable]
     }
 
-    /// The bits of each variable, in a form of bits.
+    /// Returns the bits of each variable, in a form of bits.
     pub(crate) fn fields(&self) -> &[Field]
         ensures fields { result.now ≡ spec.fields self.now }
         ensures limits { spec.AreWithinLimits self.now }

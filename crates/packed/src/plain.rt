@@ -9,7 +9,8 @@ use fdr::Fact;
 use smallvec::SmallVec;
 use std::alloc::{AllocError, Global};
 
-/// The number of values that are stored in the form itself. A form then takes 64 bytes, a cache line of most processors.
+/// The number of values that are stored in the form itself. A form then takes 64 bytes, one cache line of most
+/// processors.
 const INLINE_VALUES: usize = 12;
 
 /// A state as the list of its values, 4 bytes each. Up to 12 values are stored in the form itself, more of them in an
@@ -19,7 +20,7 @@ pub struct Plain {
     values: SmallVec<u32, INLINE_VALUES>,
 }
 
-/// Sets the variables of the facts to the facts' values, in their order. The other variables keep their values.
+/// Sets the variables of the facts to the facts' values, in their order. The other variables are unchanged.
 fn set_values(facts: &[Fact], state: &mut [u32])
     requires { All (λ f. f.variable < length state.old) facts.now }
     ensures { state.new ≡ with_values facts.now state.old }

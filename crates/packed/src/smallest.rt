@@ -1,7 +1,8 @@
 //! The choice of a form.
 
-/// Calls a function that is generic over the form of states, its last type, with the smallest form that states of a layout
-/// (`&Layout`) have: packed words, as few as they need, or the list of their values if they need more than eight words.
+/// Calls a function that is generic over the form of states, its last type parameter, with the smallest form that
+/// states of a layout (`&Layout`) have: the fewest packed words that suffice, or the list of their values if more than
+/// eight words are needed.
 #[macro_export]
 macro_rules! in_smallest_form {
     ($layout:expr, $function:ident $(::<$($type:ty),+>)? ($($argument:expr),*)) => {

@@ -1,5 +1,5 @@
--- Which owner a state has in hash distributed A* (Kishimoto, Fukunaga and Botea 2013). States are those of finite-domain
--- tasks, and owners are counted from 0.
+-- Which owner a state has in hash-distributed A* (Kishimoto, Fukunaga and Botea 2013). States are those of
+-- finite-domain tasks, and owners are counted from 0.
 use Rattle.std.specs.Prelude.{ℕ, ◌+◌, ◌%◌, List, [], ◌∷◌, length, map, take, slice_index, fold, sum, bit_xor}
 use Rattle.std.specs.List.{range_with_len}
 use Rattle.rand_core.specs.Steps.{first_words}
@@ -11,11 +11,11 @@ abbrev pub value_owner : List ℕ → ℕ → ℕ
 value_owner [] owners = 0
 value_owner (value ∷ values) owners = value % owners
 
--- the first words, a number of them, of SplitMix64 (Steele, Lea and Flood 2014) from a seed
+-- the first `count` words of SplitMix64 (Steele, Lea and Flood 2014) from a seed
 abbrev pub splitmix_words : ℕ → ℕ → List ℕ
 splitmix_words seed count = first_words mix_u64 count seed
 
--- the place of each variable's first word in the list of the words of all variables, which has a word for each value of
+-- the index of each variable's first word in the list of the words of all variables, which has a word for each value of
 -- each variable
 abbrev pub firsts_of : List ℕ → List ℕ
 firsts_of ranges = map (λ variable. sum (take variable ranges)) (range_with_len 0 (length ranges))

@@ -10,7 +10,7 @@ use std::marker::Model;
 
 /// The spread by which the owner of a state is the value of variable 0 modulo the number of owners, and 0 for a task
 /// without variables. All states with the same value of variable 0 have the same owner, so at most as many owners have
-/// states as that variable has values. A contract sees the task.
+/// states as that variable has values. In contracts its value is the task.
 #[derive(Drop)]
 pub struct ByValue<'a> {
     task: &'a FdrTask,
@@ -25,7 +25,7 @@ impl<'a> Model for ByValue<'a> {
 }
 
 impl<'a> ByValue<'a> {
-    /// The spread for the task.
+    /// Returns the spread for the task.
     pub fn new(task: &'a FdrTask) -> ByValue<'a>
         ensures { result ≡ task.now }
     {
@@ -33,8 +33,8 @@ impl<'a> ByValue<'a> {
     }
 }
 
-/// The owner by the value of variable 0 in the state in which the variables of these facts have the facts' values, and the
-/// others those of `state`.
+/// Returns the owner, by the value of variable 0, of the state in which the variables of these facts have the facts'
+/// values, and all others their value in `state`.
 fn value_owner_after(state: &[u32], facts: &[Fact], owners: usize) -> usize
     requires facts { All (λ f. f.variable < length state.now) facts.now }
     requires some { 0 < owners }

@@ -4,9 +4,9 @@ ghost use Rattle.std.specs.Prelude.{◌≡◌, [], ◌∷◌, ◌%◌, Some, Non
 ghost use Rattle.packed_spread.specs.Projections.{frequency, with_changes, next_variable, wanted, chosen_in, projected};
 ghost use Rattle.packed_spread.specs.Spreads.{splitmix_words, firsts_of, hash, value_owner};
 
-/// The first words of SplitMix64 from seed 1; the places at which the words of variables with 2, 3 and 1 values begin;
-/// hashes by these words of states with ranges 2 and 3, and of a state without variables; and owners by the value of
-/// variable 0. The body is empty.
+/// Proves worked examples: the first words of SplitMix64 from seed 1; the indices of the first words of variables with
+/// 2, 3 and 1 values; hashes, by these words, of states with ranges 2 and 3 and of a state without variables; and
+/// owners by the value of variable 0.
 pub fn worked_examples()
     ensures words { splitmix_words 1 5 ≡
         0x910a2dec89025cc1 ∷ 0xbeeb8da1658eec67 ∷ 0xf893a2eefb32555e ∷ 0x71c18690ee42c90b ∷ 0x71bb54d8d101b5b9 ∷ [] }
@@ -18,10 +18,11 @@ pub fn worked_examples()
     ensures no_value { value_owner [] 4 ≡ 0 }
 {}
 
-/// The frequency of an operator with facts on variables of 3 and of 2 values; sums with a number added to those of two
-/// variables; of variables that change 7, 4, 5, 4 and 1 times the first that changes least often and has several values, the same
-/// with that one chosen, and none; how many states are to be told apart, of 24 and of 2^32, and the variables that are chosen for it;
-/// and words of three variables of which the second is chosen. The body is empty.
+/// Proves worked examples: the frequency of an operator with facts on variables of 3 and of 2 values; sums with a
+/// number added to those of two variables; of variables that change 7, 4, 5, 4 and 1 times the first that changes least
+/// often and has several values, the same with that one chosen, and none; the numbers of states that a projection has
+/// to distinguish, of 24 and of 2^32, and the variables that are chosen for that; and words of three variables of which
+/// the second is chosen.
 pub fn worked_projections()
     ensures frequency { frequency (2 ∷ 3 ∷ []) (record { name = []; precondition = record { variable = 1; value = 2 } ∷ record { variable = 0; value = 0 } ∷ []; effect = []; cost = 1 }) ≡ 715827882 }
     ensures always { frequency [] (record { name = []; precondition = []; effect = []; cost = 1 }) ≡ 4294967296 }

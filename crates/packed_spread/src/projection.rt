@@ -1,4 +1,4 @@
-//! The variables by which the spread of a projection tells states apart.
+//! The variables by which the spread of a projection distinguishes states.
 
 ghost use Rattle.std.specs.List.{range_with_len};
 ghost use Rattle.std.specs.Prelude.{◌≡◌, ◌<◌, length, All, IfOk, OnOk, IfSome};
@@ -8,21 +8,21 @@ ghost use Rattle.packed_spread.specs.Projections as spec;
 use fdr::{Fact, FdrTask, Operator};
 use std::alloc::{AllocError, Global};
 
-/// Among how many states the frequency of an operator is counted.
+/// The number of states over which the frequency of an operator is counted.
 const STATES: u64 = 1 << 32;
 
-/// How many states the projection tells apart in large tasks: enough for each of 64 owners to get about the same share of those
-/// that are reached.
+/// The number of states that the projection distinguishes in large tasks: enough for each of 64 owners to have about
+/// the same share of the states that are reached.
 const CLASSES: u64 = 1 << 20;
 
-/// How many times as many states all variables tell apart as the projection of a small task does.
+/// In a small task the projection has to distinguish one `PART`-th of all states.
 const PART: u64 = 4;
 
 /// The greatest number of variables of the projection, each of which has two values or more.
 const MOST_VARIABLES: usize = 20;
 
-/// In how many of 2^32 states an operator applies, if a variable has each of its values equally often, whatever values the
-/// others have. Each quotient is rounded down.
+/// Returns in how many of 2^32 states an operator applies if each variable has each of its values equally often,
+/// independently of the others. Each quotient is rounded down.
 fn frequency(task: &FdrTask, operator: &Operator) -> u64
     requires { IsOperator (ranges task.now) operator.now }
     ensures { result ≡ spec.frequency (ranges task.now) operator.now }
@@ -34,7 +34,7 @@ fn frequency(task: &FdrTask, operator: &Operator) -> u64
     states
 }
 
-/// Adds a number to that of each variable that one of the facts is on. Sums are capped at 2^64 - 1.
+/// Adds `states` to the number of each variable that one of the facts is on. Sums are capped at 2^64 - 1.
 fn add_changes(facts: &[Fact], states: u64, changes: &mut [u64])
     requires { All (λ f. f.variable < length changes.old) facts.now }
     ensures { changes.new ≡ spec.with_changes states changes.old facts.now }
@@ -44,7 +44,7 @@ fn add_changes(facts: &[Fact], states: u64, changes: &mut [u64])
     }
 }
 
-/// For each variable the frequencies of the operators that change it, summed up. Fails only if allocation fails.
+/// Returns for each variable the sum of the frequencies of the operators that change it.
 fn changes_of(alloc: Global, task: &FdrTask) -> Result<Vec<u64>, AllocError>
     ensures changes { IfOk result (λ changes. changes.items ≡ spec.changes task.now) }
     ensures long { IfOk result (λ changes. length changes.items ≡ length task.now.value_names) }
@@ -56,7 +56,7 @@ fn changes_of(alloc: Global, task: &FdrTask) -> Result<Vec<u64>, AllocError>
     Ok(changes)
 }
 
-/// Whether a variable changes less often than the best one so far.
+/// Returns whether a variable changes less often than the best one so far.
 fn is_better(changes: &[u64], variable: usize, best: Option<usize>) -> bool
     requires variable { variable < length changes.now }
     requires best { IfSome best (λ b. b < length changes.now) }
@@ -68,7 +68,8 @@ fn is_better(changes: &[u64], variable: usize, best: Option<usize>) -> bool
     }
 }
 
-/// The better one of the best variable so far and this one, which is none if it has been chosen or has only one value.
+/// Returns the better one of the best variable so far and `variable`, which is no candidate if it has been chosen or
+/// has only one value.
 fn better_of(
     task: &FdrTask,
     changes: &[u64],
@@ -91,7 +92,8 @@ fn better_of(
     best
 }
 
-/// Of the variables with several values that have not been chosen, the first of those that change least often.
+/// Returns the first of those variables that change least often, among the variables with several values that have not
+/// been chosen.
 fn next_variable(task: &FdrTask, changes: &[u64], chosen: &[usize]) -> Option<usize>
     requires { length changes.now ≡ length task.now.value_names }
     ensures next { result ≡ spec.next_variable (ranges task.now) changes.now chosen.now }
@@ -104,7 +106,7 @@ fn next_variable(task: &FdrTask, changes: &[u64], chosen: &[usize]) -> Option<us
     best
 }
 
-/// The number of states that the values of the chosen variables tell apart, capped at 2^64 - 1.
+/// Returns the number of states that the values of the chosen variables distinguish, capped at 2^64 - 1.
 fn class_count(task: &FdrTask, chosen: &[usize]) -> u64
     requires { All (λ v. v < length task.now.value_names) chosen.now }
     ensures { result ≡ spec.classes (ranges task.now) chosen.now }
@@ -116,7 +118,7 @@ fn class_count(task: &FdrTask, chosen: &[usize]) -> u64
     classes
 }
 
-/// The number of states that the values of all variables tell apart, capped at 2^64 - 1.
+/// Returns the number of states that the values of all variables distinguish, capped at 2^64 - 1.
 fn state_count(task: &FdrTask) -> u64
     ensures { result ≡ spec.classes (ranges task.now) (range_with_len 0 (length task.now.value_names)) }
 {
@@ -127,7 +129,7 @@ fn state_count(task: &FdrTask) -> u64
     classes
 }
 
-/// Chooses one variable more, if the chosen ones tell fewer states apart than wanted. Fails only if allocation fails.
+/// Chooses one more variable if the chosen ones distinguish fewer states than `wanted`.
 fn choose_next(
     task: &FdrTask,
     changes: &[u64],
@@ -149,8 +151,7 @@ fn choose_next(
     Ok(())
 }
 
-/// The variables of the projection of a task. Takes time in proportion to its operators and variables. Fails only if
-/// allocation fails.
+/// Returns the variables of the projection of a task, in time proportional to its operators and variables.
 pub(crate) fn projection_of(alloc: Global, task: &FdrTask) -> Result<Vec<usize>, AllocError>
     ensures { IfOk result (λ projection. projection.items ≡ spec.projection task.now) }
 {

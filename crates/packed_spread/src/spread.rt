@@ -14,23 +14,25 @@ pub trait Spread {
     /// The owner of a state, given the number of owners.
     ghost owner: { Self → List ℕ → ℕ → ℕ };
 
-    /// A number of each state, by which the owners of states that differ from it in some variables are found sooner.
+    /// A hash of each state, from which the owners of states that differ from it in some variables are computed
+    /// incrementally.
     ghost state_hash: { Self → List ℕ → ℕ };
 
-    /// The owner of a state of the task, given the number of owners. Allocates nothing.
+    /// Returns the owner of a state of the task, given the number of owners.
     fn owner_of(&self, state: &[u32], owners: usize) -> usize
         requires some { 0 < owners }
         requires state { IsState (ranges self.now) state.now }
         ensures value { result ≡ owner self.now state.now owners }
         ensures below { result < owners };
 
-    /// The number of a state of the task that `owner_after` takes. Allocates nothing.
+    /// Returns the hash of a state of the task that `owner_after` takes.
     fn hash_of(&self, state: &[u32]) -> u64
         requires { IsState (ranges self.now) state.now }
         ensures { result ≡ state_hash self.now state.now };
 
-    /// The owner, given the number of owners, of the state in which the variables of these facts have the facts' values, and
-    /// the others those of `state`, of which `hash_of` gave `hash`. Allocates nothing.
+    /// Returns the owner, given the number of owners, of the state in which the variables of these facts have the
+    /// facts' values, and all others their value in `state`; `hash` is the result of `hash_of` for `state`. Allocates
+    /// nothing.
     fn owner_after(&self, state: &[u32], hash: u64, facts: &[Fact], owners: usize) -> usize
         requires some { 0 < owners }
         requires state { IsState (ranges self.now) state.now }

@@ -12,17 +12,17 @@ use rand_core::{Rng, SeedableRng};
 use rand_xoshiro::SplitMix64;
 use std::alloc::{AllocError, Global};
 
-/// The seed from which the words are drawn.
+/// The seed of the random words.
 const SEED: u64 = 1;
 
-/// The words of all variables, one variable after the other, and the place of each variable's first word, counted from 0.
+/// The words of all variables, one variable after the other, and the index of each variable's first word.
 #[derive(Drop)]
 pub(crate) struct Words {
     pub(crate) words: Vec<u64>,
     pub(crate) firsts: Vec<usize>,
 }
 
-/// Draws `count` more words. Fails only if allocation fails.
+/// Appends `count` random words.
 fn draw(generator: &mut SplitMix64, count: usize, words: &mut Vec<u64>) -> Result<(), AllocError>
     requires { IsDrawn 1 words.old.items generator.old }
     ensures drawn { OnOk result (IsDrawn 1 words.new.items generator.new) }
@@ -34,8 +34,7 @@ fn draw(generator: &mut SplitMix64, count: usize, words: &mut Vec<u64>) -> Resul
     Ok(())
 }
 
-/// Draws a word for each value of each variable of a task, in the order of variables and then of values. Fails only if
-/// allocation fails.
+/// Returns a random word for each value of each variable of a task, in the order of variables and then of values.
 pub(crate) fn words_of(alloc: Global, task: &FdrTask) -> Result<Words, AllocError>
     ensures words { IfOk result (λ made. made.words.items ≡ spec.splitmix_words 1 (sum (ranges task.now))) }
     ensures firsts { IfOk result (λ made. made.firsts.items ≡ spec.firsts_of (ranges task.now)) }
@@ -50,7 +49,7 @@ pub(crate) fn words_of(alloc: Global, task: &FdrTask) -> Result<Words, AllocErro
     Ok(Words { words, firsts })
 }
 
-/// Puts 0 in the places of `count` words from `first` on.
+/// Sets `count` words to 0, from index `first` on.
 fn clear(words: &mut [u64], first: usize, count: usize)
     requires { first + count ≤ length words.old }
     ensures { words.new ≡ cleared words.old first count }
@@ -60,7 +59,7 @@ fn clear(words: &mut [u64], first: usize, count: usize)
     }
 }
 
-/// Puts 0 in the places of the words of a variable, unless it is chosen. The places of variables' first words are given.
+/// Sets the words of a variable to 0 unless it is chosen. `firsts` has the indices of the variables' first words.
 fn clear_unless_chosen(
     task: &FdrTask,
     chosen: &[usize],
@@ -78,7 +77,7 @@ fn clear_unless_chosen(
     }
 }
 
-/// Puts 0 in the places of the words of all variables that are not chosen. The places of variables' first words are given.
+/// Sets the words of all variables that are not chosen to 0. `firsts` has the indices of the variables' first words.
 fn clear_others(task: &FdrTask, chosen: &[usize], firsts: &[usize], words: &mut [u64])
     requires words { length words.old ≡ sum (ranges task.now) }
     requires firsts { firsts.now ≡ spec.firsts_of (ranges task.now) }
@@ -90,8 +89,8 @@ fn clear_others(task: &FdrTask, chosen: &[usize], firsts: &[usize], words: &mut 
     }
 }
 
-/// The words of the spread by the projection of a task: those of `words_of` for the variables of the projection, and 0 for each
-/// value of the others. Fails only if allocation fails.
+/// Returns the words of the spread by the projection of a task: those of `words_of` for the variables of the
+/// projection, and 0 for each value of the others.
 pub(crate) fn projected_words_of(alloc: Global, task: &FdrTask) -> Result<Words, AllocError>
     ensures words { IfOk result (λ made. made.words.items ≡ projected_words task.now) }
     ensures firsts { IfOk result (λ made. made.firsts.items ≡ spec.firsts_of (ranges task.now)) }

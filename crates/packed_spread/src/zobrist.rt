@@ -13,9 +13,9 @@ use std::alloc::{AllocError, Global};
 use std::marker::Model;
 
 /// The spread by which the owner of a state is the state's hash modulo the number of owners. The hash (Zobrist 1970) is
-/// the exclusive or of one word for each variable's value in the state, and 0 for a task without variables. The words are
-/// those of SplitMix64 (Steele, Lea and Flood 2014) from seed 1, in the order of variables and then of values. A contract
-/// sees the task and the words.
+/// the exclusive or of one word for each variable's value in the state, and 0 for a task without variables. The words
+/// are those of SplitMix64 (Steele, Lea and Flood 2014) from seed 1, in the order of variables and then of values. In
+/// contracts its value is the task and the words.
 #[derive(Drop)]
 pub struct Zobrist<'a> {
     task: &'a FdrTask,
@@ -33,7 +33,7 @@ impl<'a> Model for Zobrist<'a> {
         (z.firsts.items ≡ spec.firsts_of (tasks.ranges z.task.now)) };
 }
 
-/// The hash of a state, from all words and the place of each variable's first word.
+/// Returns the hash of a state, from all words and the index of each variable's first word.
 fn hash_of(words: &[u64], firsts: &[usize], state: &[u32]) -> u64
     requires long { length firsts.now ≡ length state.now }
     requires exist { (v : ℕ) → v < length firsts.now → slice_index firsts.now v + slice_index state.now v < length words.now }
@@ -46,8 +46,9 @@ fn hash_of(words: &[u64], firsts: &[usize], state: &[u32]) -> u64
     hash
 }
 
-/// The hash of the state in which the variables of these facts have the facts' values, and the others those of `state`,
-/// whose hash is given: in place of the word of a variable's old value it has that of the new one.
+/// Returns the hash of the state in which the variables of these facts have the facts' values, and all others their
+/// value in `state`, whose hash is `hash`: the word of each changed variable's old value is exchanged for that of the
+/// new one.
 fn hash_after(words: &[u64], firsts: &[usize], state: &[u32], hash: u64, facts: &[Fact]) -> u64
     requires long { length firsts.now ≡ length state.now }
     requires hash { hash ≡ spec.hash words.now firsts.now state.now }
@@ -66,7 +67,7 @@ fn hash_after(words: &[u64], firsts: &[usize], state: &[u32], hash: u64, facts: 
 }
 
 impl<'a> Zobrist<'a> {
-    /// The spread for the task, with a word of 8 bytes for each value of each variable. Fails only if allocation fails.
+    /// Returns the spread for the task, with a word of 8 bytes for each value of each variable.
     pub fn new(alloc: Global, task: &'a FdrTask) -> Result<Zobrist<'a>, AllocError>
         ensures task { IfOk result (λ z. z.task ≡ task.now) }
         ensures words { IfOk result (λ z. z.words ≡ spec.splitmix_words 1 (sum (tasks.ranges task.now))) }
@@ -79,12 +80,13 @@ impl<'a> Zobrist<'a> {
         })
     }
 
-    /// The spread for the task by a hash of some variables alone: those that operators seldom change, as many as tell 2^20 states
-    /// apart, or a quarter of all if that is less. Most successors then have the owner of their parent, so that workers send one another few messages (Burns, Lemons,
-    /// Ruml and Zhou 2010; Jinnai and Fukunaga 2017). The word of each value of another variable is 0.
+    /// Returns the spread for the task by a hash of only some variables: those that operators seldom change, as many as
+    /// distinguish 2^20 states, or a quarter of all states if that is less. Most successors then have the owner of
+    /// their parent, so that workers send one another few messages (Burns, Lemons, Ruml and Zhou 2010; Jinnai and
+    /// Fukunaga 2017). The word of each value of another variable is 0.
     ///
-    /// How often operators change a variable is estimated: each counts as often as it applies if a variable has each of its values
-    /// equally often. Fails only if allocation fails.
+    /// How often a variable changes is estimated: each operator that changes it counts as often as it applies if each
+    /// variable has each of its values equally often.
     pub fn projected(alloc: Global, task: &'a FdrTask) -> Result<Zobrist<'a>, AllocError>
         ensures task { IfOk result (λ z. z.task ≡ task.now) }
         ensures words { IfOk result (λ z. z.words ≡ projected_words task.now) }

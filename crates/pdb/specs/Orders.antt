@@ -1,4 +1,4 @@
--- Permutations of states, and the place of each state in them.
+-- Permutations of states, and the index of each state in them.
 use Rattle.std.specs.Prelude.{◌≡◌, ℕ, ◌<◌, ◌≤◌, ◌^◌, ◌↔◌, ◌==◌, if◌then◌else◌, List, length, slice_index}
 
 -- the second list is the inverse of the first
@@ -12,10 +12,10 @@ pub record IsOrder (order places : List ℕ) : Type 0 where
   pub placed : Undoes order places
   pub ordered : Undoes places order
 
--- the place of an element after two places are exchanged
+-- the index of an element after the elements at two indices are exchanged
 abbrev pub exchanged : ℕ → ℕ → ℕ → ℕ
 exchanged first second place = if place == first then second else (if place == second then first else place)
 
--- the states at the first n places are the same
+-- the states at the first n indices are the same
 abbrev pub SameBefore : ℕ → List ℕ → List ℕ → Type 0
 SameBefore n places others = (s : ℕ) → s < length places → (slice_index places s < n) ↔ (slice_index others s < n)

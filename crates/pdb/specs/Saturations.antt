@@ -1,11 +1,11 @@
--- The falls of values over the transitions of classes of operators.
+-- The decreases of values over the transitions of classes of operators.
 use Rattle.std.specs.Prelude.{◌≡◌, ℕ, ◌<◌, ◌≤◌, ◌⊎◌, List, Some, slice_index}
 use Rattle.cost.specs.Distances.{Distance}
 use Rattle.abstraction.specs.Abstractions.{Abstraction}
 use Rattle.pdb_walks.specs.Walks.{fall}
 use Rattle.pdb_walks.specs.Entrances.{LeadsTo, Classes}
 
--- the number is 0, or the fall over some transition of an operator of the class
+-- the number is 0, or the decrease over some transition of an operator of the class
 abbrev pub IsFallOf : Abstraction → Classes → (ℕ → Distance) → ℕ → ℕ → Type 0
 IsFallOf a classes value c n =
     (n ≡ 0) ⊎ ((o i j : ℕ) × (classes.class o ≡ Some c) × (j < a.size) × LeadsTo a o i j × (fall (value i) (value j) ≡ n))
@@ -13,15 +13,15 @@ IsFallOf a classes value c n =
 abbrev pub AreFalls : Abstraction → Classes → (ℕ → Distance) → List ℕ → Type 0
 AreFalls a classes value numbers = (c : ℕ) → IsFallOf a classes value c (slice_index numbers c)
 
--- no fall over a transition into the state is greater than the number of the operator's class
+-- no decrease over a transition into the state is greater than the number of the operator's class
 abbrev pub IsCoveredAt : Abstraction → Classes → (ℕ → Distance) → ℕ → List ℕ → Type 0
 IsCoveredAt a classes value j numbers =
     (o i c : ℕ) → classes.class o ≡ Some c → LeadsTo a o i j → fall (value i) (value j) ≤ slice_index numbers c
 
--- no fall over a transition is greater than the number of the operator's class
+-- no decrease over a transition is greater than the number of the operator's class
 abbrev pub AreWithin : Abstraction → Classes → (ℕ → Distance) → List ℕ → Type 0
 AreWithin a classes value numbers = (j : ℕ) → j < a.size → IsCoveredAt a classes value j numbers
 
--- the numbers of the first n classes are not below those of the first list
+-- the numbers of the first n classes are at least those of `least`
 abbrev pub AreFull : ℕ → List ℕ → List ℕ → Type 0
 AreFull n least numbers = (c : ℕ) → c < n → slice_index least c ≤ slice_index numbers c

@@ -23,11 +23,11 @@ pub record IsSound (a : Abstraction) (share : ℕ → ℕ) (values : List ℕ) (
   pub goals : (k : ℕ) → k < a.size → a.is_goal k ≡ true → slice_index values k ≡ 0
   pub queued : (k : ℕ) → k < a.size → IsQueued queue k → slice_index values k < UNREACHED
 
--- no transition of the operator into the state gives a lesser total
+-- no transition of the operator into the state results in a lesser total
 abbrev pub IsSettledBy : Abstraction → (ℕ → ℕ) → List ℕ → ℕ → ℕ → Type 0
 IsSettledBy a share values b o = (i : ℕ) → LeadsTo a o i b → slice_index values i ≤ share o + slice_index values b
 
--- no transition into the state gives a lesser total
+-- no transition into the state results in a lesser total
 abbrev pub IsSettled : Abstraction → (ℕ → ℕ) → List ℕ → ℕ → Type 0
 IsSettled a share values b = (o : ℕ) → IsSettledBy a share values b o
 
@@ -52,7 +52,7 @@ pub record HasFallen (old new : List ℕ) (b : ℕ) : Type 0 where
 abbrev pub work : List ℕ → Queue → ℕ
 work values queue = sum values + queue.len
 
--- the value of the state is now at most the given one, and the state is queued if its value was greater
+-- the value of the state is at most `value`, and the state is queued if its value was greater
 pub record HasLowered (old : List ℕ) (before : Queue) (new : List ℕ) (after : Queue) (state value : ℕ) : Type 0 where
   pub values : new ≡ slice_set old state (min (slice_index old state) value)
   pub same_size : size_of after ≡ size_of before

@@ -19,8 +19,7 @@ pub struct Job<'a, A> {
     pub shares: &'a [u32],
 }
 
-/// Returns the distances of each job, in order, as `distances` computes them. Each share must be below 2^31. Fails only
-/// if allocation fails.
+/// Returns the distances of each job, in order, as `distances` computes them. Each share must be below 2^31.
 pub fn build_all<A: BackwardAbstraction>(
     alloc: Global,
     jobs: &[Job<'_, A>],

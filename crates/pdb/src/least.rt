@@ -6,8 +6,8 @@ ghost use Rattle.pdb.specs.Classes.{AreLeast, share_by};
 use pdb_walks::BackwardTransitions;
 use std::alloc::{AllocError, Global};
 
-/// The least share of the operators of each class. No share is above `most`, which a class without operators has. Fails
-/// only if allocation fails.
+/// Returns the least share of the operators of each class. No share may exceed `most`, which is returned for a class
+/// without operators.
 pub(crate) fn least_shares<T: BackwardTransitions>(
     alloc: Global,
     transitions: &T,
@@ -28,8 +28,7 @@ pub(crate) fn least_shares<T: BackwardTransitions>(
     Ok(least)
 }
 
-/// The number of its class for each of `count` operators, and 0 for an operator without a class. Fails only if allocation
-/// fails.
+/// Returns for each of `count` operators the element of `numbers` for its class, and 0 for an operator without a class.
 pub(crate) fn shares_by_class<T: BackwardTransitions>(
     alloc: Global,
     transitions: &T,

@@ -12,7 +12,7 @@ use std::alloc::{AllocError, Global};
 pub(crate) struct Queue {
     /// Each state once. The queued states come first, as a heap.
     order: Vec<u32>,
-    /// The place of each state in `order`.
+    /// The index of each state in `order`.
     places: Vec<u32>,
     /// The number of queued states.
     len: usize,
@@ -20,7 +20,7 @@ pub(crate) struct Queue {
     ghost within: { len ≤ length order.items },
 }
 
-/// Exchanges the states at two places of the order.
+/// Exchanges the states at two indices of the order.
 fn exchange(order: &mut [u32], places: &mut [u32], first: usize, second: usize)
     requires order { IsOrder order.old places.old }
     requires first { first < length order.old }
@@ -56,7 +56,8 @@ fn move_up(order: &mut [u32], places: &mut [u32], values: &[u64], start: usize)
     }
 }
 
-/// The child of a place whose state has the lesser value, if the place has a child among the first `len` places.
+/// Returns the child of index `place` in the heap whose state has the lesser value, if there is a child below index
+/// `len`.
 fn lesser_below(order: &[u32], values: &[u64], len: usize, place: usize) -> Option<usize>
     requires small { length order.now ≤ 2 ^ 24 }
     requires states { (k : ℕ) → k < length order.now → slice_index order.now k < length values.now }
@@ -75,7 +76,7 @@ fn lesser_below(order: &[u32], values: &[u64], len: usize, place: usize) -> Opti
     Some(left)
 }
 
-/// Moves the first state down in the heap of the first `len` places, past states with a lesser value.
+/// Moves the first state down in the heap of the first `len` indices, past states with a lesser value.
 fn move_down(order: &mut [u32], places: &mut [u32], values: &[u64], len: usize)
     requires order { IsOrder order.old places.old }
     requires values { length values.now ≡ length places.old }
@@ -96,7 +97,7 @@ fn move_down(order: &mut [u32], places: &mut [u32], values: &[u64], len: usize)
     }
 }
 
-/// The numbers below the size, in order. Fails only if allocation fails.
+/// Returns the numbers below the size, in order.
 fn numbers_below(alloc: Global, size: usize) -> Result<Vec<u32>, AllocError>
     requires { size ≤ 2 ^ 24 }
     ensures len { IfOk result (λ numbers. length numbers.items ≡ size) }
@@ -112,7 +113,7 @@ fn numbers_below(alloc: Global, size: usize) -> Result<Vec<u32>, AllocError>
 impl Queue {
     ghost use Rattle.pdb.specs.Queues.{size_of, IsQueued, IsAbsent, HasAdded, HasTaken};
 
-    /// Makes an empty queue for the states below the size. Fails only if allocation fails.
+    /// Makes an empty queue for the states below the size.
     pub(crate) fn new(alloc: Global, size: usize) -> Result<Queue, AllocError>
         requires { size ≤ 2 ^ 24 }
         ensures size { IfOk result (λ queue. size_of queue ≡ size) }

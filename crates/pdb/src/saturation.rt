@@ -12,7 +12,7 @@ use cert_value::Values;
 use pdb_walks::{BackwardAbstraction, BackwardTransitions, Transition};
 use std::alloc::{AllocError, Global};
 
-/// The amount by which `value` is below the value of a state, and 0 if it is not below or that value is infinite.
+/// Returns by how much `value` is below the value of a state, and 0 if it is not below or that value is infinite.
 fn fall_from(values: &Values, state: usize, value: u64) -> u32
     requires state { state < length values.now }
     requires small { fall (value_in values.now state) (Finite value) < 2 ^ 32 }
@@ -24,8 +24,8 @@ fn fall_from(values: &Values, state: usize, value: u64) -> u32
     }
 }
 
-/// Raises the numbers of the classes to the falls of the values over the transitions into one state. The lists are
-/// buffers for these transitions and for what lists them. Fails only if allocation fails.
+/// Raises the numbers of the classes to the decreases of the values over the transitions into one state. `digits` and
+/// `entering` are buffers.
 fn cover<T: BackwardTransitions>(
     transitions: &T,
     values: &Values,
@@ -58,7 +58,8 @@ fn cover<T: BackwardTransitions>(
     Ok(())
 }
 
-/// The first class from `first` on whose number is below its least share, or the number of classes if there is none.
+/// Returns the first class from `first` on whose number is below its least share, or the number of classes if there is
+/// none.
 fn first_below(greatest: &[u32], least: &[u32], first: usize) -> usize
     requires len { length least.now ≡ length greatest.now }
     requires first { first ≤ length greatest.now }
@@ -75,9 +76,9 @@ fn first_below(greatest: &[u32], least: &[u32], first: usize) -> usize
     greatest.len()
 }
 
-/// Raises the numbers of the classes to the falls of the values over all transitions. It ends as soon as each number is
-/// the least share of its class, since no fall is greater. The lists are buffers for `cover`. Fails only if allocation
-/// fails.
+/// Raises the numbers of the classes to the decreases of the values over all transitions. It ends as soon as each
+/// number is the least share of its class, since no decrease is greater. `digits` and the list of transitions are
+/// buffers for `cover`.
 fn cover_all<T: BackwardTransitions>(
     transitions: &T,
     values: &Values,
@@ -107,8 +108,8 @@ fn cover_all<T: BackwardTransitions>(
     Ok(())
 }
 
-/// The greatest fall of the values over the transitions of each class. `least` has the least share of each class, which
-/// no fall exceeds. Fails only if allocation fails.
+/// Returns the greatest decrease of the values over the transitions of each class. `least` has the least share of each
+/// class, which no decrease exceeds.
 fn greatest_falls<T: BackwardTransitions>(
     alloc: Global,
     transitions: &T,
@@ -139,9 +140,9 @@ fn greatest_falls<T: BackwardTransitions>(
 }
 
 /// Returns the saturated cost function of a table: for each operator of the task, in order, the least share that
-/// preserves the distances (Seipp, Keller and Helmert 2020). It is the greatest fall of the values over the operator's
-/// transitions, from a finite value to a lesser one, and 0 if there is none. `values` must be the distances under
-/// `shares`, which has one share for each operator. Fails only if allocation fails.
+/// preserves the distances (Seipp, Keller and Helmert 2020). It is the greatest decrease of the values over the
+/// operator's transitions, from a finite value to a lesser one, and 0 if there is none. `values` must be the distances
+/// under `shares`, which has one share for each operator.
 pub fn saturate<A: BackwardAbstraction>(
     alloc: Global,
     abstraction: &A,

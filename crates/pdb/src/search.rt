@@ -22,7 +22,8 @@ const GREATEST_SHARE: u32 = 2_147_483_647;
 /// The value of an abstract state from which no walk to an abstract goal has been found.
 const UNREACHED: u64 = 18_446_744_073_709_551_615;
 
-/// Sets the values of the abstract goals to 0 and queues them. Before, no state has a value and the queue is empty.
+/// Sets the values of the abstract goals to 0 and queues them. No state may have a value before, and the queue must be
+/// empty.
 fn add_goals<A: BackwardAbstraction>(abstraction: &A, values: &mut [u64], queue: &mut Queue)
     requires size { length values.old ≡ (A.abstraction abstraction.now).size }
     requires queue_size { size_of queue.old ≡ (A.abstraction abstraction.now).size }
@@ -50,8 +51,8 @@ fn lower(values: &mut [u64], queue: &mut Queue, state: usize, value: u64)
     }
 }
 
-/// Relaxes all transitions into a state: lowers the values of the states that they come from. `least` has the share of each
-/// class of operators. The lists are buffers for the transitions and for what lists them. Fails only if allocation fails.
+/// Relaxes all transitions into a state: lowers the values of the states that they come from. `least` has the share of
+/// each class of operators. `digits` and `entering` are buffers.
 fn expand<T: BackwardTransitions>(
     transitions: &T,
     least: &[u32],
@@ -78,8 +79,7 @@ fn expand<T: BackwardTransitions>(
     Ok(())
 }
 
-/// Removes states from the queue and relaxes the transitions into them until the queue is empty. Fails only if
-/// allocation fails.
+/// Removes states from the queue and relaxes the transitions into them until the queue is empty.
 fn settle<T: BackwardTransitions>(
     alloc: Global,
     transitions: &T,
@@ -111,7 +111,7 @@ fn settle<T: BackwardTransitions>(
     Ok(())
 }
 
-/// The values as distances. Fails only if allocation fails.
+/// Returns the values as distances.
 fn as_distances(alloc: Global, values: &[u64]) -> Result<Values, AllocError>
     ensures { IfOk result (λ distances. distances ≡ map kept_distance values.now) }
 {
@@ -124,7 +124,7 @@ fn as_distances(alloc: Global, values: &[u64]) -> Result<Values, AllocError>
 
 /// Returns the distance of each abstract state, in order: the least total of shares over the walks from it to an
 /// abstract goal, and infinite if there is no walk. `shares` has a share below 2^31 for each operator of the task, in
-/// order. Finite distances are at most 2^55. Fails only if allocation fails.
+/// order. Finite distances are at most 2^55.
 ///
 /// This is a search backwards from the goals (Dijkstra 1959; for pattern databases Culberson and Schaeffer 1998). It
 /// takes 16 bytes for each abstract state, besides the result and the buffers of one expansion.

@@ -1,4 +1,4 @@
--- The transitions of a domain abstraction, listed by the abstract state into which they lead.
+-- The transitions of a domain abstraction, listed by the abstract state that they enter.
 use Rattle.std.specs.Prelude.{◌≡◌, ℕ, ◌*◌, ◌^◌, ◌<◌, ◌≤◌, ◌↔◌, ◌⊎◌, Bool, true, false, if◌then◌else◌, List, [], length, Option, Some, None, slice_index_or, Contains}
 use Rattle.std.proofs.Common.{refl, sym, ◌∙◌, ⊎_elim, cond}
 use Rattle.std.proofs.lemmas.Bool.{cases_lt, false≢true}
@@ -16,7 +16,7 @@ use Rattle.pdb_walks.specs.declared.backward.Transition.{Transition}
 abbrev pub abstraction_of : Domain → Abstraction
 abstraction_of d = domain d.task d.rows
 
--- each operator that touches the abstraction is a class of its own, with the operator's number
+-- each operator that affects the abstraction is a class of its own, with the operator's number
 abbrev pub class_by : Abstraction → ℕ → Option ℕ
 class_by a o = if a.touches o then Some o else None
 
@@ -28,7 +28,8 @@ pub record AreLists (a : Abstraction) (classes : Classes) (lists : List (List Tr
   pub as_long : length lists ≡ a.size
   pub entering : (j : ℕ) → j < a.size → AreEntering a classes j (slice_index_or lists j [])
 
--- the operator is one of the first n, touches the abstraction, and leads from the source to the abstract state
+-- the operator is one of the first n, affects the abstraction, and has a transition from the source to the abstract
+-- state
 pub record IsListed (a : Abstraction) (n j : ℕ) (t : Transition) : Type 0 where
   pub before : t.class < n
   pub touches : a.touches t.class ≡ true
@@ -39,7 +40,7 @@ pub record AreListed (a : Abstraction) (n : ℕ) (lists : List (List Transition)
   pub as_long : length lists ≡ a.size
   pub listed : (j : ℕ) (t : Transition) → j < a.size → Contains (slice_index_or lists j []) t ↔ IsListed a n j t
 
--- it is the operator with the number n, and leads from one of the first k abstract states
+-- it is a transition of the operator with the number n, from one of the first k abstract states
 pub record IsLatest (a : Abstraction) (n k j : ℕ) (t : Transition) : Type 0 where
   pub class : t.class ≡ n
   pub before : t.source < k
@@ -57,7 +58,7 @@ pub record IsConditionOf (d : Domain) (n : ℕ) (condition : ClassDigit) : Type 
   pub digit : IsDigitBelow (2 ^ 24) condition.digit
   pub divides : (q : ℕ) × ((abstraction_of d).size ≡ q * (condition.digit.range * condition.digit.weight))
 
--- an operator with a class touches the abstraction, and has its own number as its class
+-- an operator with a class affects the abstraction, and has its own number as its class
 pub class_told : (a : Abstraction) (o c : ℕ) → class_by a o ≡ Some c → (a.touches o ≡ true) × (o ≡ c)
 class_told a o c e = go (a.touches o) e
   where
@@ -72,7 +73,7 @@ class_untold a o e = go (a.touches o) e
     go true e = absurd (none-some o (sym e))
     go false e = refl
 
--- an operator that touches the abstraction is one of the task
+-- an operator that affects the abstraction is one of the task
 pub touching_exists : (d : Domain) (o : ℕ) → (abstraction_of d).touches o ≡ true → o < length d.task.operators
 touching_exists d o e =
     ⊎_elim (λ (l : o < length d.task.operators). l) (λ (past : length d.task.operators ≤ o). absurd (false≢true (none past))) (cases_lt o (length d.task.operators))
@@ -80,7 +81,7 @@ touching_exists d o e =
     none : length d.task.operators ≤ o → false ≡ true
     none past = rw (slice_get_past d.task.operators o past) at e
 
--- operators of one class are the same, and those without a class lead from abstract states to themselves
+-- operators of one class are the same, and those without a class have transitions only from an abstract state to itself
 pub domain_grouped : (d : Domain) → AreClasses (abstraction_of d) (classes_of d)
 domain_grouped d =
     record {

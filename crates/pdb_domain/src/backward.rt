@@ -12,8 +12,8 @@ use std::marker::Model;
 /// A domain abstraction whose transitions can be followed backwards (regression). In contracts its value is the domain
 /// abstraction.
 ///
-/// It keeps each transition of each operator that touches the abstraction, in the list of the abstract state into which it
-/// leads: 8 bytes a transition, and 24 bytes an abstract state. Each such operator is a class of its own.
+/// It stores each transition of each operator that affects the abstraction, in the list of the abstract state that it
+/// enters: 8 bytes a transition, and 24 bytes an abstract state. Each such operator is a class of its own.
 #[derive(Drop)]
 pub struct BackwardDomain<'a> {
     domain: &'a DomainAbstraction<'a>,
@@ -33,10 +33,10 @@ impl<'a> Model for BackwardDomain<'a> {
 }
 
 impl<'a> BackwardDomain<'a> {
-    /// Prepares a domain abstraction. Each operator that touches the abstraction is tried on the abstract states that have
-    /// the class of its precondition on the variable with the most classes, or on all of them if it has no precondition on
-    /// a variable with a row. So time is linear in the number of abstract states that are tried, times the length of the
-    /// operators' preconditions and effects. Fails only if allocation fails.
+    /// Prepares a domain abstraction. Each operator that affects the abstraction is tried on the abstract states that
+    /// have the class of its precondition on the variable with the most classes, or on all of them if it has no
+    /// precondition on a variable with a row. So time is linear in the number of abstract states that are tried, times
+    /// the length of the operators' preconditions and effects.
     pub fn new(
         alloc: Global,
         domain: &'a DomainAbstraction<'a>,

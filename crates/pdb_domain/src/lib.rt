@@ -1,4 +1,4 @@
-//! Domain abstractions followed backwards: which operators lead into an abstract state, and from which abstract states.
+//! Domain abstractions followed backwards: which operators enter an abstract state, and from which abstract states.
 #![tactic(auto)]
 
 mod backward;

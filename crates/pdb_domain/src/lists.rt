@@ -1,4 +1,4 @@
-//! The transitions of a domain abstraction, listed by the abstract state into which they lead.
+//! The transitions of a domain abstraction, listed by the abstract state that they enter.
 
 ghost use Rattle.std.specs.Prelude.{◌≡◌, true, [], ◌∷◌, ◌++◌, ◌+◌, ◌^◌, ◌<◌, ◌≤◌, ◌⊎◌, length, replicate, slice_set, slice_get, slice_index_or, Some, IfOk, OnOk, IfSome};
 ghost use Rattle.fdr.specs.Tasks.{ranges, IsOperator};
@@ -26,7 +26,7 @@ impl Model for TransitionList {
     ghost view = { λ l. l.transitions.items };
 }
 
-/// This number of empty lists. Fails only if allocation fails.
+/// Returns `count` empty lists.
 fn empty_lists(alloc: Global, count: usize) -> Result<Vec<TransitionList>, AllocError>
     ensures { IfOk result (λ lists. lists.items ≡ replicate count []) }
 {
@@ -39,7 +39,7 @@ fn empty_lists(alloc: Global, count: usize) -> Result<Vec<TransitionList>, Alloc
     Ok(lists)
 }
 
-/// Appends a transition to the list at a place. Fails only if allocation fails.
+/// Appends a transition to the list at index `place`.
 fn append(
     lists: &mut [TransitionList],
     place: usize,
@@ -54,7 +54,7 @@ fn append(
     Ok(())
 }
 
-/// Of two conditions the one on the variable with more classes.
+/// Returns, of two conditions, the one on the variable with more classes, and the first if they are equally many.
 fn wider(condition: Option<ClassDigit>, other: Option<ClassDigit>) -> Option<ClassDigit>
     ensures { (result ≡ condition) ⊎ (result ≡ other) }
 {
@@ -65,7 +65,7 @@ fn wider(condition: Option<ClassDigit>, other: Option<ClassDigit>) -> Option<Cla
     }
 }
 
-/// The operator with this number, if there is one.
+/// Returns the operator with this number, if there is one.
 fn operator_at<'b>(domain: &'b DomainAbstraction<'_>, number: usize) -> Option<&'b Operator>
     ensures operator { IfSome result (λ op. slice_get domain.now.task.operators number ≡ Some op.now) }
     ensures within { IfSome result (λ op. IsOperator (ranges domain.now.task) op.now) }
@@ -73,7 +73,7 @@ fn operator_at<'b>(domain: &'b DomainAbstraction<'_>, number: usize) -> Option<&
     domain.task().operators().get(number)
 }
 
-/// A condition of the operator with this number on a variable that has a row, of these the one on the variable with the
+/// Returns a condition of the operator with this number on a variable that has a row: the one on the variable with the
 /// most classes, or `None` if it has none.
 fn condition_of(domain: &DomainAbstraction<'_>, number: usize) -> Option<ClassDigit>
     ensures { IfSome result (λ condition. IsConditionOf domain.now number condition) }
@@ -86,8 +86,7 @@ fn condition_of(domain: &DomainAbstraction<'_>, number: usize) -> Option<ClassDi
     condition
 }
 
-/// Appends the transitions of an operator from these abstract states, from the first to before the last, to the lists of
-/// those into which they lead. Fails only if allocation fails.
+/// Appends the transitions of an operator from the abstract states `first..last` to the lists of those that they enter.
 fn append_between(
     domain: &DomainAbstraction<'_>,
     operator: usize,
@@ -113,8 +112,8 @@ fn append_between(
     Ok(())
 }
 
-/// Appends the transitions of an operator with this condition, which only abstract states with the condition's class can
-/// have. Fails only if allocation fails.
+/// Appends the transitions of an operator with this condition, which only abstract states with the condition's class
+/// can have.
 fn append_where(
     domain: &DomainAbstraction<'_>,
     operator: usize,
@@ -136,8 +135,7 @@ fn append_where(
     Ok(())
 }
 
-/// Appends the transitions of an operator to the lists of the abstract states into which they lead. Fails only if
-/// allocation fails.
+/// Appends the transitions of an operator to the lists of the abstract states that they enter.
 fn append_operator(
     domain: &DomainAbstraction<'_>,
     operator: usize,
@@ -154,8 +152,7 @@ fn append_operator(
     }
 }
 
-/// Lists the transitions of all operators that touch the abstraction by the abstract state into which they lead. Fails only
-/// if allocation fails.
+/// Lists the transitions of all operators that affect the abstraction by the abstract state that they enter.
 pub(crate) fn lists_of(
     alloc: Global,
     domain: &DomainAbstraction<'_>,

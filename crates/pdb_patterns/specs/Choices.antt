@@ -5,23 +5,23 @@ use Rattle.fdr.specs.Tasks.{FiniteDomainTask, ranges}
 use Rattle.abstraction_domain.specs.Rows.{are_numbered}
 use Rattle.abstraction_mapping.specs.Mappings.{Mapping, Pattern, Domains, variables_of, abstraction_by, is_mapping}
 
--- where there are rows, their classes are numbered in the order in which they first stand there
+-- the classes of rows are numbered in the order of their first occurrences
 abbrev pub HasNumberedClasses : Mapping → Type 0
 HasNumberedClasses (Pattern pattern) = Unit {0}
 HasNumberedClasses (Domains rows) = All (λ r. are_numbered r.classes ≡ true) rows
 
--- a mapping of the task that keeps something of at least one variable, with at most `limit` abstract states
+-- a mapping of the task with at least one variable and at most `limit` abstract states
 pub record IsMappingWithin (task : FiniteDomainTask) (limit : ℕ) (m : Mapping) : Type 0 where
   pub mapping : is_mapping task m ≡ true
   pub within : (abstraction_by task m).size ≤ limit
   pub some : variables_of m ≢ []
   pub numbered : HasNumberedClasses m
 
--- the mapping keeps something of the variable
+-- the mapping has the variable
 abbrev pub keeps : ℕ → Mapping → Bool
 keeps variable m = list_any (λ v. v == variable) (variables_of m)
 
--- each variable of the goal of which a table within the limit can keep something is kept by one of the mappings
+-- each variable of the goal that a table within the limit can have is in one of the mappings
 abbrev pub KeepGoal : FiniteDomainTask → ℕ → List Mapping → Type 0
 KeepGoal task limit mappings = All (λ f. ((2 ≤ limit) ⊎ (slice_index (ranges task) f.variable ≤ limit)) → list_any (keeps f.variable) mappings ≡ true) task.goal
 

@@ -15,10 +15,10 @@ use abstraction_mapping::Mapping;
 use fdr::FdrTask;
 use std::alloc::{AllocError, Global};
 
-/// The greatest number of mappings that are chosen.
+/// The greatest number of chosen mappings.
 pub const MAX_MAPPINGS: usize = 64;
 
-/// For each variable, the value that the goal asks for, if it names the variable.
+/// Returns for each variable the value that the goal requires, if the goal names the variable.
 fn goal_values(alloc: Global, task: &FdrTask) -> Result<Vec<Option<u32>>, AllocError>
     ensures as_many { IfOk result (λ values. length values.items ≡ length task.now.value_names) }
     ensures named { IfOk result (λ values. All (λ f. is_some (slice_index_or values.items f.variable None) ≡ true) task.now.goal) }
@@ -30,7 +30,7 @@ fn goal_values(alloc: Global, task: &FdrTask) -> Result<Vec<Option<u32>>, AllocE
     Ok(values)
 }
 
-/// Whether one of the mappings is the same as this one.
+/// Returns whether one of the mappings is the same as this one.
 fn has_mapping(mappings: &[Mapping], mapping: &Mapping) -> bool
     ensures none { result ≡ false → All (λ m. mapping_of m ≢ mapping_of mapping.now) mappings.now }
     ensures one { result ≡ true → (p : MappingOf → Bool) → p (mapping_of mapping.now) ≡ true → list_any p (map mapping_of mappings.now) ≡ true }
@@ -59,7 +59,7 @@ fn push_mapping(mappings: &mut Vec<Mapping>, mapping: Mapping) -> Result<(), All
     Ok(())
 }
 
-/// The pattern of this variable alone. Fails only if allocation fails.
+/// Returns the pattern of this variable alone.
 fn alone(
     alloc: Global,
     task: &FdrTask,
@@ -77,7 +77,7 @@ fn alone(
     Ok(pattern)
 }
 
-/// The pattern that grows from a variable whose range is within the limit, with that variable. Fails only if allocation fails.
+/// Returns the pattern that grows from a variable whose range is within the limit. It contains that variable.
 fn pattern_from(
     alloc: Global,
     task: &FdrTask,
@@ -95,12 +95,12 @@ fn pattern_from(
     if pattern.iter().any(|variable| *variable as usize == first) {
         return Ok(pattern);
     }
-    // growth keeps the variable that it starts with, but its contract does not say so
+    // only for the proof: growth retains the variable that it starts with, but its contract does not say so
     alone(alloc, task, first, limit)
 }
 
-/// The mapping that begins with a variable of which the goal asks for the value `goal`: a pattern that grows from it if its range is
-/// within the limit, and else classes of its values, or `None` if the limit is 1 too. Fails only if allocation fails.
+/// Returns the mapping that begins with a variable for which the goal requires the value `goal`: a pattern that grows
+/// from it if its range is within the limit, and else classes of its values, or `None` if the limit is moreover 1.
 fn mapping_from(
     alloc: Global,
     task: &FdrTask,
@@ -130,17 +130,16 @@ fn mapping_from(
     Ok(Some(Mapping::Domains(rows)))
 }
 
-/// Chooses the mappings whose tables guide the search, each with at most `limit` abstract states. The limit must be from 1
-/// to 2^24. There are at most 64 mappings, each keeps something of at least one variable, and no two are the same. Fails
-/// only if allocation fails.
+/// Chooses the mappings whose tables guide the search, each with at most `limit` abstract states. The limit must be
+/// from 1 to 2^24. There are at most 64 mappings, each has at least one variable, and no two are the same.
 ///
 /// For each variable of the goal, in order, whose range is within the limit, a pattern starts with it and grows along
 /// the causal graph (Helmert 2006): the least variable is added that occurs in a precondition of an operator with an
-/// effect on the pattern and keeps the pattern within the limit, until there is none. A variable whose range is past the
-/// limit gives a domain abstraction of that variable alone, if the limit is at least 2: the first `limit - 2` values other
-/// than the goal's value, and the goal's value, have classes of their own, and all the rest share one. The contract
-/// specifies that a mapping keeps something of each variable of the goal, if the limit is at least 2 or the variable has
-/// one value, unless there are 64 mappings; it does not specify which other variables a pattern has.
+/// effect on the pattern and leaves the pattern within the limit, until there is none. For a variable whose range
+/// exceeds the limit there is a domain abstraction of that variable alone, if the limit is at least 2: the first `limit
+/// - 2` values other than the goal's value, and the goal's value, have classes of their own, and all the rest share
+/// one. The contract specifies that each variable of the goal is in a mapping, if the limit is at least 2 or the
+/// variable has one value, unless there are 64 mappings; it does not specify which other variables a pattern has.
 pub fn choose_mappings(
     alloc: Global,
     task: &FdrTask,

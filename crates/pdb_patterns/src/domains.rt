@@ -8,7 +8,7 @@ ghost use Rattle.pdb_patterns.specs.GoalClasses.{AreGoalClasses, goal_class};
 use abstraction_domain::ClassRow;
 use std::alloc::{AllocError, Global};
 
-/// The class of a value of a variable of which the goal asks for the value `goal`.
+/// Returns the class of a value of a variable for which the goal requires the value `goal`.
 fn class_of(limit: usize, goal: usize, value: usize) -> u32
     requires some { 2 ≤ limit }
     requires small { limit ≤ 2 ^ 24 }
@@ -25,7 +25,7 @@ fn class_of(limit: usize, goal: usize, value: usize) -> u32
     class as u32
 }
 
-/// The classes of this many values. Fails only if allocation fails.
+/// Returns the classes of `range` values.
 fn classes_of(
     alloc: Global,
     limit: usize,
@@ -43,9 +43,8 @@ fn classes_of(
     Ok(classes)
 }
 
-/// The row of a variable with this many values, of which the goal asks for the value `goal`: the first `limit - 2` values
-/// other than the goal's value, and the goal's value, have classes of their own, and all the rest share one. Fails only if
-/// allocation fails.
+/// Returns the row of a variable with `range` values, for which the goal requires the value `goal`: the first `limit -
+/// 2` values other than the goal's value, and the goal's value, have classes of their own, and all the rest share one.
 pub(crate) fn goal_row(
     alloc: Global,
     variable: usize,

@@ -3,7 +3,7 @@
 use fdr::{FdrTask, Operator};
 use std::alloc::{AllocError, Global};
 
-/// An operator has an effect on a variable. Both are given by their numbers.
+/// An effect of an operator on a variable. Both are denoted by their numbers.
 #[derive(Clone, Copy, PartialEq, Eq, PartialOrd, Ord)]
 pub(crate) struct Effect {
     pub(crate) variable: usize,
@@ -25,7 +25,7 @@ fn push_effects(
     Ok(())
 }
 
-/// The effects of all operators, ordered by variable and then by operator.
+/// Returns the effects of all operators, ordered by variable and then by operator.
 pub(crate) fn effects_of(alloc: Global, task: &FdrTask) -> Result<Vec<Effect>, AllocError> {
     let mut effects = Vec::new(alloc);
     for (number, operator) in task.operators().iter().enumerate() {

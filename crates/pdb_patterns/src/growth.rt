@@ -53,7 +53,7 @@ fn name_causes(
     least
 }
 
-/// The first named variable from `from` on.
+/// Returns the first named variable from `from` on.
 fn next_named(standings: &[Standing], from: usize) -> Option<usize>
     ensures { IfSome result (λ v. v < length standings.now) }
 {
@@ -65,7 +65,7 @@ fn next_named(standings: &[Standing], from: usize) -> Option<usize>
     None
 }
 
-/// The number of abstract states with one more variable, if it is within the limit.
+/// Returns the number of abstract states with one more variable, if it is within the limit.
 fn larger_size(task: &FdrTask, variable: usize, size: usize, limit: usize) -> Option<usize>
     requires { variable < length task.now.value_names }
     ensures { IfSome result (λ larger. (larger ≡ slice_index (ranges task.now) variable * size) × (larger ≤ limit)) }
@@ -76,8 +76,7 @@ fn larger_size(task: &FdrTask, variable: usize, size: usize, limit: usize) -> Op
     }
 }
 
-/// The variables that were taken, in order, as far as they have at most `limit` abstract states. Fails only if allocation
-/// fails.
+/// Returns the variables that were taken, in order, as long as they have at most `limit` abstract states.
 #[tactic(auto, using(crate::proofs::Longer::pattern_longer, crate::proofs::Longer::below_longer, crate::proofs::Longer::size_longer))]
 fn taken(
     alloc: Global,
@@ -103,9 +102,9 @@ fn taken(
     Ok(pattern)
 }
 
-/// The pattern that starts with a variable whose range is within the limit. The least variable is added that occurs in
-/// a precondition of an operator with an effect on the pattern and keeps the number of abstract states within the
-/// limit, until there is none.
+/// Returns the pattern that starts with a variable whose range is within the limit. The least variable is added that
+/// occurs in a precondition of an operator with an effect on the pattern and keeps the number of abstract states within
+/// the limit, until there is none.
 pub(crate) fn grow(
     alloc: Global,
     task: &FdrTask,

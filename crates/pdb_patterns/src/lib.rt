@@ -1,4 +1,5 @@
-//! The choice of abstraction mappings for the tables of a task: patterns, and classes of the values of single variables.
+//! The choice of abstraction mappings for the tables of a task: patterns, and classes of the values of single
+//! variables.
 #![tactic(auto)]
 
 mod choice;

@@ -18,26 +18,26 @@ change_by None (Some e) = Assigned e
 abbrev pub change_of : Operator → ℕ → Change
 change_of op v = change_by (value_in op.precondition v) (value_in op.effect v)
 
--- the changes of the values of a pattern, which has these digits
+-- the changes of the values of a pattern with these digits
 abbrev pub changes_of : Operator → List Digit → List ℕ → List DigitChange
 changes_of op [] ps = []
 changes_of op (d ∷ ds) [] = []
 changes_of op (d ∷ ds) (p ∷ ps) = record { digit = d; change = change_of op p } ∷ changes_of op ds ps
 
--- the change leads from the first value to the second
+-- the change turns the first value into the second
 abbrev pub LeadsAt : Change → ℕ → ℕ → Type 0
 LeadsAt Kept x y = x ≡ y
 LeadsAt (Required c) x y = (x ≡ c) × (y ≡ c)
 LeadsAt (Moved from to) x y = (x ≡ from) × (y ≡ to)
 LeadsAt (Assigned e) x y = y ≡ e
 
--- each change leads from the value at its place of the first number, the lowest first, to the value of the abstract
--- state at its digit
+-- each change turns the value at its digit in number `i`, whose lowest digit is that of the first change, into the
+-- value of abstract state `j` at its digit
 abbrev pub LeadsBy : List DigitChange → ℕ → ℕ → Type 0
 LeadsBy [] i j = i ≡ 0
 LeadsBy (c ∷ cs) i j = LeadsAt c.change (i % c.digit.range) (value_of c.digit j) × LeadsBy cs (i / c.digit.range) j
 
--- whether the change leads to the value from some value
+-- whether the change results in the value from some value
 abbrev pub enters_at : Change → ℕ → Bool
 enters_at Kept y = true
 enters_at (Required c) y = y == c
@@ -47,14 +47,14 @@ enters_at (Assigned e) y = y == e
 abbrev pub enters_digit : ℕ → DigitChange → Bool
 enters_digit j c = enters_at c.change (value_of c.digit j)
 
--- the value that the variable has to have after the change, if there is one
+-- the value that the variable must have after the change, if there is one
 abbrev pub asked : Change → Option ℕ
 asked Kept = None
 asked (Required c) = Some c
 asked (Moved from to) = Some to
 asked (Assigned e) = Some e
 
--- the value that the effect puts there, and the one that it replaces, where they are known, and else 0
+-- the value that the effect sets, and the one that it replaces, if they are known, and else 0
 abbrev pub put_at : Change → ℕ
 put_at Kept = 0
 put_at (Required c) = 0

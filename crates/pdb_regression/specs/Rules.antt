@@ -11,7 +11,7 @@ abbrev pub unpacked : ℕ → List Digit → List ℕ
 unpacked n [] = []
 unpacked n (d ∷ ds) = n % d.range ∷ unpacked (n / d.range) ds
 
--- what the effects put into the number, and what they take from it, in units of the first digit
+-- what the effects add to the number, and what they subtract from it, in units of the first digit
 abbrev pub put_by : List DigitChange → ℕ
 put_by [] = 0
 put_by (c ∷ cs) = put_at c.change + c.digit.range * put_by cs

@@ -1,4 +1,4 @@
--- The classes of operators, and the lists that answer which of them lead into an abstract state.
+-- The classes of operators, and the lists by which those that enter an abstract state are found.
 use Rattle.std.specs.Prelude.{◌≡◌, ℕ, ◌*◌, ◌^◌, ◌<◌, ◌≤◌, Bool, true, false, if◌then◌else◌, List, [], ◌∷◌, ◌++◌, ◌⊎◌, length, map, Option, Some, None, IsSomeAnd, All, Contains, slice_get, slice_index, slice_index_or}
 use Rattle.std.specs.List.{list_all}
 use Rattle.std.specs.Option.{option_map_or}
@@ -16,19 +16,19 @@ use Rattle.pdb_regression.specs.Changes.{changes_of, LeadsBy, enters_digit, IsFi
 
 -- ---- the changes by each operator
 
--- the changes of an operator that touches the pattern, and none for the others
+-- the changes of an operator that affects the pattern, and none for the others
 abbrev pub changes_in : Projection → Operator → List DigitChange
 changes_in p op = if touches_pattern p.pattern op then changes_of op (digits_from (ranges p.task) 1 p.pattern) p.pattern else []
 
--- whether each change leads from some value to the value of the abstract state
+-- whether each change results in the value of the abstract state from some value
 abbrev pub enters : List (List DigitChange) → ℕ → ℕ → Bool
 enters rules j c = option_map_or (λ changes. list_all (enters_digit j) changes) (slice_get rules c) false
 
--- the changes of the class lead from the first abstract state to the second
+-- the changes of the class turn the first abstract state into the second
 abbrev pub LeadsIn : List (List DigitChange) → ℕ → ℕ → ℕ → Type 0
 LeadsIn rules c i j = IsSomeAnd (slice_get rules c) (λ changes. LeadsBy changes i j)
 
--- each digit's weight is the product of the ranges below it, where the first has this weight
+-- each digit's weight is the product of `w`, the weight of the first, and the ranges below it
 abbrev pub IsChain : ℕ → List DigitChange → Type 0
 IsChain w [] = Unit {0}
 IsChain w (c ∷ cs) = (c.digit.weight ≡ w) × IsChain (w * c.digit.range) cs
@@ -39,7 +39,7 @@ pub record IsRow (changes : List DigitChange) : Type 0 where
   pub small : size_by changes ≤ 2 ^ 24
   pub chain : IsChain 1 changes
 
--- a default where there is no change at a place
+-- the default for an index without a change
 abbrev pub no_change : DigitChange
 no_change = record { digit = record { weight = 0; range = 0 }; change = Kept }
 
@@ -57,7 +57,7 @@ IsPositionIn digits p = slice_get digits p.number ≡ Some p.digit
 abbrev pub positions_of : List Place → List Position
 positions_of places = map (λ p. p.position) places
 
--- the list has the value of the abstract state at the place's digit
+-- the list has the value of the abstract state at this digit
 pub record IsReadAt (values : List ℕ) (j : ℕ) (p : Position) : Type 0 where
   pub within : p.number < length values
   pub value : slice_index values p.number ≡ value_of p.digit j
@@ -67,31 +67,31 @@ pub record IsReadPlainly (digits : List Digit) (places : List Place) : Type 0 wh
   pub none : places ≡ []
   pub plain : All IsPlain digits
 
--- the classes listed under the value of the abstract state at the place
+-- the classes listed under the value of the abstract state at the digit of the `Place`
 abbrev pub list_at : ℕ → Place → List ℕ
 list_at j p = slice_index_or p.lists (value_of p.position.digit j) []
 
--- the class has been added to the place under the value
+-- the class has been added under the value
 pub record IsAdded (old new : Place) (value o : ℕ) : Type 0 where
   pub position : new.position ≡ old.position
   pub kept : (j p : ℕ) → Contains (list_at j old) p → Contains (list_at j new) p
   pub added : (j : ℕ) → value_of old.position.digit j ≡ value → Contains (list_at j new) o
 
--- defaults where there is no place
+-- defaults for an index without a `Place`
 abbrev pub no_position : Position
 no_position = record { number = 0; digit = record { weight = 0; range = 0 } }
 
 abbrev pub no_place : Place
 no_place = record { position = no_position; lists = [] }
 
--- each abstract state into which the changes lead has this value at the place with this number
+-- each abstract state that the changes enter has this value at the digit of the `Place` with this index
 pub record IsKey (places : List Place) (changes : List DigitChange) (place value : ℕ) : Type 0 where
   pub within : place < length places
   pub below : value < (slice_index_or places place no_place).position.digit.range
   pub entered : (j : ℕ) → list_all (enters_digit j) changes ≡ true →
       value_of (slice_index_or places place no_place).position.digit j ≡ value
 
--- at one of the first n places the class is listed under the value of the abstract state
+-- among the first n of `places`, one lists the class under the value of the abstract state
 abbrev pub IsUnder : List Place → ℕ → ℕ → ℕ → Type 0
 IsUnder places n j o = (k : ℕ) × (k < n) × Contains (list_at j (slice_index_or places k no_place)) o
 
@@ -99,7 +99,7 @@ IsUnder places n j o = (k : ℕ) × (k < n) × Contains (list_at j (slice_index_
 abbrev pub IsListed : List ℕ → List Place → ℕ → ℕ → Type 0
 IsListed rest places j o = Contains rest o ⊎ IsUnder places (length places) j o
 
--- each of the first n classes is listed for each abstract state into which it leads
+-- each of the first n classes is listed for each abstract state that it enters
 abbrev pub AreIndexed : List ℕ → List Place → List (List DigitChange) → ℕ → Type 0
 AreIndexed rest places rows n = (o j : ℕ) → o < n → enters rows j o ≡ true → IsListed rest places j o
 

@@ -1,4 +1,4 @@
--- The values at the digits of an abstract state, side by side in a word, and the test of a class on that word.
+-- The values at the digits of an abstract state, packed into a word, and the test of a class on that word.
 use Rattle.std.specs.Prelude.{◌≡◌, ℕ, ◌+◌, ◌-◌, ◌*◌, ◌/◌, ◌%◌, ◌^◌, List, [], ◌∷◌}
 use Rattle.std.specs.Int.Count.{count_leading_zeros}
 use Rattle.abstraction.specs.declared.digit.Digit.{Digit}
@@ -11,7 +11,7 @@ use Rattle.pdb_regression.specs.declared.change.DigitChange.{DigitChange}
 abbrev pub bits_of : ℕ → ℕ
 bits_of range = 64 - count_leading_zeros 64 (range - 1)
 
--- how many numbers these bits hold
+-- how many numbers these bits can represent
 abbrev pub room_of : ℕ → ℕ
 room_of range = 2 ^ bits_of range
 
@@ -34,21 +34,21 @@ abbrev pub word_by : ℕ → List DigitChange → ℕ
 word_by j [] = 0
 word_by j (c ∷ cs) = value_of c.digit j + room_of c.digit.range * word_by j cs
 
--- all bits of a digit where a value is asked of it, and else none
+-- all bits of a digit if a value is required at it, and else none
 abbrev pub mask_at : ℕ → Change → ℕ
 mask_at room Kept = 0
 mask_at room (Required c) = room - 1
 mask_at room (Moved from to) = room - 1
 mask_at room (Assigned e) = room - 1
 
--- the value that is asked, and 0 where none is
+-- the required value, and 0 if there is none
 abbrev pub want_at : Change → ℕ
 want_at Kept = 0
 want_at (Required c) = c
 want_at (Moved from to) = to
 want_at (Assigned e) = e
 
--- the bits of the digits of which a value is asked, and these values there
+-- the bits of the digits at which a value is required, and these values there
 abbrev pub mask_by : List DigitChange → ℕ
 mask_by [] = 0
 mask_by (c ∷ cs) = mask_at (room_of c.digit.range) c.change + room_of c.digit.range * mask_by cs

@@ -28,7 +28,7 @@ pub(crate) struct DigitChange {
     pub(crate) change: Change,
 }
 
-/// The value of the first fact on the variable, if there is one.
+/// Returns the value of the first fact on the variable, if there is one.
 fn value_in(facts: &[Fact], variable: usize) -> Option<u32>
     ensures { result ≡ fact.value_in facts.now variable }
 {
@@ -38,7 +38,7 @@ fn value_in(facts: &[Fact], variable: usize) -> Option<u32>
         .map(|fact| fact.value)
 }
 
-/// The change that the operator makes to the value of the variable.
+/// Returns the change that the operator makes to the value of the variable.
 pub(crate) fn change_of(operator: &Operator, variable: usize) -> Change
     ensures { result ≡ spec.change_of operator.now variable }
 {
@@ -53,7 +53,7 @@ pub(crate) fn change_of(operator: &Operator, variable: usize) -> Change
 }
 
 impl Change {
-    /// Returns the value that the variable has to have after the change, if there is one.
+    /// Returns the value that the variable must have after the change, if there is one.
     pub(crate) fn asked(self) -> Option<u32>
         ensures { result ≡ spec.asked self }
     {
@@ -64,7 +64,7 @@ impl Change {
         }
     }
 
-    /// Returns the value that the variable has to have after the change, and 0 if there is none.
+    /// Returns the value that the variable must have after the change, and 0 if there is none.
     pub(crate) fn want(self) -> u32
         ensures { result ≡ words.want_at self }
     {
@@ -75,7 +75,7 @@ impl Change {
         }
     }
 
-    /// Returns the greatest number below the room if the variable has to have some value after the change, and else 0.
+    /// Returns `room - 1` if the variable must have some value after the change, and else 0.
     pub(crate) fn mask(self, room: u64) -> u64
         requires { 0 < room }
         ensures { result ≡ words.mask_at room self }
@@ -106,7 +106,7 @@ impl Change {
         }
     }
 
-    /// Whether the variable may have any value before the change.
+    /// Returns whether the variable may have any value before the change.
     pub(crate) fn is_free(self) -> bool
         ensures { result ≡ spec.is_free self }
     {
@@ -116,7 +116,7 @@ impl Change {
         }
     }
 
-    /// Whether it is the same change.
+    /// Returns whether it is the same change.
     fn is_same(self, other: Change) -> bool
         ensures { result ≡ true → self ≡ other }
     {
@@ -137,7 +137,7 @@ impl Change {
 }
 
 impl DigitChange {
-    /// Whether it is the same change at the same digit.
+    /// Returns whether it is the same change at the same digit.
     pub(crate) fn is_same(self, other: DigitChange) -> bool
         ensures { result ≡ true → self ≡ other }
     {

@@ -17,8 +17,7 @@ pub(crate) struct Classes {
     pub(crate) class_of: Vec<Option<u32>>,
 }
 
-/// A number that is the same for the same changes, and mostly differs for others (the hash function FNV-1a of Fowler, Noll
-/// and Vo, a number at a time).
+/// Returns a hash of the changes: FNV-1a (Fowler, Noll and Vo), one code of a change at a time.
 fn fingerprint(changes: &[DigitChange]) -> u64 {
     let mut hash: u64 = 14_695_981_039_346_656_037;
     for change in changes {
@@ -27,7 +26,7 @@ fn fingerprint(changes: &[DigitChange]) -> u64 {
     hash
 }
 
-/// A number that differs for different changes.
+/// Returns a code of the change. Different changes of values below 2^30 have different codes.
 fn code(change: Change) -> u64 {
     match change {
         Change::Kept => 0,
@@ -37,7 +36,7 @@ fn code(change: Change) -> u64 {
     }
 }
 
-/// The class that is proposed, if it has these changes.
+/// Returns the proposed class, if it has these changes.
 fn same_class(rules: &[Rule], proposed: Option<u32>, changes: &[DigitChange]) -> Option<u32>
     ensures { IfSome result (λ c. slice_get rules.now c ≡ Some changes.now) }
 {
@@ -48,8 +47,8 @@ fn same_class(rules: &[Rule], proposed: Option<u32>, changes: &[DigitChange]) ->
     }
 }
 
-/// The class of an operator with these changes, which is a new one if no class with them is found, or `None` if there are
-/// no changes. Fails only if allocation fails.
+/// Returns the class of an operator with these changes, which is a new one if no class with them is found, or `None` if
+/// there are no changes.
 fn class_for(
     alloc: Global,
     rules: &mut Vec<Rule>,
@@ -75,8 +74,8 @@ fn class_for(
     Ok(Some(class))
 }
 
-/// The classes of the operators. A class is found by a hash of its changes: operators with the same changes are one class
-/// unless other changes have the same hash. Fails only if allocation fails.
+/// Groups the operators into classes. A class is found by a hash of its changes: operators with the same changes are
+/// one class unless other changes have the same hash.
 pub(crate) fn classes_of(alloc: Global, projection: &Projection<'_>) -> Result<Classes, AllocError>
     ensures grouped { IfOk result (λ made. spec.AreGrouped projection.now made.rules.items made.class_of.items
         (length projection.now.task.operators)) }

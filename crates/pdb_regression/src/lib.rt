@@ -1,4 +1,4 @@
-//! Projections followed backwards: which operators lead into an abstract state, and from which abstract states
+//! Projections followed backwards: which operators enter an abstract state, and from which abstract states
 //! (regression).
 #![tactic(auto)]
 

@@ -1,4 +1,4 @@
-//! The classes of operators, listed by a value that they ask.
+//! The classes of operators, listed by a value that they require.
 
 ghost use Rattle.std.specs.Prelude.{◌≡◌, true, [], ◌<◌, ◌≤◌, ◌^◌, All, IfOk, OnOk, IfSome, length, map, slice_index_or};
 ghost use Rattle.abstraction.specs.Digits.{IsDigitBelow};
@@ -12,7 +12,7 @@ use std::alloc::{AllocError, Global};
 use std::marker::Model;
 
 /// The least range of a digit under whose values classes are listed. Lists under the values of a narrower digit would
-/// still be long, so that looking for them costs more than it saves.
+/// still be long, so that searching them would cost more than it saves.
 const LISTED_RANGE: usize = 4;
 
 /// A digit of the pattern, and its number among the digits, counted from 0.
@@ -55,7 +55,7 @@ impl Model for Place {
     ghost invariant = { λ p. IsDigitBelow (2 ^ 24) p.position.digit × (length p.lists.items ≡ p.position.digit.range) };
 }
 
-/// A place, by its number, and a value there.
+/// The index of a `Place`, and a value at its digit.
 #[derive(Clone, Copy)]
 struct Key {
     place: usize,
@@ -63,7 +63,7 @@ struct Key {
 }
 
 impl Place {
-    /// Makes the place of a digit, without classes. Fails only if allocation fails.
+    /// Makes the `Place` of a digit, without classes.
     fn new(alloc: Global, position: Position) -> Result<Place, AllocError>
         requires { IsDigitBelow (2 ^ 24) position.digit }
         ensures { IfOk result (λ p. p.position ≡ position) }
@@ -93,7 +93,7 @@ impl Place {
         &self.lists[value].numbers
     }
 
-    /// Adds a class under a value. Fails only if allocation fails.
+    /// Adds a class under a value.
     fn add(&mut self, value: usize, class: u32) -> Result<(), AllocError>
         requires { value < self.old.position.digit.range }
         ensures position { self.new.position ≡ self.old.position }
@@ -104,7 +104,7 @@ impl Place {
     }
 }
 
-/// The places of the digits under whose values classes are listed, without classes. Fails only if allocation fails.
+/// Makes a `Place`, without classes, for each of the digits under whose values classes are listed.
 pub(crate) fn places_of(alloc: Global, digits: &[Digit]) -> Result<Vec<Place>, AllocError>
     requires { All (IsDigitBelow (2 ^ 24)) digits.now }
     ensures { IfOk result (λ v. All (IsPositionIn digits.now) (positions_of v.items)) }
@@ -119,7 +119,7 @@ pub(crate) fn places_of(alloc: Global, digits: &[Digit]) -> Result<Vec<Place>, A
     Ok(places)
 }
 
-/// Whether no classes are listed under values, and abstract states are their own words.
+/// Returns whether no classes are listed under values, and abstract states are their own words.
 pub(crate) fn is_read_plainly(digits: &[Digit], places: &[Place]) -> bool
     requires { All (IsDigitBelow (2 ^ 24)) digits.now }
     ensures { result ≡ true → spec.IsReadPlainly digits.now places.now }
@@ -127,7 +127,7 @@ pub(crate) fn is_read_plainly(digits: &[Digit], places: &[Place]) -> bool
     places.is_empty() && is_plain(digits)
 }
 
-/// The place with this number and the value that the class asks at its digit, if it asks one.
+/// Returns the index `place` with the value that the class requires at the digit there, if it requires one.
 fn key_at(places: &[Place], rule: &Rule, place: usize) -> Option<Key>
     requires positions { All (IsPositionIn (map (λ c. c.digit) rule.now)) (positions_of places.now) }
     requires place { place < length places.now }
@@ -142,7 +142,7 @@ fn key_at(places: &[Place], rule: &Rule, place: usize) -> Option<Key>
     })
 }
 
-/// Whether the digit at the place is wider than that of the key, which is so if there is no key.
+/// Returns whether the digit at index `place` is wider than that of the key, which is so if there is no key.
 fn is_wider(places: &[Place], place: usize, key: Option<Key>) -> bool
     requires place { place < length places.now }
     requires key { IfSome key (λ key. key.place < length places.now) }
@@ -155,8 +155,8 @@ fn is_wider(places: &[Place], place: usize, key: Option<Key>) -> bool
     }
 }
 
-/// The place with the widest digit at which the class asks a value, and that value. The wider a digit, the more seldom
-/// an abstract state has the value, and the more seldom the class is tested. Of equally wide digits it is the first.
+/// Returns the key of the widest digit at which the class requires a value. The wider a digit, the more seldom an
+/// abstract state has the value, and the more seldom the class is tested. Of equally wide digits it is the first.
 fn key_of(places: &[Place], rule: &Rule) -> Option<Key>
     requires { All (IsPositionIn (map (λ c. c.digit) rule.now)) (positions_of places.now) }
     ensures { IfSome result (λ key. IsKey places.now rule.now key.place key.value) }
@@ -170,8 +170,8 @@ fn key_of(places: &[Place], rule: &Rule) -> Option<Key>
     widest
 }
 
-/// Adds each class under the value that it asks at the widest of the places where it asks one, or else to the rest. Fails
-/// only if allocation fails.
+/// Adds each class under the value that it requires at the widest of the digits of `places` at which it requires one,
+/// or else to `rest`.
 pub(crate) fn add_classes(
     digits: &[Digit],
     places: &mut [Place],

@@ -12,7 +12,7 @@ use abstraction::Projection;
 use fdr::Operator;
 use std::alloc::{AllocError, Global};
 
-/// The change at each digit of the pattern.
+/// Returns the change at each digit of the pattern.
 fn changes_of(
     alloc: Global,
     projection: &Projection<'_>,
@@ -34,8 +34,8 @@ fn changes_of(
     Ok(changes)
 }
 
-/// The change that an operator makes to each value of the pattern, in the order of the pattern, and no change for an
-/// operator without an effect on the pattern. `touches` says whether it has one. Fails only if allocation fails.
+/// Returns the change that an operator makes to each value of the pattern, in the order of the pattern, and no changes
+/// for an operator without an effect on the pattern. `touches` says whether it has one.
 pub(crate) fn row_of(
     alloc: Global,
     projection: &Projection<'_>,

@@ -21,9 +21,9 @@ use std::marker::Model;
 /// The changes that the operators of a class make to the values of the pattern. In contracts its value is the list of
 /// these changes.
 ///
-/// The operators lead to the abstract states whose word has the bits of `want` among those of `mask`, which are the bits of
-/// the digits of which a value is asked. The number of the abstract state that they come from is greater by `taken` and
-/// less by `put`, and the free digits may have any value there.
+/// The operators enter the abstract states whose word has the bits of `want` among those of `mask`, which are the bits
+/// of the digits at which a value is required. The number of the abstract state that they come from is greater by
+/// `taken` and less by `put`, and the free digits may have any value there.
 #[derive(Drop)]
 pub(crate) struct Rule {
     changes: Vec<DigitChange>,
@@ -46,7 +46,7 @@ impl Model for Rule {
     ghost invariant = { λ r. IsRule r.changes.items r.mask r.want r.put r.taken r.free.items };
 }
 
-/// The bits of the digits of which a value is asked.
+/// Returns the bits of the digits at which a value is required.
 fn mask_by(changes: &[DigitChange]) -> u64
     requires fit { All IsFit changes.now }
     requires small { size_by changes.now ≤ 2 ^ 24 }
@@ -59,7 +59,7 @@ fn mask_by(changes: &[DigitChange]) -> u64
     change.change.mask(room) + room * mask_by(others)
 }
 
-/// The values that are asked, each at the bits of its digit.
+/// Returns the required values, each at the bits of its digit.
 fn want_by(changes: &[DigitChange]) -> u64
     requires fit { All IsFit changes.now }
     requires small { size_by changes.now ≤ 2 ^ 24 }
@@ -72,7 +72,7 @@ fn want_by(changes: &[DigitChange]) -> u64
     u64::from(change.change.want()) + room * want_by(others)
 }
 
-/// Appends the digits that may have any value before. Fails only if allocation fails.
+/// Appends the digits that may have any value before.
 fn add_free(changes: &[DigitChange], free: &mut Vec<Digit>) -> Result<(), AllocError>
     ensures { OnOk result (free.new.items ≡ free.old.items ++ free_in changes.now) }
 {
@@ -85,7 +85,7 @@ fn add_free(changes: &[DigitChange], free: &mut Vec<Digit>) -> Result<(), AllocE
     add_free(others, free)
 }
 
-/// What the effects put into the number of an abstract state.
+/// Returns what the effects add to the number of an abstract state.
 fn put_by(changes: &[DigitChange]) -> usize
     requires fit { All IsFit changes.now }
     requires small { size_by changes.now ≤ 2 ^ 24 }
@@ -97,7 +97,7 @@ fn put_by(changes: &[DigitChange]) -> usize
     change.change.put() as usize + change.digit.range * put_by(others)
 }
 
-/// What the effects take from the number of an abstract state.
+/// Returns what the effects subtract from the number of an abstract state.
 fn taken_by(changes: &[DigitChange]) -> usize
     requires fit { All IsFit changes.now }
     requires small { size_by changes.now ≤ 2 ^ 24 }
@@ -109,7 +109,7 @@ fn taken_by(changes: &[DigitChange]) -> usize
     change.change.taken() as usize + change.digit.range * taken_by(others)
 }
 
-/// Whether the changes are the same.
+/// Returns whether the changes are the same.
 fn are_same(changes: &[DigitChange], others: &[DigitChange]) -> bool
     ensures { result ≡ true → changes.now ≡ others.now }
 {
@@ -124,8 +124,8 @@ fn are_same(changes: &[DigitChange], others: &[DigitChange]) -> bool
     true
 }
 
-/// Appends the transitions of the class from the source, with each multiple of the weight of each free digit added to it.
-/// Fails only if allocation fails.
+/// Appends a transition of the class for each choice of values of the free digits: from `source` plus each value times
+/// its digit's weight.
 fn add_sources(
     class: u32,
     source: usize,
@@ -151,7 +151,7 @@ fn add_sources(
 }
 
 impl Rule {
-    /// Makes the rule of changes, of which there is at least one. Fails only if allocation fails.
+    /// Makes the rule of changes, of which there must be at least one.
     pub(crate) fn new(alloc: Global, changes: Vec<DigitChange>) -> Result<Rule, AllocError>
         requires { IsRow changes.items }
         ensures { IfOk result (λ r. r ≡ changes.items) }
@@ -172,14 +172,14 @@ impl Rule {
         })
     }
 
-    /// Whether the rule is of these changes.
+    /// Returns whether the rule has these changes.
     pub(crate) fn is_of(&self, changes: &[DigitChange]) -> bool
         ensures { result ≡ true → self.now ≡ changes.now }
     {
         are_same(&self.changes, changes)
     }
 
-    /// Returns the value that is asked of the digit with this number, if there is one.
+    /// Returns the value that is required at the digit with this number, if there is one.
     pub(crate) fn asked_of(&self, digit: usize) -> Option<u32>
         requires { digit < length self.now }
         ensures asked { result ≡ asked (slice_index_or self.now digit no_change).change }
@@ -188,14 +188,14 @@ impl Rule {
         self.changes[digit].change.asked()
     }
 
-    /// Whether the abstract state with this word has the values that are asked.
+    /// Returns whether the abstract state with this word has the required values.
     fn enters(&self, word: u64) -> bool
         ensures { result ≡ (bit_and word (words.mask_by self.now) == words.want_by self.now) }
     {
         word & self.mask == self.want
     }
 
-    /// Appends the transitions of the class into the abstract state, which has this word. Fails only if allocation fails.
+    /// Appends the transitions of the class into the abstract state, which has this word.
     pub(crate) fn add_transitions(
         &self,
         class: u32,

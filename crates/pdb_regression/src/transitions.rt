@@ -21,9 +21,9 @@ use std::marker::Model;
 /// The transitions of a projection, by classes of operators that make the same changes to the pattern. In contracts its
 /// value is the projection with these classes.
 ///
-/// The values of an abstract state stand side by side in a word, so that one comparison tells whether a class leads into it,
-/// and the sources come by adding. Classes that ask a value of a digit with many values are listed under it. The rest are
-/// tested for every abstract state.
+/// The values of an abstract state are packed into a word, so that one comparison decides whether a class enters it,
+/// and the sources are computed by additions. Classes that require a value at a digit with many values are listed under
+/// it. The rest are tested for every abstract state.
 #[derive(Drop)]
 pub struct ProjectionTransitions<'a> {
     pub(crate) projection: &'a Projection<'a>,
@@ -59,7 +59,7 @@ impl<'a> Model for ProjectionTransitions<'a> {
         (t.plain ≡ true → IsReadPlainly (digits_from (ranges t.projection.now.task) 1 t.projection.now.pattern) t.places.items) };
 }
 
-/// The rule of a class, if there is such a class.
+/// Returns the rule of a class, if there is such a class.
 fn rule_at(rules: &[Rule], class: u32) -> Option<&Rule>
     ensures rule { IfSome result (λ rule. slice_get rules.now class ≡ Some rule.now) }
     ensures absent { IfNone result (slice_get rules.now class ≡ None) }
@@ -67,8 +67,7 @@ fn rule_at(rules: &[Rule], class: u32) -> Option<&Rule>
     rules.get(class as usize)
 }
 
-/// Appends the transitions of the listed classes into the abstract state, which has this word. Fails only if allocation
-/// fails.
+/// Appends the transitions of the listed classes into the abstract state, which has this word.
 fn add_listed(
     rules: &[Rule],
     classes: &[u32],
@@ -89,8 +88,8 @@ fn add_listed(
     Ok(())
 }
 
-/// Replaces the content of the list by the transitions into the abstract state, which has these values at its digits and
-/// this word. Fails only if allocation fails.
+/// Replaces the content of `transitions` by the transitions into the abstract state, which has these values at its
+/// digits and this word.
 fn add_entering(
     rest: &[u32],
     places: &[Place],
@@ -117,9 +116,8 @@ fn add_entering(
 }
 
 impl<'a> ProjectionTransitions<'a> {
-    /// Prepares the transitions of a projection. Time and memory are linear in the number of the pattern's variables for
-    /// each operator with an effect on the pattern; each value of a variable with 4 values or more takes a list. Fails
-    /// only if allocation fails.
+    /// Prepares the transitions of a projection. Time and memory are linear in the number of the pattern's variables
+    /// for each operator with an effect on the pattern; each value of a variable with 4 values or more takes a list.
     pub(crate) fn new(
         alloc: Global,
         projection: &'a Projection<'a>,

@@ -1,4 +1,4 @@
-//! The values at the digits, side by side in a word.
+//! The values at the digits, packed into a word.
 
 ghost use Rattle.std.specs.Prelude.{◌≡◌, ◌<◌, ◌≤◌, ◌^◌, ◌/◌, ◌%◌, true, false, All, IfOk, OnOk};
 ghost use Rattle.abstraction.specs.Digits.{IsDigitBelow};
@@ -9,7 +9,7 @@ ghost use Rattle.pdb_regression.specs.Rules.{unpacked};
 use abstraction::Digit;
 use std::alloc::AllocError;
 
-/// How many numbers the bits of a digit hold: the least power of two that is not below its range.
+/// Returns how many numbers the bits of a digit can represent: the least power of two that is not below its range.
 pub(crate) fn room_of(range: usize) -> u64
     requires some { 0 < range }
     requires small { range ≤ 2 ^ 24 }
@@ -18,7 +18,7 @@ pub(crate) fn room_of(range: usize) -> u64
     1 << (u64::BITS - (range as u64 - 1).leading_zeros())
 }
 
-/// The lowest value of a number, and what is above it.
+/// Returns the remainder and the quotient of `number` by `range`: the lowest value, and the number above it.
 fn split(number: u32, range: u32) -> (u32, u32)
     requires { 0 < range }
     ensures { (result.0 ≡ number % range) × (result.1 ≡ number / range) }
@@ -30,8 +30,8 @@ fn split(number: u32, range: u32) -> (u32, u32)
     }
 }
 
-/// Replaces the content of the list by the values at the digits, and returns their word: each value has its own bits
-/// there, the first the lowest. Fails only if allocation fails.
+/// Replaces the content of `values` by the values at the digits, and returns their word: each value has its own bits
+/// there, the first the lowest.
 fn read(digits: &[Digit], abstract_state: usize, values: &mut Vec<u32>) -> Result<u64, AllocError>
     requires digits { All (IsDigitBelow (2 ^ 24)) digits.now }
     requires rooms { rooms_of digits.now ≤ 2 ^ 48 }
@@ -53,8 +53,8 @@ fn read(digits: &[Digit], abstract_state: usize, values: &mut Vec<u32>) -> Resul
     Ok(word)
 }
 
-/// Returns the word of an abstract state. Unless abstract states are plain, which is that they are their own words, the
-/// content of the list is replaced by the values at the digits. Fails only if allocation fails.
+/// Returns the word of an abstract state. If `plain` is set, abstract states are their own words, and `values` is
+/// unchanged; otherwise its content is replaced by the values at the digits.
 pub(crate) fn word_of(
     plain: bool,
     digits: &[Digit],
@@ -75,7 +75,7 @@ pub(crate) fn word_of(
     read(digits, abstract_state, values)
 }
 
-/// Whether each range is a power of two, so that abstract states are their own words.
+/// Returns whether each range is a power of two, so that abstract states are their own words.
 pub(crate) fn is_plain(digits: &[Digit]) -> bool
     requires { All (IsDigitBelow (2 ^ 24)) digits.now }
     ensures { result ≡ true → All IsPlain digits.now }

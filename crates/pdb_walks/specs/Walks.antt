@@ -10,7 +10,7 @@ abbrev pub walk : Abstraction → ℕ → List ℕ → Option ℕ
 walk a i [] = Some i
 walk a i (o ∷ os) = option_and_then (λ j. walk a j os) (a.transition i o)
 
--- the sequence of operators leads from the abstract state to an abstract goal
+-- the sequence of operators reaches an abstract goal from the abstract state
 abbrev pub IsWalkFrom : Abstraction → ℕ → List ℕ → Type 0
 IsWalkFrom a i os = IsSomeAnd (walk a i os) (λ j. a.is_goal j ≡ true)
 
@@ -28,7 +28,7 @@ pub record IsDistanceFrom (a : Abstraction) (share : ℕ → ℕ) (i : ℕ) (d :
 abbrev pub HasDistances : Table → (ℕ → ℕ) → Type 0
 HasDistances t share = (i : ℕ) → i < t.abstraction.size → IsDistanceFrom t.abstraction share i (t.value i)
 
--- the value at a place, and infinite past the end
+-- the value at index `i`, and infinite past the end
 abbrev pub value_in : List Distance → ℕ → Distance
 value_in values i = option_map_or (λ d. d) (slice_get values i) Infinite
 
@@ -43,12 +43,13 @@ fall Infinite e = 0
 fall (Finite m) Infinite = 0
 fall (Finite m) (Finite n) = m - n
 
--- the greatest fall of the value over the operator's transitions, and 0 if it has none
+-- the greatest decrease of the value over the operator's transitions, and 0 if it has none
 pub record IsGreatestFall (a : Abstraction) (value : ℕ → Distance) (o n : ℕ) : Type 0 where
   pub upper : (i : ℕ) → i < a.size → IfSome (a.transition i o) (λ j. fall (value i) (value j) ≤ n)
   pub reached : (n ≡ 0) ⊎ ((i : ℕ) × (i < a.size) × IsSomeAnd (a.transition i o) (λ j. fall (value i) (value j) ≡ n))
 
--- the shares are the saturated cost function: each is the greatest fall of the value over the operator's transitions
+-- the shares are the saturated cost function: each is the greatest decrease of the value over the operator's
+-- transitions
 abbrev pub IsSaturated : Table → Type 0
 IsSaturated t = (o : ℕ) → IsGreatestFall t.abstraction t.value o (t.share o)
 

@@ -3,16 +3,16 @@
 use abstraction::Abstraction;
 use std::alloc::AllocError;
 
-/// A transition into an abstract state, of each operator of one class.
+/// A transition into an abstract state, which each operator of one class has.
 #[derive(Clone, Copy)]
 pub struct Transition {
     /// The class of the operators, by its number.
     pub class: u32,
-    /// The abstract state from which it leads.
+    /// The abstract state from which it starts.
     pub source: u32,
 }
 
-/// The transitions of an abstraction, listed by the abstract state into which they lead. Operators that have the same
+/// The transitions of an abstraction, listed by the abstract state that they enter. Operators that have the same
 /// transitions can share a class, so that a transition of all of them is listed once. The classes are the numbers below
 /// `class_count`.
 pub trait BackwardTransitions {
@@ -30,15 +30,14 @@ pub trait BackwardTransitions {
     fn class_count(&self) -> usize
         ensures { result ≡ (classes self.now).count };
 
-    /// Returns the class of the operator with this number, or `None` if each of its transitions leads from an abstract
+    /// Returns the class of the operator with this number, or `None` if each of its transitions is from an abstract
     /// state to itself, or there is no such operator.
     fn class_of(&self, operator: usize) -> Option<usize>
         ensures { result ≡ (classes self.now).class operator };
 
     /// Replaces the content of `transitions` by the transitions into this abstract state of all operators that have a
     /// class. The order is not specified, and a transition may occur more than once. `digits` is a buffer whose content
-    /// is not specified before and after the call. Fails only if allocation fails, and then the content of the list is not
-    /// specified.
+    /// is not specified before and after the call. On failure the content of `transitions` is not specified.
     fn entering(
         &self,
         abstract_state: usize,
@@ -49,8 +48,8 @@ pub trait BackwardTransitions {
         ensures { OnOk result
             (spec.AreEntering (abstraction self.now) (classes self.now) abstract_state transitions.new.items) };
 
-    /// Operators of one class have the same transitions, and those without a class lead from abstract states to
-    /// themselves.
+    /// Operators of one class have the same transitions, and those without a class have transitions only from an
+    /// abstract state to itself.
     ghost grouped: { (t : Self) → spec.AreClasses (abstraction t) (classes t) };
 }
 

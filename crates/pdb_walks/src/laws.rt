@@ -1,4 +1,4 @@
-//! Laws of distances and shares, for every abstraction. Each function states one in its contract; its body is empty.
+//! Laws of distances and shares, for every abstraction.
 
 ghost use Rattle.std.specs.Prelude.{◌≡◌, ℕ, ◌≤◌, List, All};
 ghost use Rattle.cost.specs.Distances.{Distance};
@@ -21,8 +21,8 @@ pub fn distances_are_consistent()
         IsConsistent t }
 {}
 
-/// Proves that a table that is consistent under some shares stays so under its saturated shares, and that these are at
-/// most the former.
+/// Proves that a table that is consistent under some shares is also consistent under its saturated shares, and that
+/// these are at most the former.
 pub fn saturated_shares_suffice()
     ensures kept { (t : Table) (made_with : ℕ → ℕ) →
         IsSaturated t → IsConsistent (record t { share = made_with }) → IsConsistent t }

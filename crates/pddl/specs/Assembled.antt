@@ -1,4 +1,4 @@
--- The task of a domain and a problem that were read.
+-- The task assembled from a domain and a problem.
 use Rattle.pddl_task.specs.Planning.{PlanningTask}
 use Rattle.pddl_problem.specs.Initial.{values_of}
 use Rattle.pddl.specs.declared.domain.Domain.{Domain}

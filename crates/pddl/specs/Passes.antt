@@ -1,4 +1,4 @@
--- Passes over the texts of a task. The first one with a fault decides.
+-- Passes over the texts of a task. The first pass with a fault decides.
 use Rattle.std.specs.Prelude.{◌≡◌, List, [], ◌∷◌, Option, Some, None}
 use Rattle.pddl_syntax.specs.declared.fault.Fault.{Fault}
 use Rattle.pddl_syntax.specs.declared.fault.PlanningFile.{PlanningFile}

@@ -9,20 +9,20 @@ use Rattle.pddl_syntax.specs.declared.fault.FaultKind.TheVariants.{CostRange}
 use Rattle.pddl_syntax.specs.Faults.{fault, faults_if}
 use Rattle.pddl_task.specs.Limits.{max_cost}
 
--- the value, if it is one of this function and is greater than the known one, otherwise that one
+-- the value of `v`, if `v` is a value of this function and greater than `known`, otherwise `known`
 abbrev pub greater_of : ℕ → FunctionValue → ℕ → ℕ
 greater_of number v known = if v.function.predicate == number && nat_lt known v.value then v.value else known
 
--- the greatest of the known value and the values of this function
+-- the greatest of `known` and the values of this function
 abbrev pub greatest_value : ℕ → List FunctionValue → ℕ → ℕ
 greatest_value number [] known = known
 greatest_value number (v ∷ vs) known = greatest_value number vs (greater_of number v known)
 
--- the value that is known of a function, or 0 if none is
+-- the recorded value of a function, or 0 if there is none
 abbrev pub known_value : List (ℕ × ℕ) → ℕ → ℕ
 known_value known number = unwrap_or (lookup (λ n. number == n) known) 0
 
--- for each function the greatest of its values is known
+-- the recorded value of each function is the greatest of its values
 abbrev pub AreGreatest : List (ℕ × ℕ) → List FunctionValue → Type 0
 AreGreatest known values = (number : ℕ) → known_value known number ≡ greatest_value number values 0
 
@@ -31,19 +31,19 @@ abbrev pub most_of : List FunctionValue → Increase → ℕ
 most_of values (Amount n) = n
 most_of values (Value f) = greatest_value f.predicate values 0
 
--- the same by the values that are known of the functions
+-- the greatest amount of an increase, from the recorded values of the functions
 abbrev pub most_known : List (ℕ × ℕ) → Increase → ℕ
 most_known known (Amount n) = n
 most_known known (Value f) = known_value known f.predicate
 
--- the faults of schemas, at the places of their names, whose increases may sum up to too much, by the greatest amount
--- of each
+-- the faults of schemas whose increases may sum up to too much, at the byte offsets of their names, from the greatest
+-- amount of each increase
 abbrev pub sum_faults : (Increase → ℕ) → List Schema → List ℕ → List Fault
 sum_faults most [] places = []
 sum_faults most (s ∷ schemas) [] = []
 sum_faults most (s ∷ schemas) (at ∷ places) =
     faults_if (nat_lt max_cost (sum_by most s.increases)) (fault CostRange at) (sum_faults most schemas places)
 
--- the same by these initial values
+-- the faults of schemas whose increases may sum up to too much, from these initial values
 unfoldable pub stated_sum_faults : List FunctionValue → List Schema → List ℕ → List Fault
 stated_sum_faults values schemas places = sum_faults (most_of values) schemas places

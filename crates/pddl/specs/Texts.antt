@@ -1,4 +1,4 @@
--- Which two texts spell which planning task, and the first fault of texts that spell none.
+-- Which two texts spell which planning task, and the first fault of texts that spell no task.
 use Rattle.std.specs.Prelude.{◌≡◌, ℕ, ◌⊎◌, Bool, true, false, if◌then◌else◌, is_some, List, [], ◌∷◌, ◌++◌, map, Option, Some, None, codes}
 use Rattle.sexp.specs.Forms.{Forms, IsOne, none}
 use Rattle.sexp.specs.Grammar.{SpellsAll}
@@ -25,7 +25,7 @@ use Rattle.pddl.specs.declared.fault.PddlFault.TheVariants.{OutOfMemory, Tree, S
 use Rattle.pddl.specs.Passes.{Pass, FileFault, first_pass}
 use Rattle.pddl.specs.Sums.{stated_sum_faults}
 
--- the content of a section, which is empty if the section is missing
+-- the expressions in a section; none if the section is missing
 abbrev pub inside : Option Part → Forms
 inside None = none
 inside (Some s) = s.inside
@@ -120,7 +120,8 @@ abbrev pub stated_metric_faults : Option Part → List Fault
 stated_metric_faults None = []
 stated_metric_faults (Some s) = metric_faults s.at s.inside
 
--- the passes over the problem: that over its heads, and below all of them, given the declarations and the constants
+-- the passes over the problem: the one over its heads, and in the following definitions all of them, given the
+-- declarations and the constants
 abbrev pub problem_heads_pass : Forms → Pass
 problem_heads_pass p = pass Problem (head_faults Problem p)
 
@@ -150,7 +151,7 @@ stating_passes declarations constants p =
 
 -- ---- the task
 
--- the task with these declarations, constants, schemas and their names, and with the problem's tree
+-- the task with these declarations, constants, schemas and schema names, and with the problem's tree
 abbrev pub task_with : Declarations → Objects → List Schema → List (List ℕ) → Forms → PlanningTask
 task_with declarations constants schemas names p =
     let objects = objects_of declarations constants p in
@@ -178,12 +179,12 @@ places_of d = map place_of (actions_of d)
 abbrev pub task_of : Forms → Forms → PlanningTask
 task_of d p = task_with (declarations_of d) (constants_of d) (schemas_of d) (schema_names_of d) p
 
--- under the metric, the faults of schemas whose actions may cost too much, from the schemas with their places and the
--- values
+-- under the metric, the faults of schemas whose actions may cost too much, from the schemas with their byte offsets and
+-- the values
 abbrev pub sums_pass : Bool → List FunctionValue → List Schema → List ℕ → Pass
 sums_pass metric values schemas places = pass Domain (if metric then stated_sum_faults values schemas places else [])
 
--- the passes after the problem's tree was read
+-- the passes that follow the reading of the problem's tree
 abbrev pub passes_with : Declarations → Objects → List Schema → List ℕ → Forms → List Pass
 passes_with declarations constants schemas places p =
     stating_passes declarations constants p
@@ -209,7 +210,8 @@ pub record SpellTask (domain problem : List ℕ) (t : PlanningTask) : Type 0 whe
   pub problem_sections : first_pass (problem_passes d p) ≡ None
   pub task_is : t ≡ task_of d p
 
--- the first fault of the domain's passes or, if these have none, of the passes after the problem's tree was read
+-- the first fault of the domain's passes or, if these have none, of the passes that follow the reading of the problem's
+-- tree
 abbrev pub IsPassFault : List ℕ → List ℕ → FileFault → Type 0
 IsPassFault domain problem e =
     ((d : Forms) × IsTree domain d × (first_pass (domain_passes d) ≡ Some e))
@@ -221,12 +223,12 @@ IsTreeFault file bytes OutOfMemory = Unit {0}
 IsTreeFault file bytes (Tree other e) = (other ≡ file) × IsFirstFault true bytes e
 IsTreeFault file bytes (Section other f) = ⊥
 
--- a domain without a fault
+-- the text of a domain without a fault
 abbrev pub IsDomainText : List ℕ → Type 0
 IsDomainText domain = (d : Forms) × IsTree domain d × (first_pass (domain_passes d) ≡ None)
 
 -- That allocation failed, or the first fault: of the domain's tree, of the domain's passes, of the problem's tree, or
--- of the passes after it was read.
+-- of the passes that follow its reading.
 abbrev pub IsTaskRefusal : List ℕ → List ℕ → PddlFault → Type 0
 IsTaskRefusal domain problem OutOfMemory = Unit {0}
 IsTaskRefusal domain problem (Tree Domain e) = IsFirstFault true domain e

@@ -26,7 +26,7 @@ use pddl_syntax::{
 use sexp::Tree;
 use std::alloc::{AllocError, Global};
 
-/// The content of a domain.
+/// The declarations, constants and actions of a domain.
 #[derive(Drop)]
 pub struct Domain {
     pub declarations: Declarations,
@@ -36,7 +36,7 @@ pub struct Domain {
 }
 
 impl Domain {
-    /// A domain without content, before its text is read.
+    /// Returns an empty domain, before its text is read.
     pub fn new(alloc: Global) -> Domain
         ensures { result.objects ≡ no_objects }
     {
@@ -210,8 +210,8 @@ fn declared_pass(alloc: Global, root: &Tree, domain: &mut Domain) -> Result<(), 
     Ok(())
 }
 
-/// Reads a domain from its tree. `domain` must be without content. Fails with the first fault of the first pass that
-/// has one, or if allocation fails, and then `domain` can only be dropped.
+/// Reads a domain from its tree into `domain`, which must be empty. Fails with the first fault of the first pass that
+/// has one, or if allocation fails; after a failure `domain` can only be dropped.
 pub fn read_domain(alloc: Global, root: &Tree, domain: &mut Domain) -> Result<(), PddlFault>
     requires { domain.old.objects ≡ no_objects }
     ensures declarations { OnOk result (domain.new.declarations ≡ spec.declarations_of (alone root.now)) }

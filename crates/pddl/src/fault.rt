@@ -1,4 +1,4 @@
-//! Why two texts are no planning task.
+//! Faults of two texts that are no planning task.
 
 ghost use Rattle.std.specs.Prelude.{◌≡◌};
 ghost use Rattle.pddl.specs.declared.fault.PddlFault.TheVariants.{OutOfMemory};
@@ -7,7 +7,7 @@ use pddl_syntax::{Fault, PlanningFile};
 use sexp::SexpFault;
 use std::alloc::AllocError;
 
-/// Why two texts are no planning task: their first fault.
+/// The reason why two texts are no planning task: their first fault.
 #[derive(Clone, Copy, Debug, PartialEq, Eq)]
 pub enum PddlFault {
     /// Allocation failed. This says nothing about the texts.

@@ -1,5 +1,4 @@
-//! Laws of the texts of planning tasks. The contract of each function states one, for every two texts; its body is
-//! empty.
+//! Laws of the texts of planning tasks, for any two texts.
 
 ghost use Rattle.std.specs.Prelude.{◌≡◌, ◌≢◌, ◌⊎◌, ℕ, List};
 ghost use Rattle.pddl_task.specs.Planning.{PlanningTask};

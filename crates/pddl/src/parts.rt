@@ -1,4 +1,4 @@
-//! The sections of a text, and the end of a pass over one.
+//! The sections of a text, and the result of a pass over one.
 
 ghost use Rattle.std.specs.Prelude.{◌≡◌, None, IfErr, OnOk};
 ghost use Rattle.sexp.specs.Forms.{views, alone};
@@ -12,7 +12,7 @@ use pddl_syntax::{Fault, PlanningFile, Section, find_section, read_heads, sectio
 use sexp::Tree;
 use std::alloc::Global;
 
-/// The first section with this name in a text, or an empty one at 0 if there is none.
+/// Returns the first section with this name in a text, or an empty section at offset 0 if there is none.
 pub fn part_of<'a>(root: &'a Tree, name: &str) -> Section<'a>
     ensures place { result.at ≡ place_in (alone root.now) name.now }
     ensures inside { views result.items.now ≡ inside_of (alone root.now) name.now }
@@ -35,7 +35,8 @@ pub fn judge(file: PlanningFile, first: Option<Fault>) -> Result<(), PddlFault>
     }
 }
 
-/// Checks the heads of the sections of a text. Fails with the first fault of these, or if allocation fails.
+/// Checks the heads of a text: of `define`, its title and its sections. Fails with their first fault, or if allocation
+/// fails.
 pub fn heads_pass(alloc: Global, file: PlanningFile, root: &Tree) -> Result<(), PddlFault>
     ensures clean { OnOk result (first_of None (head_faults file (alone root.now)) ≡ None) }
     ensures fault { IfErr result (λ e. Fails e (pass file (head_faults file (alone root.now)))) }

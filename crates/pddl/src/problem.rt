@@ -27,7 +27,7 @@ use pddl_terms::Scope;
 use sexp::Tree;
 use std::alloc::{AllocError, Global};
 
-/// The content of a problem, without its objects.
+/// The initial state, function values, goal and metric of a problem.
 #[derive(Drop)]
 pub struct Problem {
     pub initial: Vec<GroundAtom>,
@@ -37,7 +37,7 @@ pub struct Problem {
 }
 
 impl Problem {
-    /// A problem without content, before its text is read.
+    /// Returns an empty problem, before its text is read.
     pub fn new(alloc: Global) -> Problem {
         Problem {
             initial: Vec::new(alloc),
@@ -139,9 +139,9 @@ fn metric_pass(root: &Tree, metric: &mut bool) -> Result<(), PddlFault>
     judge(PlanningFile::Problem, first)
 }
 
-/// Reads a problem from its tree, and adds its objects to the constants. `variables` must be empty, since a problem has
-/// no parameters. Fails with the first fault of the first pass that has one, or if allocation fails, and then `objects`
-/// and `problem` can only be dropped.
+/// Reads a problem from its tree, and adds its objects to the constants. `variables` must be empty, because a problem
+/// has no parameters. Fails with the first fault of the first pass that has one, or if allocation fails; after a
+/// failure `objects` and `problem` can only be dropped.
 pub fn read_problem(
     alloc: Global,
     root: &Tree,
@@ -196,8 +196,8 @@ fn read_sums(
     Ok(())
 }
 
-/// The pass over the costs of actions. Fails with the first schema whose actions may cost too much, if there is a
-/// metric, or if allocation fails.
+/// Checks the costs of actions, in the last pass. Fails with the first schema whose actions may cost too much, if there
+/// is a metric, or if allocation fails.
 fn sums_pass(alloc: Global, problem: &Problem, actions: &Actions) -> Result<(), PddlFault>
     requires { length actions.now.schemas.items ≡ length actions.now.places.items }
     ensures clean { OnOk result (first_of None (spec.sums_pass problem.now.metric (values_of problem.now.values.entries) actions.now.schemas.items actions.now.places.items).faults ≡ None) }
@@ -209,8 +209,8 @@ fn sums_pass(alloc: Global, problem: &Problem, actions: &Actions) -> Result<(), 
 }
 
 /// Reads a problem, adds its objects to the domain, and checks the costs of actions. `variables` must be empty. Fails
-/// with the first fault of the first pass that has one, or if allocation fails, and then `domain` and `problem` can
-/// only be dropped.
+/// with the first fault of the first pass that has one, or if allocation fails; after a failure `domain` and `problem`
+/// can only be dropped.
 pub fn with_problem(
     alloc: Global,
     root: &Tree,

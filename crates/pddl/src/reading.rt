@@ -32,7 +32,7 @@ fn tree_of(alloc: Global, file: PlanningFile, bytes: &[u8]) -> Result<Tree, Pddl
     }
 }
 
-/// The content of the two texts.
+/// The domain and the problem read from the two texts.
 #[derive(Drop)]
 struct TaskParts {
     domain: Domain,
@@ -40,7 +40,7 @@ struct TaskParts {
 }
 
 impl TaskParts {
-    /// The parts of a task before any text is read.
+    /// Returns the parts of a task before any text is read.
     fn new(alloc: Global) -> TaskParts
         ensures { result.domain.objects ≡ no_objects }
     {
@@ -50,7 +50,7 @@ impl TaskParts {
         }
     }
 
-    /// The task of these parts.
+    /// Returns the task of these parts.
     fn assembled(self) -> Task
         ensures { result ≡ task_in self.domain self.problem }
     {
@@ -81,7 +81,7 @@ impl TaskParts {
     }
 }
 
-/// Reads both texts into `parts`, which must be without content. Fails with the first fault, or if allocation fails.
+/// Reads both texts into `parts`, which must be empty. Fails with the first fault, or if allocation fails.
 fn read_into(
     alloc: Global,
     domain: &[u8],
@@ -124,7 +124,7 @@ fn read_parts(
     let mut parts = TaskParts::new(alloc);
     match read_into(alloc, domain, problem, variables, &mut parts) {
         Err(fault) => {
-            // A call, so that this function drops one value and not each of its parts.
+            // An explicit call, so that this function drops one value rather than each of its parts.
             drop(parts);
             Err(fault)
         }
@@ -135,10 +135,10 @@ fn read_parts(
 /// Reads a planning task from the texts of its domain and its problem, in bytes (McDermott and others 1998; Fox and
 /// Long 2003).
 ///
-/// Fails with the first fault, or if allocation fails. The faults come in this order: those of the domain's tree; those
+/// Fails with the first fault, or if allocation fails. The faults are in this order: those of the domain's tree; those
 /// of the domain's parts, in the order heads, requirements, types, constants, predicates, functions and actions; those
 /// of the problem's tree; those of the problem's parts, in the order heads, objects, initial state, goal and metric;
-/// and last those of the actions' costs. Within a part the fault at the least place comes first.
+/// and last those of the actions' costs. Within a part the fault at the least place precedes the others.
 pub fn read_task(alloc: Global, domain: &[u8], problem: &[u8]) -> Result<Task, PddlFault>
     // The result is what the texts spell.
     ensures found { IfOk result (λ t. SpellTask domain.now problem.now t) }

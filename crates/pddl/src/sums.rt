@@ -17,14 +17,14 @@ const MAX_COST: u64 = 2_147_483_647;
 /// The greatest value found so far of each function that has a value.
 type GreatestValues = IndexMap<usize, u64>;
 
-/// The greatest value of a function, or 0 if it has none.
+/// Returns the greatest value of a function, or 0 if it has none.
 fn value_of(greatest: &GreatestValues, function: usize) -> u64
     ensures { result ≡ spec.known_value greatest.now.entries function }
 {
     greatest.get(&function).copied().unwrap_or(0)
 }
 
-/// Keeps a value of a function if it is the greatest so far.
+/// Stores a value of a function if it is the greatest so far.
 fn keep_value(greatest: &mut GreatestValues, function: usize, value: u64) -> Result<(), AllocError>
     ensures { (other : ℕ) → OnOk result (spec.known_value greatest.new.entries other
         ≡ (if function == other && nat_lt (spec.known_value greatest.old.entries other) value then value else spec.known_value greatest.old.entries other)) }
@@ -35,7 +35,8 @@ fn keep_value(greatest: &mut GreatestValues, function: usize, value: u64) -> Res
     Ok(())
 }
 
-/// The greatest of each function's initial values. Takes one pass over the values, whatever the number of schemas.
+/// Returns the greatest of each function's initial values. Takes one pass over the values, whatever the number of
+/// schemas.
 fn greatest_values(
     alloc: Global,
     values: &IndexMap<GroundAtom, u64>,
@@ -58,7 +59,7 @@ fn most_of(greatest: &GreatestValues, increase: &Increase) -> u64
     }
 }
 
-/// Whether the increases may add up to more than an action may cost. No sum above that bound is computed.
+/// Returns whether the increases may add up to more than an action may cost. Computes no sum above that bound.
 fn cost_too_much(greatest: &GreatestValues, increases: &[Increase]) -> bool
     ensures { result ≡ nat_lt max_cost (sum_by (spec.most_known greatest.now.entries) increases.now) }
 {
@@ -73,7 +74,7 @@ fn cost_too_much(greatest: &GreatestValues, increases: &[Increase]) -> bool
     false
 }
 
-/// Records the schemas whose actions may cost too much, each at its place.
+/// Records the schemas whose actions may cost too much, each at its byte offset in `places`.
 #[tactic(auto, unfolding(pddl_syntax::specs::Faults::first_of))]
 fn blame_schemas(
     greatest: &GreatestValues,
@@ -94,8 +95,8 @@ fn blame_schemas(
     }
 }
 
-/// Records in `first` the schemas whose actions may cost too much, each at its place as F17. Takes time linear in the
-/// number of values, schemas and increases. Fails only if allocation fails.
+/// Records in `first` the schemas whose actions may cost too much, each as F17 at its byte offset in `places`. Takes
+/// time linear in the number of values, schemas and increases.
 pub fn blame_sums(
     alloc: Global,
     values: &IndexMap<GroundAtom, u64>,

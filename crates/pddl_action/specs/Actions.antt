@@ -28,7 +28,7 @@ scope_of d variables = record { predicates = d.predicates; functions = d.functio
 
 -- ---- the parts of an action
 
--- the content of the list of the parameters
+-- the expressions in the list of the parameters
 abbrev pub parameters_of : List KeywordPart → Forms
 parameters_of ps = root_parts (value_of Parameters ps)
 
@@ -57,7 +57,7 @@ value_literals Parameters value = []
 value_literals Precondition value = literal_places InCondition value
 value_literals Effect value = literal_places InEffect value
 
--- the places of the literals of the parts
+-- the byte offsets of the literals of the parts
 abbrev pub all_literals : List KeywordPart → List ℕ
 all_literals [] = []
 all_literals (p ∷ ps) = value_literals p.keyword p.value ++ all_literals ps
@@ -67,7 +67,7 @@ value_increases Parameters value = []
 value_increases Precondition value = increase_places InCondition value
 value_increases Effect value = increase_places InEffect value
 
--- the places of the increases of the parts
+-- the byte offsets of the increases of the parts
 abbrev pub all_increases : List KeywordPart → List ℕ
 all_increases [] = []
 all_increases (p ∷ ps) = value_increases p.keyword p.value ++ all_increases ps
@@ -76,14 +76,14 @@ abbrev pub past_fault : LimitedTable → Option ℕ → List Fault
 past_fault table None = []
 past_fault table (Some at) = fault (Limit table) at ∷ []
 
--- the fault of the first item past the limit, where the items have these places
+-- the fault of the first item past the limit; `places` are the byte offsets of the items
 abbrev pub past_faults : LimitedTable → ℕ → List ℕ → List Fault
 past_faults table limit places = past_fault table (slice_get places limit)
 
 abbrev pub limit_faults : List KeywordPart → List Fault
 limit_faults ps = past_faults Literals max_literals (all_literals ps) ++ past_faults Increases max_increases (all_increases ps)
 
--- the schema, from the expressions behind the name
+-- the schema, from the expressions after the name
 unfoldable pub schema_behind : Declarations → Forms → Schema
 schema_behind d f =
     schema_in (parameter_types d.types (parameters_of (parts None f))) (scope_of d (parameter_names (parameters_of (parts None f)))) (parts None f)
@@ -92,11 +92,11 @@ schema_behind d f =
 abbrev pub parts_faults : Declarations → List (List ℕ) → List KeywordPart → List Fault
 parts_faults d variables ps = values_faults d.types (scope_of d variables) ps ++ limit_faults ps
 
--- the faults of the expressions behind the name of the action at `home`
+-- the faults of the expressions after the name of the action at `home`
 abbrev pub behind_name_faults : Declarations → ℕ → Forms → List Fault
 behind_name_faults d home f = keyword_faults home none_seen None f ++ parts_faults d (parameter_names (parameters_of (parts None f))) (parts None f)
 
--- ---- one action, by the expressions behind the word `:action`
+-- ---- one action, by the expressions after the word `:action`
 
 -- the fault of the name of the action at `home`, which follows actions with these names
 abbrev pub named_faults : List (List ℕ) → ℕ → Forms → List Fault
@@ -110,7 +110,7 @@ with_action_name names none = names
 with_action_name names (word s e t f) = if is_name t then with_name names t else names
 with_action_name names (group s e i f) = names
 
--- the place of the name, or `home`, the place of the action, if there is none
+-- the byte offset of the name, or `home`, the offset of the action, if there is none
 abbrev pub name_place : ℕ → Forms → ℕ
 name_place home none = home
 name_place home (word s e t f) = s

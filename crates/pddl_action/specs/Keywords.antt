@@ -1,4 +1,4 @@
--- The parts of an action behind its name: keywords, each with a list.
+-- The parts of an action after its name: keywords, each with a list.
 use Rattle.std.specs.Prelude.{ℕ, Bool, true, false, if◌then◌else◌, List, [], ◌∷◌, ◌++◌, Option, Some, None, option_to_list, find, codes}
 use Rattle.std.specs.Option.{option_map, option_map_or}
 use Rattle.sexp.specs.Forms.{Forms, none, word, group, alone}
@@ -27,19 +27,19 @@ same_keyword Precondition Precondition = true
 same_keyword Effect Effect = true
 same_keyword k l = false
 
--- the keyword that waits for its list after a word; a word in the place of a list stands for it
+-- the keyword that requires a list after one more word; a word in the position of that list is taken for it
 abbrev pub waiting_after : Option Keyword → Option Keyword → Option Keyword
 waiting_after (Some k) keyword = None
 waiting_after None keyword = keyword
 
--- The keywords that a list follows, in the order of the text, where a keyword waits for its list or none does. An
--- expression in the place of a keyword that is none is skipped alone.
+-- The keywords that a list follows, with their lists, in the order of the text; `waiting` is the keyword that requires
+-- a list, if there is one. Any other expression in the position of a keyword is skipped.
 abbrev pub parts : Option Keyword → Forms → List KeywordPart
 parts waiting none = []
 parts waiting (word s e t f) = parts (waiting_after waiting (keyword_of t)) f
 parts waiting (group s e i f) = option_to_list (option_map (λ k. record { keyword = k; value = group s e i none }) waiting) ++ parts None f
 
--- the first list of each keyword counts
+-- the list of the first part with this keyword, or nothing if there is none
 abbrev pub value_of : Keyword → List KeywordPart → Forms
 value_of keyword ps = option_map_or (λ p. p.value) (find (λ p. same_keyword p.keyword keyword) ps) none
 
@@ -55,7 +55,7 @@ with_keyword seen Parameters = record seen { parameters = true }
 with_keyword seen Precondition = record seen { precondition = true }
 with_keyword seen Effect = record seen { effect = true }
 
--- the keywords that were read, after one more word
+-- the keywords read so far, after one more word
 abbrev pub seen_after : Option Keyword → Seen → Option Keyword → Seen
 seen_after (Some k) seen keyword = seen
 seen_after None seen None = seen
@@ -70,12 +70,13 @@ abbrev pub list_faults : Option Keyword → ℕ → List Fault
 list_faults (Some k) s = []
 list_faults None s = fault Shape s ∷ []
 
--- the fault at the end of the action at `home`, if a keyword waits for its list
+-- the fault at the end of the action at `home`, if a keyword still requires a list
 abbrev pub end_faults : Option Keyword → ℕ → List Fault
 end_faults (Some k) home = fault Shape home ∷ []
 end_faults None home = []
 
--- the faults of expressions that follow keywords, of which the last may wait for its list, in the action at `home`
+-- the faults of expressions that follow keywords, of which the last may still require a list (`waiting`), in the action
+-- at `home`
 abbrev pub keyword_faults : ℕ → Seen → Option Keyword → Forms → List Fault
 keyword_faults home seen waiting none = end_faults waiting home
 keyword_faults home seen waiting (word s e t f) =

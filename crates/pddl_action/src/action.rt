@@ -37,16 +37,16 @@ const MAX_INCREASES: usize = 16;
 /// The actions of a domain, in the order of the text.
 #[derive(Drop)]
 pub struct Actions {
-    /// The schema of each action. What has a fault is left out.
+    /// The schema of each action, without the parts that cannot be read.
     pub schemas: Vec<ActionSchema>,
     /// The names, without repetitions.
     pub names: Names,
-    /// The byte, counted from 0, at which the name of each action begins, or the action itself if nothing stands in the
-    /// place of its name.
+    /// For each action the byte offset, counted from 0, of the expression in the position of its name, or of the action
+    /// itself if there is none.
     pub places: Vec<usize>,
 }
 
-/// The parameters of an action, from its first list of parameters. Their faults are not recorded here.
+/// Returns the parameters of an action, from its first list of parameters. Does not record their faults.
 fn parameters_of(alloc: Global, types: &Types, parts: &[Part]) -> Result<Parameters, AllocError>
     ensures names { IfOk result (λ p. p.names ≡ parameter_names (spec.parameters_of (map keywords.part_of parts.now))) }
     ensures types { IfOk result (λ p. p.types.items ≡ parameter_types types.now.names (spec.parameters_of (map keywords.part_of parts.now))) }
@@ -58,7 +58,7 @@ fn parameters_of(alloc: Global, types: &Types, parts: &[Part]) -> Result<Paramet
     }
 }
 
-/// The precondition of an action, from its first `:precondition`. Its faults are not recorded here.
+/// Returns the precondition of an action, from its first `:precondition`. Does not record its faults.
 fn precondition_of(
     alloc: Global,
     scope: &Scope,
@@ -73,7 +73,7 @@ fn precondition_of(
     Ok(conditions)
 }
 
-/// The effects and increases of an action, from its first `:effect`. Their faults are not recorded here.
+/// Returns the effects and increases of an action, from its first `:effect`. Does not record their faults.
 fn effects_of(alloc: Global, scope: &Scope, parts: &[Part]) -> Result<Effects, AllocError>
     ensures effects { IfOk result (λ e. e.effects.items ≡ effects scope.now (keywords.value_of Keyword.Effect (map keywords.part_of parts.now))) }
     ensures increases { IfOk result (λ e. e.increases.items ≡ increases scope.now (keywords.value_of Keyword.Effect (map keywords.part_of parts.now))) }
@@ -158,7 +158,7 @@ fn blame_values(
     Ok(())
 }
 
-/// Adds the places of the literals and increases of a part.
+/// Adds the byte offsets of the literals and increases of a part.
 fn add_part(part: Part, places: &mut Places) -> Result<(), AllocError>
     ensures literals { OnOk result (places.new.literals.items ≡ places.old.literals.items ++ spec.value_literals part.entry.keyword (alone part.entry.value.now)) }
     ensures increases { OnOk result (places.new.increases.items ≡ places.old.increases.items ++ spec.value_increases part.entry.keyword (alone part.entry.value.now)) }
@@ -171,7 +171,7 @@ fn add_part(part: Part, places: &mut Places) -> Result<(), AllocError>
     Ok(())
 }
 
-/// The places of the literals and increases of all parts.
+/// Returns the byte offsets of the literals and increases of all parts.
 #[tactic(auto, using(pddl_effect::proofs::Steps::appending))]
 fn places_of(alloc: Global, parts: &[Part]) -> Result<Places, AllocError>
     ensures literals { IfOk result (λ p. p.literals.items ≡ spec.all_literals (map keywords.part_of parts.now)) }
@@ -184,7 +184,7 @@ fn places_of(alloc: Global, parts: &[Part]) -> Result<Places, AllocError>
     Ok(places)
 }
 
-/// Records the first of the items at these places that is past the limit, if there is one.
+/// Records the first item past the limit, if there is one. `places` are the byte offsets of the items.
 #[tactic(auto, unfolding(pddl_syntax::specs::Faults::first_of))]
 fn blame_past(table: LimitedTable, limit: usize, places: &[usize], first: &mut Option<Fault>)
     ensures { first.new ≡ first_of first.old (spec.past_faults table limit places.now) }
@@ -231,7 +231,8 @@ fn blame_parts<'a>(
     blame_limits(alloc, parts, first)
 }
 
-/// The schema of an action with these parts. Its parameters are named `variables` and have the types `parameters`.
+/// Returns the schema of an action with these parts. Its parameters are named `variables` and have the types
+/// `parameters`.
 fn schema_in<'a>(
     alloc: Global,
     declarations: &'a Declarations,
@@ -252,8 +253,8 @@ fn schema_in<'a>(
     })
 }
 
-/// The schema of an action with these parts, whose faults are recorded in `first`. Its parameters are named `variables`
-/// and have the types `parameters`.
+/// Returns the schema of an action with these parts, and records their faults in `first`. Its parameters are named
+/// `variables` and have the types `parameters`.
 fn noted_schema<'a>(
     alloc: Global,
     declarations: &'a Declarations,
@@ -285,7 +286,7 @@ fn read_parts(
     noted_schema(alloc, declarations, &names, types, parts, first)
 }
 
-/// Reads the items behind the name of the action at `home` into its schema, and records their faults.
+/// Reads the items after the name of the action at `home` into its schema, and records their faults.
 #[tactic(auto, using(pddl_syntax::proofs::Trees::noting), unfolding(pddl_syntax::specs::Faults::first_of))]
 fn read_schema(
     alloc: Global,
@@ -301,7 +302,7 @@ fn read_schema(
     read_parts(alloc, declarations, &parts, first)
 }
 
-/// Reads a word in the place of an action's name, and adds it to the names of the actions before it.
+/// Reads a word in the position of an action's name, and adds it to the names of the actions before it if it is a name.
 #[tactic(auto, unfolding(pddl_syntax::specs::Faults::first_of))]
 fn read_name_word(
     alloc: Global,
@@ -322,7 +323,7 @@ fn read_name_word(
     Ok(())
 }
 
-/// Reads an action's name, adds it to the names of the actions before it, and returns its place.
+/// Reads an action's name, adds it to the names of the actions before it, and returns its byte offset.
 #[tactic(auto, using(sexp::proofs::Walking::walking), unfolding(pddl_syntax::specs::Faults::first_of))]
 fn read_name_at(
     alloc: Global,
@@ -346,8 +347,8 @@ fn read_name_at(
     }
 }
 
-/// Reads the name of the action at `home`, adds it to the names of the actions before it, and returns its place, or
-/// `home` if there is none.
+/// Reads the name of the action at `home`, adds it to the names of the actions before it, and returns its byte offset,
+/// or `home` if there is none.
 #[tactic(auto, using(sexp::proofs::Walking::walking), unfolding(pddl_syntax::specs::Faults::first_of))]
 fn read_name(
     alloc: Global,
@@ -405,7 +406,7 @@ impl Actions {
     }
 }
 
-/// Records the first section past those that a domain may have, if there is one.
+/// Records the first section past the limit on actions, if there is one.
 #[tactic(auto, unfolding(pddl_syntax::specs::Faults::first_of))]
 fn blame_sections(sections: &[Section], first: &mut Option<Fault>)
     ensures { first.new ≡ first_of first.old (spec.past_faults LimitedTable.Schemas max_schemas (map (λ a. a.at) (map part_of sections.now))) }
@@ -415,14 +416,14 @@ fn blame_sections(sections: &[Section], first: &mut Option<Fault>)
     }
 }
 
-/// Reads the actions of a domain, each given by its items behind the word `:action`, and records their faults in
-/// `first`.
+/// Reads the actions of a domain from their sections, whose items are without the head `:action`, and records their
+/// faults in `first`.
 ///
 /// F10 for an action, a term, a condition or an effect of another form; F11 for a construct of PDDL that is not
-/// supported, such as `forall`; F12 for a name that is not declared; F13 for a list whose number of terms is not that
-/// of its head's parameters; F14 for a name, a parameter or a keyword that occurs a second time; F16 and F17 for an
-/// increase by a number that is not whole or is out of range; F18 for the first action past 512, literal past 256,
-/// increase past 16 and parameter past 16. Fails only if allocation fails.
+/// supported, such as `forall`; F12 for a name that is not declared; F13 for a list whose number of terms differs from
+/// its head's arity; F14 for a name, a parameter or a keyword that occurs a second time; F16 and F17 for an increase by
+/// a number that is not whole or is out of range; F18 for the first action past 512, literal past 256, increase past 16
+/// and parameter past 16.
 pub fn read_actions(
     alloc: Global,
     declarations: &Declarations,

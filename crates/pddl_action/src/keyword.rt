@@ -1,4 +1,4 @@
-//! The parts of an action behind its name: keywords, each with a list.
+//! The parts of an action after its name: keywords, each with a list.
 
 ghost use Rattle.std.specs.Prelude.{◌≡◌, ◌++◌, ℕ, List, Option, map, find, None, [], option_to_list, IfOk, OnOk};
 ghost use Rattle.std.specs.Option.{option_map};
@@ -11,7 +11,7 @@ use pddl_syntax::{Fault, FaultKind, blame, blame_if};
 use sexp::Tree;
 use std::alloc::{AllocError, Global};
 
-/// A keyword of an action, which a list follows.
+/// A keyword of an action; a list follows it.
 #[derive(Clone, Copy, Debug, PartialEq, Eq)]
 pub enum Keyword {
     Parameters,
@@ -85,7 +85,7 @@ impl Seen {
 #[derive(Drop)]
 struct PartList<'a> {
     seen: Seen,
-    /// The keyword whose list comes next.
+    /// The keyword that requires a list as the next item.
     waiting: Option<Keyword>,
     parts: Vec<Part<'a>>,
 }
@@ -172,10 +172,9 @@ impl<'a> PartList<'a> {
     }
 }
 
-/// Reads the items behind the name of the action at the byte `home`, counted from 0, and records the faults of the
-/// keywords in `first`: F10 for an item that is no keyword, and for a word in the place of a keyword's list; F14 for a
-/// keyword that occurs a second time; F10 at the action if the last keyword has no list. Fails only if allocation
-/// fails.
+/// Reads the items after the name of the action at byte offset `home`, counted from 0, and records the faults of the
+/// keywords in `first`: F10 for an item that is no keyword, and for a word in the position of a keyword's list; F14 for
+/// a keyword that occurs a second time; F10 at the action if the last keyword has no list.
 #[tactic(auto, unfolding(pddl_syntax::specs::Faults::first_of))]
 pub fn parts<'a>(
     alloc: Global,
@@ -196,7 +195,7 @@ pub fn parts<'a>(
     Ok(list.parts)
 }
 
-/// The first part with this keyword, or `None` if there is none.
+/// Returns the first part with this keyword, or `None` if there is none.
 pub fn find_part<'a>(parts: &[Part<'a>], keyword: Keyword) -> Option<Part<'a>>
     ensures { option_map spec.part_of result ≡ find (λ p. spec.same_keyword p.keyword keyword) (map spec.part_of parts.now) }
 {
@@ -208,7 +207,7 @@ pub fn find_part<'a>(parts: &[Part<'a>], keyword: Keyword) -> Option<Part<'a>>
     None
 }
 
-/// The items of a list, or none for a word.
+/// Returns the items of a list, or no items for a word.
 #[tactic(auto, using(sexp::proofs::Walking::walking))]
 pub fn items_of(tree: &Tree) -> &[Tree]
     ensures { views result.now ≡ root_parts (alone tree.now) }

@@ -7,7 +7,7 @@ use pddl_syntax::{Heads, Types};
 use pddl_terms::Scope;
 use std::marker::Model;
 
-/// The declarations of a domain that its actions use. Only its constants are objects there.
+/// The declarations of a domain that its actions use. Of the objects, only the constants are visible in actions.
 #[derive(Drop)]
 pub struct Declarations {
     pub types: Types,
@@ -27,7 +27,7 @@ impl Model for Declarations {
 impl Declarations {
     ghost use Rattle.pddl_action.specs.Actions.{scope_of};
 
-    /// The declarations that are visible in an action with these parameters.
+    /// Returns the declarations that are visible in an action with these parameters.
     pub fn scope<'a>(&'a self, variables: &'a Names) -> Scope<'a>
         ensures { result ≡ scope_of self.now variables.now }
     {

@@ -26,7 +26,7 @@ with_item kind heads t parameters = heads
 abbrev pub past_limit : LimitedTable → ℕ → ℕ → List Fault → List Fault
 past_limit table count at fs = faults_if (nat_le max_heads count) (fault (Limit table) at) fs
 
--- the faults of an item at the place `at`, whose head is a word at the place `head_at`
+-- the faults of an item at offset `at`, whose head is a word at offset `head_at`
 abbrev pub item_faults : (List ℕ → Bool) → LimitedTable → Heads → ℕ → ℕ → ℕ → WordKind → List ℕ → Forms → List Fault
 item_faults known table heads count at head_at Name t parameters =
     past_limit table count at (faults_if (is_there heads.names t) (fault TwiceDeclared head_at) (parameters_faults known at parameters))
@@ -62,12 +62,12 @@ predicates_faults known heads count (group s e (word hs he t i) f) =
 
 -- ---- functions
 
--- the first result for a hyphen, behind which one expression is skipped, and the second for any other word
+-- `behind` for a hyphen, after which one expression is skipped, and `later` for any other word
 abbrev pub by_hyphen : {A : Type 0} → WordKind → A → A → A
 by_hyphen Dash behind later = behind
 by_hyphen kind behind later = later
 
--- the heads with those of the items of a section, where an item comes next, and where a type comes next
+-- the heads with those of the items of a section, if an item comes next, and if a type comes next
 abbrev mutual
   pub function_heads : Heads → Forms → Heads
   function_heads heads none = heads
@@ -81,7 +81,7 @@ abbrev mutual
   heads_behind heads (word s e t f) = function_heads heads f
   heads_behind heads (group s e i f) = function_heads heads f
 
--- the fault of a word behind a hyphen, which must be `number`, and other faults
+-- the fault of a word after a hyphen, which must be `number`, followed by other faults
 abbrev pub number_faults : ℕ → List ℕ → List Fault → List Fault
 number_faults s t rest = faults_if (not (same_text t (codes "number"))) (fault Unsupported s) rest
 
@@ -90,8 +90,8 @@ abbrev pub word_faults : ℕ → WordKind → Bool → List Fault → List Fault
 word_faults s Dash empty behind later = faults_if empty (fault Shape s) behind
 word_faults s kind empty behind later = fault Shape s ∷ later
 
--- The faults of items that follow `count` others, which declared `heads`, in a run that is empty so far or not: where
--- an item comes next, and where a type comes next. A type that is missing is a fault at the section, which is at
+-- The faults of items that follow `count` others, which declared `heads`, in a run that is empty so far or not
+-- (`empty`): if an item comes next, and if a type comes next. A missing type is a fault at the section, which is at
 -- `home`.
 abbrev mutual
   pub functions_faults : (List ℕ → Bool) → ℕ → Bool → Heads → ℕ → Forms → List Fault
@@ -110,14 +110,14 @@ abbrev mutual
   faults_behind known home heads count (word s e t f) = number_faults s t (functions_faults known home true heads count f)
   faults_behind known home heads count (group s e i f) = type_group_faults s i ++ functions_faults known home true heads count f
 
--- ---- the state of the code, in which an item or a type comes next
+-- ---- the state of the code: whether an item or a type comes next
 
--- the heads with those of the remaining items, where a type comes next or not
+-- the heads with those of the remaining items; the flag says whether a type comes next
 abbrev pub heads_from : Bool → Heads → Forms → Heads
 heads_from false heads f = function_heads heads f
 heads_from true heads f = heads_behind heads f
 
--- the faults of the remaining items, where a type comes next or not
+-- the faults of the remaining items; the flag says whether a type comes next
 abbrev pub faults_from : Bool → (List ℕ → Bool) → ℕ → Bool → Heads → ℕ → Forms → List Fault
 faults_from false known home empty heads count f = functions_faults known home empty heads count f
 faults_from true known home empty heads count f = faults_behind known home heads count f

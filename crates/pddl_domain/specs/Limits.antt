@@ -5,6 +5,6 @@ use Rattle.std.specs.Prelude.{ℕ}
 abbrev pub max_heads : ℕ
 max_heads = 512
 
--- the greatest number of objects, constants and those of the problem together
+-- the greatest number of objects, counting constants and those of the problem together
 abbrev pub max_objects : ℕ
 max_objects = 4096

@@ -12,8 +12,8 @@ use Rattle.pddl_syntax.specs.Typed.{Declared, declared, typed_faults}
 use Rattle.pddl_domain.specs.Types.{with_parent}
 use Rattle.pddl_domain.specs.Limits.{max_objects}
 
--- The names of the objects, the number of each one's type at its first declaration, the names of types that follow
--- objects, and for each object the place of its type's name among these, if it can be read.
+-- The names of the objects, the number of each one's type at its first declaration, the names of the types that follow
+-- objects, and for each object the number of its type's name among these, if it can be read.
 pub record Objects : Type 0 where
   pub names : List (List ℕ)
   pub types : List ℕ
@@ -31,7 +31,7 @@ with_entry o t type text =
     if is_there o.names t then o
     else record { names = with_name o.names t; types = o.types ++ type ∷ []; texts = o.texts; firsts = o.firsts ++ text ∷ [] }
 
--- the objects, where the name of this type is one of the texts
+-- the objects with the name of this type among the texts
 abbrev pub with_text : Objects → Option (List ℕ) → Objects
 with_text o p = record { names = o.names; types = o.types; texts = with_parent o.texts p; firsts = o.firsts }
 
@@ -53,11 +53,11 @@ objects_with types o (d ∷ ds) = objects_with types (with_object types o d) ds
 abbrev pub first_text : Objects → List ℕ → Option ℕ
 first_text o t = option_and_then (λ n. option_and_then (λ text. text) (slice_get o.firsts n)) (place_of o.names t)
 
--- the name of that type
+-- the name of the type at the first declaration of this name
 abbrev pub first_type : Objects → List ℕ → Option (List ℕ)
 first_type o t = option_and_then (slice_get o.texts) (first_text o t)
 
--- both texts are given, and they differ
+-- both texts are present, and they differ
 abbrev pub differs_text : Option (List ℕ) → Option (List ℕ) → Bool
 differs_text (Some a) (Some b) = not (same_text a b)
 differs_text (Some a) None = false
@@ -67,8 +67,8 @@ differs_text None other = false
 abbrev pub AreTexts : List (List ℕ) → List (Option ℕ) → Type 0
 AreTexts texts firsts = All (λ first. IfSome first (λ n. n < length texts)) firsts
 
--- the faults of a declaration that follows those of the objects, where its type's name is one of the texts, and other
--- faults
+-- the faults of a declaration that follows those of the objects, followed by other faults; the name of its type is one
+-- of the texts
 abbrev pub declaration_faults : Objects → Declared → List Fault → List Fault
 declaration_faults o d rest =
     faults_if (differs_text (first_type o d.name) d.parent) (fault TwiceDeclared d.at)

@@ -39,7 +39,7 @@ subtypes ds = map (numbered (type_names ds)) ds
 abbrev pub first_of_name : List Subtype → ℕ → Option Subtype
 first_of_name ds n = find (λ d. d.name == n) ds
 
--- the supertype in that declaration, or `object` if there is none
+-- the supertype in the first declaration of a type, or `object` if there is none
 abbrev pub first_parent : Option Subtype → ℕ
 first_parent first = option_map_or (λ d. unwrap_or d.parent 0) first 0
 
@@ -57,13 +57,13 @@ supertypes ds = parents (subtypes ds) (length (type_names ds))
 
 -- ---- the faults
 
--- both numbers are given, and they differ
+-- both numbers are present, and they differ
 abbrev pub differs : Option ℕ → Option ℕ → Bool
 differs (Some a) (Some b) = not (a == b)
 differs (Some a) None = false
 differs None other = false
 
--- a declaration with another supertype than in the first one
+-- a declaration with another supertype than the first one
 abbrev pub is_twice : Option Subtype → Subtype → Bool
 is_twice first d = option_map_or (λ e. differs e.parent d.parent) first false
 

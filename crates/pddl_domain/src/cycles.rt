@@ -6,7 +6,7 @@ ghost use Rattle.pddl_domain.specs.Cycles.{ancestor, lies_on_cycle, LiesOnCycle}
 
 use std::alloc::{AllocError, Global};
 
-/// For each type the ancestor of its ancestor, so twice as many steps above it.
+/// Returns for each type the ancestor of its ancestor, which is twice as many steps above it.
 fn doubled(alloc: Global, ancestors: &[usize]) -> Result<Vec<usize>, AllocError>
     requires { All (λ a. a < length ancestors.now) ancestors.now }
     ensures { IfOk result (λ twice. twice.items ≡ map (slice_index ancestors.now) ancestors.now) }
@@ -18,7 +18,7 @@ fn doubled(alloc: Global, ancestors: &[usize]) -> Result<Vec<usize>, AllocError>
     Ok(twice)
 }
 
-/// For each type its ancestor after a number of steps that is at least the number of types.
+/// Returns for each type its ancestor after a number of steps that is at least the number of types.
 fn far_ancestors(alloc: Global, supertypes: &[usize]) -> Result<Vec<usize>, AllocError>
     requires { All (λ s. s < length supertypes.now) supertypes.now }
     ensures { IfOk result (λ far. (steps : ℕ) × (length supertypes.now ≤ steps)
@@ -33,7 +33,7 @@ fn far_ancestors(alloc: Global, supertypes: &[usize]) -> Result<Vec<usize>, Allo
     Ok(ancestors)
 }
 
-/// For each of `count` types whether it is among `types`.
+/// Returns for each of `count` types whether it is among `types`.
 fn marked(alloc: Global, types: &[usize], count: usize) -> Result<Vec<bool>, AllocError>
     requires { All (λ t. t < count) types.now }
     ensures { IfOk result (λ marks. marks.items ≡ map (λ n. list_any (λ t. t == n) types.now) (range_with_len 0 count)) }
@@ -45,10 +45,10 @@ fn marked(alloc: Global, types: &[usize], count: usize) -> Result<Vec<bool>, All
     Ok(marks)
 }
 
-/// For each type whether it lies on a cycle of supertypes, where each type has one supertype.
+/// Returns for each type whether it lies on a cycle of supertypes; each type has one supertype.
 ///
-/// A walk from supertype to supertype reaches a cycle and stays on it. So the types that are reached after at least as
-/// many steps as there are types, from any type, are those on cycles. Fails only if allocation fails.
+/// A walk from supertype to supertype reaches a cycle and stays on it. So the types on cycles are those that are
+/// reached, from any type, after at least as many steps as there are types.
 pub fn types_on_cycles(alloc: Global, supertypes: &[usize]) -> Result<Vec<bool>, AllocError>
     requires { All (λ s. s < length supertypes.now) supertypes.now }
     ensures { IfOk result (λ marks. marks.items ≡ map (lies_on_cycle supertypes.now) (range_with_len 0 (length supertypes.now))) }
@@ -57,7 +57,8 @@ pub fn types_on_cycles(alloc: Global, supertypes: &[usize]) -> Result<Vec<bool>,
     marked(alloc, &far, supertypes.len())
 }
 
-/// A law: the test for a cycle, which takes no more steps than there are types, holds exactly for the types on cycles.
+/// A law: the test for a cycle, which takes at most as many steps as there are types, holds exactly for the types on
+/// cycles.
 pub fn cycles_are_found()
     ensures { (supertypes : List ℕ) (n : ℕ) → All (λ s. s < length supertypes) supertypes → n < length supertypes
         → (IsTrue (lies_on_cycle supertypes n) ↔ LiesOnCycle supertypes n) }

@@ -22,8 +22,7 @@ use std::alloc::{AllocError, Global};
 /// The greatest number of predicates, and of functions.
 const MAX_HEADS: usize = 512;
 
-/// An item `(HEAD PARAMETERS)` whose head is a word, with the bytes at which the item and its head begin, counted from
-/// 0.
+/// An item `(HEAD PARAMETERS)` whose head is a word, with the byte offsets of the item and of its head, counted from 0.
 #[derive(Clone, Copy)]
 struct Item<'a> {
     at: usize,
@@ -56,7 +55,7 @@ impl Declarations {
         }
     }
 
-    /// Counts an item, and records it as a fault if it is past the limit.
+    /// Counts an item, and records a fault if it is past the limit.
     fn count_item(&mut self, table: LimitedTable, at: usize, first: &mut Option<Fault>)
         requires { self.old.count < usize.MAX }
         ensures heads { self.new.heads ≡ self.old.heads }
@@ -67,7 +66,7 @@ impl Declarations {
         self.count += 1;
     }
 
-    /// Counts an item, and records its head as a fault if it is not a name or is declared already.
+    /// Counts an item, and records a fault if its head is not a name or is declared already.
     #[tactic(auto, unfolding(pddl_syntax::specs::Faults::first_of))]
     fn count_head(&mut self, table: LimitedTable, item: Item, first: &mut Option<Fault>)
         requires { self.old.count < usize.MAX }
@@ -90,7 +89,7 @@ impl Declarations {
         }
     }
 
-    /// Reads an item and records its faults. Fails only if allocation fails.
+    /// Reads an item and records its faults.
     #[tactic(auto, unfolding(pddl_syntax::specs::Faults::first_of))]
     fn read_item(
         &mut self,
@@ -121,7 +120,7 @@ fn variable_count(parameters: &Parameters) -> usize
     parameters.types.len()
 }
 
-/// The number of variables that the list at `home` declares. Their faults are recorded in `first`.
+/// Returns the number of variables that the list at `home` declares, and records their faults in `first`.
 fn arity_of(
     alloc: Global,
     parameters: &[Tree],
@@ -249,8 +248,8 @@ fn read_predicates(
 
 /// Reads the section of the predicates, whose items without its head are `items`, and records its faults in `first`.
 ///
-/// An item named `=` is skipped, since `=` is predefined. A predicate that is declared twice keeps the number of
-/// parameters of its first declaration (Fox and Long 2003; McDermott and others 1998). Fails only if allocation fails.
+/// An item named `=` is skipped, because `=` is predefined. A predicate that is declared twice has the number of
+/// parameters of its first declaration (Fox and Long 2003; McDermott and others 1998).
 #[tactic(auto, unfolding(pddl_syntax::specs::Faults::first_of))]
 pub fn predicates_section(
     alloc: Global,
@@ -289,7 +288,7 @@ fn is_either(text: &str) -> bool
     text == "either"
 }
 
-/// The place of the tree if it is the word `either`.
+/// Returns the byte offset of the tree if it is the word `either`.
 fn either_at(tree: &Tree) -> Option<usize>
     ensures { (rest : Forms) → result ≡ either_at (before tree.now rest) }
 {
@@ -314,7 +313,8 @@ fn head_either_at(items: &[Tree]) -> Option<usize>
     }
 }
 
-/// Records the fault of a list where `number` is expected: F11 at the word `either` if that is its head, otherwise F10.
+/// Records the fault of a list in the position of `number`: F11 at the word `either` if that is its head, otherwise
+/// F10.
 #[tactic(auto, unfolding(pddl_syntax::specs::Faults::first_of))]
 fn blame_number_list(items: &[Tree], at: usize, first: &mut Option<Fault>)
     ensures { first.new ≡ first_of first.old (type_group_faults at (views items.now)) }
@@ -325,7 +325,7 @@ fn blame_number_list(items: &[Tree], at: usize, first: &mut Option<Fault>)
     }
 }
 
-/// Records the fault of a tree where `number` is expected.
+/// Records the fault of a tree in the position of `number`.
 fn blame_number(tree: &Tree, first: &mut Option<Fault>)
     ensures { (known : List ℕ → Bool) (home : ℕ) (heads : DeclaredHeads) (count : ℕ) (rest : Forms) →
         first_of first.old (faults_behind known home heads count (before tree.now rest)) ≡ first_of first.new (functions_faults known home true heads count rest) }
@@ -355,7 +355,7 @@ impl Functions {
         }
     }
 
-    /// Reads a word where an item is expected.
+    /// Reads a word in the position of an item.
     #[tactic(auto, unfolding(pddl_syntax::specs::Faults::first_of))]
     fn read_word(&mut self, text: &str, at: usize, first: &mut Option<Fault>)
         requires { self.old.wants_number ≡ false }
@@ -413,7 +413,7 @@ impl Functions {
         }
     }
 
-    /// Reads a list where an item is expected.
+    /// Reads a list in the position of an item.
     #[tactic(auto, unfolding(pddl_syntax::specs::Faults::first_of))]
     fn read_list(
         &mut self,
@@ -498,7 +498,7 @@ impl Functions {
 /// `first`.
 ///
 /// `- number` may follow items and adds nothing to their meaning (Fox and Long 2003). A function that is declared twice
-/// keeps the number of parameters of its first declaration. Fails only if allocation fails.
+/// has the number of parameters of its first declaration.
 #[tactic(auto, unfolding(pddl_syntax::specs::Faults::first_of))]
 pub fn functions_section(
     alloc: Global,

@@ -17,18 +17,18 @@ use sexp::Tree;
 use std::alloc::{AllocError, Global};
 use std::marker::Model;
 
-/// The greatest number of objects, constants and those of the problem together.
+/// The greatest number of objects, counting constants and those of the problem together.
 const MAX_OBJECTS: usize = 4096;
 
-/// The objects of a task, in the order of their first declarations, each with the type that it has there.
+/// The objects of a task, in the order of their first declarations, each with its type in that declaration.
 ///
-/// The names of the types have numbers of their own here, since a type that is not declared has none among the types.
-/// So two declarations of an object are compared by numbers, and not by texts.
+/// The names of the types have numbers of their own here, because a type that is not declared has no number among the
+/// types. So the types of two declarations of an object are compared by numbers rather than by texts.
 #[derive(Debug, Drop)]
 pub struct Objects {
     names: Names,
     types: Vec<usize>,
-    /// The names of types that follow objects.
+    /// The names of the types that follow objects.
     texts: Names,
     /// For each object the number in `texts` of its type at its first declaration, or `None` if that type cannot be
     /// read.
@@ -54,7 +54,7 @@ struct DeclaredType {
 }
 
 impl Objects {
-    /// An empty table of objects. Allocates nothing before the first object is declared.
+    /// Returns an empty table of objects. Allocates nothing before the first object is declared.
     pub fn new(alloc: Global) -> Objects
         ensures { result ≡ spec.no_objects }
     {
@@ -66,22 +66,22 @@ impl Objects {
         }
     }
 
-    /// The names, in the order of their first declarations.
+    /// Returns the names, in the order of their first declarations.
     pub fn names(&self) -> &Names
         ensures { result.now ≡ self.now.names }
     {
         &self.names
     }
 
-    /// The number of each object's type, in the order of the names. For a type that is not declared it is the number of
-    /// types, and for one that cannot be read it is 0, the number of `object`.
+    /// Returns the type number of each object, in the order of the names: the number of types for a type that is not
+    /// declared, and 0, the number of `object`, for one that cannot be read.
     pub fn types(&self) -> &[usize]
         ensures { result.now ≡ self.now.types }
     {
         &self.types
     }
 
-    /// The names and the numbers of the types, as `names` and `types` return them.
+    /// Returns the names and the numbers of the types, as `names` and `types` return them.
     pub fn into_parts(self) -> (Names, Vec<usize>)
         ensures names { result.0 ≡ self.names }
         ensures types { result.1.items ≡ self.types }
@@ -89,7 +89,7 @@ impl Objects {
         (self.names, self.types)
     }
 
-    /// The number in `texts` of the type at the first declaration of this name.
+    /// Returns the number in `texts` of the type at the first declaration of this name.
     fn first_text(&self, name: &str) -> Option<usize>
         ensures { result ≡ spec.first_text self.now name.now }
     {
@@ -97,7 +97,7 @@ impl Objects {
         *self.firsts.get(number)?
     }
 
-    /// The type of a run. Its name is added to `texts`.
+    /// Returns the type of a run, and adds its name to `texts`.
     fn type_of(
         &mut self,
         alloc: Global,
@@ -120,7 +120,7 @@ impl Objects {
         }
     }
 
-    /// Adds an object. One that is declared already changes nothing.
+    /// Adds an object, unless its name is declared already.
     fn add(&mut self, alloc: Global, name: &str, declared: DeclaredType) -> Result<(), AllocError>
         requires { IfSome declared.text (λ n. n < length self.old.texts) }
         ensures { OnOk result (self.new ≡ with_entry self.old name.now declared.number declared.text) }
@@ -133,8 +133,8 @@ impl Objects {
         Ok(())
     }
 
-    /// Whether the type at the first declaration of this name and the type with the number `text` are both known and
-    /// differ.
+    /// Returns whether the type at the first declaration of this name and the type with the number `text` are both
+    /// known and differ.
     fn is_other_type(&self, name: &str, text: Option<usize>) -> bool
         ensures { (p : Option (List ℕ)) → IsTextOf self.now.texts p text → result ≡ spec.differs_text (spec.first_type self.now name.now) p }
     {
@@ -142,7 +142,7 @@ impl Objects {
         differs(self.first_text(name), text)
     }
 
-    /// Declares an object, and records it as a fault if it was declared with another type or is past the limit.
+    /// Declares an object, and records a fault if it was declared with another type or is past the limit.
     fn declare(
         &mut self,
         alloc: Global,
@@ -204,9 +204,9 @@ pub fn each_object_has_a_type()
 /// Reads the section of objects at `home`, whose items without its head are `items`, adds the objects and records the
 /// faults in `first`.
 ///
-/// The constants of a domain and the objects of its problem are one table. An object that is declared twice, with types
-/// of different names, is a fault at the later place, and so is each object past the 4,096th (Fox and Long 2003). Fails
-/// only if allocation fails, and then the objects must not be used again.
+/// The constants of a domain and the objects of its problem form one table. An object that is declared twice, with
+/// types of different names, is a fault at the later declaration, and so is each object past the 4,096th (Fox and Long
+/// 2003). After a failure the objects must not be used again.
 #[tactic(auto, unfolding(pddl_syntax::specs::Faults::first_of))]
 pub fn objects_section(
     alloc: Global,

@@ -18,8 +18,8 @@ use pddl_syntax::{Fault, FaultKind, Named, Run, Types, blame_if, typed_list};
 use sexp::Tree;
 use std::alloc::{AllocError, Global};
 
-/// A declaration of a type at the byte `at`, counted from 0, with its supertype if that can be read. Both are given by
-/// their numbers.
+/// A declaration of a type at byte offset `at`, counted from 0, with its supertype if that can be read. Types are
+/// represented by their numbers.
 #[derive(Clone, Copy, Debug, PartialEq, Eq)]
 pub struct Subtype {
     pub name: usize,
@@ -47,7 +47,7 @@ fn add_names(alloc: Global, names: &mut Names, added: &[Named]) -> Result<(), Al
     Ok(())
 }
 
-/// Adds the types of a run. The supertype is looked up once, and not once for each name.
+/// Adds the types of a run. The supertype is looked up once, rather than for each name.
 fn add_run(alloc: Global, names: &mut Names, run: &Run) -> Result<(), AllocError>
     ensures { OnOk result (names.new ≡ all_types names.old (spread_run run.now)) }
 {
@@ -72,7 +72,7 @@ fn add_types(alloc: Global, names: &mut Names, runs: &[Run]) -> Result<(), Alloc
     Ok(())
 }
 
-/// The names of all types of the runs, `object` first.
+/// Returns the names of all types of the runs, `object` first.
 fn type_names(alloc: Global, runs: &[Run]) -> Result<Names, AllocError>
     ensures { IfOk result (λ names. names ≡ spec.type_names (spread runs.now)) }
 {
@@ -81,7 +81,7 @@ fn type_names(alloc: Global, runs: &[Run]) -> Result<Names, AllocError>
     Ok(names)
 }
 
-/// The number of the supertype of a run, or `None` if it cannot be read.
+/// Returns the number of the supertype of a run, or `None` if it cannot be read.
 fn parent_number(names: &Names, run: &Run) -> Option<usize>
     ensures { result ≡ option_map (number_of names.now) (parent_text run.now) }
 {
@@ -106,7 +106,7 @@ fn number_run(names: &Names, run: &Run, subtypes: &mut Vec<Subtype>) -> Result<(
     Ok(())
 }
 
-/// The declarations of the runs, by numbers.
+/// Returns the declarations of the runs, by numbers.
 fn subtypes(alloc: Global, names: &Names, runs: &[Run]) -> Result<Vec<Subtype>, AllocError>
     ensures { IfOk result (λ subtypes. subtypes.items ≡ map (numbered names.now) (spread runs.now)) }
 {
@@ -117,7 +117,7 @@ fn subtypes(alloc: Global, names: &Names, runs: &[Run]) -> Result<Vec<Subtype>, 
     Ok(subtypes)
 }
 
-/// The first declaration of each of `count` types, or `None` for a type without one.
+/// Returns the first declaration of each of `count` types, or `None` for a type without one.
 fn first_declarations(
     alloc: Global,
     subtypes: &[Subtype],
@@ -148,7 +148,7 @@ fn first_parent(first: Option<Subtype>) -> usize
     }
 }
 
-/// The supertype of each type, by its first declaration.
+/// Returns the supertype of each type, by its first declaration.
 fn supertypes(alloc: Global, firsts: &[Option<Subtype>]) -> Result<Vec<usize>, AllocError>
     ensures { IfOk result (λ supertypes. supertypes.items ≡ map first_parent firsts.now) }
 {
@@ -159,7 +159,7 @@ fn supertypes(alloc: Global, firsts: &[Option<Subtype>]) -> Result<Vec<usize>, A
     Ok(supertypes)
 }
 
-/// Whether both numbers are given and differ.
+/// Returns whether both numbers are present and differ.
 pub fn differs(first: Option<usize>, second: Option<usize>) -> bool
     ensures { result ≡ spec.differs first second }
 {
@@ -178,7 +178,7 @@ fn is_twice(first: Option<Subtype>, subtype: Subtype) -> bool
     }
 }
 
-/// Records the types that are declared twice with different supertypes, or lie on a cycle.
+/// Records the declarations of types that repeat a type with another supertype, or whose type lies on a cycle.
 #[tactic(auto, unfolding(pddl_syntax::specs::Faults::first_of))]
 fn blame_subtypes(
     subtypes: &[Subtype],
@@ -224,7 +224,7 @@ fn blame_declarations(
     Ok(())
 }
 
-/// The supertype of each of `count` types by their declarations, whose faults are recorded in `first`.
+/// Returns the supertype of each of `count` types by their declarations, and records the faults of these in `first`.
 fn noted_supertypes(
     alloc: Global,
     subtypes: &[Subtype],
@@ -242,8 +242,8 @@ fn noted_supertypes(
     Ok(supertypes)
 }
 
-/// The supertype of each type of the runs, whose names are `names`. The faults of the declarations are recorded in
-/// `first`.
+/// Returns the supertype of each type of the runs, whose names are `names`, and records the faults of the declarations
+/// in `first`.
 fn declared_supertypes(
     alloc: Global,
     names: &Names,
@@ -259,7 +259,7 @@ fn declared_supertypes(
     noted_supertypes(alloc, &subtypes, names.len(), first)
 }
 
-/// The types of the runs. The faults of their declarations are recorded in `first`.
+/// Returns the types of the runs, and records the faults of their declarations in `first`.
 fn declared_types(
     alloc: Global,
     runs: &[Run],
@@ -295,9 +295,8 @@ fn type_runs(
 /// Reads the section of the types at `home`, whose items without its head are `items`, and records its faults in
 /// `first`.
 ///
-/// `object` is the first type. Each other type has one supertype, that of its first declaration. If it has none there,
-/// or none that can be read, its supertype is `object` (Fox and Long 2003; McDermott and others 1998). Fails only if
-/// allocation fails.
+/// `object` is the first type. Each other type has one supertype, that of its first declaration, or `object` if there
+/// is no declaration or its supertype cannot be read (Fox and Long 2003; McDermott and others 1998).
 pub fn types_section(
     alloc: Global,
     items: &[Tree],

@@ -23,7 +23,7 @@ equality_of positive (Some a) (Some b) = (if positive then Equal a b else Differ
 equality_of positive (Some a) None = []
 equality_of positive None b = []
 
--- the condition that two terms stand for the same object, or for different ones
+-- the condition that two terms denote the same object, or different objects
 abbrev pub equality : Bool → Option (List Term) → List Condition
 equality positive None = []
 equality positive (Some []) = []
@@ -36,13 +36,13 @@ negated_condition scope t f Atom = option_to_list (option_map Negative (lifted s
 negated_condition scope t f Equality = equality false (terms scope f)
 negated_condition scope t f other = []
 
--- the condition that is the negation of a list's content
+-- the condition that is the negation of the expressions in a list
 abbrev pub negated_inside : Setting → Scope → Forms → List Condition
 negated_inside setting scope none = []
 negated_inside setting scope (word s e t f) = negated_condition scope t f (beginning setting t)
 negated_inside setting scope (group s e i f) = []
 
--- the condition that is the negation of the expression behind `not`
+-- the condition that is the negation of the expression after `not`
 abbrev pub negated_conditions : Setting → Scope → Forms → List Condition
 negated_conditions setting scope none = []
 negated_conditions setting scope (word s e t f) = []
@@ -65,7 +65,7 @@ conditions scope (group s e (word hs he t i) f) = group_conditions scope t i (be
 
 -- ---- the faults
 
--- the faults of a second term that must end the list at `home`
+-- the faults of a second term, which must be the last expression in the list at `home`
 abbrev pub second_term_faults : Scope → ℕ → Forms → List Fault
 second_term_faults scope home none = fault Shape home ∷ []
 second_term_faults scope home f = first_term_faults scope f ++ more_faults (behind f)
@@ -81,19 +81,19 @@ negated_group_faults scope not_at home hs t f Atom = lifted_faults scope.predica
 negated_group_faults scope not_at home hs t f Equality = two_terms_faults scope home f
 negated_group_faults scope not_at home hs t f other = fault Unsupported not_at ∷ []
 
--- the faults of the content of the list at `home`, behind the word `not` at `not_at`
+-- the faults of the expressions in the negated list at `home`, after the word `not` at `not_at`
 abbrev pub negated_inside_faults : Setting → Scope → ℕ → ℕ → Forms → List Fault
 negated_inside_faults setting scope not_at home none = fault Unsupported not_at ∷ []
 negated_inside_faults setting scope not_at home (word s e t f) = negated_group_faults scope not_at home s t f (beginning setting t)
 negated_inside_faults setting scope not_at home (group s e i f) = fault Unsupported not_at ∷ []
 
--- the faults of the first expression behind the word `not` at `not_at`
+-- the faults of the first expression after the word `not` at `not_at`
 abbrev pub first_negated_faults : Setting → Scope → ℕ → Forms → List Fault
 first_negated_faults setting scope not_at none = []
 first_negated_faults setting scope not_at (word s e t f) = fault Unsupported not_at ∷ []
 first_negated_faults setting scope not_at (group s e i f) = negated_inside_faults setting scope not_at s i
 
--- the faults of the expressions behind the word `not` at `not_at`, in the list at `home`
+-- the faults of the expressions after the word `not` at `not_at`, in the list at `home`
 abbrev pub negated_faults : Setting → Scope → ℕ → ℕ → Forms → List Fault
 negated_faults setting scope home not_at none = fault Shape home ∷ []
 negated_faults setting scope home not_at f = first_negated_faults setting scope not_at f ++ more_faults (behind f)

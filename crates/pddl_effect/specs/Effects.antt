@@ -41,13 +41,13 @@ abbrev pub negated_effect : Scope → List ℕ → Forms → Beginning → List 
 negated_effect scope t f Atom = option_to_list (option_map (effect_of false) (lifted scope.predicates scope t f))
 negated_effect scope t f other = []
 
--- the effect that is the negation of a list's content
+-- the effect that is the negation of the expressions in a list
 abbrev pub negated_inside : Scope → Forms → List Effect
 negated_inside scope none = []
 negated_inside scope (word s e t f) = negated_effect scope t f (beginning InEffect t)
 negated_inside scope (group s e i f) = []
 
--- the effect that is the negation of the expression behind `not`
+-- the effect that is the negation of the expression after `not`
 abbrev pub negated_effects : Scope → Forms → List Effect
 negated_effects scope none = []
 negated_effects scope (word s e t f) = []
@@ -79,7 +79,7 @@ amount_of_word scope t Fraction = None
 amount_of_word scope t OutOfRange = None
 amount_of_word scope t NoNumber = function_value scope t none (word_kind t)
 
--- the content of a list as an amount
+-- the expressions in a list as an amount
 abbrev pub amount_inside : Scope → Forms → Option Increase
 amount_inside scope none = None
 amount_inside scope (word s e t f) = function_value scope t f (word_kind t)
@@ -91,7 +91,7 @@ amount_of scope none = None
 amount_of scope (word s e t f) = amount_of_word scope t (number_of t)
 amount_of scope (group s e i f) = amount_inside scope i
 
--- the increase of the expressions behind the word `increase`
+-- the increase of the expressions after the word `increase`
 abbrev pub increase_of : Scope → Forms → Option Increase
 increase_of scope f = amount_of scope (behind f)
 
@@ -110,7 +110,7 @@ increases scope (group s e (word hs he t i) f) = group_increases scope i (beginn
 
 -- ---- the faults
 
--- the faults of a function's word at the place s with its terms, in the list at `home`
+-- the faults of a function's word at offset `s` with its terms, in the list at `home`
 abbrev pub function_faults : Scope → ℕ → ℕ → List ℕ → Forms → WordKind → List Fault
 function_faults scope home s t f Name =
     if is_total_cost t then fault Unsupported s ∷ [] else lifted_faults scope.functions scope home s t f
@@ -122,7 +122,7 @@ amount_word_faults scope s t Fraction = fault NotWhole s ∷ []
 amount_word_faults scope s t OutOfRange = fault CostRange s ∷ []
 amount_word_faults scope s t NoNumber = function_faults scope s s t none (word_kind t)
 
--- the faults of the content of the list at `home`, which must be an amount
+-- the faults of the expressions in the list at `home`, which must be an amount
 abbrev pub amount_inside_faults : Scope → ℕ → Forms → List Fault
 amount_inside_faults scope home none = fault Shape home ∷ []
 amount_inside_faults scope home (word s e t f) = function_faults scope home s t f (word_kind t)
@@ -134,12 +134,13 @@ first_amount_faults scope none = []
 first_amount_faults scope (word s e t f) = amount_word_faults scope s t (number_of t)
 first_amount_faults scope (group s e i f) = amount_inside_faults scope s i
 
--- the faults of the expressions in the list at `home`, which must be one amount
+-- the faults of the expressions in the list at `home`, which must be exactly one amount
 abbrev pub amount_faults : Scope → ℕ → Forms → List Fault
 amount_faults scope home none = fault Shape home ∷ []
 amount_faults scope home f = first_amount_faults scope f ++ more_faults (behind f)
 
--- the fault of the word for what is increased, which must be the total cost; inc is the place of the word `increase`
+-- the fault of the word for the increased function, which must be the total cost; `inc` is the offset of the word
+-- `increase`
 abbrev pub increased_word_faults : ℕ → ℕ → List ℕ → WordKind → List Fault
 increased_word_faults inc s t Name = faults_if (not (is_total_cost t)) (fault Unsupported inc) []
 increased_word_faults inc s t kind = fault Shape s ∷ []
@@ -148,19 +149,19 @@ increased_word_faults inc s t kind = fault Shape s ∷ []
 abbrev pub has_terms : List ℕ → Forms → Bool
 has_terms t f = is_total_cost t && not_empty f
 
--- the faults of the content of the list at `home`, which must be what is increased
+-- the faults of the expressions in the list at `home`, which must be the increased function
 abbrev pub increased_inside_faults : ℕ → ℕ → Forms → List Fault
 increased_inside_faults inc home none = fault Shape home ∷ []
 increased_inside_faults inc home (word s e t f) = increased_word_faults inc s t (word_kind t) ++ faults_if (has_terms t f) (fault Arity home) []
 increased_inside_faults inc home (group s e i f) = fault Shape s ∷ []
 
--- the faults of the first expression behind the word `increase` at the place inc, which must be what is increased
+-- the faults of the first expression after the word `increase` at offset `inc`, which must be the increased function
 abbrev pub increased_faults : ℕ → Forms → List Fault
 increased_faults inc none = []
 increased_faults inc (word s e t f) = increased_word_faults inc s t (word_kind t)
 increased_faults inc (group s e i f) = increased_inside_faults inc s i
 
--- the faults of the expressions behind the word `increase` at the place inc, in the list at `home`
+-- the faults of the expressions after the word `increase` at offset `inc`, in the list at `home`
 abbrev pub increase_faults : Scope → ℕ → ℕ → Forms → List Fault
 increase_faults scope home inc none = fault Shape home ∷ []
 increase_faults scope home inc f = increased_faults inc f ++ amount_faults scope home (behind f)

@@ -1,4 +1,4 @@
--- The places of literals and increases, for the limits. Those with a fault count too.
+-- The byte offsets of literals and increases, for the limits. Those with a fault count too.
 use Rattle.std.specs.Prelude.{ℕ, List, [], ◌∷◌, ◌++◌}
 use Rattle.sexp.specs.Forms.{Forms, none, word, group}
 use Rattle.pddl_terms.specs.declared.beginning.Beginning.{Beginning}
@@ -6,7 +6,7 @@ use Rattle.pddl_terms.specs.declared.beginning.Beginning.TheVariants.{Conjunctio
 use Rattle.pddl_terms.specs.declared.beginning.Setting.{Setting}
 use Rattle.pddl_terms.specs.Beginnings.{beginning}
 
--- the places in a list at the place s, given those of its parts
+-- the offsets in a list at offset `s`, given those of its parts
 abbrev pub group_literals : ℕ → Beginning → List ℕ → List ℕ
 group_literals s Conjunction parts = parts
 group_literals s Negation parts = s ∷ []
@@ -14,7 +14,7 @@ group_literals s Equality parts = s ∷ []
 group_literals s Atom parts = s ∷ []
 group_literals s other parts = []
 
--- the places of the atoms, the equalities and their negations, in the order of the text
+-- the byte offsets of the atoms, the equalities and their negations, in the order of the text
 abbrev pub literal_places : Setting → Forms → List ℕ
 literal_places setting none = []
 literal_places setting (word s e t f) = literal_places setting f
@@ -27,7 +27,7 @@ group_increases s Conjunction parts = parts
 group_increases s Increasing parts = s ∷ []
 group_increases s other parts = []
 
--- the places of the increases, in the order of the text
+-- the byte offsets of the increases, in the order of the text
 abbrev pub increase_places : Setting → Forms → List ℕ
 increase_places setting none = []
 increase_places setting (word s e t f) = increase_places setting f

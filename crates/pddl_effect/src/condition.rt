@@ -22,8 +22,8 @@ fn keep(conditions: &mut Vec<Condition>, condition: Option<Condition>) -> Result
     Ok(())
 }
 
-/// Reads a tree as a condition, adds its meaning to `conditions` and records its faults in `first`. Fails only if
-/// allocation fails, and then the conditions of a part of the tree may have been added.
+/// Reads a tree as a condition, adds its meaning to `conditions` and records its faults in `first`. On failure,
+/// conditions of a part of the tree may have been added.
 #[cycle(conditions)]
 #[tactic(auto, using(sexp::proofs::Walking::walking, pddl_syntax::proofs::Trees::noting, crate::proofs::Steps::appending), unfolding(pddl_syntax::specs::Faults::first_of))]
 pub fn read_condition(

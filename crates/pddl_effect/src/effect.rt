@@ -23,7 +23,7 @@ pub struct Effects {
 }
 
 impl Effects {
-    /// No effects and no increases.
+    /// Returns no effects and no increases.
     pub fn new(alloc: Global) -> Effects
         ensures effects { result.effects.items ≡ [] }
         ensures increases { result.increases.items ≡ [] }
@@ -34,7 +34,7 @@ impl Effects {
         }
     }
 
-    /// Adds the effect that makes the atom, if there is one, true or false.
+    /// Adds an effect that makes the atom, if there is one, true or false.
     fn keep(&mut self, atom: Option<LiftedAtom>, positive: bool) -> Result<(), AllocError>
         ensures effects { OnOk result (self.new.effects.items ≡ self.old.effects.items ++ option_to_list (option_map (spec.effect_of positive) atom)) }
         ensures increases { OnOk result (self.new.increases.items ≡ self.old.increases.items) }
@@ -56,7 +56,7 @@ impl Effects {
     }
 }
 
-/// The atom of a negated effect.
+/// Returns the atom of a negated atom, or `None` for any other condition.
 fn negated_atom(condition: Option<Condition>) -> Option<LiftedAtom>
     ensures { option_to_list result ≡ filter_map spec.negated_atom (option_to_list condition) }
 {
@@ -66,8 +66,8 @@ fn negated_atom(condition: Option<Condition>) -> Option<LiftedAtom>
     }
 }
 
-/// Reads a tree as an effect, adds its meaning to `effects` and records its faults in `first`. Fails only if allocation
-/// fails, and then the effects of a part of the tree may have been added.
+/// Reads a tree as an effect, adds its meaning to `effects` and records its faults in `first`. On failure, effects of a
+/// part of the tree may have been added.
 #[cycle(effects)]
 #[tactic(auto, using(sexp::proofs::Walking::walking, pddl_syntax::proofs::Trees::noting, crate::proofs::Steps::appending), unfolding(pddl_syntax::specs::Faults::first_of))]
 pub fn read_effect(

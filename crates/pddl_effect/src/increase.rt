@@ -15,7 +15,7 @@ use pddl_terms::{Scope, is_total_cost, lifted};
 use sexp::Tree;
 use std::alloc::{AllocError, Global};
 
-/// Whether the word is `total-cost` and has terms.
+/// Returns whether the word is `total-cost` and has terms.
 #[tactic(auto, using(sexp::proofs::Walking::walking, pddl_terms::proofs::TermSteps::not_empty_before))]
 fn has_terms(word: &str, items: &[Tree]) -> bool
     ensures { result ≡ spec.has_terms word.now (views items.now) }
@@ -45,7 +45,7 @@ fn blame_increased_word(word: &str, at: usize, increase_at: usize, first: &mut O
     }
 }
 
-/// Records the faults of what is increased, the list at `home` with this head.
+/// Records the faults of the increased function, the list at `home` with this head.
 #[tactic(auto, using(sexp::proofs::Walking::walking, pddl_syntax::proofs::Trees::noting), unfolding(pddl_syntax::specs::Faults::first_of))]
 fn blame_increased_list(
     home: usize,
@@ -70,7 +70,7 @@ fn blame_increased_list(
     }
 }
 
-/// Records the faults of what is increased, behind the word `increase` at `increase_at`.
+/// Records the faults of the increased function, after the word `increase` at `increase_at`.
 #[tactic(auto, using(sexp::proofs::Walking::walking, pddl_syntax::proofs::Trees::noting), unfolding(pddl_syntax::specs::Faults::first_of))]
 fn blame_increased(tree: &Tree, increase_at: usize, first: &mut Option<Fault>)
     ensures { (rest : Forms) → first.new ≡ first_of first.old (spec.increased_faults increase_at (before tree.now rest)) }
@@ -86,7 +86,8 @@ fn blame_increased(tree: &Tree, increase_at: usize, first: &mut Option<Fault>)
     }
 }
 
-/// The value of the function with this name and these terms, in the list at `home`, or `None` if it has a fault.
+/// Returns the value of the function with this name and these terms, in the list at `home`, or `None` if it has a
+/// fault.
 #[tactic(auto, unfolding(pddl_syntax::specs::Faults::first_of))]
 fn function_value(
     alloc: Global,
@@ -121,7 +122,7 @@ fn function_value(
     Ok(function.map(Increase::Value))
 }
 
-/// The word at `at` as an amount: a number, or a function without terms.
+/// Returns the word at `at` as an amount: a number, or a function without terms.
 #[tactic(auto, using(sexp::proofs::Walking::walking), unfolding(pddl_syntax::specs::Faults::first_of))]
 fn amount_of_word(
     alloc: Global,
@@ -147,7 +148,7 @@ fn amount_of_word(
     }
 }
 
-/// The list at `home` with this head as an amount: a function with terms.
+/// Returns the list at `home` with this head as an amount: a function with terms.
 #[tactic(auto, using(sexp::proofs::Walking::walking, pddl_syntax::proofs::Trees::noting), unfolding(pddl_syntax::specs::Faults::first_of))]
 fn amount_of_list(
     alloc: Global,
@@ -177,7 +178,7 @@ fn amount_of_list(
     }
 }
 
-/// A tree as an amount.
+/// Returns a tree as an amount.
 #[tactic(auto, using(sexp::proofs::Walking::walking, pddl_syntax::proofs::Trees::noting), unfolding(pddl_syntax::specs::Faults::first_of))]
 fn amount_of(
     alloc: Global,
@@ -200,7 +201,7 @@ fn amount_of(
     }
 }
 
-/// The amount in the list at `home`, whose `items` must be that amount alone.
+/// Returns the amount in the list at `home`, whose `items` must be exactly one amount.
 #[tactic(auto, using(sexp::proofs::Walking::walking, pddl_syntax::proofs::Trees::noting, crate::proofs::Steps::steps), unfolding(pddl_syntax::specs::Faults::first_of))]
 fn amount(
     alloc: Global,
@@ -225,8 +226,8 @@ fn amount(
     }
 }
 
-/// Reads the items behind the word `increase` at `increase_at`, in the list at `home`, and records their faults in
-/// `first`. The result is `None` if the amount has a fault. Fails only if allocation fails.
+/// Reads the items after the word `increase` at `increase_at`, in the list at `home`, and records their faults in
+/// `first`. Returns `None` if the amount has a fault.
 #[tactic(auto, using(sexp::proofs::Walking::walking, pddl_syntax::proofs::Trees::noting, crate::proofs::Steps::steps), unfolding(pddl_syntax::specs::Faults::first_of))]
 pub fn read_increase(
     alloc: Global,

@@ -1,6 +1,6 @@
 //! Conditions and effects of actions: their meaning and their faults (McDermott and others 1998; Fox and Long 2003). A
-//! reader records each fault with its place and goes on. What has a fault adds nothing to the meaning, and the first
-//! fault is kept.
+//! reader records each fault with its place and continues. An expression that cannot be read adds nothing to the
+//! meaning, and the record holds the first fault.
 #![tactic(auto)]
 
 mod condition;

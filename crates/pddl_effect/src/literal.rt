@@ -1,4 +1,4 @@
-//! The places of literals and increases.
+//! The byte offsets of literals and increases.
 
 ghost use Rattle.std.specs.Prelude.{◌≡◌, ◌++◌, [], ℕ, OnOk};
 ghost use Rattle.sexp.specs.Forms.{Forms, before, views, group};
@@ -8,8 +8,8 @@ use pddl_terms::{Beginning, Setting, beginning_of};
 use sexp::Tree;
 use std::alloc::{AllocError, Global};
 
-/// The bytes, counted from 0, at which the literals and the increases of an action begin, in the order of the text.
-/// Those with a fault count too.
+/// The byte offsets, counted from 0, at which the literals and the increases of an action begin, in the order of the
+/// text. Those with a fault count too.
 #[derive(Drop)]
 pub struct Places {
     pub literals: Vec<usize>,
@@ -17,7 +17,7 @@ pub struct Places {
 }
 
 impl Places {
-    /// No places.
+    /// Returns empty lists of offsets.
     pub fn new(alloc: Global) -> Places
         ensures literals { result.literals.items ≡ [] }
         ensures increases { result.increases.items ≡ [] }
@@ -29,8 +29,8 @@ impl Places {
     }
 }
 
-/// Adds the places of the literals and the increases of a condition or an effect. Fails only if allocation fails, and
-/// then a part of them may have been added.
+/// Adds the byte offsets of the literals and the increases of a condition or an effect. On failure, a part of them may
+/// have been added.
 #[cycle(places)]
 #[tactic(auto, using(sexp::proofs::Walking::walking, crate::proofs::Steps::appending))]
 pub fn add_places(setting: Setting, tree: &Tree, places: &mut Places) -> Result<(), AllocError>
@@ -47,7 +47,7 @@ pub fn add_places(setting: Setting, tree: &Tree, places: &mut Places) -> Result<
     Ok(())
 }
 
-/// Adds the places of the list at `home` with this head.
+/// Adds the byte offsets in the list at `home` with this head.
 #[cycle(places)]
 #[tactic(auto, using(sexp::proofs::Walking::walking, crate::proofs::Steps::appending))]
 fn add_headed(

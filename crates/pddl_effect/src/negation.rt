@@ -12,7 +12,7 @@ use pddl_terms::{Beginning, Scope, Setting, beginning_of, lifted, term};
 use sexp::Tree;
 use std::alloc::{AllocError, Global};
 
-/// The condition that two terms stand for the same object or, where `positive` is not set, for different objects.
+/// Returns the condition that two terms denote the same object or, if `positive` is not set, different objects.
 fn equality_of(positive: bool, one: Option<Term>, two: Option<Term>) -> Option<Condition>
     ensures { option_to_list result ≡ spec.equality_of positive one two }
 {
@@ -23,8 +23,8 @@ fn equality_of(positive: bool, one: Option<Term>, two: Option<Term>) -> Option<C
     }
 }
 
-/// The equality condition, or the negated one, of the two terms in the list at `home`. Faults are recorded in `first`,
-/// and then the result is `None`.
+/// Returns the equality condition, or the negated one, of the two terms in the list at `home`. If there are faults,
+/// records them in `first` and returns `None`.
 #[tactic(auto, using(sexp::proofs::Walking::walking, pddl_syntax::proofs::Trees::noting, crate::proofs::Steps::steps), unfolding(pddl_syntax::specs::Faults::first_of))]
 pub fn equality(
     scope: &Scope,
@@ -60,7 +60,7 @@ pub fn equality(
     }
 }
 
-/// The negation of the list at `home` with this head, behind the word `not` at `not_at`.
+/// Returns the negation of the list at `home` with this head, after the word `not` at `not_at`.
 #[tactic(auto, using(sexp::proofs::Walking::walking, pddl_syntax::proofs::Trees::noting), unfolding(pddl_syntax::specs::Faults::first_of))]
 fn negated_list(
     alloc: Global,
@@ -103,7 +103,7 @@ fn negated_list(
     }
 }
 
-/// The negation of a tree, behind the word `not` at `not_at`.
+/// Returns the negation of a tree, after the word `not` at `not_at`.
 #[tactic(auto, using(sexp::proofs::Walking::walking, pddl_syntax::proofs::Trees::noting), unfolding(pddl_syntax::specs::Faults::first_of))]
 fn negated_tree(
     alloc: Global,
@@ -133,8 +133,8 @@ fn negated_tree(
     }
 }
 
-/// Reads the items behind the word `not` at `not_at`, in the list at `home`: an atom or, in a condition, an equality.
-/// Faults are recorded in `first`. Fails only if allocation fails.
+/// Reads the items after the word `not` at `not_at`, in the list at `home`: an atom or, in a condition, an equality.
+/// Records faults in `first`.
 #[tactic(auto, using(sexp::proofs::Walking::walking, pddl_syntax::proofs::Trees::noting, crate::proofs::Steps::steps), unfolding(pddl_syntax::specs::Faults::first_of))]
 pub fn negated(
     alloc: Global,

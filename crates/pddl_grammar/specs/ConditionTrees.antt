@@ -1,4 +1,4 @@
--- Conditions as trees: each is a literal, or the conjunction of conditions.
+-- Conditions as trees: each is a literal, or a conjunction of conditions.
 use Rattle.std.specs.Prelude.{◌≡◌, ℕ, ◌⊎◌, Bool, true, false, if◌then◌else◌, List, [], ◌∷◌, ◌++◌, Some, codes}
 use Rattle.sexp.specs.Forms.{Forms, none, word, group}
 use Rattle.pddl_task.specs.Lifted.{Lifted}
@@ -11,7 +11,7 @@ use Rattle.pddl_terms.specs.Beginnings.{beginning}
 use Rattle.pddl_terms.specs.Terms.{Scope, terms}
 use Rattle.pddl_grammar.specs.Atoms.{SpellsAtom}
 
--- Trees in a row. A leaf has its literal, and a conjunction the trees that it joins; both have the trees that follow.
+-- A list of trees. A leaf has its literal, and a conjunction the trees that it joins; both have the trees that follow.
 pub data Trees : Type 0 where
   nothing : Trees
   leaf : Condition → Trees → Trees
@@ -25,38 +25,37 @@ in_order (all_of parts more) = in_order parts ++ in_order more
 
 -- ---- how literals are written
 
--- the head and the expressions behind it are an atom of the declared predicates; the literal has this sign
+-- the head and the expressions after it are an atom of the declared predicates; the literal has this sign
 abbrev pub IsAtom : Scope → Bool → List ℕ → Forms → Condition → Type 0
 IsAtom scope positive t f c = (beginning InCondition t ≡ Atom) × (a : Lifted) × SpellsAtom scope.predicates scope t f a × (c ≡ (if positive then Positive a else Negative a))
 
--- the same of `=` and two terms
+-- the head is `=` and the expressions are two terms; the literal has this sign
 abbrev pub IsEquality : Scope → Bool → List ℕ → Forms → Condition → Type 0
 IsEquality scope positive t f c = (t ≡ codes "=") × (x : Term) × (y : Term) × (terms scope f ≡ Some (x ∷ y ∷ [])) × (c ≡ (if positive then Equal x y else Different x y))
 
--- the same of either
+-- an atom or an equality; the literal has this sign
 abbrev pub IsPlain : Scope → Bool → List ℕ → Forms → Condition → Type 0
 IsPlain scope positive t f c = IsAtom scope positive t f c ⊎ IsEquality scope positive t f c
 
--- the content of a list is an atom or an equality, and the literal is its negation
+-- the expressions in a list are an atom or an equality, and the literal is its negation
 abbrev pub IsNegationOf : Scope → Forms → Condition → Type 0
 IsNegationOf scope none c = ⊥
 IsNegationOf scope (word s e t f) c = IsPlain scope false t f c
 IsNegationOf scope (group s e i f) c = ⊥
 
--- one list, and the literal is its negation
+-- one list of an atom or an equality, and the literal is its negation
 abbrev pub IsNegated : Scope → Forms → Condition → Type 0
 IsNegated scope none c = ⊥
 IsNegated scope (word s e t f) c = ⊥
 IsNegated scope (group s e i f) c = (f ≡ none) × IsNegationOf scope i c
 
--- the head and the expressions behind it are this literal: an atom or an equality, or `not` and one of these
+-- the head and the expressions after it are this literal: an atom or an equality, or `not` and one of these
 abbrev pub IsLiteral : Scope → List ℕ → Forms → Condition → Type 0
 IsLiteral scope t f c = IsPlain scope true t f c ⊎ ((t ≡ codes "not") × IsNegated scope f c)
 
 -- ---- how trees are written
 
--- The expressions are these trees: a literal, `and` with the trees that it joins, or a list with nothing in it, which joins
--- none.
+-- The expressions are these trees: a literal, `and` with the trees that it joins, or an empty list, which joins none.
 abbrev pub SpellTrees : Scope → Forms → Trees → Type 0
 SpellTrees scope none trees = trees ≡ nothing
 SpellTrees scope (word s e t f) trees = ⊥

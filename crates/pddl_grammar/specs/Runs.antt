@@ -1,4 +1,4 @@
--- Typed lists as runs: names, and behind each run of them a hyphen and their type.
+-- Typed lists as runs: names, followed by a hyphen and their type.
 use Rattle.std.specs.Prelude.{◌≡◌, ◌≢◌, ℕ, Bool, true, false, List, [], ◌∷◌, ◌++◌, map, Some, codes}
 use Rattle.std.specs.List.{AllByRecursion, flat_map}
 use Rattle.sexp.specs.Forms.{Forms, none, word}
@@ -6,13 +6,13 @@ use Rattle.pddl_syntax.specs.declared.word.WordKind.TheVariants.{Name, Variable}
 use Rattle.pddl_syntax.specs.Words.{word_kind}
 use Rattle.pddl_syntax.specs.Typed.{Declared}
 
--- a word of a text: where it begins, where it ends, and its bytes
+-- a word of a text: the byte offsets of its start and of its end, and its bytes
 pub record Placed : Type 0 where
   pub start : ℕ
   pub stop : ℕ
   pub text : List ℕ
 
--- one or more names, a hyphen, of which only the places are to be told, and the type of all these names
+-- one or more names, the offsets of a hyphen, and the type of all these names
 pub record TypedRun : Type 0 where
   pub first : Placed
   pub others : List Placed
@@ -20,7 +20,7 @@ pub record TypedRun : Type 0 where
   pub hyphen_stop : ℕ
   pub type : Placed
 
--- runs with types, and the names behind them, which have none
+-- runs with types, followed by names without a type
 pub record TypedList : Type 0 where
   pub runs : List TypedRun
   pub last : List Placed
@@ -49,7 +49,7 @@ runs_before (r ∷ rs) f = words_before (names_of r) (type_before r (runs_before
 abbrev pub forms_of : TypedList → Forms
 forms_of l = runs_before l.runs (words_before l.last none)
 
--- ---- which are allowed
+-- ---- the allowed lists
 
 -- a variable, in a list of variables, or a name
 abbrev pub IsEntry : Bool → Placed → Type 0
@@ -70,7 +70,7 @@ pub record IsTypedList (variables : Bool) (known : List ℕ → Bool) (l : Typed
   pub runs : AllByRecursion (IsTypedRun variables known) l.runs
   pub last : AllByRecursion (IsEntry variables) l.last
 
--- ---- what it declares
+-- ---- the declarations
 
 -- the name with this type
 abbrev pub of_type : List ℕ → Placed → Declared
@@ -80,6 +80,6 @@ of_type type w = record { name = w.text; at = w.start; parent = Some type }
 abbrev pub declared_by : TypedRun → List Declared
 declared_by r = map (of_type r.type.text) (names_of r)
 
--- the names in order, each with its run's type, and those without one with `object`
+-- the names in order, each with its run's type, and those without a type with `object`
 abbrev pub declarations : TypedList → List Declared
 declarations l = flat_map declared_by l.runs ++ map (of_type (codes "object")) l.last

@@ -7,7 +7,7 @@ use Rattle.pddl_syntax.specs.Limits.{max_number}
 abbrev pub IsDigit : ℕ → Type 0
 IsDigit b = (48 ≤ b) × (b ≤ 57)
 
--- the value of digits in base ten: each counts as often as the power of ten says that as many places have as are behind it
+-- the value of digits in base ten: each digit times the power of ten of the number of digits after it
 abbrev pub value_of : List ℕ → ℕ
 value_of [] = 0
 value_of (d ∷ ds) = (d - 48) * 10 ^ length ds + value_of ds
@@ -17,7 +17,7 @@ abbrev pub IsNoFraction : List ℕ → Type 0
 IsNoFraction [] = Unit {0}
 IsNoFraction (b ∷ zeros) = (b ≡ 46) × (zeros ≢ []) × AllByRecursion (λ c. c ≡ 48) zeros
 
--- the text is one or more digits, and behind them nothing, or a point and zeros; the number is the value of the digits
+-- the text is one or more digits, followed by nothing, or by a point and zeros; the number is the value of the digits
 pub record SpellsNumber (text : List ℕ) (n : ℕ) : Type 0 where
   pub digits : List ℕ
   pub behind : List ℕ

@@ -1,5 +1,5 @@
-//! Laws of what the parts of PDDL texts spell, in the words of the language: each joins the definition that a reader is
-//! proved against with one that knows of no reader.
+//! Laws of the meaning of the parts of PDDL texts, in terms of the language: each relates the definition that a reader
+//! is proved against to one that is independent of any reader.
 #![tactic(auto)]
 
 mod laws;

@@ -1,4 +1,4 @@
--- Tasks that name only their own atoms, and names that are words.
+-- Tasks that mention only their own atoms, and names that are words.
 use Rattle.std.specs.Prelude.{◌≢◌, ℕ, ◌≤◌, List, [], All}
 use Rattle.pddl_task.specs.Atoms.{Literal}
 use Rattle.pddl_task.specs.Planning.{PlanningTask, Vocabulary, Action, IsActionOf, IsAtomOf}
@@ -9,7 +9,7 @@ pub record KnowsItsAtoms (task : PlanningTask) : Type 0 where
   pub goals : All (λ (l : Literal). IsAtomOf task l.atom) task.goal
   pub added : (a : Action) → IsActionOf task a → All (IsAtomOf task) a.adds
 
--- a printable byte that is no blank
+-- a printable byte other than a blank
 abbrev pub IsWordByte : ℕ → Type 0
 IsWordByte b = (33 ≤ b) × (b ≤ 126)
 

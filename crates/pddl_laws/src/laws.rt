@@ -1,4 +1,4 @@
-//! Laws of the tasks that two texts spell. The contract of each function states one; its body is empty.
+//! Laws of the tasks that two texts spell.
 
 ghost use Rattle.std.specs.Prelude.{◌≡◌, ℕ, List, length};
 ghost use Rattle.pddl_task.specs.Planning.{PlanningTask, IsPlanningTask};
@@ -12,12 +12,12 @@ pub fn spelled_goal_is_consistent()
 {}
 
 /// The initial atoms, the atoms of the goal and those that actions add are atoms of the task: their predicates exist
-/// and take as many objects, and these objects exist.
+/// and have that arity, and their objects exist.
 pub fn spelled_atoms_are_known()
     ensures { (domain problem : List ℕ) (t : PlanningTask) → SpellTask domain problem t → KnowsItsAtoms t }
 {}
 
-/// The names of the objects, predicates and schemas are words: one or more printable bytes, and no blank.
+/// The names of the objects, predicates and schemas are words: one or more printable bytes other than blanks.
 pub fn spelled_names_are_words()
     ensures { (domain problem : List ℕ) (t : PlanningTask) → SpellTask domain problem t → HasWords t.vocabulary }
 {}

@@ -1,5 +1,5 @@
-//! Laws of every planning task that two texts spell: its goal is consistent, every atom that it names is one of its
-//! atoms, and its names are words.
+//! Laws of every planning task that two texts spell: its goal is consistent, every atom that it mentions is an atom of
+//! the task, and its names are words.
 #![tactic(auto)]
 
 mod laws;

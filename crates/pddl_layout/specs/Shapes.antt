@@ -1,8 +1,8 @@
--- Trees of the same shape: they differ only in the places at which words and lists stand.
+-- Trees of the same shape: they differ only in the byte offsets of words and lists.
 use Rattle.std.specs.Prelude.{◌≡◌}
 use Rattle.sexp.specs.Forms.{Forms, none, word, group}
 
--- the expressions, with 0 for each place
+-- the expressions, with 0 for each byte offset
 abbrev pub erased : Forms → Forms
 erased none = none
 erased (word s e t f) = word 0 0 t (erased f)

@@ -6,15 +6,15 @@ use Rattle.sexp.specs.declared.byte_kind.ByteKind.{ByteKind}
 use Rattle.sexp.specs.declared.byte_kind.ByteKind.TheVariants.{Blank, Semicolon, Open, Close, Letter, Strange}
 use Rattle.sexp.specs.Bytes.{kind}
 
--- A parenthesis, a word in lower case, or a byte that may stand only in comments.
+-- A parenthesis, a word in lower case, or a byte that is allowed only in comments.
 pub data Token : Type 0 where
   opening : Token
   closing : Token
   letters : List ℕ → Token
   strange : Token
 
--- the tokens from a byte of this kind on, given those that follow it, those that follow it in a comment, and those that
--- follow it in a word that it begins
+-- the tokens from a byte of this kind on, given the tokens of the bytes that follow it in a gap (`later`), in a
+-- comment, and in a word that it begins (`begun`)
 abbrev pub from_byte : ByteKind → List Token → List Token → List Token → List Token
 from_byte Blank later comment begun = later
 from_byte Semicolon later comment begun = comment
@@ -23,13 +23,13 @@ from_byte Close later comment begun = closing ∷ later
 from_byte Letter later comment begun = begun
 from_byte Strange later comment begun = strange ∷ later
 
--- the tokens from a byte of this kind on, in or behind a word with this text, given those where the word goes on and
--- those where it has ended
+-- the tokens from a byte of this kind on, in or after a word with this text, given those if the word continues (`more`)
+-- and those if it has ended
 abbrev pub from_word : ByteKind → List ℕ → List Token → List Token → List Token
 from_word Letter text more ended = more
 from_word k text more ended = letters text ∷ ended
 
--- the tokens of the bytes, which follow a gap or a parenthesis, a semicolon, or a word's letters
+-- the tokens of bytes that follow a gap or a parenthesis, a semicolon, or a word's letters
 abbrev mutual
   pub tokens : List ℕ → List Token
   tokens [] = []

@@ -1,4 +1,4 @@
-//! Laws of the layout of PDDL texts. The contract of each function states one; its body is empty.
+//! Laws of the layout of PDDL texts.
 
 ghost use Rattle.std.specs.Prelude.{◌≡◌, ◌≢◌, ℕ, ◌≤◌, List, [], ◌++◌, Some, None, length, map};
 ghost use Rattle.std.specs.Char.{to_ascii_lowercase};
@@ -17,7 +17,7 @@ ghost use Rattle.pddl_layout.specs.Sections.{SameSections, HasSections, section_
 ghost use Rattle.pddl_layout.specs.Tokens.{tokens, tokens_of};
 ghost use Rattle.pddl_layout.specs.Agreements.{AgreeInDeclarations, AgreeInObjects, object_passes};
 
-/// Where words and lists stand does not matter: texts whose trees have the same shape spell the same task.
+/// The byte offsets of words and lists do not matter: texts whose trees have the same shape spell the same task.
 pub fn places_do_not_matter()
     ensures { (domain problem other_domain other_problem : List ℕ) (d p c q : Forms) (t : PlanningTask) →
         IsTree domain d → IsTree problem p → IsTree other_domain c → IsTree other_problem q → SameShape d c → SameShape p q →
@@ -29,15 +29,17 @@ pub fn texts_have_the_tokens_of_their_trees()
     ensures { (text : List ℕ) (f : Forms) → SpellsAll text f → tokens text ≡ tokens_of f }
 {}
 
-/// Texts have the same tokens exactly where their trees have the same shape: a text, not too long, with the tokens of one
-/// that spells a tree spells a tree of the same shape, and texts that spell trees of the same shape have the same tokens.
+/// Texts have the same tokens exactly if their trees have the same shape: a text of at most `max_bytes` bytes with the
+/// tokens of one that spells a tree spells a tree of the same shape, and texts that spell trees of the same shape have
+/// the same tokens.
 pub fn same_tokens_have_one_shape()
     ensures shape { (text other : List ℕ) (f : Forms) → IsTree text f → tokens text ≡ tokens other → length other ≤ max_bytes →
         (g : Forms) × IsTree other g × SameShape f g }
     ensures tokens { (text other : List ℕ) (f g : Forms) → IsTree text f → IsTree other g → SameShape f g → tokens text ≡ tokens other }
 {}
 
-/// Blanks, comments and the case of letters do not matter: texts, not too long, with the same tokens spell the same task.
+/// Blanks, comments and the case of letters do not matter: texts of at most `max_bytes` bytes with the same tokens
+/// spell the same task.
 pub fn same_tokens_spell_one_task()
     ensures { (domain problem other_domain other_problem : List ℕ) (t : PlanningTask) →
         tokens domain ≡ tokens other_domain → tokens problem ≡ tokens other_problem →
@@ -53,8 +55,8 @@ pub fn letters_case_does_not_matter()
         SpellTask domain problem t → SpellTask other_domain other_problem t }
 {}
 
-/// The order between sections of different names does not matter: texts that are made of the same sections of each name, up
-/// to places, spell the same task.
+/// The order between sections of different names does not matter: texts that consist of the same sections of each name,
+/// up to byte offsets, spell the same task.
 pub fn sections_commute()
     ensures { (domain problem other_domain other_problem : List ℕ) (d p c q : Forms) (t : PlanningTask) →
         IsTree domain d → IsTree problem p → IsTree other_domain c → IsTree other_problem q →
@@ -62,7 +64,7 @@ pub fn sections_commute()
         SpellTask domain problem t → SpellTask other_domain other_problem t }
 {}
 
-/// Two neighbouring sections of different names may be exchanged: then the sections of each name are the same.
+/// Two neighbouring sections of different names may be exchanged: the sections of each name remain the same.
 pub fn neighbours_may_be_exchanged()
     ensures { (file : PlanningFile) (d c front i j back : Forms) (name other : List ℕ) → name ≢ other →
         SameShape (sections d) (front then section_before name i (section_before other j back)) →
@@ -74,20 +76,20 @@ pub fn earlier_passes_decide()
     ensures { (ps qs : List Pass) (e : FileFault) → first_pass ps ≡ Some e → first_pass (ps ++ qs) ≡ Some e }
 {}
 
-/// The first fault of a domain's declarations is the answer, whatever its actions and the problem's text are.
+/// The first fault of a domain's declarations is the result, whatever its actions and the problem's text are.
 pub fn declaration_faults_decide()
     ensures { (domain other_domain problem other_problem : List ℕ) (d c : Forms) (e : FileFault) →
         IsTree domain d → IsTree other_domain c → AgreeInDeclarations d c → first_pass (declaring_passes d) ≡ Some e →
         IsTaskRefusal domain problem (Section e.file e.fault) × IsTaskRefusal other_domain other_problem (Section e.file e.fault) }
 {}
 
-/// The first fault of a domain, its actions included, is the answer, whatever the problem's text is.
+/// The first fault of a domain, including its actions, is the result, whatever the problem's text is.
 pub fn action_faults_decide()
     ensures { (domain problem : List ℕ) (d : Forms) (e : FileFault) →
         IsTree domain d → first_pass (domain_passes d) ≡ Some e → IsTaskRefusal domain problem (Section e.file e.fault) }
 {}
 
-/// The first fault of a problem's heads and objects is the answer, whatever its initial state, goal and metric are.
+/// The first fault of a problem's heads and objects is the result, whatever its initial state, goal and metric are.
 pub fn object_faults_decide()
     ensures { (domain problem other_problem : List ℕ) (d p q : Forms) (e : FileFault) →
         IsTree domain d → first_pass (domain_passes d) ≡ None → IsTree problem p → IsTree other_problem q → AgreeInObjects p q →

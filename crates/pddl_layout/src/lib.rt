@@ -1,5 +1,5 @@
-//! Laws of the layout of PDDL texts: where things stand, the case of letters, comments and the order between sections do
-//! not matter for the task that two texts spell, and the first pass with a fault decides the answer.
+//! Laws of the layout of PDDL texts: byte offsets, the case of letters, comments and the order between sections do not
+//! matter for the task that two texts spell, and the first pass with a fault decides the result.
 #![tactic(auto)]
 
 mod laws;

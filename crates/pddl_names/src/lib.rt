@@ -1,4 +1,4 @@
-//! Distinct names, each with its number.
+//! Distinct names and their numbers.
 #![tactic(auto)]
 
 ghost use Rattle.std.specs.Prelude.{◌≡◌, ◌<◌, ◌≤◌, ◌↔◌, [], length, slice_get, slice_index_or, IsTrue, IsOk, IsSome, Some, IfOk, IfSome, OnErr, OnOk};
@@ -9,9 +9,9 @@ use indexmap::IndexSet;
 use std::alloc::{AllocError, Global};
 use std::marker::Model;
 
-/// Distinct names, each with its number: its place in the order in which they were first added, counted from 0.
+/// Distinct names, numbered from 0 in the order in which they were first added.
 ///
-/// In contracts the value is the list of the texts, in that order. Each look-up is by hash and allocates nothing.
+/// In contracts the value is the list of the texts, in that order. Each look-up is by hash.
 #[derive(Debug, Drop)]
 pub struct Names {
     table: IndexSet<String>,
@@ -27,7 +27,7 @@ impl Model for Names {
 }
 
 impl Names {
-    /// An empty table. Allocates nothing before the first name is added.
+    /// Returns an empty table. Allocates nothing before the first name is added.
     pub fn new(alloc: Global) -> Names
         ensures { result ≡ [] }
     {
@@ -36,21 +36,21 @@ impl Names {
         }
     }
 
-    /// The number of names.
+    /// Returns the number of names.
     pub fn len(&self) -> usize
         ensures { result ≡ length self.now }
     {
         self.table.len()
     }
 
-    /// Whether there are no names.
+    /// Returns whether there are no names.
     pub fn is_empty(&self) -> bool
         ensures { IsTrue result ↔ (self.now ≡ []) }
     {
         self.table.is_empty()
     }
 
-    /// The number of the name, or `None` if the name is not in the table.
+    /// Returns the number of the name, or `None` if the name is not in the table.
     pub fn place_of(&self, name: &str) -> Option<usize>
         ensures place { result ≡ place_of self.now name.now }
         ensures bound { IfSome result (λ n. n < length self.now) }
@@ -58,7 +58,7 @@ impl Names {
         self.table.get_index_of(name)
     }
 
-    /// The number of the name, or `len()` if the name is not in the table.
+    /// Returns the number of the name, or `len()` if the name is not in the table.
     pub fn number_of(&self, name: &str) -> usize
         ensures number { result ≡ number_of self.now name.now }
         ensures bound { result ≤ length self.now }
@@ -66,7 +66,7 @@ impl Names {
         self.place_of(name).unwrap_or(self.len())
     }
 
-    /// Whether the name is in the table.
+    /// Returns whether the name is in the table.
     pub fn contains(&self, name: &str) -> bool
         ensures { result ≡ is_there self.now name.now }
     {
@@ -76,7 +76,7 @@ impl Names {
     /// Adds the name if it is new, and returns its number. A name that is in the table keeps its number, and nothing is
     /// allocated.
     ///
-    /// Fails only if allocation fails, which happens for a new name only, and then leaves the names as they were.
+    /// Only a new name allocates; on failure the names are unchanged.
     pub fn add(&mut self, alloc: Global, name: &str) -> Result<usize, AllocError>
         ensures names { OnOk result (self.new ≡ with_name self.old name.now) }
         ensures number { IfOk result (λ n. n ≡ number_of self.new name.now) }
@@ -92,7 +92,7 @@ impl Names {
         Ok(number)
     }
 
-    /// The name with the number, or `None` if the number is not below `len()`.
+    /// Returns the name with the number, or `None` if the number is not below `len()`.
     pub fn name(&self, number: usize) -> Option<&str>
         ensures name { option_map (λ s. s.now) result ≡ slice_get self.now number }
         ensures found { IsSome result ↔ (number < length self.now) }
@@ -102,7 +102,7 @@ impl Names {
         Some(name.as_str())
     }
 
-    /// The name with the number, or the empty text if the number is not below `len()`.
+    /// Returns the name with the number, or the empty text if the number is not below `len()`.
     pub fn name_or_empty(&self, number: usize) -> &str
         ensures { result.now ≡ slice_index_or self.now number [] }
     {
@@ -112,7 +112,7 @@ impl Names {
         }
     }
 
-    /// A copy of the table, with the same names and the same numbers. Fails only if allocation fails.
+    /// Returns a copy of the table, with the same names and the same numbers.
     pub fn try_clone(&self) -> Result<Names, AllocError>
         ensures { IfOk result (λ n. n ≡ self.now) }
     {

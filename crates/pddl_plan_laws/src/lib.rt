@@ -1,4 +1,4 @@
-//! Laws of the texts of plans: what is written for a plan is read as that plan.
+//! Laws of the texts of plans: the text written for a plan is read as that plan.
 #![tactic(auto)]
 
 mod laws;

@@ -51,7 +51,7 @@ first_number none = None
 first_number (word s e t f) = whole (number_of t)
 first_number (group s e i f) = None
 
--- a whole number with nothing behind it
+-- a whole number that no expression follows
 abbrev pub number_alone : Forms → Option ℕ
 number_alone none = None
 number_alone (word s e t f) = if not_empty f then None else first_number (word s e t f)
@@ -68,7 +68,7 @@ abbrev pub function_by_kind : Scope → List ℕ → Forms → WordKind → Opti
 function_by_kind scope t i Name = if is_total_cost t then None else atom_of (lifted scope.functions scope t i)
 function_by_kind scope t i kind = None
 
--- the content of a list as a function with its terms
+-- the expressions in a list as a function with its terms
 abbrev pub function_inside : Scope → Forms → Option Atom
 function_inside scope none = None
 function_inside scope (word s e t f) = function_by_kind scope t f (word_kind t)
@@ -80,13 +80,13 @@ first_function scope none = None
 first_function scope (word s e t f) = function_by_kind scope t none (word_kind t)
 first_function scope (group s e i f) = function_inside scope i
 
--- the value of a function, from the expressions behind the word `=`
+-- the value of a function, from the expressions after the word `=`
 abbrev pub stated : Scope → Forms → Option FunctionValue
 stated scope f = value_by (first_function scope f) (number_alone (behind f))
 
 -- ---- the kind of an item, by its head and the rest
 
--- The heads that are supported nowhere are not supported here, and `and` is an ordinary predicate. A timed literal is
+-- Heads that no setting supports are not supported here either, and `and` is an ordinary predicate. A timed literal is
 -- not supported.
 abbrev pub item_kind_by : List ℕ → Forms → Beginning → ItemKind
 item_kind_by t i Negation = Negated
@@ -100,7 +100,7 @@ item_kind_by t i other =
 abbrev pub item_kind : List ℕ → Forms → ItemKind
 item_kind t i = item_kind_by t i (beginning InInitial t)
 
--- the atom, and below the value, of an item of this kind
+-- the atom, and in the next definition the value, of an item of this kind
 abbrev pub item_atom : Scope → List ℕ → Forms → ItemKind → Option Atom
 item_atom scope t i TrueAtom = atom_of (lifted scope.predicates scope t i)
 item_atom scope t i other = None
@@ -109,7 +109,7 @@ abbrev pub item_value : Scope → Forms → ItemKind → Option FunctionValue
 item_value scope i Value = stated scope i
 item_value scope i other = None
 
--- the atom, and below the value, of an item, by the content of its list
+-- the atom, and in the next definition the value, of an item, from the expressions in its list
 abbrev pub atom_inside : Scope → Forms → Option Atom
 atom_inside scope none = None
 atom_inside scope (word s e t f) = item_atom scope t f (item_kind t f)
@@ -126,7 +126,7 @@ initial_atoms scope none = []
 initial_atoms scope (word s e t f) = initial_atoms scope f
 initial_atoms scope (group s e i f) = option_to_list (atom_inside scope i) ++ initial_atoms scope f
 
--- the value of the function at these objects among the values
+-- the value of the function at these objects, if it is among the values
 abbrev pub value_among : List FunctionValue → Atom → Option FunctionValue
 value_among values p = find (λ v. same_atom p v.function) values
 
@@ -147,7 +147,7 @@ values_of entries = map (λ e. record { function = e.0; value = e.1 }) entries
 
 -- ---- the faults
 
--- the fault of a word where a number is expected
+-- the fault of a word in the position of a number
 abbrev pub number_word_faults : ℕ → Number → List Fault
 number_word_faults s (Whole n) = []
 number_word_faults s Fraction = fault NotWhole s ∷ []
@@ -160,7 +160,7 @@ first_number_faults none = []
 first_number_faults (word s e t f) = number_word_faults s (number_of t)
 first_number_faults (group s e i f) = fault Shape s ∷ []
 
--- the faults of the expressions in the list at `home`, which must be one number
+-- the faults of the expressions in the list at `home`, which must be exactly one number
 abbrev pub number_faults : ℕ → Forms → List Fault
 number_faults home none = fault Shape home ∷ []
 number_faults home (word s e t f) = first_number_faults (word s e t f) ++ more_faults f
@@ -179,14 +179,14 @@ is_positive none = false
 is_positive (word s e t f) = positive (number_of t)
 is_positive (group s e i f) = false
 
--- the faults of a function's word at the place s with its terms, in the list at `home`, where f follows it
+-- the faults of a function's word at offset `s` with its terms, in the list at `home`; `f` follows it
 abbrev pub function_faults : Scope → ℕ → ℕ → List ℕ → Forms → Forms → WordKind → List Fault
 function_faults scope home s t i f Name =
     if is_total_cost t then faults_if (not_empty i) (fault Arity home) (faults_if (is_positive f) (fault Unsupported s) [])
     else lifted_faults scope.functions scope home s t i
 function_faults scope home s t i f kind = fault Shape s ∷ []
 
--- the faults of the content of the list at `home`, which must be a function with its terms, where f follows the list
+-- the faults of the expressions in the list at `home`, which must be a function with its terms; `f` follows the list
 abbrev pub function_inside_faults : Scope → ℕ → Forms → Forms → List Fault
 function_inside_faults scope home f none = fault Shape home ∷ []
 function_inside_faults scope home f (word hs he t i) = function_faults scope home hs t i f (word_kind t)
@@ -198,36 +198,36 @@ first_function_faults scope none = []
 first_function_faults scope (word s e t f) = function_faults scope s s t none f (word_kind t)
 first_function_faults scope (group s e i f) = function_inside_faults scope s f i
 
--- the faults of `(= function number)`, in the list at `home`, behind its word `=`
+-- the faults of `(= function number)`, in the list at `home`, from the expressions after its word `=`
 abbrev pub value_faults : Scope → ℕ → Forms → List Fault
 value_faults scope home none = fault Shape home ∷ []
 value_faults scope home (word s e t f) = first_function_faults scope (word s e t f) ++ number_faults home f
 value_faults scope home (group s e i f) = first_function_faults scope (group s e i f) ++ number_faults home f
 
--- the faults of a list at `home` that is negated, behind the word `not` at `not_at`, which must be an atom
+-- the faults of the negated list at `home`, after the word `not` at `not_at`, which must be an atom
 abbrev pub negated_atom_faults : Scope → ℕ → ℕ → ℕ → List ℕ → Forms → Beginning → List Fault
 negated_atom_faults scope not_at home hs t i PredicateHead = lifted_faults scope.predicates scope home hs t i
 negated_atom_faults scope not_at home hs t i other = fault Unsupported not_at ∷ []
 
--- the faults of the content of the list at `home`, which must be an atom, behind the word `not` at `not_at`
+-- the faults of the expressions in the list at `home`, which must be an atom, after the word `not` at `not_at`
 abbrev pub negated_inside_faults : Scope → ℕ → ℕ → Forms → List Fault
 negated_inside_faults scope not_at home none = fault Unsupported not_at ∷ []
 negated_inside_faults scope not_at home (word hs he t i) = negated_atom_faults scope not_at home hs t i (beginning InInitial t)
 negated_inside_faults scope not_at home (group hs he h i) = fault Unsupported not_at ∷ []
 
--- the faults of the first expression, which must be an atom, behind the word `not` at `not_at`
+-- the faults of the first expression, which must be an atom, after the word `not` at `not_at`
 abbrev pub first_negated_faults : Scope → ℕ → Forms → List Fault
 first_negated_faults scope not_at none = []
 first_negated_faults scope not_at (word s e t f) = fault Unsupported not_at ∷ []
 first_negated_faults scope not_at (group s e i f) = negated_inside_faults scope not_at s i
 
--- the faults of the expressions behind the word `not` at `not_at`, in the list at `home`
+-- the faults of the expressions after the word `not` at `not_at`, in the list at `home`
 abbrev pub negated_item_faults : Scope → ℕ → ℕ → Forms → List Fault
 negated_item_faults scope home not_at none = fault Shape home ∷ []
 negated_item_faults scope home not_at (word s e t f) = first_negated_faults scope not_at (word s e t f) ++ more_faults f
 negated_item_faults scope home not_at (group s e i f) = first_negated_faults scope not_at (group s e i f) ++ more_faults f
 
--- the faults of an item of this kind at `home`, whose head is at the place hs
+-- the faults of an item of this kind at `home`, whose head is at offset `hs`
 abbrev pub item_faults : Scope → ℕ → ℕ → List ℕ → Forms → ItemKind → List Fault
 item_faults scope home hs t i Negated = negated_item_faults scope home hs i
 item_faults scope home hs t i NotRead = fault Unsupported hs ∷ []
@@ -235,7 +235,7 @@ item_faults scope home hs t i Nothing = fault Shape hs ∷ []
 item_faults scope home hs t i Value = value_faults scope home i
 item_faults scope home hs t i TrueAtom = lifted_faults scope.predicates scope home hs t i
 
--- the faults of the content of the item at `home`
+-- the faults of the expressions in the item at `home`
 abbrev pub inside_faults : Scope → ℕ → Forms → List Fault
 inside_faults scope home none = fault Shape home ∷ []
 inside_faults scope home (word hs he t i) = item_faults scope home hs t i (item_kind t i)
@@ -246,11 +246,11 @@ abbrev pub is_restated : List FunctionValue → Option FunctionValue → Bool
 is_restated values None = false
 is_restated values (Some v) = option_map_or (λ w. not (w.value == v.value)) (value_among values v.function) false
 
--- the fault of the item at the place s if it follows 1,000,000 others, and other faults
+-- the fault of the item at offset `s` if it follows 1,000,000 others, followed by other faults
 abbrev pub past_limit : ℕ → ℕ → List Fault → List Fault
 past_limit n s fs = faults_if (n == max_items) (fault (Limit Init) s) fs
 
--- the faults of items that follow n others, which stated these values
+-- the faults of items that follow `n` others, which state these values
 abbrev pub initial_faults : Scope → ℕ → List FunctionValue → Forms → List Fault
 initial_faults scope n values none = []
 initial_faults scope n values (word s e t f) = fault Shape s ∷ past_limit n s (initial_faults scope (n + 1) values f)

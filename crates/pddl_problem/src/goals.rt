@@ -16,7 +16,7 @@ use std::alloc::{AllocError, Global};
 use std::collections::HashSet;
 use std::marker::Model;
 
-/// A literal, and the byte, counted from 0, at which its list begins.
+/// A literal, and the byte offset of its list, counted from 0.
 #[derive(Drop)]
 struct PlacedLiteral {
     at: usize,
@@ -31,7 +31,7 @@ impl Model for PlacedLiteral {
     ghost view = { λ l. record { at = l.at; literal = l.literal } };
 }
 
-/// Adds the literal of the list at `at`, if it has one: its atom or the negation of it.
+/// Adds the literal of the list at `at`, if it has one: its atom or the negation of its atom.
 fn keep(
     alloc: Global,
     literals: &mut Vec<PlacedLiteral>,
@@ -48,7 +48,7 @@ fn keep(
     Ok(())
 }
 
-/// The atom that is negated by the list at `home` with this head, behind the word `not` at `not_at`.
+/// Returns the atom of the negated list at `home` with this head, after the word `not` at `not_at`.
 #[tactic(auto, using(sexp::proofs::Walking::walking, pddl_syntax::proofs::Trees::noting), unfolding(pddl_syntax::specs::Faults::first_of))]
 fn negated_list(
     alloc: Global,
@@ -90,7 +90,7 @@ fn negated_list(
     }
 }
 
-/// The atom that is negated by a tree, behind the word `not` at `not_at`.
+/// Returns the atom of a negated tree, after the word `not` at `not_at`.
 #[tactic(auto, using(sexp::proofs::Walking::walking, pddl_syntax::proofs::Trees::noting), unfolding(pddl_syntax::specs::Faults::first_of))]
 fn negated_tree(
     alloc: Global,
@@ -119,7 +119,7 @@ fn negated_tree(
     }
 }
 
-/// The atom that is negated by the items behind the word `not` at `not_at`, in the list at `home`.
+/// Returns the atom of the negated items after the word `not` at `not_at`, in the list at `home`.
 #[tactic(auto, using(sexp::proofs::Walking::walking, pddl_syntax::proofs::Trees::noting, crate::proofs::Steps::negated_goal_step), unfolding(pddl_syntax::specs::Faults::first_of))]
 fn negated(
     alloc: Global,
@@ -145,8 +145,7 @@ fn negated(
     }
 }
 
-/// Reads a tree as a goal, adds its literals to `literals` and records its faults in `first`. Fails only if allocation
-/// fails.
+/// Reads a tree as a goal, adds its literals to `literals` and records its faults in `first`.
 #[cycle(goals)]
 #[tactic(auto, using(sexp::proofs::Walking::walking, pddl_syntax::proofs::Trees::noting, crate::proofs::Steps::appending), unfolding(pddl_syntax::specs::Faults::first_of))]
 fn read_goal(
@@ -276,7 +275,7 @@ impl KnownGoals {
     }
 }
 
-/// Records each literal whose negation stands before it.
+/// Records each literal that follows its negation.
 #[tactic(auto, unfolding(pddl_syntax::specs::Faults::first_of))]
 fn blame_opposites(
     alloc: Global,
@@ -310,13 +309,13 @@ fn without_places(
         .collect(alloc)
 }
 
-/// Reads the section `:goal` in the list at the byte `home`, counted from 0, whose items without its head are `items`:
-/// one goal of atoms, negated atoms and conjunctions (McDermott and others 1998). Faults are recorded in `first`, and
-/// what has a fault is left out.
+/// Reads the section `:goal` in the list at byte offset `home`, counted from 0, whose items without its head are
+/// `items`: one goal of atoms, negated atoms and conjunctions (McDermott and others 1998). Faults are recorded in
+/// `first`, and an expression that cannot be read adds no literal.
 ///
 /// F10 for a missing goal, for a second one and for one of another form; F11 for a construct of PDDL that is not
 /// supported, such as an equality; F12 for a name that is not declared; F13 for a predicate with another number of
-/// objects; F19 for a literal whose negation stands before it. Fails only if allocation fails.
+/// objects; F19 for a literal that follows its negation.
 #[tactic(auto, using(sexp::proofs::Walking::walking, pddl_syntax::proofs::Trees::noting, crate::proofs::Steps::goal_steps), unfolding(pddl_syntax::specs::Faults::first_of))]
 pub fn goal_section(
     alloc: Global,

@@ -1,4 +1,4 @@
-//! Atoms of a problem. Their terms are objects.
+//! Atoms of a problem, whose terms are objects.
 
 ghost use Rattle.std.specs.Prelude.{◌≡◌, IfOk};
 ghost use Rattle.pddl_problem.specs.Initial.{atom_of};
@@ -6,7 +6,7 @@ ghost use Rattle.pddl_problem.specs.Initial.{atom_of};
 use pddl_task::{GroundAtom, LiftedAtom};
 use std::alloc::{AllocError, Global};
 
-/// The ground atom of the atom, if there is one. Its terms must be objects. Fails only if allocation fails.
+/// Returns the ground atom of the atom, if there is one. Its terms must be objects.
 pub fn ground(alloc: Global, atom: Option<LiftedAtom>) -> Result<Option<GroundAtom>, AllocError>
     ensures { IfOk result (λ a. a ≡ atom_of atom) }
 {

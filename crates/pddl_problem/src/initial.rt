@@ -26,7 +26,7 @@ pub enum ItemKind {
     TrueAtom,
     /// The value of a function.
     Value,
-    /// The negation of an atom. It adds nothing, since an atom is false unless it is stated.
+    /// The negation of an atom. It adds nothing, because an atom is false unless it is stated.
     Negated,
     /// A construct of PDDL that is not supported, such as a timed literal.
     NotRead,
@@ -75,7 +75,7 @@ fn is_list(tree: &Tree, otherwise: bool) -> bool
     }
 }
 
-/// Whether the last of the items that are given is a list.
+/// Returns whether the last of the items is a list; `false` if there are none.
 #[tactic(auto, using(sexp::proofs::Walking::walking))]
 fn ends_in_list(items: &[Tree]) -> bool
     ensures { result ≡ spec.ends_in_list false (views items.now) }
@@ -100,7 +100,7 @@ fn item_kind(head: &str, items: &[Tree]) -> ItemKind
     }
 }
 
-/// Records the faults of the negation of the list at `home` with this head, behind the word `not` at `not_at`.
+/// Records the faults of the negation of the list at `home` with this head, after the word `not` at `not_at`.
 #[tactic(auto, using(sexp::proofs::Walking::walking, pddl_syntax::proofs::Trees::noting), unfolding(pddl_syntax::specs::Faults::first_of))]
 fn blame_negated_list(
     alloc: Global,
@@ -134,7 +134,7 @@ fn blame_negated_list(
     Ok(())
 }
 
-/// Records the faults of the negation of a tree, behind the word `not` at `not_at`.
+/// Records the faults of the negation of a tree, after the word `not` at `not_at`.
 #[tactic(auto, using(sexp::proofs::Walking::walking, pddl_syntax::proofs::Trees::noting), unfolding(pddl_syntax::specs::Faults::first_of))]
 fn blame_negated_tree(
     alloc: Global,
@@ -157,7 +157,7 @@ fn blame_negated_tree(
     Ok(())
 }
 
-/// Records the faults of the items behind the word `not` at `not_at`, in the list at `home`.
+/// Records the faults of the items after the word `not` at `not_at`, in the list at `home`.
 #[tactic(auto, using(sexp::proofs::Walking::walking, pddl_syntax::proofs::Trees::noting, crate::proofs::Steps::negated_step), unfolding(pddl_syntax::specs::Faults::first_of))]
 fn blame_negated(
     alloc: Global,
@@ -179,7 +179,7 @@ fn blame_negated(
     Ok(())
 }
 
-/// Reads the item at `home` that is a list with this head.
+/// Reads the item at `home`, a list with this head.
 #[tactic(auto, using(sexp::proofs::Walking::walking, pddl_syntax::proofs::Trees::noting, crate::proofs::Steps::appending), unfolding(pddl_syntax::specs::Faults::first_of))]
 fn headed(
     alloc: Global,
@@ -281,8 +281,8 @@ fn read_items(
     Ok(())
 }
 
-/// Reads the section `:init`, whose items without its head are `items`, and records its faults in `first`. What has a
-/// fault is left out.
+/// Reads the section `:init`, whose items without its head are `items`, and records its faults in `first`. An item that
+/// cannot be read adds nothing.
 ///
 /// An item is an atom, the negation of one, which adds nothing, or `(= function number)`. Of two values for the same
 /// function and objects the first counts (McDermott and others 1998; Fox and Long 2003).
@@ -290,7 +290,7 @@ fn read_items(
 /// F10 for an item of another form; F11 for a construct of PDDL that is not supported, such as a timed literal, and for
 /// a total cost above 0; F12 for a name that is not declared; F13 for a predicate or a function with another number of
 /// objects; F14 for a second and different value for the same function and objects; F16 and F17 for a number with a
-/// fraction or out of range; F18 for the item 1,000,001. Fails only if allocation fails.
+/// fraction or out of range; F18 for the item 1,000,001.
 pub fn initial_section(
     alloc: Global,
     scope: &Scope,

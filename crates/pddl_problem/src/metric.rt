@@ -21,7 +21,7 @@ fn is_word(tree: &Tree, word: &str) -> bool
     }
 }
 
-/// Whether a tree is `total-cost`, with or without parentheses.
+/// Returns whether a tree is `total-cost`, with or without parentheses.
 #[tactic(auto, using(sexp::proofs::Walking::walking))]
 fn is_cost(tree: &Tree) -> bool
     ensures { (rest : Forms) → result ≡ spec.is_cost (before tree.now rest) }
@@ -35,7 +35,7 @@ fn is_cost(tree: &Tree) -> bool
     }
 }
 
-/// Whether the only item is `total-cost`, with or without parentheses.
+/// Returns whether the only item is `total-cost`, with or without parentheses.
 #[tactic(auto, using(sexp::proofs::Walking::walking))]
 fn is_cost_alone(items: &[Tree]) -> bool
     ensures { result ≡ spec.is_cost_alone (views items.now) }
@@ -56,7 +56,7 @@ fn is_metric(items: &[Tree]) -> bool
     }
 }
 
-/// The place of the first word in a tree.
+/// Returns the byte offset of the first word in a tree.
 #[cycle(words)]
 #[tactic(auto, using(sexp::proofs::Walking::walking))]
 fn first_word_in(tree: &Tree) -> Option<usize>
@@ -68,7 +68,7 @@ fn first_word_in(tree: &Tree) -> Option<usize>
     }
 }
 
-/// The place of the first word in the trees.
+/// Returns the byte offset of the first word in the trees.
 #[cycle(words)]
 fn first_word(items: &[Tree]) -> Option<usize>
     ensures { result ≡ spec.first_word (views items.now) }
@@ -81,11 +81,11 @@ fn first_word(items: &[Tree]) -> Option<usize>
     None
 }
 
-/// Records the fault of the section `:metric` in the list at the byte `home`, counted from 0, whose items without its
-/// head are `items`. These must be `minimize (total-cost)` or `minimize total-cost`, which mean the same (Fox and Long
-/// 2003).
+/// Records the fault of the section `:metric` in the list at byte offset `home`, counted from 0, whose items without
+/// its head are `items`. These must be `minimize (total-cost)` or `minimize total-cost`, which mean the same (Fox and
+/// Long 2003).
 ///
-/// Any other content is F11 at its first word, within lists too, or F10 at the section if it has no word.
+/// Any other content is F11 at its first word, including words in lists, or F10 at the section if it has no word.
 #[tactic(auto, unfolding(pddl_syntax::specs::Faults::first_of))]
 pub fn metric_section(items: &[Tree], home: usize, first: &mut Option<Fault>)
     ensures { first.new ≡ first_of first.old (spec.metric_faults home (views items.now)) }

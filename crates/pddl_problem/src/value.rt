@@ -36,7 +36,7 @@ impl Model for StatedValue {
     ghost view = { λ v. record { function = v.function; value = v.value } };
 }
 
-/// The word at `at`, where a whole number is expected, as that number. Its fault is recorded in `first`.
+/// Returns the word at `at` as a whole number. Records its fault in `first`.
 #[tactic(auto, unfolding(pddl_syntax::specs::Faults::first_of))]
 fn number_word(word: &str, at: usize, first: &mut Option<Fault>) -> Option<u64>
     ensures meaning { result ≡ spec.whole (number_of word.now) }
@@ -59,7 +59,7 @@ fn number_word(word: &str, at: usize, first: &mut Option<Fault>) -> Option<u64>
     }
 }
 
-/// A tree as a whole number. Its fault is recorded in `first`.
+/// Returns a tree as a whole number. Records its fault in `first`.
 #[tactic(auto, using(sexp::proofs::Walking::walking, pddl_syntax::proofs::Trees::noting), unfolding(pddl_syntax::specs::Faults::first_of))]
 fn number(tree: &Tree, first: &mut Option<Fault>) -> Option<u64>
     ensures meaning { (rest : Forms) → result ≡ spec.first_number (before tree.now rest) }
@@ -74,7 +74,7 @@ fn number(tree: &Tree, first: &mut Option<Fault>) -> Option<u64>
     }
 }
 
-/// The whole number in the list at `home`, whose `items` must be that number alone. Their faults are recorded in
+/// Returns the whole number in the list at `home`, whose `items` must be exactly one number. Records their faults in
 /// `first`.
 #[tactic(auto, using(sexp::proofs::Walking::walking, pddl_syntax::proofs::Trees::noting, crate::proofs::Steps::numbers), unfolding(pddl_syntax::specs::Faults::first_of))]
 fn number_alone(home: usize, items: &[Tree], first: &mut Option<Fault>) -> Option<u64>
@@ -95,7 +95,7 @@ fn number_alone(home: usize, items: &[Tree], first: &mut Option<Fault>) -> Optio
     }
 }
 
-/// Whether a tree is a whole number above 0.
+/// Returns whether a tree is a whole number above 0.
 #[tactic(auto, using(sexp::proofs::Walking::walking))]
 fn is_positive_number(tree: &Tree) -> bool
     ensures { (rest : Forms) → result ≡ spec.is_positive (before tree.now rest) }
@@ -109,7 +109,7 @@ fn is_positive_number(tree: &Tree) -> bool
     }
 }
 
-/// Whether the first of the items is a whole number above 0.
+/// Returns whether the first of the items is a whole number above 0.
 #[tactic(auto, using(sexp::proofs::Walking::walking))]
 fn is_positive(items: &[Tree]) -> bool
     ensures { result ≡ spec.is_positive (views items.now) }
@@ -120,7 +120,7 @@ fn is_positive(items: &[Tree]) -> bool
     }
 }
 
-/// Whether there are no items.
+/// Returns whether there are no items.
 #[tactic(auto, using(sexp::proofs::Walking::walking, pddl_terms::proofs::TermSteps::not_empty_before))]
 pub fn is_nothing(items: &[Tree]) -> bool
     ensures { result ≡ not (not_empty (views items.now)) }
@@ -131,8 +131,8 @@ pub fn is_nothing(items: &[Tree]) -> bool
     }
 }
 
-/// The function named by the word at `at` with these terms, in the list at `home`, where the items `behind` follow it.
-/// The total cost has no initial value: it is `None` here, and may be stated as 0 only.
+/// Returns the function named by the word at `at` with these terms, in the list at `home`; the items `behind` follow
+/// it. The total cost has no initial value: the result for it is `None`, and 0 is the only value that may be stated.
 #[tactic(auto, using(pddl_syntax::proofs::Trees::noting), unfolding(pddl_syntax::specs::Faults::first_of))]
 fn function_term(
     alloc: Global,
@@ -160,7 +160,7 @@ fn function_term(
     ground(alloc, function)
 }
 
-/// The list at `home` with this head as a function with its terms. The items `behind` follow it.
+/// Returns the list at `home` with this head as a function with its terms. The items `behind` follow it.
 #[tactic(auto, using(sexp::proofs::Walking::walking, pddl_syntax::proofs::Trees::noting), unfolding(pddl_syntax::specs::Faults::first_of))]
 fn function_list(
     alloc: Global,
@@ -192,7 +192,7 @@ fn function_list(
     }
 }
 
-/// A tree as a function with its terms. The items `behind` follow it.
+/// Returns a tree as a function with its terms. The items `behind` follow it.
 #[tactic(auto, using(sexp::proofs::Walking::walking, pddl_syntax::proofs::Trees::noting), unfolding(pddl_syntax::specs::Faults::first_of))]
 fn function(
     alloc: Global,
@@ -236,9 +236,8 @@ fn value_by(function: Option<GroundAtom>, number: Option<u64>) -> Option<StatedV
     }
 }
 
-/// Reads `(= function number)` in the list at `home`, whose items without its head `=` are `items`. Faults are recorded
-/// in `first`. The result is `None` if the function or the number cannot be read, and for the total cost. Fails only if
-/// allocation fails.
+/// Reads `(= function number)` in the list at `home`, whose items without its head `=` are `items`. Records faults in
+/// `first`. Returns `None` if the function or the number cannot be read, and for the total cost.
 #[tactic(auto, using(sexp::proofs::Walking::walking, pddl_syntax::proofs::Trees::noting, crate::proofs::Steps::values), unfolding(pddl_syntax::specs::Faults::first_of))]
 pub fn read_value(
     alloc: Global,
@@ -263,8 +262,8 @@ pub fn read_value(
     }
 }
 
-/// Adds a value, if there is one, unless the function has a value at these objects. Records it in `first` as F14 at
-/// `home`, the list that states it, if it differs from that value. Fails only if allocation fails.
+/// Adds a value, if there is one, unless the function has a value at these objects. If that value differs, records F14
+/// in `first` at `home`, the list that states the second one.
 #[tactic(auto, using(crate::proofs::Values::kept_values), unfolding(pddl_syntax::specs::Faults::first_of))]
 pub fn keep_value(
     values: &mut IndexMap<GroundAtom, u64>,

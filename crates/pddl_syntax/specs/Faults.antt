@@ -20,12 +20,12 @@ number GoalBothWays = 19
 abbrev pub precedes : Fault → Fault → Bool
 precedes e f = nat_lt e.at f.at || (e.at == f.at && nat_lt (number e.kind) (number f.kind))
 
--- the earlier of the fault that is known, if there is one, and another
+-- the earlier of the recorded fault, if there is one, and another
 abbrev pub earlier : Option Fault → Fault → Option Fault
 earlier None f = Some f
 earlier (Some e) f = if precedes f e then Some f else Some e
 
--- the earliest of the fault that is known, if there is one, and others
+-- the earliest of the recorded fault `known`, if there is one, and others
 unfoldable pub first_of : Option Fault → List Fault → Option Fault
 first_of known [] = known
 first_of known (f ∷ fs) = first_of (earlier known f) fs
@@ -33,7 +33,7 @@ first_of known (f ∷ fs) = first_of (earlier known f) fs
 abbrev pub fault : FaultKind → ℕ → Fault
 fault kind at = record { at = at; kind = kind }
 
--- the fault, if the condition holds, and others
+-- the fault, if the condition holds, followed by others
 abbrev pub faults_if : Bool → Fault → List Fault → List Fault
 faults_if true f fs = f ∷ fs
 faults_if false f fs = fs

@@ -1,4 +1,4 @@
--- The limits on what both texts are made of.
+-- The limits on the parts common to both texts.
 use Rattle.std.specs.Prelude.{ℕ}
 
 -- the greatest number, 2^31 - 1

@@ -1,4 +1,4 @@
--- Words where a number is expected.
+-- Words that are read as numbers.
 use Rattle.std.specs.Prelude.{ℕ, ◌+◌, ◌*◌, ◌-◌, ◌==◌, ◌&&◌, nat_le, Bool, true, false, if◌then◌else◌, List, [], ◌∷◌}
 use Rattle.std.specs.List.{list_all}
 use Rattle.pddl_syntax.specs.declared.number.Number.{Number}

@@ -20,7 +20,7 @@ names_with names (d ∷ ds) = names_with (with_name names d.name) ds
 abbrev pub type_number : List (List ℕ) → Declared → ℕ
 type_number types d = option_map_or (number_of types) d.parent 0
 
--- the faults of declarations that follow `count` others of the same list, which declared `names`
+-- the faults of declarations that follow `count` others of the same list, which declare `names`
 abbrev pub variable_faults : List (List ℕ) → ℕ → List Declared → List Fault
 variable_faults names count [] = []
 variable_faults names count (d ∷ ds) =

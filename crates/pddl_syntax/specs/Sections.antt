@@ -11,12 +11,12 @@ use Rattle.pddl_syntax.specs.declared.fault.PlanningFile.TheVariants.{Domain, Pr
 use Rattle.pddl_syntax.specs.Faults.{fault, faults_if}
 use Rattle.pddl_syntax.specs.Words.{is_name, is_one_of, starts_with_colon}
 
--- a section: the place at which it begins, and the expressions behind its head
+-- a section: its byte offset, and the expressions after its head
 pub record Part : Type 0 where
   pub at : ℕ
   pub inside : Forms
 
--- the expressions in the list that is first
+-- the expressions in the first expression, if that is a list
 abbrev pub root_parts : Forms → Forms
 root_parts none = none
 root_parts (word s e t f) = none
@@ -37,7 +37,7 @@ has_name none = false
 has_name (word s e t f) = is_name t
 has_name (group s e i f) = false
 
--- the list at a place as a section, if it has this head
+-- the list at offset `s` as a section, if it has this head
 abbrev pub one_section : List ℕ → ℕ → Forms → Option Part
 one_section w s i = if has_head w i then Some (record { at = s; inside = behind i }) else None
 
@@ -59,30 +59,30 @@ all_sections w (group s e i f) = option_to_list (one_section w s i) ++ all_secti
 
 -- ---- the faults
 
--- the first of the expressions, since no more are allowed
+-- the fault of the first of the expressions, because no further expression is allowed
 abbrev pub more_faults : Forms → List Fault
 more_faults none = []
 more_faults (word s e t f) = fault Shape s ∷ []
 more_faults (group s e i f) = fault Shape s ∷ []
 
--- the expressions, in the list at `home`, must be one name
+-- the faults of the expressions in the list at `home`, which must be exactly one name
 abbrev pub name_faults : ℕ → Forms → List Fault
 name_faults home none = fault Shape home ∷ []
 name_faults home (word s e t f) = faults_if (not (is_name t)) (fault Shape s) (more_faults f)
 name_faults home (group s e i f) = fault Shape s ∷ more_faults f
 
--- the word that the name of the text follows
+-- the word that precedes the name of the text
 abbrev pub title_word : PlanningFile → List ℕ
 title_word Domain = codes "domain"
 title_word Problem = codes "problem"
 
--- `(domain NAME)` or `(problem NAME)`, in the list at `home`
+-- the faults of `(domain NAME)` or `(problem NAME)`, in the list at `home`
 abbrev pub title_faults : PlanningFile → ℕ → Forms → List Fault
 title_faults file home none = fault Shape home ∷ []
 title_faults file home (word s e t f) = faults_if (not (same_text t (title_word file))) (fault Shape s) (name_faults home f)
 title_faults file home (group s e i f) = fault Shape s ∷ name_faults home f
 
--- the title, which must come first, in the list at `home`
+-- the faults of the title, which must come first, in the list at `home`
 abbrev pub second_faults : PlanningFile → ℕ → Forms → List Fault
 second_faults file home none = fault Shape home ∷ []
 second_faults file home (word s e t f) = fault Shape s ∷ []
@@ -96,14 +96,14 @@ section_words Problem = codes ":domain" ∷ codes ":requirements" ∷ codes ":le
 abbrev pub may_come_again : List ℕ → Bool
 may_come_again t = same_text t (codes ":action")
 
--- the faults of a section's head t at the place s, after sections with the heads `before`
+-- the faults of a section's head `t` at offset `s`, after sections with the heads `before`
 abbrev pub section_head_faults : PlanningFile → List (List ℕ) → ℕ → List ℕ → List Fault
 section_head_faults file before s t =
     if is_one_of (section_words file) t
     then faults_if (is_there before t && not (may_come_again t)) (fault TwiceDeclared s) []
     else fault Unsupported s ∷ []
 
--- the heads of the sections so far, with one more if it is a section's word
+-- the heads of the sections so far, with `t` added if it names a section
 abbrev pub with_head : PlanningFile → List (List ℕ) → List ℕ → List (List ℕ)
 with_head file before t = if is_one_of (section_words file) t then with_name before t else before
 
@@ -116,12 +116,12 @@ section_faults file before (group s e (group hs he h i) f) = fault Shape hs ∷ 
 section_faults file before (group s e (word hs he t i) f) =
     section_head_faults file before hs t ++ section_faults file (with_head file before t) f
 
--- a problem must have a goal; the list at `home` lacks it
+-- a problem must have a goal; the fault is at the list at `home`, which lacks it
 abbrev pub goal_missing_faults : PlanningFile → ℕ → Forms → List Fault
 goal_missing_faults Domain home f = []
 goal_missing_faults Problem home f = faults_if (not (is_some (section (codes ":goal") f))) (fault Shape home) []
 
--- the faults of the expressions behind `define` in the root at `home`
+-- the faults of the expressions after `define` in the root at `home`
 abbrev pub behind_define_faults : PlanningFile → ℕ → Forms → List Fault
 behind_define_faults file home f =
     second_faults file home f ++ section_faults file [] (behind f) ++ goal_missing_faults file home (behind f)
@@ -138,7 +138,7 @@ head_faults file none = []
 head_faults file (word s e t f) = fault Shape s ∷ []
 head_faults file (group s e i f) = root_faults file s i
 
--- the requirements must be words that begin with a colon
+-- the faults of requirements, which must be words that begin with a colon
 abbrev pub requirement_faults : Forms → List Fault
 requirement_faults none = []
 requirement_faults (word s e t f) = faults_if (not (starts_with_colon t)) (fault Shape s) (requirement_faults f)

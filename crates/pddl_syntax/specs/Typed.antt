@@ -18,7 +18,7 @@ use Rattle.pddl_syntax.specs.Faults.{fault}
 use Rattle.pddl_names.specs.Names.{same_text, is_there}
 use Rattle.pddl_syntax.specs.Words.{word_kind}
 
--- a name with its place, and its type if that can be read
+-- a name with its byte offset, and its type if that can be read
 pub record Declared : Type 0 where
   pub name : List ℕ
   pub at : ℕ
@@ -44,13 +44,13 @@ abbrev pub type_of_word : List ℕ → WordKind → Option (List ℕ)
 type_of_word t Name = if is_either t then None else Some t
 type_of_word t kind = None
 
--- the type that comes first, if it can be read
+-- the type that the first expression names, if it can be read
 abbrev pub type_at : Forms → Option (List ℕ)
 type_at none = None
 type_at (word s e t f) = type_of_word t (word_kind t)
 type_at (group s e i f) = None
 
--- the type behind the next hyphen, or `object` if there is none
+-- the type after the next hyphen, or `object` if there is none
 abbrev pub type_after_item : Item → Option (List ℕ) → Option (List ℕ) → Option (List ℕ)
 type_after_item Hyphen here later = here
 type_after_item Entry here later = later
@@ -66,7 +66,7 @@ declared_item Hyphen d behind later = behind
 declared_item Entry d behind later = d ∷ later
 declared_item Wrong d behind later = later
 
--- what the list declares, where a name comes next, and where a type comes next
+-- the declarations of a list if a name comes next, and if a type comes next
 abbrev mutual
   pub declared : Bool → Forms → List Declared
   declared v none = []
@@ -85,7 +85,7 @@ type_word_faults known t s Name =
     if is_either t then fault Unsupported s ∷ [] else (if known t then [] else fault UnknownName s ∷ [])
 type_word_faults known t s kind = fault Shape s ∷ []
 
--- the place of `either`, if it is the first expression
+-- the byte offset of `either`, if it is the first expression
 abbrev pub either_at : Forms → Option ℕ
 either_at none = None
 either_at (word s e t f) = if is_either t then Some s else None
@@ -95,7 +95,7 @@ abbrev pub either_faults : ℕ → Option ℕ → List Fault
 either_faults at None = fault Shape at ∷ []
 either_faults at (Some s) = fault Unsupported s ∷ []
 
--- the fault of a list where a type is expected
+-- the fault of a list in the position of a type
 abbrev pub type_group_faults : ℕ → Forms → List Fault
 type_group_faults at inner = either_faults at (either_at inner)
 
@@ -104,8 +104,8 @@ item_faults Hyphen empty s behind later same = (if empty then fault Shape s ∷ 
 item_faults Entry empty s behind later same = later
 item_faults Wrong empty s behind later same = fault Shape s ∷ same
 
--- The faults where a name comes next, in a run that is empty so far or not, and where a type comes next. A type that is
--- missing is a fault at the list, which is at `home`.
+-- The faults of a list if a name comes next, in a run that is empty so far or not (`empty`), and if a type comes next.
+-- A missing type is a fault at the list, which is at `home`.
 abbrev mutual
   pub typed_faults : Bool → (List ℕ → Bool) → ℕ → Bool → Forms → List Fault
   typed_faults v known home empty none = []
@@ -132,7 +132,7 @@ spread_run r = map (with_type (parent_text r)) r.names.items
 abbrev pub spread : List Run → List Declared
 spread rs = flat_map spread_run rs
 
--- what was read, and what is still to be read after it
+-- the declarations read so far, followed by those still to be read
 abbrev pub reading : Bool → List Run → List Named → Bool → Forms → List Declared
 reading v runs names false f = spread runs ++ (map (with_type (type_after v f)) names ++ declared v f)
 reading v runs names true f = spread runs ++ (map (with_type (type_at f)) names ++ declared_behind v f)

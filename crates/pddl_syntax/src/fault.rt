@@ -11,14 +11,14 @@ pub enum PlanningFile {
     Problem,
 }
 
-/// What a task may have only a limited number of.
+/// The tables and counts of a task that are limited.
 #[derive(Clone, Copy, Debug, PartialEq, Eq)]
 pub enum LimitedTable {
     /// 4,096 objects, constants among them.
     Objects,
     /// 512 predicates.
     Predicates,
-    /// 512 functions. `total-cost` counts only where it is declared.
+    /// 512 functions. `total-cost` counts only if it is declared.
     Functions,
     /// 512 action schemas.
     Schemas,
@@ -35,37 +35,37 @@ pub enum LimitedTable {
 /// The kind of a fault.
 #[derive(Clone, Copy, Debug, PartialEq, Eq)]
 pub enum FaultKind {
-    /// F10: a list or a word of another form than is allowed at its place, or something that is missing.
+    /// F10: a list or a word whose form is not allowed in its position, or something missing.
     Shape,
-    /// F11: a word of PDDL that is not supported. It is the word at the place.
+    /// F11: a word of PDDL that is not supported. The fault's place is that of this word.
     Unsupported,
     /// F12: a predicate, function, object, type or variable that is not declared.
     UnknownName,
     /// F13: a predicate or function with a number of arguments other than that of its parameters.
     Arity,
-    /// F14: declared or stated a second time where that is not allowed.
+    /// F14: declared or stated a second time, which is not allowed there.
     TwiceDeclared,
     /// F15: a type that lies on a cycle of supertypes.
     TypeCycle,
     /// F16: a number with a fraction.
     NotWhole,
-    /// F17: a cost below 0 or past 2147483647, or a schema whose increases may sum up to more.
+    /// F17: a cost below 0 or above 2147483647, or a schema whose increases may sum up to more.
     CostRange,
     /// F18: the first item past a limit.
     Limit(LimitedTable),
-    /// F19: a goal literal whose negation stands before it.
+    /// F19: a goal literal that follows its negation.
     GoalBothWays,
 }
 
-/// A fault and its place: the byte, counted from 0, at which the word or list at fault begins. For something missing it
-/// is the place of the list that lacks it.
+/// A fault and its place: the byte offset, counted from 0, at which the word or list at fault begins. For something
+/// missing it is the place of the list that lacks it.
 #[derive(Clone, Copy, Debug, PartialEq, Eq)]
 pub struct Fault {
     pub at: usize,
     pub kind: FaultKind,
 }
 
-/// The number of a fault as it is reported.
+/// Returns the number of a fault as it is reported.
 pub fn number(kind: FaultKind) -> u32
     ensures { result ≡ number kind }
 {
@@ -83,14 +83,15 @@ pub fn number(kind: FaultKind) -> u32
     }
 }
 
-/// Whether the first fault precedes the second: it is at an earlier place, or at the same place with a lower number.
+/// Returns whether the first fault precedes the second: it is at an earlier place, or at the same place with a lower
+/// number.
 fn precedes(first: Fault, second: Fault) -> bool
     ensures { result ≡ precedes first second }
 {
     first.at < second.at || first.at == second.at && number(first.kind) < number(second.kind)
 }
 
-/// Records a fault: `first` becomes the earlier of the fault that it holds and this one.
+/// Records a fault: `first` becomes the earlier of the recorded fault and this one.
 pub fn blame(first: &mut Option<Fault>, at: usize, kind: FaultKind)
     ensures { first.new ≡ earlier first.old (record { at = at; kind = kind }) }
 {
@@ -115,12 +116,12 @@ pub fn blame_if(is_fault: bool, first: &mut Option<Fault>, at: usize, kind: Faul
     }
 }
 
-/// A law: the fault that is kept, when faults are recorded one by one, is the first of them.
+/// A law: recording faults one by one records the first of them.
 pub fn kept_is_first()
     ensures { (fs : List Fault) (e : Fault) → first_of None fs ≡ Some e → IsFirst fs e }
 {}
 
-/// A law: if no fault is kept, none was recorded.
+/// A law: if no fault remains recorded, the list of faults is empty.
 #[tactic(auto, using(crate::proofs::Firsts::none_kept))]
 pub fn none_kept()
     ensures { (fs : List Fault) → first_of None fs ≡ None → fs ≡ [] }

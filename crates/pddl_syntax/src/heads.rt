@@ -23,7 +23,7 @@ impl Model for Heads {
 }
 
 impl Heads {
-    /// No heads.
+    /// Returns a table without heads.
     pub fn new(alloc: Global) -> Heads
         ensures { result ≡ no_heads }
     {
@@ -33,21 +33,21 @@ impl Heads {
         }
     }
 
-    /// The names, in the order of their first declarations.
+    /// Returns the names, in the order of their first declarations.
     pub fn names(&self) -> &Names
         ensures { result.now ≡ self.now.names }
     {
         &self.names
     }
 
-    /// The number of parameters of each head, in the order of the names.
+    /// Returns the number of parameters of each head, in the order of the names.
     pub fn arities(&self) -> &[usize]
         ensures { result.now ≡ self.now.arities }
     {
         &self.arities
     }
 
-    /// The number of parameters of the head with this name, or `None` if it is not declared.
+    /// Returns the number of parameters of the head with this name, or `None` if it is not declared.
     pub fn arity_of(&self, name: &str) -> Option<usize>
         ensures { result ≡ arity_of self.now name.now }
     {
@@ -55,8 +55,7 @@ impl Heads {
         self.arities.get(number).copied()
     }
 
-    /// Adds a head. One whose name is declared already changes nothing. Fails only if allocation fails, and then leaves
-    /// the heads as they were.
+    /// Adds a head, unless its name is declared already. On failure the heads are unchanged.
     pub fn add(&mut self, alloc: Global, name: &str, arity: usize) -> Result<(), AllocError>
         ensures ok { OnOk result (self.new ≡ with_head self.old name.now arity) }
     {
@@ -68,7 +67,7 @@ impl Heads {
         Ok(())
     }
 
-    /// The names and the numbers of parameters.
+    /// Returns the names and the numbers of parameters.
     pub fn into_parts(self) -> (Names, Vec<usize>)
         ensures names { result.0 ≡ self.names }
         ensures arities { result.1.items ≡ self.arities }

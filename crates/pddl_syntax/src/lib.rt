@@ -1,5 +1,5 @@
 //! The parts that the texts of a planning task are made of: words, numbers, typed lists, parameters and sections, with
-//! the faults of each. A reader records each fault with its place and goes on; the first fault is kept.
+//! the faults of each. A reader records each fault with its place and continues; the record holds the first fault.
 #![tactic(auto)]
 
 mod fault;

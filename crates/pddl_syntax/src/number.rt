@@ -1,4 +1,4 @@
-//! Words where a number is expected.
+//! Words that are read as numbers.
 
 ghost use Rattle.std.specs.Prelude.{◌≡◌, ◌==◌, ◌≤◌};
 ghost use Rattle.std.specs.List.{list_all};
@@ -7,16 +7,16 @@ ghost use Rattle.pddl_syntax.specs.Numbers.{is_digit, in_range, after_point, aft
 /// The greatest number of a text, 2^31 - 1.
 const MAX_NUMBER: u64 = 2_147_483_647;
 
-/// What a word means where a number is expected.
+/// The meaning of a word that is read as a number.
 #[derive(Clone, Copy, Debug, PartialEq, Eq)]
 pub enum Number {
     /// A whole number from 0 to 2,147,483,647. It may be written with a point and zeros.
     Whole(u64),
-    /// A number without a sign whose digits behind the point are not all zeros.
+    /// A number without a sign whose digits after the point are not all zeros.
     Fraction,
-    /// A whole number past 2,147,483,647, or any whole number with a minus sign.
+    /// A whole number above 2,147,483,647, or any whole number with a minus sign.
     OutOfRange,
-    /// Any other word, a fraction with a minus sign among them.
+    /// Any other word, including a fraction with a minus sign.
     NoNumber,
 }
 
@@ -67,7 +67,7 @@ fn after_digits(digits: u64, bytes: &[u8]) -> Number
     for (i, b) in bytes.iter().enumerate() {
         let b = *b;
         if is_digit(b) {
-            // Past the limit every number has the same answer.
+            // All numbers above the limit have the same result, so no further digit is added.
             if n <= MAX_NUMBER {
                 n = n * 10 + u64::from(b - b'0');
             }
@@ -89,7 +89,7 @@ fn unsigned(bytes: &[u8]) -> Number
     }
 }
 
-/// The meaning of a word where a number is expected. Takes time linear in its length.
+/// Returns the meaning of a word that is read as a number. Takes time linear in its length.
 pub fn number_of(word: &str) -> Number
     ensures { result ≡ number_of word.now }
 {

@@ -22,11 +22,11 @@ const MAX_ARGUMENTS: usize = 16;
 pub struct Parameters {
     /// The variables, without repetitions.
     pub names: Names,
-    /// The type of each variable that the text declares, by its number, repeated variables included.
+    /// The type number of each variable that the text declares, including repeated variables.
     pub types: Vec<usize>,
 }
 
-/// The number of a run's type, or that of `object` if the type cannot be read.
+/// Returns the number of a run's type, or that of `object` if the type cannot be read.
 fn run_type(run: &Run, types: &Types) -> usize
     ensures { result ≡ run_type types.now.names run.now }
 {
@@ -37,8 +37,7 @@ fn run_type(run: &Run, types: &Types) -> usize
 }
 
 impl Parameters {
-    /// Adds a variable and its type, and records it as a fault if it is declared already or is past the limit. Fails
-    /// only if allocation fails.
+    /// Adds a variable and its type, and records a fault if the variable is declared already or is past the limit.
     #[tactic(auto, unfolding(crate::specs::Faults::first_of))]
     fn declare(
         &mut self,
@@ -92,7 +91,7 @@ impl Parameters {
     }
 }
 
-/// The parameters that the runs declare. Their faults are recorded in `first`.
+/// Returns the parameters that the runs declare, and records their faults in `first`.
 #[tactic(auto, unfolding(crate::specs::Faults::first_of))]
 fn declared(
     alloc: Global,
@@ -114,7 +113,7 @@ fn declared(
     Ok(parameters)
 }
 
-/// Reads the typed variables of the list at `home` and records their faults in `first`. Fails only if allocation fails.
+/// Reads the typed variables of the list at `home` and records their faults in `first`.
 pub fn parameters_list(
     alloc: Global,
     items: &[Tree],

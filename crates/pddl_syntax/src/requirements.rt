@@ -1,4 +1,4 @@
-//! The section of the requirements. No requirement is refused.
+//! The section of the requirements. Every requirement is accepted.
 
 ghost use Rattle.std.specs.Prelude.{◌≡◌, not};
 ghost use Rattle.sexp.specs.Forms.{Forms, before, views};
@@ -33,7 +33,7 @@ fn requirement(tree: &Tree, first: &mut Option<Fault>)
 }
 
 /// Reads the section of the requirements, whose items without its head are `items`, and records its faults in `first`:
-/// F10 for each item that is not a word that begins with a colon.
+/// F10 for each item that is not a word beginning with a colon.
 #[tactic(auto, unfolding(crate::specs::Faults::first_of))]
 pub fn requirements_section(items: &[Tree], first: &mut Option<Fault>)
     ensures { first.new ≡ first_of first.old (requirement_faults (views items.now)) }

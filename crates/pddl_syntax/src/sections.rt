@@ -15,7 +15,7 @@ use pddl_names::Names;
 use sexp::Tree;
 use std::alloc::{AllocError, Global};
 
-/// A section: the byte at which it begins, counted from 0, and its items without its head.
+/// A section: its byte offset, counted from 0, and its items without its head.
 #[derive(Clone, Copy)]
 pub struct Section<'a> {
     pub at: usize,
@@ -40,14 +40,14 @@ fn has_head(items: &[Tree], wanted: &str) -> bool
     }
 }
 
-/// All items but the first, or none if there is none.
+/// Returns all items but the first, or no items if there are none.
 pub fn without_first(items: &[Tree]) -> &[Tree]
     ensures { views result.now ≡ spec.behind (views items.now) }
 {
     if items.is_empty() { &[] } else { &items[1..] }
 }
 
-/// The sections of a text: the items of its root behind `define` and the title.
+/// Returns the sections of a text: the items of its root after `define` and the title.
 pub fn sections_of(root: &Tree) -> &[Tree]
     ensures { views result.now ≡ spec.sections (alone root.now) }
 {
@@ -60,7 +60,7 @@ pub fn sections_of(root: &Tree) -> &[Tree]
     }
 }
 
-/// The tree as a section with this name, or `None` if it is none.
+/// Returns the tree as a section with this name, or `None` if it is not such a section.
 fn as_section<'a>(tree: &'a Tree, name: &str) -> Option<Section<'a>>
     ensures one { (rest : Forms) → spec.or_else (option_map part_of result) (spec.section name.now rest) ≡ spec.section name.now (before tree.now rest) }
     ensures all { (rest : Forms) → option_to_list (option_map part_of result) ++ spec.all_sections name.now rest ≡ spec.all_sections name.now (before tree.now rest) }
@@ -80,7 +80,7 @@ fn as_section<'a>(tree: &'a Tree, name: &str) -> Option<Section<'a>>
     }
 }
 
-/// The first section with this name, or `None` if there is none.
+/// Returns the first section with this name, or `None` if there is none.
 pub fn find_section<'a>(sections: &'a [Tree], name: &str) -> Option<Section<'a>>
     ensures { option_map part_of result ≡ spec.section name.now (views sections.now) }
 {
@@ -92,7 +92,7 @@ pub fn find_section<'a>(sections: &'a [Tree], name: &str) -> Option<Section<'a>>
     None
 }
 
-/// All sections with this name, in the order of the text. Fails only if allocation fails.
+/// Returns all sections with this name, in the order of the text.
 pub fn all_sections<'a>(
     alloc: Global,
     sections: &'a [Tree],
@@ -126,7 +126,7 @@ fn is_name(tree: &Tree) -> bool
     }
 }
 
-/// Records the first of the items, if there is one, as F10: it is one too many.
+/// Records F10 at the first of the items, if there is one, because no further item is allowed.
 #[tactic(auto, unfolding(crate::specs::Faults::first_of))]
 pub fn blame_more(items: &[Tree], first: &mut Option<Fault>)
     ensures { first.new ≡ first_of first.old (spec.more_faults (views items.now)) }
@@ -137,7 +137,7 @@ pub fn blame_more(items: &[Tree], first: &mut Option<Fault>)
     }
 }
 
-/// Records the faults of items, in the list at `home`, that must be one name.
+/// Records the faults of items, in the list at `home`, that must be exactly one name.
 fn blame_name(items: &[Tree], home: usize, first: &mut Option<Fault>)
     ensures { first.new ≡ first_of first.old (spec.name_faults home (views items.now)) }
 {
@@ -219,7 +219,7 @@ fn is_section_word(file: PlanningFile, word: &str) -> bool
     }
 }
 
-/// Records the faults of a section's head at `at`, and adds it to the heads seen before. Only `:action` may occur
+/// Records the faults of a section's head at `at`, and adds it to the heads read before. Only `:action` may occur
 /// twice.
 #[tactic(auto, unfolding(crate::specs::Faults::first_of))]
 fn blame_head(
@@ -323,7 +323,7 @@ fn blame_missing_goal(file: PlanningFile, home: usize, sections: &[Tree], first:
     }
 }
 
-/// Records the faults of the title, the first of the items behind `define` in the root at `home`.
+/// Records the faults of the title, which must be the first of the items after `define` in the root at `home`.
 fn blame_title_part(file: PlanningFile, items: &[Tree], home: usize, first: &mut Option<Fault>)
     ensures { first.new ≡ first_of first.old (spec.second_faults file home (views items.now)) }
 {
@@ -333,7 +333,7 @@ fn blame_title_part(file: PlanningFile, items: &[Tree], home: usize, first: &mut
     }
 }
 
-/// Records the faults of the items behind `define` in the root at `home`.
+/// Records the faults of the items after `define` in the root at `home`.
 fn blame_behind_define(
     alloc: Global,
     file: PlanningFile,
@@ -378,8 +378,8 @@ fn blame_root(
     }
 }
 
-/// Records the faults of a text's heads in `first`: those of `define`, of the title and of the sections' heads, and the
-/// goal that a problem lacks. Fails only if allocation fails.
+/// Records the faults of a text's heads in `first`: those of `define`, of the title and of the sections' heads, and a
+/// missing goal of a problem.
 pub fn read_heads(
     alloc: Global,
     file: PlanningFile,

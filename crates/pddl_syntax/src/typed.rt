@@ -33,14 +33,14 @@ pub enum Item {
     Wrong,
 }
 
-/// A name, and the byte at which it begins, counted from 0.
+/// A name and its byte offset, counted from 0.
 #[derive(Debug, Drop)]
 pub struct Named {
     pub name: String,
     pub at: usize,
 }
 
-/// Names, and the type that follows them, which is `object` if the list ends without one, and `None` if it cannot be
+/// Names and the type that follows them: `object` if the list ends without a type, and `None` if the type cannot be
 /// read.
 #[derive(Debug, Drop)]
 pub struct Run {
@@ -73,14 +73,14 @@ fn is_either(text: &str) -> bool
     text == "either"
 }
 
-/// Whether the type is declared, or `any` type is allowed.
+/// Returns whether the type is declared, or `any` type is allowed.
 fn is_known(any: bool, types: &Types, text: &str) -> bool
     ensures { result ≡ is_known any types.now text.now }
 {
     any || types.names.contains(text)
 }
 
-/// The type that a word at `at` names, or `None` if it names none. Faults are recorded in `first`.
+/// Returns the type that a word at `at` names, or `None` if it names no type. Records faults in `first`.
 #[tactic(auto, unfolding(crate::specs::Faults::first_of))]
 fn read_type_word(
     alloc: Global,
@@ -107,7 +107,7 @@ fn read_type_word(
     Ok(Some(String::from_str(alloc, text)?))
 }
 
-/// The place of the tree if it is the word `either`.
+/// Returns the byte offset of the tree if it is the word `either`.
 fn either_at(tree: &Tree) -> Option<usize>
     ensures { (rest : Forms) → result ≡ either_at (before tree.now rest) }
 {
@@ -132,7 +132,7 @@ fn head_either_at(items: &[Tree]) -> Option<usize>
     }
 }
 
-/// Records the fault of a list where a type is expected: F11 at the word `either` if that is its head, otherwise F10.
+/// Records the fault of a list in the position of a type: F11 at the word `either` if that is its head, otherwise F10.
 #[tactic(auto, unfolding(crate::specs::Faults::first_of))]
 fn blame_type_list(items: &[Tree], at: usize, first: &mut Option<Fault>)
     ensures { first.new ≡ first_of first.old (type_group_faults at (views items.now)) }
@@ -143,7 +143,7 @@ fn blame_type_list(items: &[Tree], at: usize, first: &mut Option<Fault>)
     }
 }
 
-/// The type that a tree names, or `None` if it names none. Faults are recorded in `first`.
+/// Returns the type that a tree names, or `None` if it names no type. Records faults in `first`.
 fn read_type(
     alloc: Global,
     any: bool,
@@ -183,7 +183,7 @@ impl Typed {
         }
     }
 
-    /// Reads a word where a name is expected.
+    /// Reads a word in the position of a name.
     #[tactic(auto, unfolding(crate::specs::Faults::first_of))]
     fn read_word(
         &mut self,
@@ -271,8 +271,8 @@ impl Typed {
     }
 }
 
-/// Reads the typed list of names or variables at `home` and records its faults in `first`. Where `any` is set every
-/// type counts as declared. Fails only if allocation fails.
+/// Reads the typed list of names or variables at `home` and records its faults in `first`. If `any` is set, every type
+/// counts as declared.
 pub fn typed_list(
     alloc: Global,
     items: &[Tree],

@@ -12,11 +12,11 @@ pub enum WordKind {
     Name,
     /// A question mark and at least one more byte.
     Variable,
-    /// Any other word: one that begins with a colon, a lone question mark, or an empty one.
+    /// Any other word: one that begins with a colon, a lone question mark, or the empty word.
     Other,
 }
 
-/// The kind of a word.
+/// Returns the kind of a word.
 pub fn word_kind(word: &str) -> WordKind
     ensures { result ≡ word_kind word.now }
 {

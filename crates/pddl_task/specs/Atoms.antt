@@ -1,5 +1,5 @@
--- Ground atoms, literals and sets of atoms. A set of atoms is a test, and a state is the set of the atoms that are
--- true.
+-- Ground atoms, literals and sets of atoms. A set of atoms is represented by its membership test, and a state is the
+-- set of the atoms that are true.
 use Rattle.std.specs.Prelude.{ℕ, Bool, true, ◌&&◌, ◌==◌, nat_eq, not, if◌then◌else◌, List}
 use Rattle.std.specs.List.{list_all, list_any}
 use Rattle.std.specs.Cmp.Lexicographic.{pointwise}
@@ -18,7 +18,7 @@ pub record Literal : Type 0 where
   pub atom : Atom
   pub positive : Bool
 
--- the lists have the same length, and the same number at each place
+-- the lists have the same length, and the same number at each index
 abbrev pub same_numbers : List ℕ → List ℕ → Bool
 same_numbers xs ys = pointwise nat_eq xs ys
 

@@ -28,12 +28,12 @@ deleting p = record { atom = p; positive = false }
 abbrev pub no_names : Vocabulary
 no_names = record { objects = []; predicates = []; functions = []; schemas = [] }
 
--- the actions of schema 0 for these lists of objects, where they exist
+-- the existing actions of schema 0 for these lists of objects
 abbrev pub actions_for : PlanningTask → List (List ℕ) → List Action
 actions_for task bindings = filter_map (action_of task 0) bindings
 
--- Predicates: 0 at, 1 road. Type 1 is town, and the towns a, b, c are 0, 1, 2. Schema 0 goes by a road from town to
--- town.
+-- Predicates: 0 at, 1 road. Type 1 is town, and the towns a, b, c are 0, 1, 2. Schema 0 travels from town to town by a
+-- road.
 abbrev pub road : List Increase → List FunctionValue → List Atom → Atom → PlanningTask
 road increases values initial goal =
     record {
@@ -61,7 +61,7 @@ roads_to_c = atom 0 (0 ∷ []) ∷ atom 1 (0 ∷ 1 ∷ []) ∷ atom 1 (1 ∷ 2 �
 abbrev pub road_to_c : PlanningTask
 road_to_c = record (road [] [] roads_to_c (atom 0 (2 ∷ []))) { metric = false }
 
--- the goal is a, and a road leads from a back to a
+-- the goal is a, and a road goes from a back to a
 abbrev pub road_to_a : PlanningTask
 road_to_a = record (road [] [] (atom 0 (0 ∷ []) ∷ atom 1 (0 ∷ 0 ∷ []) ∷ []) (atom 0 (0 ∷ []))) { metric = false }
 

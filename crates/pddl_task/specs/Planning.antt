@@ -16,7 +16,7 @@ pub record Effect : Type 0 where
   pub atom : Lifted
   pub positive : Bool
 
--- an action schema; each parameter is given by its type, and conditions and effects are in the order of the text
+-- an action schema; each parameter is represented by its type, and conditions and effects are in the order of the text
 pub record Schema : Type 0 where
   pub parameters : List ℕ
   pub precondition : List Condition
@@ -28,14 +28,14 @@ pub record FunctionValue : Type 0 where
   pub function : Atom
   pub value : ℕ
 
--- the names, as bytes, each list in the order of the numbers
+-- the names, as bytes, each list in the order of their numbers
 pub record Vocabulary : Type 0 where
   pub objects : List (List ℕ)
   pub predicates : List (List ℕ)
   pub functions : List (List ℕ)
   pub schemas : List (List ℕ)
 
--- Types, objects, predicates and schemas are numbered by their places in these lists. Type 0 is `object`, its own
+-- The numbers of types, objects, predicates and schemas are their indices in these lists. Type 0 is `object`, its own
 -- supertype.
 pub record PlanningTask : Type 0 where
   pub supertypes : List ℕ
@@ -66,12 +66,12 @@ abbrev pub is_below : List ℕ → ℕ → ℕ → ℕ → Bool
 is_below supertypes type other zero = type == other
 is_below supertypes type other (suc n) = type == other || is_below supertypes (slice_index supertypes type) other n
 
--- the object exists and is of this type
+-- the object exists and belongs to this type
 abbrev pub is_of_type : PlanningTask → ℕ → ℕ → Bool
 is_of_type task type object =
     option_map_or (λ own. is_below task.supertypes own type (length task.supertypes)) (slice_get task.object_types object) false
 
--- there are as many objects as parameters, each of its parameter's type
+-- there are as many objects as parameters, each of the type of its parameter
 abbrev pub fits : PlanningTask → List ℕ → List ℕ → Bool
 fits task [] [] = true
 fits task [] (o ∷ objects) = false
@@ -112,7 +112,7 @@ value_of task objects (Amount n) = Some n
 value_of task objects (Value atom) =
     option_map (λ v. v.value) (find (λ v. same_atom (ground_atom objects atom) v.function) task.values)
 
--- the sum of the increases, where one without an amount counts as 0
+-- the sum of the increases, counting one without an amount as 0
 abbrev pub sum_of_increases : PlanningTask → List ℕ → List Increase → ℕ
 sum_of_increases task objects increases = sum_by (λ i. unwrap_or (value_of task objects i) 0) increases
 

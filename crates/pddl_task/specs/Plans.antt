@@ -21,12 +21,13 @@ state_after state (a ∷ plan) = if is_applicable state a then state_after (next
 abbrev pub LeadsToGoal : PlanningTask → State → List Action → Type 0
 LeadsToGoal task state plan = IsSomeAnd (state_after state plan) (λ s. satisfies s task.goal ≡ true)
 
--- a list of ground actions of the task that leads from the initial state to a state that satisfies the goal
+-- a list of ground actions of the task that is applicable in the initial state and reaches a state that satisfies the
+-- goal
 pub record IsValidPlan (task : PlanningTask) (plan : List Action) : Type 0 where
   pub actions : All (IsActionOf task) plan
   pub goal : LeadsToGoal task (contains task.initial) plan
 
--- a list of ground actions of the task that leads from the initial state to this state
+-- a list of ground actions of the task that is applicable in the initial state and reaches this state
 pub record IsReachedBy (task : PlanningTask) (plan : List Action) (state : State) : Type 0 where
   pub actions : All (IsActionOf task) plan
   pub run : state_after (contains task.initial) plan ≡ Some state

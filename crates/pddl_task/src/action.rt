@@ -3,8 +3,8 @@ use crate::atom::{GroundAtom, GroundLiteral};
 use smallvec::SmallVec;
 use std::marker::Model;
 
-/// A ground action: a schema by its number, one object for each of its parameters, and the precondition, the effects
-/// and the cost that follow from them in a task.
+/// A ground action: the number of its schema, one object for each parameter, and the precondition, the effects and the
+/// cost that they determine in a task.
 #[derive(Debug, Drop)]
 pub struct GroundAction {
     /// The number of the schema.

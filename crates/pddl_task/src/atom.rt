@@ -28,14 +28,14 @@ impl Model for GroundAtom {
 }
 
 impl GroundAtom {
-    /// The atom of a predicate or a function at these objects.
+    /// Returns the atom of a predicate or a function with these objects.
     pub fn new(predicate: usize, objects: SmallVec<usize, 4>) -> GroundAtom
         ensures { result ≡ record { predicate = predicate; objects = objects.items } }
     {
         GroundAtom { predicate, objects }
     }
 
-    /// A copy of the atom. Allocates only for more than four objects, and fails only if that allocation fails.
+    /// Returns a copy of the atom. Allocates only for more than four objects.
     pub fn try_clone(&self, alloc: Global) -> Result<GroundAtom, AllocError>
         ensures { IfOk result (λ p. p ≡ self.now) }
     {
@@ -75,7 +75,7 @@ impl Hash for GroundAtom {
 #[derive(Debug, Drop)]
 pub struct GroundLiteral {
     pub atom: GroundAtom,
-    /// Whether the literal is the atom itself, and not its negation.
+    /// Whether the literal is the atom itself, rather than its negation.
     pub positive: bool,
 }
 
@@ -88,7 +88,7 @@ impl Model for GroundLiteral {
 }
 
 impl GroundLiteral {
-    /// A copy of the literal. Allocates only for more than four objects, and fails only if that allocation fails.
+    /// Returns a copy of the literal. Allocates only for more than four objects.
     pub fn try_clone(&self, alloc: Global) -> Result<GroundLiteral, AllocError>
         ensures { IfOk result (λ l. l ≡ self.now) }
     {

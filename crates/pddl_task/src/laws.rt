@@ -1,4 +1,4 @@
-//! Laws of the definitions of planning. The contract of each function states one, for every task; its body is empty.
+//! Laws of the definitions of planning, for every task.
 ghost use Rattle.std.specs.Prelude.{◌≡◌, ℕ, ◌↔◌, true, false, [], ◌∷◌, length, List, None, Contains};
 ghost use Rattle.pddl_task.specs.Atoms.{Atom, State, same_atom, contains};
 ghost use Rattle.pddl_task.specs.Examples.{atom, actions_for, road_to_c, road_to_a, length_of, long_road, door};
@@ -32,8 +32,8 @@ pub fn no_plan_is_every_bound()
     ensures { (task : PlanningTask) → HasNoValidPlan task ↔ ((n : ℕ) → EveryValidPlanCostsAtLeast task n) }
 {}
 
-/// Plans worked out by hand. Two roads in a row lead from a by b to c, and the same two actions in the opposite order
-/// are no plan. A road leads from a back to a, where the action both deletes and adds that the traveller is at a.
+/// Plans worked out by hand. Two consecutive roads connect a with c by way of b, and the same two actions in the
+/// opposite order are no plan. On a road from a back to a, the action both deletes and adds that the traveller is at a.
 pub fn worked_roads()
     ensures two { let plan = actions_for road_to_c ((0 ∷ 1 ∷ []) ∷ (1 ∷ 2 ∷ []) ∷ []) in
         IsValidPlan road_to_c plan × (length plan ≡ 2) × (total_cost plan ≡ 2) }
@@ -42,7 +42,7 @@ pub fn worked_roads()
     ensures wrong_way { IsValidPlan road_to_c (actions_for road_to_c ((1 ∷ 2 ∷ []) ∷ (0 ∷ 1 ∷ []) ∷ [])) → ⊥ }
 {}
 
-/// With roads of lengths 3 and 4 the same plan costs 7. For a road whose length is not given there is no action.
+/// With roads of lengths 3 and 4 the same plan costs 7. A road without a given length has no action.
 pub fn worked_lengths()
     ensures seven { let task = long_road (length_of 0 1 3 ∷ length_of 1 2 4 ∷ []) in
         let plan = actions_for task ((0 ∷ 1 ∷ []) ∷ (1 ∷ 2 ∷ []) ∷ []) in

@@ -1,5 +1,5 @@
-//! Planning tasks of PDDL 2.1 at level 1 (Fox and Long 2003) with action costs, their ground actions, and what a valid
-//! plan is. The meaning of each type is defined in `specs/`, and everything here is proved to agree with it.
+//! Planning tasks of PDDL 2.1 at level 1 (Fox and Long 2003) with action costs, their ground actions, and the
+//! definition of valid plans. `specs/` defines the meaning of each type, and all functions are proved to agree with it.
 #![tactic(auto)]
 
 mod action;

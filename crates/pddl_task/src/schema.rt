@@ -1,5 +1,5 @@
 //! Action schemas with their lifted atoms, conditions, effects and increases, and the ground atoms, literals and
-//! amounts that these stand for.
+//! amounts that these denote.
 ghost use Rattle.std.specs.Prelude.{◌≡◌, IfOk};
 ghost use Rattle.std.specs.List.{filter_map, list_all};
 ghost use Rattle.pddl_task.specs.Planning.{object_of, ground_atom, literal_of, equality_holds, atoms_of, is_small_increase, has_small_increases};
@@ -8,19 +8,19 @@ use crate::atom::{GroundAtom, GroundLiteral};
 use std::alloc::{AllocError, Global};
 use std::marker::Model;
 
-/// A term in an atom of a schema: a parameter by its place among the schema's parameters, or an object by its number.
-/// Both count from 0.
+/// A term in an atom of a schema: the index of a parameter of the schema, or the number of an object. Both count from
+/// 0.
 #[derive(Debug, Clone, Copy, PartialEq, Eq)]
 pub enum Term {
-    /// The place of a parameter of the schema.
+    /// The index of a parameter of the schema.
     Parameter(usize),
     /// The number of an object.
     Object(usize),
 }
 
 impl Term {
-    /// The object that the term stands for, with `objects` for the parameters. A parameter whose place is past the end
-    /// of `objects` stands for object 0.
+    /// Returns the object that the term denotes, with `objects` for the parameters. A parameter whose index is past the
+    /// end of `objects` denotes object 0.
     pub fn object(self, objects: &[usize]) -> usize
         ensures { result ≡ object_of objects.now self }
     {
@@ -48,7 +48,7 @@ impl Model for LiftedAtom {
 }
 
 impl LiftedAtom {
-    /// The ground atom with `objects` for the parameters. Fails only if allocation fails.
+    /// Returns the ground atom with `objects` for the parameters.
     pub fn instance(&self, alloc: Global, objects: &[usize]) -> Result<GroundAtom, AllocError>
         ensures { IfOk result (λ p. p ≡ ground_atom objects.now self.now) }
     {
@@ -68,15 +68,15 @@ pub enum Condition {
     Positive(LiftedAtom),
     /// The atom is false.
     Negative(LiftedAtom),
-    /// Both terms stand for the same object.
+    /// Both terms denote the same object.
     Equal(Term, Term),
-    /// The terms stand for different objects.
+    /// The terms denote different objects.
     Different(Term, Term),
 }
 
 impl Condition {
-    /// The ground literal of the condition, with `objects` for the parameters, or `None` for an equality condition
-    /// (`Equal` or `Different`). Fails only if allocation fails.
+    /// Returns the ground literal of the condition, with `objects` for the parameters, or `None` for an equality
+    /// condition (`Equal` or `Different`).
     pub fn literal(
         &self,
         alloc: Global,
@@ -95,8 +95,8 @@ impl Condition {
         }))
     }
 
-    /// Whether an equality condition holds with `objects` for the parameters. Returns `true` for a condition on an
-    /// atom.
+    /// Returns whether an equality condition holds with `objects` for the parameters. Returns `true` for a condition on
+    /// an atom.
     pub fn equality_holds(&self, objects: &[usize]) -> bool
         ensures { result ≡ equality_holds objects.now self.now }
     {
@@ -112,7 +112,7 @@ impl Condition {
 #[derive(Debug, Drop)]
 pub struct LiftedEffect {
     pub atom: LiftedAtom,
-    /// Whether the atom becomes true and not false.
+    /// Whether the atom becomes true rather than false.
     pub positive: bool,
 }
 
@@ -129,18 +129,18 @@ impl Model for LiftedEffect {
 pub enum Increase {
     /// A number.
     Amount(u64),
-    /// The initial value of the function at the objects that the terms stand for.
+    /// The initial value of the function at the objects that the terms denote.
     Value(LiftedAtom),
 }
 
-/// Where costs are small, each amount and each initial value is below this bound.
+/// Each amount and each initial value of a task with small costs is below this bound.
 pub(crate) const SMALL: u64 = 1 << 32;
 
-/// Where costs are small, each schema has fewer increases than this bound.
+/// Each schema of a task with small costs has fewer increases than this bound.
 const MANY: usize = 1 << 31;
 
 impl Increase {
-    /// Whether the increase is a number below 2^32, or the value of a function.
+    /// Returns whether the increase is a number below 2^32, or the value of a function.
     fn is_small(&self) -> bool
         ensures { result ≡ is_small_increase self.now }
     {
@@ -176,14 +176,14 @@ impl Model for ActionSchema {
 }
 
 impl ActionSchema {
-    /// Whether there are fewer than 2^31 increases, and each is small.
+    /// Returns whether there are fewer than 2^31 increases, and each is small.
     fn has_small_increases(&self) -> bool
         ensures { result ≡ has_small_increases self.now }
     {
         self.increases.len() < MANY && are_small(&self.increases)
     }
 
-    /// Whether each equality condition of the precondition holds with `objects` for the parameters.
+    /// Returns whether each equality condition of the precondition holds with `objects` for the parameters.
     pub(crate) fn equalities_hold(&self, objects: &[usize]) -> bool
         ensures { result ≡ list_all (equality_holds objects.now) self.now.precondition }
     {
@@ -193,22 +193,22 @@ impl ActionSchema {
     }
 }
 
-/// Whether each increase is small.
+/// Returns whether each increase is small.
 fn are_small(increases: &[Increase]) -> bool
     ensures { result ≡ list_all is_small_increase increases.now }
 {
     increases.iter().all(|increase| increase.is_small())
 }
 
-/// Whether each schema has small increases.
+/// Returns whether each schema has small increases.
 pub(crate) fn have_small_increases(schemas: &[ActionSchema]) -> bool
     ensures { result ≡ list_all has_small_increases schemas.now }
 {
     schemas.iter().all(|schema| schema.has_small_increases())
 }
 
-/// The ground literals of the conditions in their order, with `objects` for the parameters. An equality condition has
-/// none.
+/// Returns the ground literals of the conditions in their order, with `objects` for the parameters. An equality
+/// condition has no literal.
 pub(crate) fn literals_of(
     alloc: Global,
     objects: &[usize],
@@ -225,7 +225,7 @@ pub(crate) fn literals_of(
     Ok(literals)
 }
 
-/// The ground atoms of the effects with the given sign in their order, with `objects` for the parameters.
+/// Returns the ground atoms of the effects with the given sign in their order, with `objects` for the parameters.
 pub(crate) fn atoms_of(
     alloc: Global,
     objects: &[usize],

@@ -14,8 +14,8 @@ use smallvec::SmallVec;
 use std::alloc::{AllocError, Global};
 use std::marker::Model;
 
-/// A planning task. Types, objects, predicates and schemas are numbered by their places in the lists below, functions
-/// by their places in the vocabulary. All numbers count from 0.
+/// A planning task. The numbers of types, objects, predicates and schemas are their indices in the lists below, and
+/// those of functions their indices in the vocabulary. All numbers count from 0.
 #[derive(Debug, Drop)]
 pub struct Task {
     /// The supertype of each type. Type 0 is `object`, its own supertype.
@@ -59,15 +59,15 @@ impl Model for Task {
 }
 
 impl Task {
-    /// The schema with this number, or `None` if there is none.
+    /// Returns the schema with this number, or `None` if there is none.
     pub fn schema(&self, number: usize) -> Option<&ActionSchema>
         ensures { option_copied result ≡ slice_get self.now.schemas number }
     {
         self.schemas.get(number)
     }
 
-    /// Whether the object exists and is of the type. Takes time linear in the depth of the object's type below
-    /// `object`.
+    /// Returns whether the object exists and belongs to the type. Takes time linear in the depth of the object's type
+    /// below `object`.
     pub fn is_of_type(&self, type_number: usize, object: usize) -> bool
         ensures { result ≡ is_of_type self.now type_number object }
     {
@@ -77,7 +77,7 @@ impl Task {
         }
     }
 
-    /// Whether there are as many objects as types, and each object is of the type at its place.
+    /// Returns whether there are as many objects as types, and each object belongs to the type at its index.
     pub fn fits(&self, types: &[usize], objects: &[usize]) -> bool
         ensures { result ≡ fits self.now types.now objects.now }
     {
@@ -92,8 +92,8 @@ impl Task {
         true
     }
 
-    /// The amount of an increase: its number, or the initial value of its function with `objects` for the parameters,
-    /// which is `None` if the function has none there. Fails only if allocation fails.
+    /// Returns the amount of an increase: its number, or the initial value of its function with `objects` for the
+    /// parameters, which is `None` if the function has no value there.
     pub fn value_of(
         &self,
         alloc: Global,
@@ -111,7 +111,7 @@ impl Task {
         }
     }
 
-    /// Whether each increase has an amount with `objects` for the parameters.
+    /// Returns whether each increase has an amount with `objects` for the parameters.
     fn has_values(
         &self,
         alloc: Global,
@@ -128,8 +128,8 @@ impl Task {
         Ok(true)
     }
 
-    /// Whether the schema has a ground action for `objects`: they fit its parameters, its equality conditions hold and,
-    /// under the metric, each of its increases has an amount. Fails only if allocation fails.
+    /// Returns whether the schema has a ground action for `objects`: they fit its parameters, its equality conditions
+    /// hold and, under the metric, each of its increases has an amount.
     pub fn has_instance(
         &self,
         alloc: Global,
@@ -150,9 +150,8 @@ impl Task {
         self.has_values(alloc, objects, &schema.increases)
     }
 
-    /// The cost of the schema's ground action for `objects`: under the metric the sum of the increases, where one
-    /// without an amount counts as 0, and 1 otherwise. Returns `None` exactly if the cost is 2^64 or more. Fails only
-    /// if allocation fails.
+    /// Returns the cost of the schema's ground action for `objects`: under the metric the sum of the increases,
+    /// counting one without an amount as 0, and 1 otherwise. Returns `None` exactly if the cost is 2^64 or more.
     pub fn cost_of(
         &self,
         alloc: Global,
@@ -168,7 +167,7 @@ impl Task {
         self.sum_of(alloc, objects, &schema.increases)
     }
 
-    /// The sum of the increases, where one without an amount counts as 0, or `None` exactly if it is 2^64 or more.
+    /// Returns the sum of the increases, counting one without an amount as 0, or `None` exactly if it is 2^64 or more.
     fn sum_of(
         &self,
         alloc: Global,
@@ -189,22 +188,22 @@ impl Task {
         Ok(Some(sum))
     }
 
-    /// Whether each initial value and each amount is below 2^32, and each schema has fewer than 2^31 increases. Then
-    /// each action costs less than 2^63.
+    /// Returns whether each initial value and each amount is below 2^32, and each schema has fewer than 2^31 increases.
+    /// Then each action costs less than 2^63.
     pub fn has_small_costs(&self) -> bool
         ensures { result ≡ has_small_costs self.now }
     {
         self.has_small_values() && have_small_increases(&self.schemas)
     }
 
-    /// Whether each initial value is below 2^32.
+    /// Returns whether each initial value is below 2^32.
     fn has_small_values(&self) -> bool
         ensures { result ≡ has_small_values self.now }
     {
         are_small(&self.values)
     }
 
-    /// The cost of the schema's ground action for `objects`, which must be below 2^64.
+    /// Returns the cost of the schema's ground action for `objects`, which must be below 2^64.
     fn exact_cost_of(
         &self,
         alloc: Global,
@@ -217,8 +216,8 @@ impl Task {
         Ok(self.cost_of(alloc, schema, objects)?.unwrap())
     }
 
-    /// The ground action of the schema with this number for `objects`, or `None` if there is no such schema or action.
-    /// Fails only if allocation fails.
+    /// Returns the ground action of the schema with this number for `objects`, or `None` if there is no such schema or
+    /// action.
     pub fn action_of(
         &self,
         alloc: Global,
@@ -245,7 +244,8 @@ impl Task {
     }
 }
 
-/// Whether a type is `other`, or is below it by supertypes. The way up ends at a type that is its own supertype.
+/// Returns whether a type is `other` or has it among its ancestors. The walk from supertype to supertype ends at a type
+/// that is its own supertype.
 fn is_below(supertypes: &[usize], type_number: usize, other: usize) -> bool
     ensures { result ≡ is_below supertypes.now type_number other (length supertypes.now) }
 {
@@ -263,14 +263,14 @@ fn is_below(supertypes: &[usize], type_number: usize, other: usize) -> bool
     current == other
 }
 
-/// The supertype of a type, or 0 for a number past the end of the list.
+/// Returns the supertype of a type, or 0 for a number past the end of the list.
 fn supertype_of(supertypes: &[usize], type_number: usize) -> usize
     ensures { result ≡ slice_index supertypes.now type_number }
 {
     supertypes.get(type_number).copied().unwrap_or(0)
 }
 
-/// Whether each value of the map is below 2^32.
+/// Returns whether each value of the map is below 2^32.
 fn are_small(stated: &IndexMap<GroundAtom, u64>) -> bool
     ensures { result ≡ list_all (λ v. nat_lt v (2 ^ 32)) (values stated.now) }
 {

@@ -2,7 +2,7 @@
 use pddl_names::Names;
 use std::marker::Model;
 
-/// The names of objects, predicates, functions and schemas, each in the order of the numbers.
+/// The names of objects, predicates, functions and schemas, each in the order of their numbers.
 #[derive(Debug, Drop)]
 pub struct Vocabulary {
     pub objects: Names,

@@ -9,13 +9,13 @@ use Rattle.pddl_terms.specs.declared.beginning.Beginning.TheVariants.{Conjunctio
 use Rattle.pddl_terms.specs.declared.beginning.Setting.{Setting}
 use Rattle.pddl_terms.specs.declared.beginning.Setting.TheVariants.{InCondition, InEffect, InInitial}
 
--- the heads that are supported nowhere
+-- the heads that are supported in no setting
 abbrev pub unsupported_heads : List (List ℕ)
 unsupported_heads =
     codes "or" ∷ codes "imply" ∷ codes "forall" ∷ codes "exists" ∷ codes "when" ∷ codes "preference" ∷ codes "<" ∷ codes ">" ∷ codes "<="
     ∷ codes ">=" ∷ codes "assign" ∷ codes "decrease" ∷ codes "scale-up" ∷ codes "scale-down" ∷ []
 
--- a name is a predicate
+-- the construct of a head of this kind that is no keyword: a name is a predicate
 abbrev pub by_kind : WordKind → Beginning
 by_kind Name = Atom
 by_kind kind = NoName

@@ -54,7 +54,7 @@ term_faults_by_kind scope s t Variable = faults_if (not (is_there scope.variable
 term_faults_by_kind scope s t Name = faults_if (not (is_there scope.objects t)) (fault UnknownName s) []
 term_faults_by_kind scope s t kind = fault Shape s ∷ []
 
--- the fault of a word where a term is expected
+-- the fault of a word in the position of a term
 abbrev pub term_faults : Scope → ℕ → List ℕ → List Fault
 term_faults scope s t = term_faults_by_kind scope s t (word_kind t)
 
@@ -78,7 +78,7 @@ count none = 0
 count (word s e t f) = count f + 1
 count (group s e i f) = count f + 1
 
--- the head with this number and these terms, if there are as many as its parameters
+-- the head with this number and these terms, if the number of terms is its arity
 abbrev pub lifted_of : Option ℕ → Option ℕ → Option (List Term) → Option Lifted
 lifted_of (Some number) (Some arity) (Some ts) = if arity == length ts then Some (record { predicate = number; terms = ts }) else None
 lifted_of (Some number) (Some arity) None = None
@@ -89,13 +89,12 @@ lifted_of None arity ts = None
 abbrev pub lifted : Heads → Scope → List ℕ → Forms → Option Lifted
 lifted heads scope t f = lifted_of (place_of heads.names t) (arity_of heads t) (terms scope f)
 
--- the fault of a head at the place hs, in the list at `home`, that has this arity, if it is declared, and is given this
--- many terms
+-- the fault of a head at offset `hs`, in the list at `home`, with this arity, if it is declared, and `given` terms
 abbrev pub arity_faults : Option ℕ → ℕ → ℕ → ℕ → List Fault
 arity_faults None home hs given = fault UnknownName hs ∷ []
 arity_faults (Some n) home hs given = faults_if (not (n == given)) (fault Arity home) []
 
--- the faults of a head at the place hs with its terms, in the list at `home`
+-- the faults of a head at offset `hs` with its terms, in the list at `home`
 abbrev pub lifted_faults : Heads → Scope → ℕ → ℕ → List ℕ → Forms → List Fault
 lifted_faults heads scope home hs t f = arity_faults (arity_of heads t) home hs (count f) ++ terms_faults scope f
 

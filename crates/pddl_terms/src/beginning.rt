@@ -7,7 +7,7 @@ ghost use Rattle.pddl_terms.specs.Terms.{is_total_cost};
 
 use pddl_syntax::{WordKind, word_kind};
 
-/// Where a list stands: in a condition or a goal, in an effect, or in the initial state.
+/// The context of a list: a condition or a goal, an effect, or the initial state.
 #[derive(Clone, Copy, Debug, PartialEq, Eq)]
 pub enum Setting {
     InCondition,
@@ -68,7 +68,8 @@ fn other_beginning(head: &str) -> Beginning
     }
 }
 
-/// The construct of a list with this head in a setting. `and` and `=` are ordinary predicates in the initial state.
+/// Returns the construct of a list with this head in a setting. `and` and `=` are ordinary predicates in the initial
+/// state.
 pub fn beginning_of(setting: Setting, head: &str) -> Beginning
     ensures { result ≡ beginning setting head.now }
 {
@@ -81,7 +82,7 @@ pub fn beginning_of(setting: Setting, head: &str) -> Beginning
     }
 }
 
-/// Whether the word is `total-cost`.
+/// Returns whether the word is `total-cost`.
 pub fn is_total_cost(word: &str) -> bool
     ensures { result ≡ is_total_cost word.now }
 {

@@ -1,5 +1,5 @@
 //! The parts common to the expressions of a PDDL text: terms, predicates and functions with their terms, and the
-//! constructs that the heads of lists name.
+//! constructs named by the heads of lists.
 #![tactic(auto)]
 
 mod beginning;

@@ -12,7 +12,7 @@ use pddl_task::{LiftedAtom, Term};
 use sexp::Tree;
 use std::alloc::{AllocError, Global};
 
-/// A word as a term, if it is a declared variable or a declared object.
+/// Returns the word as a term, if it is a declared variable or a declared object.
 fn term_of(scope: &Scope, word: &str) -> Option<Term>
     ensures { result ≡ spec.term_of scope.now word.now }
 {
@@ -23,7 +23,7 @@ fn term_of(scope: &Scope, word: &str) -> Option<Term>
     }
 }
 
-/// Records the fault of a word where a term is expected.
+/// Records the fault of a word in the position of a term.
 #[tactic(auto, unfolding(pddl_syntax::specs::Faults::first_of))]
 fn blame_term(scope: &Scope, word: &str, at: usize, first: &mut Option<Fault>)
     ensures { first.new ≡ first_of first.old (spec.term_faults scope.now at word.now) }
@@ -45,8 +45,8 @@ fn blame_term(scope: &Scope, word: &str, at: usize, first: &mut Option<Fault>)
     }
 }
 
-/// A tree as a term. Its fault is recorded in `first`, and then the result is `None`: F10 for a list or for a word that
-/// is no name and no variable, F12 for one that is not declared.
+/// Returns a tree as a term. If it has a fault, records it in `first` and returns `None`: F10 for a list or for a word
+/// that is neither a name nor a variable, F12 for a name or variable that is not declared.
 #[tactic(auto, using(sexp::proofs::Walking::walking, pddl_syntax::proofs::Trees::noting), unfolding(pddl_syntax::specs::Faults::first_of))]
 pub fn term(scope: &Scope, tree: &Tree, first: &mut Option<Fault>) -> Option<Term>
     ensures meaning { (rest : Forms) → result ≡ spec.first_term scope.now (before tree.now rest) }
@@ -64,8 +64,7 @@ pub fn term(scope: &Scope, tree: &Tree, first: &mut Option<Fault>) -> Option<Ter
     }
 }
 
-/// Reads terms and records their faults in `first`. The result is `None` if one of them has a fault. Fails only if
-/// allocation fails.
+/// Reads terms and records their faults in `first`. Returns `None` if one of them has a fault.
 #[tactic(auto, using(sexp::proofs::Walking::walking, pddl_syntax::proofs::Trees::noting, crate::proofs::TermSteps::steps, crate::proofs::TermSteps::reading), unfolding(pddl_syntax::specs::Faults::first_of))]
 pub fn terms(
     alloc: Global,
@@ -87,8 +86,8 @@ pub fn terms(
     Ok(if are_read { Some(terms) } else { None })
 }
 
-/// The predicate or function with this number and these terms, if all are known and there are as many terms as
-/// parameters.
+/// Returns the predicate or function with this number and these terms, if all are known and the number of terms is the
+/// arity.
 fn lifted_of(
     number: Option<usize>,
     arity: Option<usize>,
@@ -104,7 +103,7 @@ fn lifted_of(
     }
 }
 
-/// Records in `first` that a head is not declared, or that its number of parameters is not the number of terms given.
+/// Records in `first` that a head is not declared, or that its arity differs from the number of terms `given`.
 #[tactic(auto, unfolding(pddl_syntax::specs::Faults::first_of))]
 fn blame_arity(
     arity: Option<usize>,
@@ -121,11 +120,11 @@ fn blame_arity(
     }
 }
 
-/// Reads a predicate or a function of `heads` with its terms, and records the faults in `first`. The list begins at the
-/// byte `home` and the head at the byte `head_at`, both counted from 0. The result is `None` if there is a fault.
+/// Reads a predicate or a function of `heads` with its terms, and records the faults in `first`. The list is at byte
+/// offset `home` and the head at byte offset `head_at`, both counted from 0. Returns `None` if there is a fault.
 ///
-/// F12 at the head or at a term that is not declared, F13 at the list if the head has another number of parameters, F10
-/// at a term of another form. Fails only if allocation fails.
+/// F12 at the head or at a term that is not declared, F13 at the list if the head has another arity, F10 at a term of
+/// another form.
 #[tactic(auto, using(crate::proofs::TermSteps::count_views, pddl_syntax::proofs::Trees::noting), unfolding(pddl_syntax::specs::Faults::first_of))]
 pub fn lifted(
     alloc: Global,

@@ -9,7 +9,7 @@ use std::marker::Model;
 pub struct Scope<'a> {
     pub predicates: &'a Heads,
     pub functions: &'a Heads,
-    /// The parameters of the action. It is empty outside actions.
+    /// The parameters of the action; empty outside actions.
     pub variables: &'a Names,
     pub objects: &'a Names,
 }

@@ -1,5 +1,5 @@
--- The texts of `examples/drive`, and their task: roads from a to b, from b to c and from a to c, and an action that goes
--- by a road, at the cost of its length.
+-- The texts of `examples/drive`, and their task: roads from a to b, from b to c and from a to c, and an action that
+-- travels by a road, at the cost of its length.
 use Rattle.std.specs.Prelude.{ℕ, true, List, [], ◌∷◌, ◌++◌, codes}
 use Rattle.pddl_task.specs.declared.schema.Condition.TheVariants.{Positive}
 use Rattle.pddl_task.specs.declared.schema.Increase.TheVariants.{Value}
@@ -46,24 +46,24 @@ drive_schema = record {
 
 unfoldable pub drive_task : PlanningTask
 drive_task = record {
-  -- of object and of loc: object
+  -- the supertype of object and of loc: object
   supertypes = 0 ∷ 0 ∷ [];
-  -- of a, b and c: loc
+  -- the type of a, b and c: loc
   object_types = 1 ∷ 1 ∷ 1 ∷ [];
-  -- of at and of road
+  -- the arities of at and road
   arities = 1 ∷ 2 ∷ [];
   schemas = drive_schema ∷ [];
   -- (at a) (road a b) (road b c) (road a c)
   initial = atom 0 (0 ∷ []) ∷ atom 1 (0 ∷ 1 ∷ []) ∷ atom 1 (1 ∷ 2 ∷ []) ∷ atom 1 (0 ∷ 2 ∷ []) ∷ [];
   -- (at c)
   goal = goal_atom (atom 0 (2 ∷ [])) ∷ [];
-  -- of (len a b), (len b c) and (len a c)
+  -- the values of (len a b), (len b c) and (len a c)
   values = record { function = atom 1 (0 ∷ 1 ∷ []); value = 3 }
       ∷ record { function = atom 1 (1 ∷ 2 ∷ []); value = 4 }
       ∷ record { function = atom 1 (0 ∷ 2 ∷ []); value = 8 }
       ∷ [];
   metric = true;
-  -- function 0 is total-cost, and 1 len
+  -- function 0 is total-cost, and function 1 is len
   vocabulary = record {
     objects = codes "a" ∷ codes "b" ∷ codes "c" ∷ [];
     predicates = codes "at" ∷ codes "road" ∷ [];

@@ -73,11 +73,11 @@ drop_schema = record {
 
 unfoldable pub grip_task : PlanningTask
 grip_task = record {
-  -- of object: object
+  -- the supertype of object: object
   supertypes = 0 ∷ [];
-  -- of p, q, x and y: object
+  -- the type of p, q, x and y: object
   object_types = 0 ∷ 0 ∷ 0 ∷ 0 ∷ [];
-  -- of room, ball, here, in, free and held
+  -- the arities of room, ball, here, in, free and held
   arities = 1 ∷ 1 ∷ 1 ∷ 2 ∷ 0 ∷ 1 ∷ [];
   schemas = move_schema ∷ pick_schema ∷ drop_schema ∷ [];
   -- (room p) (room q) (ball x) (ball y) (here p) (in x p) (in y p) (free)

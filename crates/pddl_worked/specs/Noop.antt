@@ -23,10 +23,10 @@ noop_schema = record {
 
 unfoldable pub noop_task : PlanningTask
 noop_task = record {
-  -- of object: object
+  -- the supertype of object: object
   supertypes = 0 ∷ [];
   object_types = [];
-  -- of p
+  -- the arity of p
   arities = 0 ∷ [];
   schemas = noop_schema ∷ [];
   initial = [];
@@ -34,7 +34,7 @@ noop_task = record {
   goal = goal_atom (atom 0 []) ∷ [];
   values = [];
   metric = true;
-  -- in lower case
+  -- the names in lower case
   vocabulary = record {
     objects = [];
     predicates = codes "p" ∷ [];

@@ -1,4 +1,5 @@
--- The texts of `examples/road`, and their task: roads from a to b and from b to c, and an action that goes by a road.
+-- The texts of `examples/road`, and their task: roads from a to b and from b to c, and an action that travels by a
+-- road.
 use Rattle.std.specs.Prelude.{ℕ, false, List, [], ◌∷◌, ◌++◌, codes}
 use Rattle.pddl_task.specs.declared.schema.Condition.TheVariants.{Positive}
 use Rattle.pddl_task.specs.Planning.{PlanningTask, Schema}
@@ -34,11 +35,11 @@ road_schema = record {
 
 unfoldable pub road_task : PlanningTask
 road_task = record {
-  -- of object and of loc: object
+  -- the supertype of object and of loc: object
   supertypes = 0 ∷ 0 ∷ [];
-  -- of a, b and c: loc
+  -- the type of a, b and c: loc
   object_types = 1 ∷ 1 ∷ 1 ∷ [];
-  -- of at and of road
+  -- the arities of at and road
   arities = 1 ∷ 2 ∷ [];
   schemas = road_schema ∷ [];
   -- (at a) (road a b) (road b c)

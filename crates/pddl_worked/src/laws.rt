@@ -1,4 +1,4 @@
-//! Worked laws of PDDL texts. The contract of each function states one; its body is empty.
+//! Worked laws of PDDL texts.
 
 ghost use Rattle.pddl_syntax.specs.declared.fault.PlanningFile.TheVariants.{Problem};
 ghost use Rattle.pddl_syntax.specs.declared.fault.FaultKind.TheVariants.{NotWhole};
@@ -25,13 +25,14 @@ pub fn drive_is_spelled()
     ensures { SpellTask drive_domain drive_problem drive_task }
 {}
 
-/// The texts of `examples/grip`: objects without types, three actions, an inequality as a condition, and a goal of two atoms.
+/// The texts of `examples/grip`: objects without types, three actions, an inequality as a condition, and a goal of two
+/// atoms.
 pub fn grip_is_spelled()
     ensures { SpellTask grip_domain grip_problem grip_task }
 {}
 
-/// With `5.5` for the 8 in the problem of `examples/drive`, the first fault is that this number is not whole. It begins at
-/// byte 156.
+/// With `5.5` for the 8 in the problem of `examples/drive`, the first fault is that this number is not whole. Its place
+/// is byte 156.
 pub fn fraction_is_refused()
     ensures { IsTaskRefusal drive_domain drive_problem_with_fraction (Section Problem (fault NotWhole 156)) }
 {}

@@ -17,7 +17,7 @@ pieces separator (b ∷ bs) = if b == separator then [] ∷ pieces separator bs 
 abbrev pub is_end_byte : ℕ → Bool
 is_end_byte b = (b == 32) || (b == 13)
 
--- the byte in front of others, or nothing if it is dropped at the end of a line and no byte follows
+-- the byte before others, or nothing if it is dropped at the end of a line and no byte follows
 abbrev pub before_end : ℕ → List ℕ → List ℕ
 before_end b [] = if is_end_byte b then [] else b ∷ []
 before_end b (c ∷ cs) = b ∷ c ∷ cs

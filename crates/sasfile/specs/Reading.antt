@@ -20,7 +20,7 @@ abbrev pub Fails : {Y : Type 0} → SasFault → Result Y SasFault → Type 0
 Fails fault.OutOfMemory read = Unit {0}
 Fails e read = read ≡ Err e
 
--- the result of a function, under a view, is that of reading, unless allocation fails
+-- the result of a function, under `view`, is `read`, unless allocation fails
 abbrev pub Gives : {X Y : Type 0} → (X → Y) → Result X SasFault → Result Y SasFault → Type 0
 Gives view (Ok x) read = read ≡ Ok (view x)
 Gives view (Err e) read = Fails e read
@@ -388,7 +388,7 @@ empty_from line [] = Ok tt
 empty_from line ([] ∷ ls) = empty_from (line + 1) ls
 empty_from line ((b ∷ bs) ∷ ls) = Err (fault.Trailing line)
 
--- the parts before those that name variables
+-- the sections before those that refer to variables
 pub record Head : Type 0 where
   pub metric : Bool
   pub variables : List (List (List ℕ))
@@ -400,7 +400,7 @@ head_at r = do
   variables ← variables_at metric.1
   Ok (record { metric = metric.0; variables = variables.0 }, variables.1)
 
--- the parts after the variables
+-- the sections after the variables
 pub record Body : Type 0 where
   pub initial : List ℕ
   pub goal : List Fact

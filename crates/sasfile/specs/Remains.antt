@@ -1,4 +1,4 @@
--- The values of the definitions that values of the code represent.
+-- The values of the definitions that the data structures of the code represent.
 use Rattle.std.specs.Prelude.{ℕ, List}
 use Rattle.sasfile.specs.declared.variables.Variables.{Variables}
 use Rattle.sasfile.specs.declared.lines.Lines.{Lines}

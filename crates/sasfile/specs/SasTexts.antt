@@ -30,7 +30,7 @@ SpellsFact ranges line f = SpellsNumbers line (Natural f.variable ∷ Natural f.
 
 -- ---- several lines
 
--- each line spells the item at its place
+-- each line spells the item at its index
 abbrev pub SpellsEach : {X : Type 0} → (List ℕ → X → Type 0) → List (List ℕ) → List X → Type 0
 SpellsEach P [] [] = Unit {0}
 SpellsEach P [] (x ∷ xs) = ⊥
@@ -76,7 +76,7 @@ pub record SpellsMetric (ls : List (List ℕ)) (metric : Bool) : Type 0 where
 
 -- ---- variables
 
--- a name that is not kept, the axiom layer -1, the range, and the name of each value
+-- a name that is not stored, the axiom layer -1, the range, and the name of each value
 pub record SpellsVariable (ls : List (List ℕ)) (texts : List (List ℕ)) : Type 0 where
   pub name : List ℕ
   pub layer : List ℕ
@@ -134,12 +134,12 @@ pub record SpellsChange (ranges line : List ℕ) (c : Change) : Type 0 where
   pub after : IsInRange ranges c.after
   pub before : IsBefore (slice_index ranges c.after.variable) c.before
 
--- the facts with the condition that the value before an effect makes, if there is one
+-- the facts with the condition on the value before an effect, if there is one
 abbrev pub condition_before : ℕ → Option ℕ → List Fact → List Fact
 condition_before v None others = others
 condition_before v (Some x) others = record { variable = v; value = x } ∷ others
 
--- the conditions that the values before the effects make
+-- the conditions on the values before the effects
 abbrev pub conditions_of : List Change → List Fact
 conditions_of [] = []
 conditions_of (c ∷ cs) = condition_before c.after.variable c.before (conditions_of cs)

@@ -31,7 +31,7 @@ pub struct Change {
     pub after: Fact,
 }
 
-/// Whether the first word of a line spells a number above 0.
+/// Returns whether the first word of a line spells a number above 0.
 fn is_conditional(line: &[u8]) -> bool
     ensures { result ≡ is_conditional (words line.now) }
 {
@@ -44,7 +44,7 @@ fn is_conditional(line: &[u8]) -> bool
     }
 }
 
-/// The four numbers of an effect line, or `None` if the line is not of that form.
+/// Returns the four numbers of an effect line, or `None` if the line is not of that form.
 fn four_numbers(line: &[u8]) -> Option<Quadruple>
     ensures { result ≡ quadruple (words line.now) }
 {
@@ -63,7 +63,8 @@ fn four_numbers(line: &[u8]) -> Option<Quadruple>
     }
 }
 
-/// The value that a variable must have before an effect, or `Some(None)` for any value. `None` if it is out of range.
+/// Returns the value that a variable must have before an effect, or `Some(None)` for any value. Returns `None` if it is
+/// out of range.
 fn before_of(range: u32, before: Number) -> Option<Option<u32>>
     ensures { result ≡ before_of range before }
 {
@@ -74,7 +75,7 @@ fn before_of(range: u32, before: Number) -> Option<Option<u32>>
     }
 }
 
-/// The effect of four numbers, or `None` if one of them is out of range.
+/// Returns the effect of four numbers, or `None` if one of them is out of range.
 fn change_of(ranges: &[u32], numbers: Quadruple) -> Option<Change>
     ensures variable { IfSome result (λ c. c.after.variable < length ranges.now) }
     ensures change { result ≡ change_of ranges.now numbers }
@@ -116,7 +117,7 @@ pub(crate) struct Halves {
     pub effect: Vec<Fact>,
 }
 
-/// Reads one more effect and adds it. Its variable must not have been named since the line `since`.
+/// Reads one more effect and appends it. It is a fault if its variable has been named since the line `since`.
 #[tactic(auto, unfolding(crate::specs::Reading::change_step))]
 fn push_change<'a>(
     kept: &mut Halves,

@@ -13,7 +13,7 @@ use crate::number::Number;
 use fdr::Fact;
 use std::alloc::Global;
 
-/// The fact of these two numbers, if the variable and its value exist.
+/// Returns the fact of these two numbers, if the variable and its value exist.
 pub(crate) fn fact_of(ranges: &[u32], variable: Number, value: Number) -> Option<Fact>
     ensures variable { IfSome result (λ f. f.variable < length ranges.now) }
     ensures fact { result ≡ fact_of ranges.now variable value }
@@ -48,7 +48,7 @@ fn fact_line<'a>(ranges: &[u32], lines: Lines<'a>) -> Result<(Fact, Lines<'a>), 
     }
 }
 
-/// Reads a fact and drops it.
+/// Reads a fact and discards it.
 #[tactic(auto, unfolding(crate::specs::Reading::skip_step))]
 fn skip_fact<'a>(ranges: &[u32], lines: Lines<'a>) -> Result<Lines<'a>, SasFault>
     ensures { Gives (λ x. (tt, remaining x)) result (skip_step ranges.now tt (remaining lines.entry)) }
@@ -145,7 +145,7 @@ pub(crate) fn state<'a>(
     Ok((values, lines))
 }
 
-/// Reads one more fact and adds it. Its variable must not have been named since the line `since`.
+/// Reads one more fact and appends it. It is a fault if its variable has been named since the line `since`.
 #[tactic(auto, unfolding(crate::specs::Reading::fact_step))]
 fn push_fact<'a>(
     facts: &mut Vec<Fact>,
@@ -194,7 +194,7 @@ fn counted_facts<'a>(
 }
 
 /// Reads the number of facts, and then each of them, on distinct variables. `named` has for each variable the last line
-/// that named it; a variable counts as named from the line of the number on.
+/// that named it; only lines from that of the number on count.
 #[tactic(auto, unfolding(crate::specs::Reading::facts_at))]
 pub(crate) fn facts<'a>(
     alloc: Global,

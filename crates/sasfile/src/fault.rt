@@ -16,7 +16,7 @@ pub enum SasFault {
     /// Memory ran out. This does not depend on the text.
     #[error("out of memory")]
     OutOfMemory,
-    /// F18: more variables, values of a variable or operators than a task may have.
+    /// F18: more variables, values of a variable or operators than the limits of a task allow.
     #[error("F18 Limit {0}")]
     Limit(TaskLimit),
     /// F40: a version other than 3.

@@ -1,5 +1,4 @@
-//! Laws of the format, for every text of fewer than 2^64 - 1 bytes. Each function states one in its contract; its body
-//! is empty.
+//! Laws of the format, for every text of fewer than 2^64 - 1 bytes.
 
 ghost use Rattle.std.specs.Prelude.{◌≡◌, ◌<◌, ◌-◌, ◌^◌, ◌⊎◌, ℕ, List, length, Err};
 ghost use Rattle.fdr.specs.Tasks.{FiniteDomainTask};

@@ -1,8 +1,8 @@
 //! Reads the texts of finite-domain tasks: `output.sas`, version 3, as Fast Downward's translator writes it (Helmert
 //! 2009).
 //!
-//! A text is read exactly if it spells a task. Otherwise reading fails with its first fault, whose kind and line are
-//! given.
+//! A text is read exactly if it spells a task. Otherwise reading fails with the first fault of the text, its kind and
+//! line.
 #![tactic(auto)]
 
 mod effects;

@@ -48,7 +48,7 @@ pub(crate) fn text_line(lines: Lines<'_>) -> Result<(&str, Lines<'_>), SasFault>
     }
 }
 
-/// The number of a line that has exactly one word.
+/// Returns the number of a line that has exactly one word.
 fn only_number(line: &[u8]) -> Option<Number>
     ensures { result ≡ alone (words line.now) }
 {
@@ -85,7 +85,7 @@ pub(crate) fn count_line(lines: Lines<'_>) -> Result<(u64, Lines<'_>), SasFault>
     }
 }
 
-/// The numbers of a line that has exactly two words.
+/// Returns the numbers of a line that has exactly two words.
 pub(crate) fn two_numbers(line: &[u8]) -> Option<(Number, Number)>
     ensures { result ≡ pair (words line.now) }
 {

@@ -19,7 +19,7 @@ fn is_digit(byte: u8) -> bool
     b'0' <= byte && byte <= b'9'
 }
 
-/// The number of one or more digits, at most 2^64 - 1.
+/// Returns the number that one or more digits spell, capped at 2^64 - 1, or `None` if the bytes are not digits.
 fn digits_of(digits: &[u8]) -> Option<u64>
     ensures { result ≡ reading.digits digits.now }
 {
@@ -38,7 +38,7 @@ fn digits_of(digits: &[u8]) -> Option<u64>
     Some(value)
 }
 
-/// Minus the number.
+/// Returns minus the number.
 fn negated(value: u64) -> Number
     ensures { result ≡ minus value }
 {
@@ -49,7 +49,7 @@ fn negated(value: u64) -> Number
     }
 }
 
-/// The number that a word spells, or `None` if it spells none.
+/// Returns the number that a word spells, or `None` if it spells none.
 #[tactic(auto, unfolding(crate::specs::Reading::number))]
 pub(crate) fn number_of(word: &[u8]) -> Option<Number>
     ensures { result ≡ reading.number word.now }

@@ -3,7 +3,7 @@
 ghost use Rattle.std.specs.Prelude.{◌≡◌, ◌≢◌, ◌<◌, ◌≤◌, ℕ, [], ◌∷◌, length, slice_index, MatchOption};
 ghost use Rattle.sasfile.specs.Lines.{pieces, is_end_byte, trimmed, words};
 
-/// The length of the first piece, in bytes.
+/// Returns the length of the first piece, in bytes.
 fn piece_length(bytes: &[u8], separator: u8) -> usize
     ensures within { result ≤ length bytes.now }
     ensures before { (k : ℕ) → k < result → slice_index bytes.now k ≢ separator }
@@ -17,7 +17,7 @@ fn piece_length(bytes: &[u8], separator: u8) -> usize
     bytes.len()
 }
 
-/// The first piece, and the bytes after its separator.
+/// Returns the first piece, and the bytes after its separator.
 pub(crate) fn first_piece(bytes: &[u8], separator: u8) -> (&[u8], &[u8])
     requires { bytes.now ≢ [] }
     ensures pieces { pieces separator bytes.now ≡ result.0.now ∷ pieces separator result.1.now }
@@ -31,14 +31,14 @@ pub(crate) fn first_piece(bytes: &[u8], separator: u8) -> (&[u8], &[u8])
     }
 }
 
-/// Whether a byte is dropped at the end of a line.
+/// Returns whether a byte is dropped at the end of a line.
 fn is_end_byte(byte: u8) -> bool
     ensures { result ≡ is_end_byte byte }
 {
     byte == b' ' || byte == b'\r'
 }
 
-/// The line without the blanks and carriage returns at its end.
+/// Returns the line without the blanks and carriage returns at its end.
 pub(crate) fn trimmed(line: &[u8]) -> &[u8]
     ensures { result.now ≡ trimmed line.now }
 {
@@ -49,7 +49,7 @@ pub(crate) fn trimmed(line: &[u8]) -> &[u8]
     &line[..end]
 }
 
-/// The first word of a line, and the bytes after it, or `None` if the line has no word.
+/// Returns the first word of a line, and the bytes after it, or `None` if the line has no word.
 pub(crate) fn next_word(line: &[u8]) -> Option<(&[u8], &[u8])>
     ensures { MatchOption result (words line.now ≡ []) (λ x. words line.now ≡ x.0.now ∷ words x.1.now) }
 {

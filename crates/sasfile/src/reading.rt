@@ -29,7 +29,7 @@ fn version(lines: Lines<'_>) -> Result<Lines<'_>, SasFault>
     }
 }
 
-/// The flag that a number stands for: 0 or 1.
+/// Returns the flag that a number denotes: 0 or 1.
 fn flag_of(number: Number) -> Option<bool>
     ensures { result ≡ flag number }
 {
@@ -40,7 +40,7 @@ fn flag_of(number: Number) -> Option<bool>
     }
 }
 
-/// Reads whether operators have costs of their own.
+/// Reads the metric: whether operators have costs of their own.
 #[tactic(auto, unfolding(crate::specs::Reading::metric_at))]
 fn metric(lines: Lines<'_>) -> Result<(bool, Lines<'_>), SasFault>
     ensures { Gives (λ x. (x.0, remaining x.1)) result (metric_at (remaining lines.entry)) }
@@ -54,7 +54,7 @@ fn metric(lines: Lines<'_>) -> Result<(bool, Lines<'_>), SasFault>
     Ok((metric, rest))
 }
 
-/// The parts before those that name variables: the metric and the variables.
+/// The sections before those that refer to variables: the metric and the variables.
 #[derive(Drop)]
 pub(crate) struct Head {
     pub metric: bool,
@@ -98,7 +98,7 @@ fn end(lines: Lines<'_>) -> Result<(), SasFault>
     Ok(())
 }
 
-/// The parts after the variables.
+/// The sections after the variables.
 #[derive(Drop)]
 pub(crate) struct Body {
     pub initial: Vec<u32>,
@@ -149,8 +149,8 @@ fn whole(alloc: Global, bytes: &[u8]) -> Result<FdrTask, SasFault>
 /// Reads a task from a text in the format `output.sas`, version 3 (Helmert 2009).
 ///
 /// Lines end with a line feed, which the last line may lack; blanks and carriage returns at the end of a line are
-/// ignored. Operators keep the costs that are written, whatever the metric. The facts of mutex groups are checked to be
-/// in range; mutex groups and the names of variables are not kept.
+/// ignored. Operators have the costs that are written, whatever the metric. The facts of mutex groups are checked to be
+/// in range; mutex groups and the names of variables are not stored.
 ///
 /// Fails with the first fault of the text, or if allocation fails.
 pub fn read_sas(alloc: Global, bytes: &[u8]) -> Result<FdrTask, SasFault>
@@ -158,7 +158,7 @@ pub fn read_sas(alloc: Global, bytes: &[u8]) -> Result<FdrTask, SasFault>
     ensures found { IfOk result (λ task. SpellsTask bytes.now task) }
     // If the text spells a task, that task is returned, unless allocation fails.
     ensures only { (task : FiniteDomainTask) → SpellsTask bytes.now task → Gives (λ x. x) result (Ok task) }
-    // The error is the first fault of the text, where its lines are read in order.
+    // The error is the first fault of the text, reading its lines in order.
     ensures fault { Gives (λ x. x) result (task_in bytes.now) }
 {
     whole(alloc, bytes)

@@ -4,7 +4,7 @@ use Rattle.sasfile.specs.declared.fault.SasFault.{SasFault}
 use Rattle.sasfile.specs.declared.fault.SasFault.TheVariants as fault
 use Rattle.sasfile.specs.Lines.{lines}
 
--- the number of the line, counted from 1; a limit that is passed and a text that ends too soon have none
+-- the number of the line, counted from 1; an exceeded limit and a text that ends too soon have none
 abbrev pub line_of : SasFault → Option ℕ
 line_of fault.OutOfMemory = None
 line_of (fault.Limit t) = None
@@ -20,7 +20,7 @@ line_of (fault.Trailing n) = Some n
 abbrev pub IsWithin : ℕ → SasFault → Type 0
 IsWithin n e = IsSomeAnd (line_of e) (λ m. m ≤ n)
 
--- the first n lines of both texts are the same, but for blanks and carriage returns at their ends; or all lines are, if there
--- are fewer than n
+-- the first n lines of both texts are the same, but for blanks and carriage returns at their ends; or all lines are, if
+-- there are fewer than n
 abbrev pub HaveSameLines : ℕ → List ℕ → List ℕ → Type 0
 HaveSameLines n s t = take n (lines s) ≡ take n (lines t)

@@ -1,4 +1,4 @@
--- The text that is written of a finite-domain task (output.sas, version 3; Helmert 2006), line by line.
+-- The text written for a finite-domain task (output.sas, version 3; Helmert 2006), line by line.
 use Rattle.std.specs.Prelude.{ℕ, Bool, ◌==◌, not, nat_le, if◌then◌else◌, List, [], ◌∷◌, ◌++◌, length, map, filter, find, Option, codes, decimal}
 use Rattle.std.specs.List.{flat_map, enumerate_from, range_with_len}
 use Rattle.std.specs.Option.{option_map, option_map_or}

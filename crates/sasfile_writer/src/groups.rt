@@ -27,7 +27,7 @@ fn push_group(out: &mut Vec<u8>, variable: usize, size: usize) -> Result<(), All
     push_line(out, b"end_mutex_group")
 }
 
-/// Whether a variable with this number of atoms is written as a mutex group.
+/// Returns whether a variable with this number of atoms is written as a mutex group.
 fn are_several(size: usize) -> bool
     ensures { result ≡ nat_le 2 size }
 {
@@ -46,7 +46,7 @@ fn push_groups(out: &mut Vec<u8>, sizes: &[usize]) -> Result<(), AllocError>
     Ok(())
 }
 
-/// The number of variables that have at least two atoms.
+/// Returns the number of variables that have at least two atoms.
 fn group_count(sizes: &[usize]) -> usize
     ensures { result ≡ count_by (nat_le 2) sizes.now }
 {

@@ -1,4 +1,4 @@
-//! Laws of written texts. Each function states one in its contract; its body is empty.
+//! Laws of written texts.
 
 ghost use Rattle.std.specs.Prelude.{◌≡◌, ◌↔◌, ℕ, List, [], ◌∷◌};
 ghost use Rattle.fdr.specs.Tasks.{FiniteDomainTask, IsTask, IsPlan, plan_cost};

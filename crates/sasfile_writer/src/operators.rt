@@ -14,14 +14,14 @@ use cost::Cost;
 use fdr::{Fact, Operator};
 use std::alloc::AllocError;
 
-/// Whether one of the facts is on the variable.
+/// Returns whether one of the facts is on the variable.
 fn names_variable(facts: &[Fact], variable: usize) -> bool
     ensures { result ≡ names_variable facts.now variable }
 {
     facts.iter().any(|fact| fact.variable == variable)
 }
 
-/// The value of the fact on the variable, if there is one.
+/// Returns the value of the fact on the variable, if there is one.
 fn value_of(facts: &[Fact], variable: usize) -> Option<u32>
     ensures { result ≡ spec.value_of facts.now variable }
 {
@@ -29,7 +29,7 @@ fn value_of(facts: &[Fact], variable: usize) -> Option<u32>
     Some(fact.value)
 }
 
-/// The number of prevail conditions: facts of the precondition on variables that the effect does not name.
+/// Returns the number of prevail conditions: facts of the precondition on variables that the effect does not name.
 fn prevail_count(precondition: &[Fact], effect: &[Fact]) -> usize
     ensures { result ≡ length (filter (λ f. not (names_variable effect.now f.variable)) precondition.now) }
 {

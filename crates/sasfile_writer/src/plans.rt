@@ -8,7 +8,7 @@ use fdr::FdrTask;
 use itoa::Buffer;
 use std::alloc::{AllocError, Global};
 
-/// Appends the line of the operator with this number.
+/// Appends the line of the operator with this number. The operator must exist.
 fn push_operator(text: &mut String, task: &FdrTask, operator: usize) -> Result<(), AllocError>
     requires { operator < length task.now.operators }
     ensures { OnOk result (string_bytes text.new ≡ string_bytes text.old ++ operator_line task.now operator) }
@@ -43,8 +43,8 @@ fn push_cost_kind(text: &mut String, metric: bool) -> Result<(), AllocError>
 }
 
 /// Returns the text of a plan, as Fast Downward writes it: for each operator, given by its number, a line with its name
-/// in parentheses, and a last line that states `cost`, such as `; cost = 2 (unit cost)`, or `(general cost)` if the task
-/// has the metric. The operators must exist. Fails only if allocation fails.
+/// in parentheses, and a last line that states `cost`, such as `; cost = 2 (unit cost)`, or `(general cost)` if the
+/// task has the metric. The operators must exist.
 pub fn sas_plan_text(
     alloc: Global,
     task: &FdrTask,

@@ -11,7 +11,7 @@ use crate::variables::push_variable_list;
 use fdr::FdrTask;
 use std::alloc::{AllocError, Global};
 
-/// Appends whether operators have costs of their own.
+/// Appends the metric: whether operators have costs of their own.
 fn push_metric(out: &mut Vec<u8>, metric: bool) -> Result<(), AllocError>
     ensures { OnOk result (out.new.items ≡ out.old.items ++ text_of_lines (metric_lines metric)) }
 {
@@ -22,9 +22,9 @@ fn push_metric(out: &mut Vec<u8>, metric: bool) -> Result<(), AllocError>
     }
 }
 
-/// Returns the text of the task: `output.sas`, version 3, each line with its line feed (Helmert 2006). The first `sizes[v]`
-/// values of the variable `v` are its atoms, of which at most one is true; if there are at least two, they are written
-/// as a mutex group. Fails only if allocation fails.
+/// Returns the text of the task: `output.sas`, version 3, each line with its line feed (Helmert 2006). The first
+/// `sizes[v]` values of the variable `v` are its atoms, of which at most one is true; if there are at least two, they
+/// are written as a mutex group.
 ///
 /// The text is written in one pass, into one buffer that grows.
 pub fn write_sas(alloc: Global, task: &FdrTask, sizes: &[usize]) -> Result<Vec<u8>, AllocError>

@@ -15,8 +15,8 @@ use Rattle.checker_clauses.specs.Clauses.{table_of, has_form}
 use Rattle.scp_columns.specs.ColumnTables.{ColumnTable, on_abstraction, tables_of}
 use Rattle.scp_columns.specs.Partitions.{IsMadeFrom}
 
--- columns that have a text in a certificate of version 2, whose tables have the required form and partition the costs of the
--- operators
+-- columns that have a text in a certificate of version 2, whose tables have the required form and partition the costs
+-- of the operators
 pub record AreCostPartitioned (task : FiniteDomainTask) (columns : List (List Table)) : Type 0 where
   pub lawful : AreColumns Two columns
   pub formed : All (All (λ t. has_form task t ≡ true)) columns
@@ -31,12 +31,13 @@ pub record ColumnsOf : Type 0 where
 abbrev pub mappings_of : {Y : Type 0} → Vec KeptMapping Y → List Mapping
 mappings_of order = map mapping_of order.items
 
--- the column is of the task, and has tables made for the mappings of the order
+-- the column belongs to the task, and has tables made for the mappings of the order
 pub record IsColumnFrom {Y : Type 0} (task : FiniteDomainTask) (order : Vec KeptMapping Y) (column : Vec ColumnTable Global) : Type 0 where
   pub of_task : All (λ t. t.task ≡ task) column.items
   pub made : IsMadeFrom task (mappings_of order) (tables_of column)
 
--- the columns are of the task, one for each of the orders, of at most 64 tables, and each partitions the costs of the operators
+-- the columns belong to the task, one for each of the orders, of at most 64 tables, and each partitions the costs of
+-- the operators
 pub record AreColumnsFrom (task : FiniteDomainTask) (given : List (List Mapping)) (columns : List (Vec ColumnTable Global)) : Type 0 where
   pub of_task : All (λ column. All (λ t. t.task ≡ task) column.items) columns
   pub as_many : length columns ≡ length given

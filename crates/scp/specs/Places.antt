@@ -1,4 +1,4 @@
--- The places of a state in the tables of columns.
+-- A state's indices into the tables of columns.
 use Rattle.std.specs.Prelude.{◌≡◌, ℕ, List, length, Option, IfSome}
 use Rattle.fdr.specs.Tasks.{FiniteDomainTask, ranges, IsState}
 use Rattle.cert_value.specs.Certificates.{Table}
@@ -13,7 +13,8 @@ pub record PlacesOf : Type 0 where
   pub columns : List (List Table)
   pub state : List ℕ
 
--- the state is a state of the task, and there is a number for each mapping: its abstract state, once they are entered
+-- the state is a state of the task, and there is a number for each mapping: its abstract state, once the sums are
+-- computed
 pub record AreEntered (task : FiniteDomainTask) (flat : Flat) (state indices : List ℕ) (sums : Option BlockSums) : Type 0 where
   pub state_of_task : IsState (ranges task) state
   pub as_long : length indices ≡ length (first_rows (blocks_in flat))

@@ -15,7 +15,7 @@ use std::thread::Threads;
 /// The greatest number of columns that `choose_columns` makes.
 pub const MAX_COLUMNS: usize = 8;
 
-/// Appends copies of mappings. Fails only if allocation fails.
+/// Appends copies of mappings.
 fn append_copies(
     alloc: Global,
     order: &mut Vec<Mapping>,
@@ -29,7 +29,7 @@ fn append_copies(
     Ok(())
 }
 
-/// All mappings, from the place `first` to the end, followed by those before it. Fails only if allocation fails.
+/// Returns all mappings, from index `first` to the end, followed by those before it.
 fn order_from(alloc: Global, mappings: &[Mapping], first: usize) -> Result<Vec<Mapping>, AllocError>
     requires { first ≤ length mappings.now }
     ensures { IfOk result (λ order. mappings_of order ≡ order_from first (map mapping_of mappings.now)) }
@@ -41,8 +41,8 @@ fn order_from(alloc: Global, mappings: &[Mapping], first: usize) -> Result<Vec<M
     Ok(order)
 }
 
-/// The orders of mappings, one for each column: the k-th starts with the k-th mapping. There are at most
-/// `MAX_COLUMNS`. Fails only if allocation fails.
+/// Returns the orders of mappings, one for each column: the k-th starts with the k-th mapping. There are at most
+/// `MAX_COLUMNS`.
 #[tactic(auto, unfolding(crate::specs::Orders::orders_from))]
 fn orders_of(alloc: Global, mappings: &[Mapping]) -> Result<Vec<Vec<Mapping>>, AllocError>
     ensures { IfOk result (λ orders. map mappings_of orders.items ≡ orders_from (min 8 (length mappings.now)) (map mapping_of mappings.now)) }
@@ -54,10 +54,10 @@ fn orders_of(alloc: Global, mappings: &[Mapping]) -> Result<Vec<Vec<Mapping>>, A
     Ok(orders)
 }
 
-/// Makes the cost-partitioned columns of the task for a search, from the mappings that `choose_mappings` chooses: at
+/// Returns the cost-partitioned columns of the task for a search, from the mappings that `choose_mappings` chooses: at
 /// most 64, with at most `limit` abstract states each. The limit must be from 1 to 2^24. There is a column for each of
-/// the first 8 mappings: it starts with that mapping and has all mappings in cyclic order. The contract specifies of the
-/// mappings what that of `choose_mappings` does. Threads make columns side by side. Fails only if allocation fails.
+/// the first 8 mappings: it starts with that mapping and has all mappings in cyclic order. The contract specifies the
+/// mappings as that of `choose_mappings` does. Columns are made in parallel.
 pub fn choose_columns<'a, R: Threads + Sync>(
     rt: &R,
     alloc: Global,

@@ -67,9 +67,9 @@ impl<'a> Columns<'a> {
         self.task
     }
 
-    /// Proves the invariant of the type: the tables of each column partition the costs of the operators, so that the
-    /// heuristic is at most the cost of every plan from a state, and it is infinite or at most 2^61. It does nothing at
-    /// run time.
+    /// Proves the invariant of the type (nothing happens at run time): the tables of each column partition the costs of
+    /// the operators, so that the heuristic is at most the cost of every plan from a state, and it is infinite or at
+    /// most 2^61.
     pub fn recall(&self)
         ensures partitioned { ∥ AreCostPartitioned self.now.task self.now.columns ∥₁ }
         ensures bound { (plan state : List ℕ) → IsState (ranges self.now.task) state → LeadsToGoal self.now.task state plan →
@@ -77,7 +77,7 @@ impl<'a> Columns<'a> {
         ensures small { (state : List ℕ) → IsState (ranges self.now.task) state →
             IsWithin (2 ^ 61) (heuristic_of self.now.task self.now.columns state) }
     {
-        // reading a field brings the type's invariant into the proof
+        // only for the proof: reading a field makes the type's invariant available
         let _ = self.columns.len();
         self.task.recall();
     }
@@ -103,8 +103,7 @@ impl<'a> Columns<'a> {
         flat_value(&self.flat, state)
     }
 
-    /// Returns the places of the initial state, with which the estimates of successors are computed. Fails only if
-    /// allocation fails.
+    /// Returns the cached table indices of the initial state, from which the estimates of successors are computed.
     pub fn places(&'a self, alloc: Global) -> Result<Places<'a>, AllocError>
         ensures { IfOk result (λ p. p ≡ record { task = self.now.task; columns = self.now.columns; state = self.now.task.initial }) }
     {
@@ -112,8 +111,8 @@ impl<'a> Columns<'a> {
     }
 }
 
-/// A column for each of these orders of mappings, in order. Threads make them side by side. Tables that the earlier column
-/// has too are copied from it. Fails only if allocation fails.
+/// Returns a column for each of these orders of mappings, in order, made in parallel. Tables that the earlier column
+/// has too are copied from it.
 fn columns_from<'a, R: Threads + Sync>(
     rt: &R,
     alloc: Global,
@@ -130,7 +129,7 @@ fn columns_from<'a, R: Threads + Sync>(
     task.recall();
     orders
         .par_iter()
-        // a column is heavy work, so each may have a thread of its own
+        // a column takes long, so each may have a thread of its own
         .with_min_len(1)
         .map(
             |order: &Vec<Mapping>| -> Result<Vec<ColumnTable<'_>>, AllocError>
@@ -142,8 +141,8 @@ fn columns_from<'a, R: Threads + Sync>(
         .collect::<Result<Vec<Vec<ColumnTable<'a>>>, AllocError>>(rt, alloc)?
 }
 
-/// A column for each of these orders of mappings, in order. Tables that the first of the columns made before has too are
-/// copied from it. Fails only if allocation fails.
+/// Returns a column for each of these orders of mappings, in order. Tables that the first of the finished columns has
+/// too are copied from it.
 fn columns_beside<'a, R: Threads + Sync>(
     rt: &R,
     alloc: Global,
@@ -166,8 +165,8 @@ fn columns_beside<'a, R: Threads + Sync>(
     }
 }
 
-/// A column for each of these orders of mappings, in order: first as many as threads can make side by side, and then the
-/// others, which copy the tables that the first column has too. Fails only if allocation fails.
+/// Returns a column for each of these orders of mappings, in order: first as many as threads can make in parallel, then
+/// the others, which copy the tables that the first column has too.
 fn columns_in_turn<'a, R: Threads + Sync>(
     rt: &R,
     alloc: Global,
@@ -187,9 +186,8 @@ fn columns_in_turn<'a, R: Threads + Sync>(
     Ok(columns)
 }
 
-/// Makes a column for each of these orders of mappings, as `make_column` does. Threads make columns side by side; which
-/// tables they have does not depend on that. There must be at most 64 orders, each of 1 to 64 mappings. Fails only if
-/// allocation fails.
+/// Returns a column for each of these orders of mappings, as `make_column` makes them, in parallel; the result does not
+/// depend on the number of threads. There must be at most 64 orders, each of 1 to 64 mappings.
 pub fn make_columns<'a, R: Threads + Sync>(
     rt: &R,
     alloc: Global,

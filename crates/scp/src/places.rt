@@ -1,4 +1,4 @@
-//! The places of a state in the tables of columns.
+//! A state's indices into the tables of columns.
 
 ghost use Rattle.std.specs.Prelude.{◌≡◌, ℕ, List, ◌^◌, length, Some, All, IfOk, IfSome};
 ghost use Rattle.cost.specs.Distances.{IsWithin};
@@ -14,18 +14,18 @@ use scp_rows::{BlockSums, Flat, enter_flat, flat_value_after, mapping_count};
 use std::alloc::{AllocError, Global};
 use std::marker::Model;
 
-/// The places of a state in the tables of columns, with which the heuristic of a successor is computed from what its
-/// operator changes. It serves for one state after the other. In contracts its value is the task, the tables and the
-/// state.
+/// Caches a state's table indices and sums, from which the heuristic of a successor is computed by what its operator
+/// changes. The same value is used for one state after the other. In contracts its value is the task, the tables and
+/// the state.
 #[derive(Drop)]
 pub struct Places<'a> {
     columns: &'a Columns<'a>,
     flat: &'a Flat<'a>,
     touches: &'a [Vec<usize>],
     state: Vec<u32>,
-    /// The abstract states of the state, one for each mapping, once they are entered.
+    /// The abstract states of the state, one for each mapping of the first block, once they are computed.
     indices: Vec<usize>,
-    /// The sums of the rows of the state in the first block, once they are entered.
+    /// The sums of the rows of the state in the first block, once they are computed.
     sums: Option<BlockSums>,
     ghost flat_of_task: { All (λ b. AreOf columns.now.task b.items) (blocks_in flat.now) },
     ghost flat_value: { (s : List ℕ) → IsState (ranges columns.now.task) s →
@@ -43,8 +43,8 @@ impl<'a> Model for Places<'a> {
     ghost invariant = { λ p. AreEntered p.columns.now.task p.flat.now p.state.items p.indices.items p.sums };
 }
 
-/// Enters the abstract states of a state, one for each mapping of the first block, unless they are entered. Returns the
-/// sums of its rows there.
+/// Computes the abstract states of a state, one for each mapping of the first block, and returns the sums of its rows
+/// there. If `sums` is given, both are already computed.
 fn enter_once(
     flat: &Flat<'_>,
     state: &[u32],
@@ -63,7 +63,7 @@ fn enter_once(
 }
 
 impl<'a> Places<'a> {
-    /// The places of the initial state. Fails only if allocation fails.
+    /// Returns the cached table indices of the initial state.
     pub(crate) fn new(
         alloc: Global,
         columns: &'a Columns<'a>,
@@ -96,7 +96,7 @@ impl<'a> Places<'a> {
         &self.state
     }
 
-    /// Enters a state in place of the one before. No memory is allocated.
+    /// Replaces the state. No memory is allocated.
     pub fn enter(&mut self, state: &[u32])
         requires { IsState (ranges self.old.task) state.now }
         ensures { self.new ≡ record self.old { state = state.now } }
@@ -105,9 +105,9 @@ impl<'a> Places<'a> {
         self.sums = None;
     }
 
-    /// Returns the estimate of the columns for the successor of the state by the operator, as `Columns::h` gives it. The
-    /// abstract states of the state and the sums of its rows are computed at the first call after `enter`, and later ones
-    /// add only the rows of mappings that the operator touches. No memory is allocated.
+    /// Returns the heuristic value of the columns for the successor of the state by the operator, the same as
+    /// `Columns::h`. The abstract states of the state and the sums of its rows are computed at the first call after
+    /// `enter`; later calls only exchange the rows of mappings that the operator affects. No memory is allocated.
     pub fn h_after(&mut self, operator: usize, successor: &[u32]) -> Dist
         requires { step self.old.task self.old.state operator ≡ Some successor.now }
         ensures value { result ≡ heuristic_of self.old.task self.old.columns successor.now }

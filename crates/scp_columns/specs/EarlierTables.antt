@@ -1,4 +1,4 @@
--- Tables of a column, with the costs that were left before each.
+-- Tables of a column, with the remaining costs before each.
 use Rattle.std.specs.Prelude.{◌≡◌, ℕ, List, Vec, length, slice_index}
 use Rattle.std.specs.Global.{Global}
 use Rattle.fdr.specs.Tasks.{FiniteDomainTask}
@@ -7,7 +7,7 @@ use Rattle.checker_clauses.specs.Clauses.{table_of}
 use Rattle.pdb_walks.specs.Walks.{HasDistances, IsSaturated}
 use Rattle.scp_columns.specs.ColumnTables.{ColumnTable}
 
--- a column of the task that was made before
+-- an earlier column of the task
 pub record EarlierOf : Type 0 where
   pub task : FiniteDomainTask
   pub tables : List Table

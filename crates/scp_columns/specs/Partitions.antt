@@ -1,5 +1,5 @@
--- Columns of tables that are made in turn from the remaining costs of the operators (saturated cost partitioning,
--- Seipp, Keller and Helmert 2020).
+-- Columns of tables that are made one after the other from the remaining costs of the operators (saturated cost
+-- partitioning, Seipp, Keller and Helmert 2020).
 use Rattle.std.specs.Prelude.{◌≡◌, ℕ, ◌-◌, List, [], ◌∷◌, map}
 use Rattle.fdr.specs.Tasks.{FiniteDomainTask, cost_of}
 use Rattle.abstraction.specs.Abstractions as abstraction
@@ -8,7 +8,7 @@ use Rattle.cert_value.specs.Certificates.{Table}
 use Rattle.checker_clauses.specs.Clauses.{table_of}
 use Rattle.pdb_walks.specs.Walks.{HasDistances, IsSaturated, IsPartition}
 
--- the column has a table for each of the given mappings, made in turn from the remaining costs
+-- the column has a table for each of the given mappings, made in order from the remaining costs
 pub record IsMadeFrom (task : FiniteDomainTask) (given : List Mapping) (column : List Table) : Type 0 where
   pub mappings : map (λ t. t.mapping) column ≡ given
   pub partition : IsPartition (cost_of task) (map (table_of task) column)

@@ -1,4 +1,4 @@
--- A table has at most one proof that it has a text, and so have columns.
+-- A table has at most one proof that it has a text, and so do columns.
 use Rattle.std.specs.Prelude.{ℕ, ◌≤◌, ◌^◌, List, [], ◌∷◌}
 use Rattle.std.specs.List.{AllByRecursion}
 use Rattle.std.proofs.Math.Bool.{Bool-set}

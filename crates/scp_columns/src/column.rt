@@ -1,4 +1,4 @@
-//! Columns, made table by table (saturated cost partitioning).
+//! Columns, built table by table (saturated cost partitioning).
 
 ghost use Rattle.std.specs.Prelude.{◌≡◌, ℕ, ◌<◌, ◌^◌, true, length, map, slice_index, All, IfOk, IfSome};
 ghost use Rattle.cost.specs.Distances.{IsWithin};
@@ -22,7 +22,7 @@ use pdb_regression::BackwardProjection;
 use pdb_walks::BackwardAbstraction;
 use std::alloc::{AllocError, Global};
 
-/// The abstraction of the task by a mapping of the task. Fails only if allocation fails.
+/// Returns the abstraction of the task by one of its mappings.
 fn abstraction_to<'a>(
     alloc: Global,
     task: &'a FdrTask,
@@ -37,8 +37,8 @@ fn abstraction_to<'a>(
     }
 }
 
-/// The distances of an abstraction under the remaining costs, and the saturated cost function, by its transitions
-/// backwards.
+/// Returns the distances of an abstraction under the remaining costs, and the saturated cost function, computed by
+/// regression over `backward`.
 fn saturated_by<A: BackwardAbstraction>(
     alloc: Global,
     backward: &A,
@@ -57,7 +57,7 @@ fn saturated_by<A: BackwardAbstraction>(
     Ok((values, needed))
 }
 
-/// The distances of an abstraction under the remaining costs, and the saturated cost function.
+/// Returns the distances of an abstraction under the remaining costs, and the saturated cost function.
 fn saturated_distances(
     alloc: Global,
     abstraction: &TableAbstraction<'_>,
@@ -83,7 +83,8 @@ fn saturated_distances(
     }
 }
 
-/// The table of a mapping with the distances under the remaining costs, whose shares are the saturated cost function.
+/// Returns the table of a mapping with the distances under the remaining costs, whose shares are the saturated cost
+/// function.
 fn new_table<'a>(
     alloc: Global,
     task: &'a FdrTask,
@@ -110,7 +111,8 @@ fn new_table<'a>(
     Ok(ColumnTable::new(task, table))
 }
 
-/// The table of a mapping with the distances under the remaining costs, copied from the earlier column where that has it.
+/// Returns the table of a mapping with the distances under the remaining costs, copied from the earlier column if that
+/// has it.
 fn table_under<'a>(
     alloc: Global,
     task: &'a FdrTask,
@@ -134,12 +136,11 @@ fn table_under<'a>(
     new_table(alloc, task, mapping, &abstraction, left)
 }
 
-/// Makes a column with a table for each mapping, in order, by saturated cost partitioning (Seipp, Keller and Helmert
+/// Returns a column with a table for each mapping, in order, by saturated cost partitioning (Seipp, Keller and Helmert
 /// 2020): a table has the distances under the remaining costs of the operators, and its shares are the least that
-/// preserve these distances. Each mapping must be one of the task that keeps something of at least one variable, with at
-/// most 2^24 abstract states and with classes that are numbered in the order in which they first stand in their row. Tables
-/// that an earlier column of the task has too are copied from it; the column does not depend on that. Fails only if
-/// allocation fails.
+/// preserve these distances. Each mapping must be one of the task that retains information on at least one variable,
+/// with at most 2^24 abstract states and with classes numbered in the order of their first occurrence in their row.
+/// Tables that an earlier column of the task has too are copied from it; the result does not depend on that.
 pub fn make_column<'a>(
     alloc: Global,
     task: &'a FdrTask,

@@ -1,4 +1,4 @@
-//! What tables leave of the costs of operators.
+//! The costs of operators that tables leave to later ones.
 
 ghost use Rattle.std.specs.Prelude.{◌≡◌, ℕ, ◌<◌, ◌-◌, ◌^◌, length, slice_index, IfOk};
 ghost use Rattle.fdr.specs.Tasks.{cost_of};
@@ -9,7 +9,7 @@ use cert_value::Share;
 use fdr::FdrTask;
 use std::alloc::{AllocError, Global};
 
-/// The cost of each operator.
+/// Returns the cost of each operator.
 pub(crate) fn costs_of(alloc: Global, task: &FdrTask) -> Result<Vec<u32>, AllocError>
     ensures len { IfOk result (λ costs. length costs.items ≡ length task.now.operators) }
     ensures costs { IfOk result (λ costs. (o : ℕ) → o < length task.now.operators →
@@ -22,7 +22,7 @@ pub(crate) fn costs_of(alloc: Global, task: &FdrTask) -> Result<Vec<u32>, AllocE
     Ok(costs)
 }
 
-/// Subtracts the share of each operator from what is left of its cost.
+/// Subtracts the share of each operator from its remaining cost.
 pub(crate) fn take_shares(left: &mut [u32], shares: &[Share])
     requires { AreShares shares.now }
     ensures len { length left.new ≡ length left.old }

@@ -1,4 +1,4 @@
-//! Tables that a column has in common with one that was made before.
+//! Tables that a column shares with an earlier one.
 
 ghost use Rattle.std.specs.Prelude.{◌≡◌, ℕ, ◌≤◌, true, length, map, slice_get, slice_index, Some, All, IfOk, IfSome, IsSomeAnd};
 ghost use Rattle.fdr.specs.Tasks.{cost_of};
@@ -17,8 +17,8 @@ use fdr::FdrTask;
 use std::alloc::{AllocError, Global};
 use std::marker::Model;
 
-/// A column that was made before, with what was left of the operators' costs before each of its tables. Another column
-/// copies the tables that it has in common with this one, as saturated cost partitioning often leaves the same costs for a
+/// A finished column, with the remaining costs of the operators before each of its tables. Another column copies the
+/// tables that it has in common with this one, because saturated cost partitioning often leaves the same costs for a
 /// mapping in several columns. In contracts its value is the task and the tables.
 #[derive(Drop)]
 pub struct EarlierColumn<'a> {
@@ -39,7 +39,7 @@ impl<'a> Model for EarlierColumn<'a> {
     ghost invariant = { λ c. AllZip (IsMadeUnder c.task.now) c.tables.now c.costs.items };
 }
 
-/// Whether at least the share of each operator is left of its cost.
+/// Returns whether the remaining cost of each operator is at least its share.
 fn are_left(left: &[u32], shares: &[Share]) -> bool
     ensures { result ≡ true → (o : ℕ) → share_of shares.now o ≤ slice_index left.now o }
 {
@@ -52,7 +52,7 @@ fn are_left(left: &[u32], shares: &[Share]) -> bool
     true
 }
 
-/// Whether the remaining costs of the operators that touch the abstraction are at most those others.
+/// Returns whether the remaining costs of the operators that affect the abstraction are at most `costs`.
 fn are_at_most(abstraction: &TableAbstraction<'_>, left: &[u32], costs: &[u32]) -> bool
     requires { length costs.now ≡ length left.now }
     ensures { result ≡ true → (o : ℕ) → (abstraction_in abstraction.now).touches o ≡ true → slice_index left.now o ≤ slice_index costs.now o }
@@ -65,7 +65,7 @@ fn are_at_most(abstraction: &TableAbstraction<'_>, left: &[u32], costs: &[u32]) 
     true
 }
 
-/// The place of the first table of the mapping, counted from 0.
+/// Returns the index of the first table of the mapping.
 fn place_of(tables: &[ColumnTable<'_>], mapping: &Mapping) -> Option<usize>
     ensures { IfSome result (λ place. IsSomeAnd (slice_get tables.now place) (λ t. t.table.mapping ≡ mapping_of mapping.now)) }
 {
@@ -78,8 +78,8 @@ fn place_of(tables: &[ColumnTable<'_>], mapping: &Mapping) -> Option<usize>
 }
 
 impl<'a> EarlierColumn<'a> {
-    /// Joins the tables of a column of the task, which were made in turn from the operators' costs, with what was left of
-    /// the costs before each. Fails only if allocation fails.
+    /// Combines the tables of a column of the task, which were made one after the other from the operators' costs, with
+    /// the remaining costs before each.
     pub fn new(
         alloc: Global,
         task: &'a FdrTask,
@@ -102,8 +102,9 @@ impl<'a> EarlierColumn<'a> {
         })
     }
 
-    /// A table by this mapping that has the distances under the remaining costs, if the column has one: what is left is at
-    /// least the share of each operator, and for those that touch the abstraction at most what was left before the table.
+    /// Returns a table of this mapping that has the distances under the remaining costs, if the column has one: each
+    /// remaining cost is at least the operator's share, and those of operators that affect the abstraction are at most
+    /// what remained before the table.
     pub(crate) fn table_for(
         &self,
         mapping: &Mapping,

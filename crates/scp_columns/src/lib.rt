@@ -1,5 +1,5 @@
-//! The tables of cost-partitioned columns, made one after another from what those before them left of the costs (saturated
-//! cost partitioning, Seipp, Keller and Helmert 2020).
+//! The tables of cost-partitioned columns, each made from the costs that those before it leave (saturated cost
+//! partitioning, Seipp, Keller and Helmert 2020).
 #![tactic(auto)]
 
 mod column;

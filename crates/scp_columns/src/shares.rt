@@ -8,8 +8,7 @@ use cert_value::Share;
 use std::alloc::{AllocError, Global};
 
 #[tactic(auto, using(crate::proofs::SparseShares::none_yet, crate::proofs::SparseShares::with_share, crate::proofs::SparseShares::without_share, crate::proofs::SparseShares::all_shares, crate::proofs::SparseShares::all_same))]
-/// The positive shares among those of all operators, which are given in the order of their numbers. Fails only if
-/// allocation fails.
+/// Returns the positive shares among those of all operators, which are given in the order of their numbers.
 pub(crate) fn shares_of(alloc: Global, needed: &[u32]) -> Result<Vec<Share>, AllocError>
     requires few { length needed.now < 2 ^ 32 }
     requires small { (o : ℕ) → slice_index needed.now o < 2 ^ 31 }

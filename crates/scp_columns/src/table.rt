@@ -12,7 +12,7 @@ use fdr::FdrTask;
 use std::alloc::{AllocError, Global};
 use std::marker::Model;
 
-/// A table of an abstraction of a task. A certificate of version 2 can contain it.
+/// A table of an abstraction of a task, valid in a certificate of version 2.
 #[derive(Drop)]
 pub struct ColumnTable<'a> {
     task: &'a FdrTask,
@@ -30,7 +30,7 @@ impl<'a> Model for ColumnTable<'a> {
     ghost view = { λ t. record { task = t.task.now; table = kept.table_of t.table; formed = t.has_form; lawful = ∣ t.is_table ∣₁ } };
 }
 
-/// A second list with the same values. Fails only if allocation fails.
+/// Returns a copy of the values.
 fn copied_values(alloc: Global, values: &Values) -> Result<Values, AllocError>
     ensures { IfOk result (λ copy. copy ≡ values.now) }
 {
@@ -42,7 +42,7 @@ fn copied_values(alloc: Global, values: &Values) -> Result<Values, AllocError>
 }
 
 impl<'a> ColumnTable<'a> {
-    /// Joins a table and its task.
+    /// Combines a table and its task.
     pub(crate) fn new(task: &'a FdrTask, table: AbstractionTable) -> ColumnTable<'a>
         requires form { has_form task.now (kept.table_of table) ≡ true }
         requires lawful { IsTable Two (kept.table_of table) }
@@ -60,7 +60,7 @@ impl<'a> ColumnTable<'a> {
         &self.table
     }
 
-    /// Returns a second table of the task with the same content. Fails only if allocation fails.
+    /// Returns a copy of the table, for the same task.
     pub(crate) fn copied<'b>(
         &self,
         alloc: Global,

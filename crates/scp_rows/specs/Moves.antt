@@ -11,25 +11,26 @@ abbrev pub first_rows : List (Vec MappingRows Global) → List MappingRows
 first_rows [] = []
 first_rows (b ∷ bs) = b.items
 
--- the operator leads from no state to one with another abstract state
+-- the operator does not change the abstract state of any state
 abbrev pub Keeps : MappingRows → ℕ → Type 0
 Keeps p o =
     (state next : List ℕ) → IsState (ranges p.task) state → step p.task state o ≡ Some next
     → (abstraction_of p).index next ≡ (abstraction_of p).index state
 
--- the operator leads from no state to one with another abstract state of the mapping at the place
+-- the operator does not change the abstract state of any state under the mapping with this index
 pub record KeepsAt (rows : List MappingRows) (o place : ℕ) : Type 0 where
   pub within : place < length rows
   pub keeps : (d : MappingRows) → Keeps (get_or rows place d) o
 
--- the first n places are those that are touched and others, where the operator keeps the abstract states
+-- the first `n` indices are those of the affected mappings and of others, whose abstract states the operator does not
+-- change
 pub record AreTouched (rows : List MappingRows) (o n : ℕ) (touched : List ℕ) : Type 0 where
   pub within : All (λ k. k < n) touched
   pub others : List ℕ
   pub kept : All (KeepsAt rows o) others
   pub places : IsPermutation (others ++ touched) (range_with_len 0 n)
 
--- for each operator, the places of the mappings that it may touch
+-- for each operator, the indices of the mappings that it may affect
 pub record AreTouches (count : ℕ) (rows : List MappingRows) (touches : List (Vec ℕ Global)) : Type 0 where
   pub as_many : length touches ≡ count
   pub each : (o : ℕ) (d : Vec ℕ Global) → o < count → ∥ AreTouched rows o (length rows) (get_or touches o d).items ∥₁
@@ -45,11 +46,11 @@ pub record IsEntered (most : ℕ) (rows : List MappingRows) (state indices words
   pub indices_are : AreIndices indices state rows
   pub sums_are : (lane : ℕ) → slice_index words lane ≡ min (lane_sum state lane rows) most
 
--- the sum of the words of a lane in the rows of a state, of the mappings at these places
+-- the sum of the words of a lane in the rows of a state, over the mappings at these indices
 abbrev pub sum_at : List ℕ → ℕ → List MappingRows → List ℕ → ℕ
 sum_at state lane rows places = sum_by (λ k. slice_index (map (word_at state lane) rows) k) places
 
--- the sums of the next state are those of the state, with the words of the touched patterns exchanged
+-- the sums of the next state are those of the state, with the words of the affected mappings exchanged
 pub record AreMoved (rows : List MappingRows) (touched state next : List ℕ) : Type 0 where
   pub within : All (λ k. k < length rows) touched
   pub sums : (lane : ℕ) → lane_sum next lane rows ≡ lane_sum state lane rows - sum_at state lane rows touched + sum_at next lane rows touched

@@ -1,4 +1,4 @@
--- Rows: the values of the tables of several columns side by side, as words.
+-- Rows: the values of the tables of several columns, interleaved by column, as words.
 use Rattle.std.specs.Prelude.{◌≡◌, ℕ, ◌+◌, nat_lt, ◌==◌, if◌then◌else◌, min, List, [], ◌∷◌, map, get_or, slice_index, slice_index_or, sum_by, All, Vec}
 use Rattle.std.specs.Global.{Global}
 use Rattle.cost.specs.Distances.{Distance, Finite, Infinite, greatest}
@@ -8,7 +8,7 @@ use Rattle.abstraction.specs.Columns.{column_value}
 use Rattle.abstraction_mapping.specs.Mappings.{Mapping, abstraction_by}
 use Rattle.scp_columns.specs.ColumnTables.{ColumnTable, on_abstraction}
 
--- the word of a distance, where the greatest word represents the infinite distance
+-- the word of a distance, if the greatest word represents the infinite distance
 abbrev pub word_of : ℕ → Distance → ℕ
 word_of most Infinite = most
 word_of most (Finite n) = min n most
@@ -17,7 +17,7 @@ word_of most (Finite n) = min n most
 abbrev pub distance_below : ℕ → ℕ → Distance
 distance_below most word = if nat_lt word most then Finite word else Infinite
 
--- the places of the words in a row
+-- the indices of the words in a row
 abbrev pub lanes : List ℕ
 lanes = 0 ∷ 1 ∷ 2 ∷ 3 ∷ 4 ∷ 5 ∷ 6 ∷ 7 ∷ []
 
@@ -31,7 +31,7 @@ pub record MappingRows : Type 0 where
 abbrev pub abstraction_of : MappingRows → Abstraction
 abstraction_of p = abstraction_by p.task p.mapping
 
--- the word of a lane in a row, and 0 where there is no such row
+-- the word of a lane in a row, and 0 if there is no such row
 abbrev pub word_in : List (List ℕ) → ℕ → ℕ → ℕ
 word_in rows i lane = slice_index (get_or rows i []) lane
 
@@ -59,11 +59,11 @@ HasWord most d = distance_below most (word_of most d) ≡ d
 abbrev pub blocks_value : ℕ → List ℕ → List (Vec MappingRows Global) → Distance
 blocks_value most state blocks = greatest (map (λ b. block_value most state b.items) blocks)
 
--- the mappings are of the task
+-- the mappings belong to the task
 abbrev pub AreOf : FiniteDomainTask → List MappingRows → Type 0
 AreOf task rows = All (λ p. p.task ≡ task) rows
 
--- in one lane the sums grow by the value of the state, and in the others they stay
+-- in one lane the sums grow by the value of the state, and in the others they are unchanged
 pub record Gains (task : FiniteDomainTask) (most lane : ℕ) (value : List ℕ → Distance) (old new : List MappingRows) : Type 0 where
   pub of_task : AreOf task new
   pub sums : (state : List ℕ) → IsState (ranges task) state → (other : ℕ)

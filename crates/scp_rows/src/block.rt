@@ -1,4 +1,4 @@
-//! Blocks: the tables of at most eight columns, whose values lie side by side.
+//! Blocks: the tables of at most eight columns, interleaved by column.
 
 ghost use Rattle.std.specs.Prelude.{◌≡◌, ℕ, List, true, ◌<◌, ◌≤◌, length, map, slice_get, All, IfOk, OnOk, IfSome, IsSomeAnd};
 ghost use Rattle.cost.specs.Distances.{greatest};
@@ -19,7 +19,7 @@ use fdr::FdrTask;
 use scp_columns::ColumnTable;
 use std::alloc::{AllocError, Global};
 
-/// The place of the rows of a mapping, if there are any.
+/// Returns the index of the rows of a mapping, if there are any.
 fn place_of<R: Row>(rows: &[MappingRows<'_, R>], mapping: &Mapping) -> Option<usize>
     ensures { IfSome result (λ k. IsSomeAnd (slice_get rows.now k) (λ p. p.mapping ≡ mapping_of mapping.now)) }
 {
@@ -31,7 +31,7 @@ fn place_of<R: Row>(rows: &[MappingRows<'_, R>], mapping: &Mapping) -> Option<us
     None
 }
 
-/// Appends rows of zeros for a mapping, and returns their place.
+/// Appends rows of zeros for a mapping, and returns their index.
 fn push_mapping<'a, R: Row>(
     alloc: Global,
     task: &'a FdrTask,
@@ -50,7 +50,7 @@ fn push_mapping<'a, R: Row>(
     Ok(place)
 }
 
-/// The place of the rows of a mapping. Where there are none, rows of zeros are appended.
+/// Returns the index of the rows of a mapping, after appending rows of zeros if there are none.
 fn rows_of<'a, R: Row>(
     alloc: Global,
     task: &'a FdrTask,
@@ -108,7 +108,7 @@ fn add_column<'a, R: Row>(
     Ok(())
 }
 
-/// The block of at most eight columns.
+/// Returns the block of at most eight columns.
 fn make_block<'a, R: Row>(
     alloc: Global,
     task: &'a FdrTask,
@@ -125,7 +125,7 @@ fn make_block<'a, R: Row>(
     Ok(rows)
 }
 
-/// The blocks of columns. Fails only if allocation fails.
+/// Returns the blocks of columns.
 pub(crate) fn make_blocks<'a, R: Row>(
     alloc: Global,
     task: &'a FdrTask,
@@ -147,7 +147,7 @@ pub(crate) fn make_blocks<'a, R: Row>(
     Ok(blocks)
 }
 
-/// The greatest value of blocks at a state.
+/// Returns the greatest value of blocks at a state.
 pub(crate) fn greatest_value<R: Row>(blocks: &[Vec<MappingRows<'_, R>>], state: &[u32]) -> Dist
     requires { All (λ b. All (λ p. IsState (ranges p.task) state.now) b.items) blocks.now }
     ensures { result ≡ blocks_value R.most state.now blocks.now }
@@ -159,7 +159,7 @@ pub(crate) fn greatest_value<R: Row>(blocks: &[Vec<MappingRows<'_, R>>], state: 
     greatest
 }
 
-/// The rows of the first block.
+/// Returns the rows of the first block.
 pub(crate) fn first_block<'b, 'a, R: Row>(
     blocks: &'b [Vec<MappingRows<'a, R>>],
 ) -> &'b [MappingRows<'a, R>]
@@ -171,8 +171,8 @@ pub(crate) fn first_block<'b, 'a, R: Row>(
     }
 }
 
-/// The greatest value of blocks at a successor of an entered state, as `greatest_value` gives it. Of the first block the
-/// abstract states and the sums of the entered state are given, and which mappings are touched.
+/// Returns the greatest value of blocks at a successor of an entered state, the same as `greatest_value`. Given are the
+/// abstract states and the sums of the entered state in the first block, and which of its mappings are affected.
 pub(crate) fn greatest_after<R: Row>(
     blocks: &[Vec<MappingRows<'_, R>>],
     entered: &[u32],

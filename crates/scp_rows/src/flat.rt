@@ -1,4 +1,4 @@
-//! The tables of columns as blocks of rows, in words that are as short as their values allow.
+//! The tables of columns as blocks of rows, in the shortest words that their values allow.
 
 ghost use Rattle.std.specs.Prelude.{◌≡◌, ℕ, List, ◌≤◌, length, map, All, IfOk};
 ghost use Rattle.cost.specs.Distances.{greatest};
@@ -38,7 +38,7 @@ pub enum BlockSums {
     Long(LongRow),
 }
 
-/// Makes the blocks of columns of a task, in words that are as short as their values allow. Fails only if allocation fails.
+/// Returns the blocks of columns of a task, in the shortest words that their values allow.
 pub fn make_flat<'a>(
     alloc: Global,
     task: &'a FdrTask,
@@ -83,7 +83,8 @@ pub fn mapping_count(flat: &Flat<'_>) -> usize
     }
 }
 
-/// Enters the abstract states of a state, one for each mapping of the first block. Returns the sums of its rows there.
+/// Computes the abstract states of a state, one for each mapping of the first block, and returns the sums of its rows
+/// there.
 pub fn enter_flat(flat: &Flat<'_>, state: &[u32], indices: &mut [usize]) -> BlockSums
     requires state { All (λ p. IsState (ranges p.task) state.now) (first_rows (blocks_in flat.now)) }
     requires len { length indices.old ≡ length (first_rows (blocks_in flat.now)) }
@@ -96,8 +97,7 @@ pub fn enter_flat(flat: &Flat<'_>, state: &[u32], indices: &mut [usize]) -> Bloc
     }
 }
 
-/// Returns for each operator the places of the mappings of the first block that it may touch. Fails only if
-/// allocation fails.
+/// Returns for each operator the indices of the mappings of the first block that it may affect.
 pub fn touches_in(
     alloc: Global,
     flat: &Flat<'_>,
@@ -112,8 +112,9 @@ pub fn touches_in(
     }
 }
 
-/// Returns the greatest value of the blocks at a successor of an entered state, as `flat_value` gives it. Of the first block
-/// the abstract states and the sums of the entered state are given, and which mappings are touched. No memory is allocated.
+/// Returns the greatest value of the blocks at a successor of an entered state, the same as `flat_value`. Given are the
+/// abstract states and the sums of the entered state in the first block, and which of its mappings are affected. No
+/// memory is allocated.
 pub fn flat_value_after(
     flat: &Flat<'_>,
     entered: &[u32],
@@ -137,7 +138,7 @@ pub fn flat_value_after(
         (Flat::Long(blocks), BlockSums::Long(sums)) => {
             greatest_after(blocks, entered, indices, sums, touched, state)
         }
-        // no word is of another width than the rows
+        // unreachable: the sums have the same word width as the rows
         _ => flat_value(flat, state),
     }
 }

@@ -1,5 +1,5 @@
-//! The values of the tables of columns side by side: rows of words, one row for each abstract state of a mapping and one word
-//! for each column, whose sums are the values of the columns.
+//! Look-up tables of the heuristic, interleaved by column: one row for each abstract state of a mapping, one word for
+//! each column. The values of the columns are sums of rows.
 #![tactic(auto)]
 
 mod block;

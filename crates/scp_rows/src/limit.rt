@@ -9,7 +9,7 @@ ghost use Rattle.scp_rows.specs.Rows.{value_of};
 use cert_value::Values;
 use scp_columns::ColumnTable;
 
-/// The greatest finite value, and 0 if there is none.
+/// Returns the greatest finite value, or 0 if there is none.
 fn values_limit(values: &Values) -> u64
     requires { (i : ℕ) → IsWithin (2 ^ 55) (slice_index_or values.now i Infinite) }
     ensures within { (i : ℕ) → IsWithin result (slice_index_or values.now i Infinite) }
@@ -24,7 +24,7 @@ fn values_limit(values: &Values) -> u64
     limit
 }
 
-/// A bound on the finite values of a column: the sum of the greatest finite values of its tables.
+/// Returns a bound on the finite values of a column: the sum of the greatest finite values of its tables.
 fn column_limit(column: &[ColumnTable<'_>]) -> u64
     requires { length column.now ≤ 64 }
     ensures within { (state : List ℕ) → IsWithin result (column_value state (map on_abstraction column.now)) }
@@ -37,7 +37,7 @@ fn column_limit(column: &[ColumnTable<'_>]) -> u64
     limit
 }
 
-/// A bound on the finite values of all columns.
+/// Returns a bound on the finite values of all columns.
 pub(crate) fn columns_limit(columns: &[Vec<ColumnTable<'_>>]) -> u64
     requires { All (λ column. length column.items ≤ 64) columns.now }
     ensures within { (state : List ℕ) → All (λ column. IsWithin result (value_of state column)) columns.now }

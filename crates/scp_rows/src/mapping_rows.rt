@@ -1,4 +1,4 @@
-//! Mappings with the values of the tables of several columns side by side.
+//! Mappings with the values of the tables of several columns, interleaved by column.
 
 ghost use Rattle.std.specs.Prelude.{◌≡◌, ◌≢◌, ℕ, List, ◌+◌, ◌-◌, ◌<◌, ◌≤◌, min, map, length, slice_index, slice_index_or, true, false, All, IfOk};
 ghost use Rattle.cost.specs.Distances.{Infinite};
@@ -15,7 +15,7 @@ use fdr::FdrTask;
 use std::alloc::{AllocError, Global};
 use std::marker::Model;
 
-/// Rows of zeros.
+/// Returns rows of zeros.
 fn zero_rows<R: Row>(alloc: Global, count: usize) -> Result<Vec<R>, AllocError>
     ensures len { IfOk result (λ rows. length rows.items ≡ count) }
     ensures zero { IfOk result (λ rows. (i lane : ℕ) → word_in (map R.words rows.items) i lane ≡ 0) }
@@ -63,7 +63,7 @@ impl<'a, R: Row> Model for MappingRows<'a, R> {
 }
 
 impl<'a, R: Row> MappingRows<'a, R> {
-    /// A row of zeros for each abstract state of the abstraction by the mapping. Fails only if allocation fails.
+    /// Returns a row of zeros for each abstract state of the abstraction by the mapping.
     pub(crate) fn new(
         alloc: Global,
         task: &'a FdrTask,
@@ -79,7 +79,7 @@ impl<'a, R: Row> MappingRows<'a, R> {
         Ok(MappingRows { mapping, rows })
     }
 
-    /// Whether the rows are those of this mapping.
+    /// Returns whether the rows are those of this mapping.
     pub(crate) fn is_of(&self, mapping: &Mapping) -> bool
         ensures same { result ≡ true → self.now.mapping ≡ mapping_of mapping.now }
         ensures different { result ≡ false → self.now.mapping ≢ mapping_of mapping.now }
@@ -101,7 +101,7 @@ impl<'a, R: Row> MappingRows<'a, R> {
         add_values(&mut self.rows, lane, values);
     }
 
-    /// The abstract state of a state.
+    /// Returns the abstract state of a state.
     pub(crate) fn index(&self, state: &[u32]) -> usize
         requires { IsState (ranges self.now.task) state.now }
         ensures { result ≡ (abstraction_of self.now).index state.now }
@@ -109,14 +109,14 @@ impl<'a, R: Row> MappingRows<'a, R> {
         self.mapping.index(state)
     }
 
-    /// Whether the operator may touch the abstraction.
+    /// Returns whether the operator may affect the abstraction.
     pub(crate) fn touches(&self, operator: usize) -> bool
         ensures { result ≡ false → Keeps self.now operator }
     {
         self.mapping.touches(operator)
     }
 
-    /// The row of the state, whose abstract state is given.
+    /// Returns the row of the state, whose abstract state is `index`.
     fn known_row(&self, index: usize, state: &[u32]) -> &R
         requires state { IsState (ranges self.now.task) state.now }
         requires index { index ≡ (abstraction_of self.now).index state.now }
@@ -127,7 +127,7 @@ impl<'a, R: Row> MappingRows<'a, R> {
     }
 }
 
-/// The sums of the rows of a state, lane by lane. A sum that is too great is the greatest word.
+/// Returns the sums of the rows of a state, lane by lane, capped at the greatest word.
 pub(crate) fn sums<R: Row>(mappings: &[MappingRows<'_, R>], state: &[u32]) -> R
     requires { All (λ p. IsState (ranges p.task) state.now) mappings.now }
     ensures { (lane : ℕ) → slice_index (R.words result) lane ≡ min (lane_sum state.now lane mappings.now) R.most }
@@ -139,7 +139,7 @@ pub(crate) fn sums<R: Row>(mappings: &[MappingRows<'_, R>], state: &[u32]) -> R
     sums
 }
 
-/// Enters the abstract states of a state, one for each mapping. Returns the sums of its rows, as `sums` gives them.
+/// Computes the abstract states of a state, one for each mapping, and returns the sums of its rows, the same as `sums`.
 pub(crate) fn enter<R: Row>(
     mappings: &[MappingRows<'_, R>],
     state: &[u32],
@@ -158,7 +158,7 @@ pub(crate) fn enter<R: Row>(
     sums
 }
 
-/// Subtracts the rows of an entered state, of the mappings at these places.
+/// Subtracts the rows of an entered state, for the mappings at these indices.
 fn subtract_rows<R: Row>(
     mappings: &[MappingRows<'_, R>],
     places: &[usize],
@@ -175,7 +175,7 @@ fn subtract_rows<R: Row>(
     }
 }
 
-/// Adds the rows of a state, of the mappings at these places. A sum that is too great becomes the greatest word.
+/// Adds the rows of a state, for the mappings at these indices. Sums are capped at the greatest word.
 fn add_rows<R: Row>(mappings: &[MappingRows<'_, R>], places: &[usize], state: &[u32], sums: &mut R)
     requires places { All (λ k. k < length mappings.now) places.now }
     requires state { All (λ p. IsState (ranges p.task) state.now) mappings.now }
@@ -188,8 +188,9 @@ fn add_rows<R: Row>(mappings: &[MappingRows<'_, R>], places: &[usize], state: &[
     }
 }
 
-/// The sums of the rows of a successor of an entered state, as `sums` gives them. They are those of the entered state, with
-/// the rows of the touched mappings exchanged, unless a sum of the entered state is the greatest word.
+/// Returns the sums of the rows of a successor of an entered state, the same as `sums`: those of the entered state with
+/// the rows of the affected mappings exchanged. If a sum of the entered state is the greatest word, it may be capped,
+/// and all rows are added anew.
 pub(crate) fn sums_after<R: Row>(
     mappings: &[MappingRows<'_, R>],
     entered: &[u32],
@@ -206,14 +207,14 @@ pub(crate) fn sums_after<R: Row>(
     if !entered_sums.is_finite() {
         return sums(mappings, state);
     }
-    // all rows are subtracted before one is added, since a sum that became the greatest word is not exact
+    // all rows are subtracted before one is added, because a sum that reaches the greatest word is not exact
     let mut after = *entered_sums;
     subtract_rows(mappings, touched, entered, indices, &mut after);
     add_rows(mappings, touched, state, &mut after);
     after
 }
 
-/// The places of the mappings that the operator touches, in increasing order.
+/// Returns the indices of the mappings that the operator affects, in increasing order.
 fn touched_by<R: Row>(
     alloc: Global,
     mappings: &[MappingRows<'_, R>],
@@ -230,7 +231,7 @@ fn touched_by<R: Row>(
     Ok(touched)
 }
 
-/// For each operator, the places of the mappings that it touches.
+/// Returns, for each operator, the indices of the mappings that it affects.
 pub(crate) fn touches<R: Row>(
     alloc: Global,
     mappings: &[MappingRows<'_, R>],

@@ -8,7 +8,7 @@ use cost::Dist;
 /// The number of words of a row.
 pub(crate) const LANES: usize = 8;
 
-/// Eight words side by side, each of which represents a distance: the greatest word the infinite one, and another its
+/// Eight adjacent words, each of which represents a distance: the greatest word the infinite one, and any other its
 /// number.
 pub trait Row: Copy {
     ghost use Rattle.std.specs.Prelude.{◌≡◌, ◌≢◌, ℕ, ◌+◌, ◌-◌, ◌<◌, min, true, List, map, slice_index};
@@ -21,11 +21,11 @@ pub trait Row: Copy {
     /// The greatest word.
     ghost most: { ℕ };
 
-    /// The row with 0 in each lane.
+    /// Returns the row with 0 in each lane.
     fn zero() -> Self
         ensures { (lane : ℕ) → slice_index (words result) lane ≡ 0 };
 
-    /// Adds the words of another row, lane by lane. A sum that is too great becomes the greatest word.
+    /// Adds the words of another row, lane by lane. Sums are capped at the greatest word.
     fn add(&mut self, other: &Self)
         ensures { (lane : ℕ) → slice_index (words self.new) lane ≡ min (slice_index (words self.old) lane + slice_index (words other.now) lane) most };
 
@@ -33,17 +33,17 @@ pub trait Row: Copy {
     fn subtract(&mut self, other: &Self)
         ensures { (lane : ℕ) → slice_index (words self.new) lane ≡ slice_index (words self.old) lane - slice_index (words other.now) lane };
 
-    /// Whether each word represents a finite distance.
+    /// Returns whether each word represents a finite distance.
     fn is_finite(&self) -> bool
         ensures { result ≡ true → (lane : ℕ) → slice_index (words self.now) lane < most };
 
-    /// Adds the word of a distance in one lane. A sum that is too great becomes the greatest word.
+    /// Adds the word of a distance in one lane. The sum is capped at the greatest word.
     fn add_value(&mut self, lane: usize, value: Dist)
         requires { lane < 8 }
         ensures lane { slice_index (words self.new) lane ≡ min (slice_index (words self.old) lane + word_of most value) most }
         ensures others { (other : ℕ) → other ≢ lane → slice_index (words self.new) other ≡ slice_index (words self.old) other };
 
-    /// The greatest distance that a word represents.
+    /// Returns the greatest distance that a word represents.
     fn greatest(&self) -> Dist
         ensures { result ≡ distances.greatest (map (λ lane. distance_below most (slice_index (words self.now) lane)) lanes) };
 }
@@ -54,7 +54,7 @@ pub struct ShortRow {
     words: [u16; LANES],
 }
 
-/// The word of 16 bits that represents a distance, and the greatest word for a number that is too great.
+/// Returns the word of 16 bits that represents a distance, and the greatest word for a number that is too great.
 fn short_word(value: Dist) -> u16
     ensures { result ≡ word_of 65535 value }
 {
@@ -64,7 +64,7 @@ fn short_word(value: Dist) -> u16
     }
 }
 
-/// The distance that a word of 16 bits represents.
+/// Returns the distance that a word of 16 bits represents.
 fn short_distance(word: u16) -> Dist
     ensures { result ≡ distance_below 65535 word }
 {
@@ -119,7 +119,7 @@ pub struct MiddleRow {
     words: [u32; LANES],
 }
 
-/// The word of 32 bits that represents a distance, and the greatest word for a number that is too great.
+/// Returns the word of 32 bits that represents a distance, and the greatest word for a number that is too great.
 fn middle_word(value: Dist) -> u32
     ensures { result ≡ word_of 4294967295 value }
 {
@@ -129,7 +129,7 @@ fn middle_word(value: Dist) -> u32
     }
 }
 
-/// The distance that a word of 32 bits represents.
+/// Returns the distance that a word of 32 bits represents.
 fn middle_distance(word: u32) -> Dist
     ensures { result ≡ distance_below 4294967295 word }
 {
@@ -187,7 +187,7 @@ pub struct LongRow {
     words: [u64; LANES],
 }
 
-/// The word of 64 bits that represents a distance.
+/// Returns the word of 64 bits that represents a distance.
 fn long_word(value: Dist) -> u64
     ensures { result ≡ word_of 9223372036854775809 value }
 {
@@ -197,7 +197,7 @@ fn long_word(value: Dist) -> u64
     }
 }
 
-/// The distance that a word of 64 bits represents.
+/// Returns the distance that a word of 64 bits represents.
 fn long_distance(word: u64) -> Dist
     ensures { result ≡ distance_below 9223372036854775809 word }
 {

@@ -8,7 +8,7 @@ ghost use Rattle.sexp.specs.Bytes.{kind};
 pub enum ByteKind {
     /// Tab, line feed, carriage return or space.
     Blank,
-    /// `;`. A comment begins, and goes on to the next line feed or to the end of the text.
+    /// `;`. A comment begins; it ends with the next line feed or with the text.
     Semicolon,
     /// `(`.
     Open,
@@ -16,11 +16,11 @@ pub enum ByteKind {
     Close,
     /// Any other byte from 33 to 126.
     Letter,
-    /// A byte that may not stand outside comments.
+    /// A byte that is not allowed outside comments.
     Strange,
 }
 
-/// The kind of a byte.
+/// Returns the kind of a byte.
 pub fn kind_of(b: u8) -> ByteKind
     ensures { result ≡ kind b }
 {

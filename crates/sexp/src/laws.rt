@@ -1,4 +1,4 @@
-//! Laws of texts and their faults. The contract of each function states one, for every text; its body is empty.
+//! Laws of texts and their faults, for every text.
 
 ghost use Rattle.std.specs.Prelude.{◌≡◌, ◌⊎◌, ℕ, Bool, List, true, false};
 ghost use Rattle.sexp.specs.Forms.{Forms, IsOne};
@@ -16,22 +16,22 @@ pub fn one_first_fault()
     ensures { (one : Bool) (bytes : List ℕ) (e f : SexpFault) → IsFirstFault one bytes e → IsFirstFault one bytes f → e ≡ f }
 {}
 
-/// A law: a text that spells expressions has no fault where any number of them is allowed.
+/// A law: a text that spells expressions has no fault if any number of them is allowed.
 pub fn no_fault()
     ensures { (bytes : List ℕ) (f : Forms) (e : SexpFault) → SpellsAll bytes f → IsFault false bytes e → ⊥ }
 {}
 
-/// A law: a text that spells one expression has no fault where one is required.
+/// A law: a text that spells one expression has no fault if one is required.
 pub fn one_without_fault()
     ensures { (bytes : List ℕ) (f : Forms) (e : SexpFault) → IsOne f → SpellsAll bytes f → IsFault true bytes e → ⊥ }
 {}
 
-/// A law: a text spells expressions, or has a first fault where any number of them is allowed.
+/// A law: a text spells expressions, or has a first fault if any number of them is allowed.
 pub fn spelled_or_not()
     ensures { (bytes : List ℕ) → ((f : Forms) × SpellsAll bytes f) ⊎ ((e : SexpFault) × IsFirstFault false bytes e) }
 {}
 
-/// A law: a text spells one expression, or has a first fault where one is required.
+/// A law: a text spells one expression, or has a first fault if one is required.
 pub fn one_spelled_or_not()
     ensures { (bytes : List ℕ) → ((f : Forms) × IsOne f × SpellsAll bytes f) ⊎ ((e : SexpFault) × IsFirstFault true bytes e) }
 {}

@@ -1,4 +1,4 @@
-//! The home of a number.
+//! The home slot of a hash.
 
 ghost use Rattle.std.specs.Prelude.{◌≡◌, ◌<◌, ◌^◌};
 ghost use Rattle.slots.specs.Slots as spec;
@@ -6,8 +6,9 @@ ghost use Rattle.slots.specs.Slots as spec;
 /// 2^32, by which a number of 32 bits is divided.
 const HALF: u64 = 4_294_967_296;
 
-/// The slot from which something is looked for: a number of 32 bits times the number of slots, divided by 2^32. So the numbers
-/// that lead to two slots differ in count by at most one, and a greater number leads to no lesser slot.
+/// Returns the home slot, at which a probe sequence starts: a 32-bit hash times the number of slots, divided by 2^32.
+/// The numbers of hashes with a given home slot differ by at most one between slots, and a greater hash never has a
+/// lesser home slot.
 #[tactic(auto, unfolding(crate::specs::Slots::home_of))]
 pub fn home_of(number: u32, slots: usize) -> usize
     requires some { 0 < slots }

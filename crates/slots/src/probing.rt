@@ -1,19 +1,19 @@
-//! Slots that are looked at one after another from a home.
+//! Linear probing from a home slot.
 
 ghost use Rattle.std.specs.Prelude.{◌≡◌, ◌+◌, ◌<◌, ◌^◌, Some, length, slice_get};
 ghost use Rattle.slots.specs.Slots as spec;
 ghost use Rattle.slots.specs.Slots.{IsFirstEmpty, AddsSlot, links_of, empties};
 
-/// A slot of an index: the place of what is indexed, with a note that tells most other things from it.
+/// A slot of the hash index: the index of an entry, and a tag that rules out most others.
 #[derive(Clone, Copy)]
 pub struct Slot<N> {
-    /// The place plus one, or 0 where the slot is empty.
+    /// The entry's index plus one; 0 marks an empty slot.
     pub link: u32,
-    /// The note. It says nothing where the slot is empty.
+    /// The tag, without meaning in an empty slot.
     pub note: N,
 }
 
-/// The number of the slot this many steps after the home, where the first slot follows the last.
+/// Returns the number of the slot after `steps` probes from slot `home`. The first slot follows the last.
 fn probed(size: usize, home: usize, steps: usize) -> usize
     requires home { home < size }
     requires steps { steps < size }
@@ -25,7 +25,7 @@ fn probed(size: usize, home: usize, steps: usize) -> usize
     if at < size { at } else { at - size }
 }
 
-/// The slot this many steps after the home, where the first slot follows the last.
+/// Returns the slot after `steps` probes from slot `home`. The first slot follows the last.
 pub fn slot_after<N: Copy>(slots: &[Slot<N>], home: usize, steps: usize) -> Slot<N>
     requires home { home < length slots.now }
     requires steps { steps < length slots.now }
@@ -35,7 +35,7 @@ pub fn slot_after<N: Copy>(slots: &[Slot<N>], home: usize, steps: usize) -> Slot
     slots[probed(slots.len(), home, steps)]
 }
 
-/// How many steps after the home the first empty slot comes.
+/// Returns the number of probes from slot `home` to the first empty slot.
 fn steps_to_empty<N: Copy>(slots: &[Slot<N>], home: usize) -> usize
     requires home { home < length slots.now }
     requires few { length slots.now < 2 ^ 32 }
@@ -50,7 +50,7 @@ fn steps_to_empty<N: Copy>(slots: &[Slot<N>], home: usize) -> usize
     unreachable!()
 }
 
-/// Puts a slot in the place of the first empty one from the home on.
+/// Writes a slot into the first empty one of the probe sequence from slot `home`.
 pub fn add<N: Copy>(slots: &mut [Slot<N>], home: usize, slot: Slot<N>)
     requires home { home < length slots.old }
     requires few { length slots.old < 2 ^ 32 }

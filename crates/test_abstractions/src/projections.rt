@@ -7,7 +7,7 @@ use std::alloc::Global;
 use std::process::Abort;
 use test_tasks::{fact, is_increasing, is_state_of, operator, states, task};
 
-/// Whether the operators lead from the abstract state to these.
+/// Returns whether these are the operators' successors of the abstract state.
 fn has_row<A: Abstraction>(a: &A, state: usize, row: &[Option<usize>]) -> bool
     requires { state < (A.abstraction a.now).size }
 {
@@ -19,7 +19,7 @@ fn has_row<A: Abstraction>(a: &A, state: usize, row: &[Option<usize>]) -> bool
     true
 }
 
-/// Whether these are its transitions, one row for each abstract state.
+/// Returns whether these are its transitions, one row for each abstract state.
 fn has_rows<A: Abstraction>(a: &A, rows: &[[Option<usize>; 11]]) -> bool {
     if rows.len() != a.size() {
         return false;
@@ -32,7 +32,7 @@ fn has_rows<A: Abstraction>(a: &A, rows: &[[Option<usize>; 11]]) -> bool {
     true
 }
 
-/// Whether these are its abstract goals.
+/// Returns whether these are its abstract goals.
 fn has_goals<A: Abstraction>(a: &A, goals: &[bool]) -> bool {
     if goals.len() != a.size() {
         return false;
@@ -45,7 +45,7 @@ fn has_goals<A: Abstraction>(a: &A, goals: &[bool]) -> bool {
     true
 }
 
-/// Whether no transition from the abstract state lowers the value by more than its operator's share.
+/// Returns whether no transition from the abstract state lowers the value by more than its operator's share.
 fn falls_within<A: Abstraction>(a: &A, state: usize, shares: &[u64], values: &[u64]) -> bool
     requires state { state < (A.abstraction a.now).size }
     requires values { length values.now ≡ (A.abstraction a.now).size }
@@ -60,7 +60,8 @@ fn falls_within<A: Abstraction>(a: &A, state: usize, shares: &[u64], values: &[u
     true
 }
 
-/// Whether a table of numbers is consistent: abstract goals have 0, and values fall within the shares.
+/// Returns whether a table of numbers is consistent: abstract goals have 0, and no transition lowers the value by more
+/// than its operator's share.
 fn is_consistent<A: Abstraction>(a: &A, shares: &[u64], values: &[u64]) -> bool {
     if values.len() != a.size() {
         return false;
@@ -73,7 +74,7 @@ fn is_consistent<A: Abstraction>(a: &A, shares: &[u64], values: &[u64]) -> bool 
     true
 }
 
-/// Whether a goal state's abstract state is an abstract goal, which the laws of an abstraction imply.
+/// Returns whether a goal state's abstract state is an abstract goal, which the laws of an abstraction imply.
 fn keeps_goal<A: Abstraction>(a: &A, state: &[u32]) -> bool
     requires state { IsState (ranges (A.task a.now)) state.now }
     requires goal { is_goal_state (A.task a.now) state.now ≡ true }
@@ -82,7 +83,7 @@ fn keeps_goal<A: Abstraction>(a: &A, state: &[u32]) -> bool
     a.is_goal(a.index(state))
 }
 
-/// Appends an operator.
+/// Pushes an operator.
 fn push(
     rt: &impl Abort,
     operators: &mut Vec<Operator>,
@@ -94,9 +95,9 @@ fn push(
     operators.push(next).expect(rt, "memory");
 }
 
-/// Two balls x and y, in rooms p and q, and one gripper. Variables: the gripper's room; where x is, and where y is
-/// (in p, in q, held); whether the gripper is free. Operators: move p q, move q p; pick x p, x q, y p, y q; drop x p,
-/// x q, y p, y q.
+/// Returns a task of two balls x and y, in rooms p and q, and one gripper. Variables: the gripper's room; the position
+/// of x, and that of y (in p, in q, held); whether the gripper is free. Operators: move p q, move q p; pick x p, x q, y
+/// p, y q; drop x p, x q, y p, y q.
 fn grip(rt: &impl Abort, alloc: Global) -> FdrTask {
     let mut operators = Vec::new(alloc);
     for room in 0..2 {
@@ -138,7 +139,7 @@ fn grip(rt: &impl Abort, alloc: Global) -> FdrTask {
         .expect(rt, "a task")
 }
 
-/// The projection to a pattern that is checked to be strictly increasing.
+/// Returns the projection to a pattern that is checked to be strictly increasing.
 fn project<'a>(
     rt: &impl Abort,
     alloc: Global,
@@ -160,7 +161,7 @@ fn fault_of(
     project(rt, alloc, task, pattern).err()
 }
 
-/// The projection to a pattern, where there is one.
+/// Returns the projection to a pattern that has one.
 fn projected<'a>(
     rt: &impl Abort,
     alloc: Global,
@@ -189,7 +190,7 @@ const S4: Option<usize> = Some(4);
 
 const S5: Option<usize> = Some(5);
 
-/// Checks the projection to where the first ball is.
+/// Checks the projection to the first ball's variable.
 fn is_of_the_ball(rt: &impl Abort, ball: &Projection<'_>) {
     assert!(rt; has_rows(ball, BALL_ROWS), "rows");
     assert!(rt; has_goals(ball, &[false, true, false]), "goals");
@@ -199,7 +200,7 @@ fn is_of_the_ball(rt: &impl Abort, ball: &Projection<'_>) {
     }
 }
 
-/// Checks which numbers are consistent for where the first ball is.
+/// Checks which numbers are consistent for the first ball's variable.
 fn is_consistent_for_the_ball(rt: &impl Abort, ball: &Projection<'_>) {
     let saturated = [0, 0, 1, 0, 0, 0, 0, 1, 0, 0];
     let without_drop = [0, 0, 1, 0, 0, 0, 0, 0, 0, 0];
@@ -286,7 +287,7 @@ fn indexes(
     }
 }
 
-/// Checks the same of the projection to a pattern.
+/// Checks the size and the abstract states of the projection to a pattern.
 fn has_indices(
     rt: &impl Abort,
     alloc: Global,
@@ -301,7 +302,8 @@ fn has_indices(
     }
 }
 
-/// Checks that a goal state's abstract state is an abstract goal, in the projection to all but where the first ball is.
+/// Checks that a goal state's abstract state is an abstract goal, in the projection to all variables but the first
+/// ball's.
 fn keeps_the_goal(rt: &impl Abort, alloc: Global, task: &FdrTask, goal: &[u32]) {
     assert!(rt;
         is_state_of(task, goal) && task.is_goal(goal),
@@ -329,7 +331,7 @@ fn indices(rt: HostRuntime) {
     keeps_the_goal(&rt, rt.alloc(), &grip, &[0, 1, 1, 1]);
 }
 
-/// Checks that the variable at a place of the pattern is unknown.
+/// Checks that the variable at this index of the pattern is unknown.
 fn is_unknown(rt: &impl Abort, alloc: Global, grip: &FdrTask, pattern: &[usize], place: usize) {
     assert_eq!(rt;
         fault_of(rt, alloc, grip, pattern),

@@ -14,7 +14,7 @@ fn three_values(rt: &impl Abort, alloc: Global) -> Values {
     values
 }
 
-/// Whether the values are these, of which `None` is infinite.
+/// Returns whether these are the values; `None` is infinite.
 fn are_values(values: &Values, wanted: &[Option<u64>]) -> bool {
     for (place, want) in wanted.iter().enumerate() {
         if place >= values.len() || values.get(place).get() != *want {
@@ -39,7 +39,7 @@ fn has_state(closed: &ClosedList, place: usize, state: &[u32]) -> bool {
     place < closed.len() && closed.has_state(place, state)
 }
 
-/// Whether the list has these states, each a cost and two values, and no others.
+/// Returns whether the list has these states, each a cost and two values, and no others.
 fn are_states(closed: &ClosedList, wanted: &[(u64, [u32; 2])]) -> bool {
     for (place, (cost, state)) in wanted.iter().enumerate() {
         if place >= closed.len() || !closed.has_state(place, state) || closed.cost(place) != *cost {

@@ -25,7 +25,7 @@ const K4: &[u8] =
 const K5: &[u8] =
     b"optplan-cert 2\nsas\nbound 2\ncolumns 1\ncolumn 2\ntable 1 3\nshares 0\nvalues 1 0\ndomain 2\n3 2 0 0\n5 3 0 1 1\nshares 0\nvalues 2 0 inf\nclosed 0\nend\n";
 
-/// The text with other bytes in place of a line. Lines are counted from 1.
+/// Returns the text with a line replaced by other bytes. Lines are counted from 1.
 fn with_line(alloc: Global, text: &[u8], place: usize, line: &[u8]) -> Result<Vec<u8>, AllocError> {
     let mut bytes = Vec::new(alloc);
     let mut at = 1;
@@ -57,7 +57,8 @@ fn number_of_digits(digits: &[u8]) -> usize {
     number
 }
 
-/// The fault for a letter and a line: E, N, O and C for `Expected`, `Number`, `Order` and `Classes`; `-` for none.
+/// Returns the fault for a letter and a line: E, N, O and C for `Expected`, `Number`, `Order` and `Classes`; `-` for
+/// none.
 fn wanted(fault: &[u8]) -> Option<CertFault> {
     match fault {
         [b'E', line @ ..] => Some(CertFault::Expected(number_of_digits(line))),
@@ -71,7 +72,7 @@ fn wanted(fault: &[u8]) -> Option<CertFault> {
     }
 }
 
-/// The fault of the text with other bytes in place of a line.
+/// Returns the fault of the text with a line replaced by other bytes.
 fn edited_fault(
     rt: &impl Abort,
     alloc: Global,
@@ -83,7 +84,8 @@ fn edited_fault(
     fault_of(alloc, &edited)
 }
 
-/// Whether each text of the row has the row's fault. A row is a line's number, a fault, and texts in place of that line.
+/// Returns whether each text of the row has the row's fault. A row is a line's number, a fault, and texts that replace
+/// that line.
 fn has_fault(rt: &impl Abort, alloc: Global, text: &[u8], row: &[u8]) -> bool {
     let mut parts = row.split(|byte| *byte == b'|');
     let (Some(line), Some(fault)) = (parts.next(), parts.next()) else {
@@ -108,7 +110,7 @@ fn dist(number: u64) -> Dist {
     Dist::fin(number).unwrap_or(Dist::inf())
 }
 
-/// Whether the certificate has this bound and this number of states, and its text is this.
+/// Returns whether the certificate has this bound and this number of states, and its text is `text`.
 fn is_written(
     alloc: Global,
     certificate: &Certificate,
@@ -124,7 +126,8 @@ fn is_written(
         }
 }
 
-/// Whether the text is read, and written again from what was read, which has this bound and this number of states.
+/// Returns whether the text is read as a certificate with this bound and this number of states, whose written text is
+/// the same.
 fn is_read(alloc: Global, text: &[u8], bound: u64, states: usize) -> bool {
     match read_cert(alloc, text) {
         Ok(certificate) => is_written(alloc, &certificate, bound, states, text),
@@ -141,7 +144,7 @@ fn reads_and_writes_again(rt: HostRuntime) {
     assert!(rt; is_read(rt.alloc(), K5, 2, 0));
 }
 
-/// Checks that each front of the text is truncated.
+/// Checks that each proper prefix of the text is truncated.
 fn has_truncated_fronts(rt: &impl Abort, alloc: Global, text: &[u8]) {
     for length in 0..text.len() {
         let fault = fault_of(alloc, &text[..length]);
@@ -274,14 +277,14 @@ fn states(rt: HostRuntime) {
     have_faults(&rt, rt.alloc(), K1, STATES);
 }
 
-/// The fault of a text with another behind it.
+/// Returns the fault of a text with another appended.
 fn fault_behind(rt: &impl Abort, alloc: Global, text: &[u8], more: &[u8]) -> Option<CertFault> {
     let mut bytes = Vec::from_slice(alloc, text).expect(rt, "memory");
     bytes.extend_from_slice(more).expect(rt, "memory");
     fault_of(alloc, &bytes)
 }
 
-/// Texts, others behind them, and the line at which each is trailing.
+/// Texts, others that are appended to them, and the line at which each is trailing.
 const BEHIND: &[(&[u8], &[u8], usize)] = &[
     (K1, b"x", 17),
     (K1, b"\n", 17),
@@ -332,7 +335,7 @@ fn ends(rt: HostRuntime) {
     }
 }
 
-/// The values infinite and 2^55.
+/// Returns the values infinite and 2^55.
 fn large_values(rt: &impl Abort, alloc: Global) -> Values {
     let mut values = Values::new(alloc);
     values.push(Dist::inf()).expect(rt, "memory");
@@ -342,7 +345,7 @@ fn large_values(rt: &impl Abort, alloc: Global) -> Values {
     values
 }
 
-/// A table of those values.
+/// Returns a table of those values.
 fn large_table(rt: &impl Abort, alloc: Global, mapping: Mapping) -> AbstractionTable {
     let share = Share {
         operator: 7,
@@ -359,7 +362,7 @@ fn large_pattern(rt: &impl Abort, alloc: Global) -> Mapping {
     Mapping::Pattern(Vec::from_slice(alloc, &[0, 4_294_967_295]).expect(rt, "memory"))
 }
 
-/// A row of two classes of the last variable.
+/// Returns a row of two classes of the last variable.
 fn large_rows(rt: &impl Abort, alloc: Global) -> Mapping {
     let classes = Vec::from_slice(alloc, &[0, 1, 0]).expect(rt, "memory");
     let mut rows = Vec::new(alloc);
@@ -368,7 +371,7 @@ fn large_rows(rt: &impl Abort, alloc: Global) -> Mapping {
     Mapping::Domains(rows)
 }
 
-/// A column of that table alone.
+/// Returns a column of that table alone.
 fn large_column(rt: &impl Abort, alloc: Global, mapping: Mapping) -> Vec<AbstractionTable> {
     let mut column = Vec::new(alloc);
     column
@@ -385,7 +388,7 @@ fn large_columns(rt: &impl Abort, alloc: Global, mapping: Mapping) -> Vec<Vec<Ab
     columns
 }
 
-/// A state of one value, listed at the cost 0.
+/// Returns a list of one state, of one value, at the cost 0.
 fn one_state(rt: &impl Abort, alloc: Global) -> ClosedList {
     let mut closed = ClosedList::new(alloc);
     closed.push(0, &[0]).expect(rt, "memory");

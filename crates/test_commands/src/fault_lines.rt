@@ -1,4 +1,5 @@
-//! The lines of the faults of finite-domain tasks, certificates and files, without the program's name and the line feed.
+//! The lines of the faults of finite-domain tasks, certificates and files, without the program's name and the line
+//! feed.
 
 use cert_text::CertFault;
 use fdr::TaskLimit;

@@ -1,5 +1,5 @@
-//! Tests of the whole program that no run over files shows: a device whose calls fail, memory that is refused, lists of steps, and the lines of
-//! faults that no small file has.
+//! Tests of the whole program that no run over files shows: a device whose calls fail, memory that is refused, lists of
+//! steps, and the lines of faults that no small file has.
 #![tactic(auto)]
 
 #[cfg(test)]

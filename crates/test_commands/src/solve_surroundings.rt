@@ -1,4 +1,4 @@
-//! A device of which one call fails.
+//! A device one of whose calls fails.
 
 use optplan_command::run;
 use optplan_device::{DeviceFault, Recorded};
@@ -11,7 +11,7 @@ use std::test::Fail;
 use std::thread::Threads;
 use std::time::Clock;
 
-/// The names of the files that were written, in order, each followed by a space.
+/// Returns the names of the files that were written, in order, each followed by a space.
 fn written_names(alloc: Global, events: &[Recorded]) -> Result<String, AllocError> {
     let mut names = String::new(alloc);
     for event in events {
@@ -74,8 +74,8 @@ const SOLVE_TO_A_LIMIT: &[&str] = &[
 
 const SOLVE_NO_PROBLEM: &[&str] = &["solve", "d", "d", "--simulate", "1", "--cert", "c"];
 
-/// The words after the program's name, the number of calls before the one that fails, what is printed and reported, the
-/// status, and the files that are written whole.
+/// The arguments after the program's name, the number of calls before the one that fails, the output and the report,
+/// the status, and the files that are written whole.
 type Row = (
     &'static [&'static str],
     u64,
@@ -138,7 +138,7 @@ const FAILING_ROWS: &[Row] = &[
         "c ",
     ),
     (SOLVE_TO_A_LIMIT, 4, "limit 2\n", "", 5, "c "),
-    // A report that fails leaves the status as it is.
+    // If a report fails, the status is unchanged.
     (SOLVE_NO_PROBLEM, 2, "", "", 1, ""),
     (
         SOLVE_NO_PROBLEM,

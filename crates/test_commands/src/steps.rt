@@ -1,4 +1,4 @@
-//! The solver by lists of steps that were worked out by hand, which no command takes.
+//! The solver with lists of steps that were worked out by hand, which no command accepts.
 
 use checker::{Verdict, check_sas};
 use checker_pddl::{PlanningVerdict, check_pddl};
@@ -18,7 +18,7 @@ const TOO_FEW: &[WorldStep] = &[Expand(0)];
 /// It expands a and b, and the goal c is reached.
 const ENOUGH: &[WorldStep] = &[Expand(0), Expand(0)];
 
-/// What is answered for the road's texts: a plan's text, or that there is none, or that it is not known.
+/// Returns the answer for the road's texts: a plan's text, that there is no plan, or that it is not known.
 fn answer<R: AllocGlobal + Threads + Sync>(rt: &R, steps: &[WorldStep]) -> Result<String, Fail> {
     let options = Options::new().with_workers(1);
     let (domain, problem) = (ROAD_DOMAIN.as_bytes(), ROAD_PROBLEM.as_bytes());
@@ -29,7 +29,7 @@ fn answer<R: AllocGlobal + Threads + Sync>(rt: &R, steps: &[WorldStep]) -> Resul
     }
 }
 
-/// The certificate of the plan that is found for the road's texts.
+/// Returns the certificate of the plan that is found for the road's texts.
 fn certificate<R: AllocGlobal + Threads + Sync>(rt: &R) -> Result<Vec<u8>, Fail> {
     let options = Options::new().with_workers(1);
     let (domain, problem) = (ROAD_DOMAIN.as_bytes(), ROAD_PROBLEM.as_bytes());

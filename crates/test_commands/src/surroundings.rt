@@ -17,7 +17,7 @@ const PLAN: &str = "(go a b)(go b c)";
 const MIGRATED_CERTIFICATE: &str =
     "optplan-cert 2\nsas\nbound 2\ncolumns 0\nclosed 2\n0 0\n1 1\nend\n";
 
-/// What is printed, what is reported, and the status.
+/// The output, the report, and the status.
 type Texts = (&'static str, &'static str, u8);
 
 fn wanted(alloc: Global, texts: Texts) -> Result<Outcome, AllocError> {
@@ -29,7 +29,7 @@ fn wanted(alloc: Global, texts: Texts) -> Result<Outcome, AllocError> {
     })
 }
 
-/// Checks that the program over these files puts this out, and reports nothing.
+/// Checks that the program over these files prints this, and reports nothing.
 fn puts<R: Threads + Wait + Clock + Eprint + Sync + Abort + AllocGlobal>(
     rt: &R,
     words: &[&str],
@@ -71,7 +71,7 @@ fn a_certificate_as_version_2(rt: HostRuntime) -> Result<(), Fail> {
     )
 }
 
-/// The outcome of the program if one call of its device fails with a fault.
+/// Returns the outcome of the program if one call of its device fails with a fault.
 fn run_with_fault<R: Threads + Wait + Clock + Eprint + Sync + AllocGlobal>(
     rt: &R,
     words: &[&str],
@@ -92,7 +92,7 @@ fn run_with_fault<R: Threads + Wait + Clock + Eprint + Sync + AllocGlobal>(
     Ok(recorded(rt.alloc(), device.events(), status.code())?)
 }
 
-/// The words after the program's name, the plan, the number of calls before the fault, and the expected outcome.
+/// The arguments after the program's name, the plan, the number of calls before the fault, and the expected outcome.
 type FaultRow = (&'static [&'static str], &'static str, u64, Texts);
 
 const VALIDATE: &[&str] = &["validate", "d", "p", "l"];
@@ -101,7 +101,7 @@ const CHECK: &[&str] = &["check-sas", "s", "c"];
 
 const MIGRATE: &[&str] = &["migrate-cert", "c"];
 
-/// A task's text in place of a certificate's.
+/// A task's text as the certificate.
 const CHECK_OF_NO_CERTIFICATE: &[&str] = &["check-sas", "s", "s"];
 
 const MIGRATE_NO_CERTIFICATE: &[&str] = &["migrate-cert", "s"];
@@ -156,7 +156,7 @@ const FAILING_ROWS: &[FaultRow] = &[
         ("", "optplan: F71 CannotWrite output\n", 7),
     ),
     (VALIDATE, "", 4, ("goal open (at c)\n", "", 3)),
-    // A report that fails leaves the status as it is.
+    // If a report fails, the status is unchanged.
     (VALIDATE, "()", 2, ("", "optplan: F70 CannotRead plan\n", 7)),
     (VALIDATE, "()", 3, ("", "", 1)),
     (

@@ -14,10 +14,10 @@ use std::process::Abort;
 /// The shares of the three operators.
 const SHARES: &[u32] = &[2, 3, 1];
 
-/// The number for an infinite distance.
+/// The number that denotes an infinite distance.
 const NONE: u64 = 18_446_744_073_709_551_615;
 
-/// Whether each share is below 2^31.
+/// Returns whether each share is below 2^31.
 #[tactic(auto, using(pdb::proofs::Lowering::small_everywhere))]
 fn are_small(shares: &[u32]) -> bool
     ensures { IsTrue result → (o : ℕ) → slice_index shares.now o < 2 ^ 31 }
@@ -30,7 +30,7 @@ fn are_small(shares: &[u32]) -> bool
     true
 }
 
-/// Whether the list has these transitions (class, source) and no others, in any order.
+/// Returns whether the list has these transitions (class, source) and no others, in any order.
 fn are_transitions(list: &[Transition], expected: &[(u32, u32)]) -> bool {
     list.len() == expected.len()
         && expected
@@ -38,7 +38,7 @@ fn are_transitions(list: &[Transition], expected: &[(u32, u32)]) -> bool {
             .all(|(class, source)| has_transition(list, *class, *source))
 }
 
-/// Whether the list has the transition.
+/// Returns whether the list has the transition.
 fn has_transition(list: &[Transition], class: u32, source: u32) -> bool {
     list.iter().any(|transition| transition.class == class && transition.source == source)
 }
@@ -88,7 +88,7 @@ fn has_distances(
     assert_eq!(rt; needed.as_slice(), saturated);
 }
 
-/// Checks the same of the domain abstraction by these rows.
+/// Checks the transitions, distances and saturated shares of the domain abstraction by these rows.
 fn follows(
     rt: &impl Abort,
     alloc: Global,
@@ -108,8 +108,8 @@ fn follows(
     }
 }
 
-/// Both variables: the first operator leads from 0 to 1 and from 3 to 4, the second from 4 to 5, the third from 2 and from
-/// 5 to 2. The goal is 5.
+/// Both variables: the first operator maps abstract state 0 to 1 and 3 to 4, the second 4 to 5, the third 2 and 5 to 2.
+/// The goal is 5.
 #[test]
 fn two_variables(rt: HostRuntime) {
     let alloc = rt.alloc();
@@ -127,7 +127,7 @@ fn two_variables(rt: HostRuntime) {
     follows(&rt, alloc, &task, &both, &entering, &expected, &[2, 3, 0]);
 }
 
-/// y alone, which the first operator does not touch.
+/// y alone, which the first operator does not affect.
 #[test]
 fn one_variable(rt: HostRuntime) {
     let alloc = rt.alloc();

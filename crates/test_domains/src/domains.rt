@@ -7,7 +7,7 @@ use std::alloc::Global;
 use std::process::Abort;
 use test_tasks::{fact, is_state_of, operator, states, task};
 
-/// Whether the operators lead from the abstract state to these.
+/// Returns whether these are the operators' successors of the abstract state.
 fn has_row<A: Abstraction>(a: &A, state: usize, row: &[Option<usize>]) -> bool
     requires { state < (A.abstraction a.now).size }
 {
@@ -19,7 +19,7 @@ fn has_row<A: Abstraction>(a: &A, state: usize, row: &[Option<usize>]) -> bool
     true
 }
 
-/// Whether these are its transitions, one row for each abstract state.
+/// Returns whether these are its transitions, one row for each abstract state.
 fn has_rows<A: Abstraction>(a: &A, rows: &[[Option<usize>; 4]]) -> bool {
     if rows.len() != a.size() {
         return false;
@@ -32,7 +32,7 @@ fn has_rows<A: Abstraction>(a: &A, rows: &[[Option<usize>; 4]]) -> bool {
     true
 }
 
-/// Whether these are its abstract goals.
+/// Returns whether these are its abstract goals.
 fn has_goals<A: Abstraction>(a: &A, goals: &[bool]) -> bool {
     if goals.len() != a.size() {
         return false;
@@ -45,7 +45,7 @@ fn has_goals<A: Abstraction>(a: &A, goals: &[bool]) -> bool {
     true
 }
 
-/// Whether these operators touch it.
+/// Returns whether these operators affect it.
 fn has_touching<A: Abstraction>(a: &A, touching: &[bool]) -> bool {
     for operator in 0..touching.len() {
         if a.touches(operator) != touching[operator] {
@@ -55,7 +55,7 @@ fn has_touching<A: Abstraction>(a: &A, touching: &[bool]) -> bool {
     true
 }
 
-/// Appends an operator.
+/// Pushes an operator.
 fn push(
     rt: &impl Abort,
     operators: &mut Vec<Operator>,
@@ -67,8 +67,8 @@ fn push(
     operators.push(next).expect(rt, "memory");
 }
 
-/// Variables x with 4 values and y with 3. Operators: x from 0 to 1; x from 2 to 3 and y from 1 to 2; y to 0 where x is 3. The goal is
-/// x = 3 and y = 2.
+/// Returns a task of variables x with 4 values and y with 3. Operators: x from 0 to 1; x from 2 to 3 and y from 1 to 2;
+/// y to 0 if x is 3. The goal is x = 3 and y = 2.
 pub(crate) fn worked(rt: &impl Abort, alloc: Global) -> FdrTask {
     let mut operators = Vec::new(alloc);
     push(rt, &mut operators, alloc, &[fact(0, 0)], &[fact(0, 1)]);
@@ -86,7 +86,7 @@ pub(crate) fn worked(rt: &impl Abort, alloc: Global) -> FdrTask {
         .expect(rt, "a task")
 }
 
-/// A row of the classes of a variable.
+/// Returns a row of the classes of a variable.
 fn row(rt: &impl Abort, alloc: Global, variable: usize, classes: &[u32]) -> ClassRow {
     let classes = Vec::from_slice(alloc, classes).expect(rt, "memory");
     match ClassRow::new(variable, classes) {
@@ -95,7 +95,7 @@ fn row(rt: &impl Abort, alloc: Global, variable: usize, classes: &[u32]) -> Clas
     }
 }
 
-/// Rows of these variables and classes.
+/// Returns the rows of these variables and classes.
 pub(crate) fn rows(rt: &impl Abort, alloc: Global, spelled: &[(usize, &[u32])]) -> Vec<ClassRow> {
     let mut rows = Vec::new(alloc);
     for (variable, classes) in spelled {
@@ -121,7 +121,7 @@ const S4: Option<usize> = Some(4);
 
 const S5: Option<usize> = Some(5);
 
-/// Its transitions: abstract state i has the class i % 3 of x and i / 3 of y. The last column is of no operator.
+/// Its transitions: abstract state i has the class i % 3 of x and i / 3 of y. The last column belongs to no operator.
 const BOTH_ROWS: &[[Option<usize>; 4]] = &[
     [S1, None, None, None],
     [None, None, None, None],
@@ -131,7 +131,7 @@ const BOTH_ROWS: &[[Option<usize>; 4]] = &[
     [None, None, S2, None],
 ];
 
-/// The same of y alone: the second operator leads from the class of 1 to the same class, that of 2.
+/// The transitions for y alone: the second operator maps the class of 1 to the class of 2, which is the same one.
 const Y_ROWS: &[[Option<usize>; 4]] = &[[S0, None, S0, None], [S1, S1, S0, None]];
 
 /// States with their abstract states.
@@ -147,7 +147,7 @@ const STATES: &[([u32; 2], usize)] = &[
     ([3, 2], 5),
 ];
 
-/// The domain abstraction by rows that are checked to be on strictly increasing variables.
+/// Returns the domain abstraction by rows that are checked to be on strictly increasing variables.
 pub(crate) fn abstraction<'a>(
     rt: &impl Abort,
     alloc: Global,
@@ -160,7 +160,7 @@ pub(crate) fn abstraction<'a>(
     DomainAbstraction::new(alloc, task, rows)
 }
 
-/// Checks the transitions, goals and touching operators of the domain abstraction by these rows.
+/// Checks the transitions, goals and affecting operators of the domain abstraction by these rows.
 fn abstracts(
     rt: &impl Abort,
     alloc: Global,
@@ -214,7 +214,7 @@ fn indices(rt: HostRuntime) {
     }
 }
 
-/// Why there is no domain abstraction by these rows.
+/// Returns the reason why there is no domain abstraction by these rows.
 fn fault_of(
     rt: &impl Abort,
     alloc: Global,
@@ -237,7 +237,7 @@ fn faults(rt: HostRuntime) {
     assert_eq!(rt; long, Some(DomainFault::WrongRange(1)));
 }
 
-/// A row of 4097 values, each of its own class up to the greatest, which the rest share.
+/// Returns a row of 4097 values, each of its own class up to `greatest`, which the rest share.
 fn long_row(rt: &impl Abort, alloc: Global, variable: usize, greatest: u32) -> ClassRow {
     let mut row = Vec::new(alloc);
     for value in 0..4097 {
@@ -249,7 +249,8 @@ fn long_row(rt: &impl Abort, alloc: Global, variable: usize, greatest: u32) -> C
     }
 }
 
-/// How many abstract states there are by two rows with these greatest classes, or why there is no abstraction.
+/// Returns the number of abstract states by two rows with these greatest classes, or the reason why there is no
+/// abstraction.
 fn size_of(rt: &impl Abort, alloc: Global, x: u32, y: u32) -> Result<usize, DomainFault> {
     let task = states(alloc, &[4097, 4097], &[0, 0])
         .expect(rt, "memory")

@@ -2,7 +2,7 @@ use abstraction_domain::ClassRow;
 use std::alloc::Global;
 use std::process::Abort;
 
-/// The number of classes of a row, or the place of the first class that is not numbered in order.
+/// Returns the number of classes of a row, or the index of the first class that is not numbered in order.
 fn counted(rt: &impl Abort, alloc: Global, classes: &[u32]) -> Result<usize, usize> {
     let given = Vec::from_slice(alloc, classes).expect(rt, "memory");
     match ClassRow::new(7, given) {

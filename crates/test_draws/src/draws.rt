@@ -1,5 +1,6 @@
-//! Three owners of the values of one variable do drawn steps, possible or not, and then steps that change something until no work is
-//! left: whatever was drawn, they are settled at the cost of a cheapest plan, their certificate is accepted, and their plan has that cost.
+//! Three owners of the values of one variable perform random steps, possible or not, and then steps that change
+//! something until no work is left: for every choice, they are settled at the cost of a cheapest plan, their
+//! certificate is accepted, and their plan has that cost.
 
 ghost use Rattle.std.specs.Prelude.{◌<◌, ◌≤◌};
 
@@ -28,7 +29,7 @@ const CYCLE: &[(u32, u32, u64)] = &[(0, 1, 0), (1, 0, 0), (1, 2, 1)];
 /// State 1 may be expanded at cost 9 before it is reached at cost 4, and the goal is reached at cost 3.
 const DETOUR: &[(u32, u32, u64)] = &[(0, 1, 9), (0, 2, 2), (2, 1, 2), (0, 3, 3), (1, 3, 5)];
 
-/// The number of lists of steps that a test draws. Four tests draw 10,000 for a space.
+/// The number of random lists of steps in a test. Four tests make 10,000 for a space.
 const LISTS: u64 = 2_500;
 
 /// The number of steps of a list.
@@ -37,17 +38,17 @@ const STEPS: u32 = 60;
 /// The number of owners.
 const OWNERS: usize = 3;
 
-/// The number of messages underway to an owner from which one is drawn.
+/// The number of messages underway to an owner from which one is chosen.
 const MESSAGES: u64 = 4;
 
-/// A number below `bound`.
+/// Returns a random number below `bound`.
 fn number_below(generator: &mut SplitMix64, bound: u64) -> usize
     requires { 0 < bound }
 {
     (generator.next_u64() % bound) as usize
 }
 
-/// A step of any kind, which need not change anything.
+/// Returns a random step of any kind, which need not change anything.
 fn any_step(generator: &mut SplitMix64) -> WorldStep {
     let worker = number_below(generator, OWNERS as u64);
     match number_below(generator, 6) {
@@ -60,7 +61,7 @@ fn any_step(generator: &mut SplitMix64) -> WorldStep {
     }
 }
 
-/// Does that list of steps.
+/// Performs a random list of steps.
 fn do_any_steps<S: Spread + Drop, F: StateForm + Drop>(
     world: &mut World<'_, S, F>,
     generator: &mut SplitMix64,
@@ -76,7 +77,7 @@ fn do_any_steps<S: Spread + Drop, F: StateForm + Drop>(
     Ok(())
 }
 
-/// Does steps that would change something, drawn one after the other, until no work is left.
+/// Performs random steps that would change something, one by one, until no work is left.
 fn do_the_rest<S: Spread + Drop, F: StateForm + Drop>(
     world: &mut World<'_, S, F>,
     generator: &mut SplitMix64,
@@ -115,7 +116,7 @@ fn proves<'a, R: AllocGlobal + Threads + Sync + Abort, S: Spread + Drop, F: Stat
     Ok(())
 }
 
-/// One list of steps, drawn from this seed, and what is left to do.
+/// Performs one random list of steps, from this seed, and the rest of the work, and checks the result.
 fn settles<'a, R: AllocGlobal + Threads + Sync + Abort, S: Spread + Drop>(
     rt: &R,
     task: &FdrTask,
@@ -133,7 +134,7 @@ fn settles<'a, R: AllocGlobal + Threads + Sync + Abort, S: Spread + Drop>(
     proves(rt, task, &world.joined(), cost)
 }
 
-/// The space of the task without columns.
+/// Returns the space of the task without columns.
 fn space_for<'t, R: Threads + Sync>(
     rt: &R,
     alloc: Global,
@@ -150,7 +151,7 @@ fn space_for<'t, R: Threads + Sync>(
     )
 }
 
-/// The lists of steps for a task whose seeds begin with this one.
+/// Performs the lists of steps for a task, with `LISTS` seeds from `first` on.
 fn settle<'t, R: AllocGlobal + Threads + Sync + Abort>(
     rt: &R,
     task: &'t FdrTask,
@@ -167,7 +168,7 @@ fn settle<'t, R: AllocGlobal + Threads + Sync + Abort>(
     Ok(())
 }
 
-/// Lists of steps on the cycle.
+/// Performs the lists of steps on the cycle.
 fn settle_cycle<R: AllocGlobal + Threads + Sync + Abort>(rt: &R, first: u64) -> Result<(), Fail>
     requires { first ≤ 7500 }
 {
@@ -175,7 +176,7 @@ fn settle_cycle<R: AllocGlobal + Threads + Sync + Abort>(rt: &R, first: u64) -> 
     settle(rt, &task, first, 1)
 }
 
-/// Lists of steps on the detour.
+/// Performs the lists of steps on the detour.
 fn settle_detour<R: AllocGlobal + Threads + Sync + Abort>(rt: &R, first: u64) -> Result<(), Fail>
     requires { first ≤ 7500 }
 {

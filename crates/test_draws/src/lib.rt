@@ -1,4 +1,4 @@
-//! Tests of the machine of owners by drawn steps, among them steps that would change nothing.
+//! Tests of the machine of owners with random steps, among them steps that would change nothing.
 #![tactic(auto)]
 
 #[cfg(test)]

@@ -1,5 +1,5 @@
-//! Gates of searches by threads: when they are asked and how they end a search; and that workers take their turns, and expand nodes, at
-//! once.
+//! Gates of multi-threaded searches: when they are asked and how they end a search; and that workers take turns, and
+//! expand nodes, concurrently.
 
 ghost use Rattle.std.specs.Prelude.{◌<◌};
 
@@ -21,7 +21,7 @@ use std::time::Clock;
 use test_meetings::Meeting;
 use test_tasks::walk;
 
-/// The spread by values, by which the owners of states 4 and 3 are told only where both are asked for at once.
+/// The spread by values, which answers for states 4 and 3 only once both are asked for concurrently.
 #[derive(Drop)]
 struct MeetingSpread<'a> {
     by_value: ByValue<'a>,
@@ -29,7 +29,7 @@ struct MeetingSpread<'a> {
 }
 
 impl<'a> MeetingSpread<'a> {
-    /// Comes to the meeting where the owner of state 4 or of state 3 is asked for.
+    /// Joins the meeting if the owner of state 4 or of state 3 is asked for.
     fn come_for(&self, state: u32) {
         match state {
             4 => {
@@ -114,15 +114,15 @@ impl Gate for FirstTurns {
     }
 }
 
-/// Two ways to the goal 5, over 2 and 4, where the way ends, and over 1 and 3.
+/// Two paths from 0: over 2 to 4, which has no successor, and over 1 and 3 to the goal 5.
 const FORK: &[(u32, u32, u64)] = &[(0, 1, 1), (0, 2, 1), (2, 4, 1), (1, 3, 1), (3, 5, 1)];
 
-/// The task of that fork.
+/// Returns the task of that fork.
 fn fork(alloc: Global) -> Result<FdrTask, Fail> {
     Ok(walk(alloc, 6, 5, FORK)?.ok_or("a task")?)
 }
 
-/// How a search of the task by this many workers ends with this gate: whether it is settled, or the fault.
+/// Returns how a search of the task by `workers` workers ends with this gate: whether it is settled, or the fault.
 fn ends<'t, R: Threads + Wait + Clock + Sync, G: Gate + Sync>(
     rt: &R,
     alloc: Global,
@@ -153,7 +153,7 @@ fn two_workers_take_turns_at_once(rt: HostRuntime) -> Result<(), Fail> {
     Ok(())
 }
 
-/// Whether two workers settle the task at cost 3, though each waits for the other in an expansion.
+/// Returns whether two workers settle the task at cost 3, although each waits for the other in an expansion.
 fn settles_by_expansions_at_once<'t, R: Threads + Wait + Clock + Sync>(
     rt: &R,
     alloc: Global,
@@ -212,7 +212,7 @@ fn a_stop_as_at_a_limit_hands_the_owners_back(rt: HostRuntime) -> Result<(), Fai
     Ok(())
 }
 
-/// A search by `workers` workers has as many first turns.
+/// Checks that a search by `workers` workers has as many first turns.
 fn has_a_first_turn_each<R: Threads + Wait + Clock + Sync + Abort>(
     rt: &R,
     alloc: Global,

@@ -1,4 +1,4 @@
-//! Searches by threads, whose answers are compared with those of owners in one thread.
+//! Multi-threaded searches, whose answers are compared with those of owners in one thread.
 #![tactic(auto)]
 
 #[cfg(test)]

@@ -1,4 +1,4 @@
-//! Searches by threads of small tasks, and the answers that owners in one thread give for them.
+//! Multi-threaded searches of small tasks, and the answers of owners in one thread for them.
 
 ghost use Rattle.std.specs.Prelude.{◌<◌};
 ghost use Rattle.fdr.specs.Tasks.{ranges};
@@ -25,7 +25,7 @@ const CYCLE: &[(u32, u32, u64)] = &[(0, 1, 0), (1, 0, 0), (1, 2, 1)];
 /// State 1 may be expanded at cost 9 before it is reached at cost 4.
 const DETOUR: &[(u32, u32, u64)] = &[(0, 1, 9), (0, 2, 2), (2, 1, 2), (0, 3, 13), (1, 3, 5)];
 
-/// The space of the task without columns, with the owner of a state by its values.
+/// Returns the space of the task without columns, in which the owner of a state depends on its values.
 pub(crate) fn space_for<'a, R: Threads + Sync>(
     rt: &R,
     alloc: Global,
@@ -43,7 +43,8 @@ pub(crate) fn space_for<'a, R: Threads + Sync>(
     )
 }
 
-/// The answer of owners in one thread, which do the first step that would change something until no work is left.
+/// Returns the answer of owners in one thread, which perform the first step that would change something until no work
+/// is left.
 fn answer_in_one_thread<'a, S: Spread + Drop>(
     alloc: Global,
     space: &'a Space<'a, S>,
@@ -61,7 +62,7 @@ fn answer_in_one_thread<'a, S: Spread + Drop>(
     Ok(world.answer(alloc)?)
 }
 
-/// What the owners have found.
+/// Returns the finding of the owners.
 fn answer_of<S: Spread + Drop, F: StateForm + Drop>(
     alloc: Global,
     joined: &Joined<'_, S, F>,
@@ -75,7 +76,7 @@ fn answer_of<S: Spread + Drop, F: StateForm + Drop>(
     }
 }
 
-/// A search by this many workers, with rings of this room, ends settled with this answer.
+/// Checks that a search by `workers` workers, with links of this capacity, ends settled with this answer.
 fn settles<'a, R: Threads + Wait + Clock + Sync + Abort, S: Spread + Drop + Send + Sync>(
     rt: &R,
     alloc: Global,
@@ -108,7 +109,7 @@ fn has_plan_of<S: Spread + Drop, F: StateForm + Drop>(
     Ok(())
 }
 
-/// The greatest number of nodes that one of the owners has expanded.
+/// Returns the greatest number of nodes that one of the owners has expanded.
 fn most_expansions<S: Spread + Drop, F: StateForm + Drop>(joined: &Joined<'_, S, F>) -> u64 {
     let mut most = 0;
     for owner in joined.owners() {
@@ -117,7 +118,8 @@ fn most_expansions<S: Spread + Drop, F: StateForm + Drop>(joined: &Joined<'_, S,
     most
 }
 
-/// A search by this many workers ends at the limit of the space, as some owner has expanded as many nodes as that.
+/// Checks that a search by `workers` workers ends at the limit of the space, because some owner has expanded as many
+/// nodes as that.
 fn stops<'a, R: Threads + Wait + Clock + Sync + Abort, S: Spread + Drop + Send + Sync>(
     rt: &R,
     alloc: Global,
@@ -138,7 +140,7 @@ fn stops<'a, R: Threads + Wait + Clock + Sync + Abort, S: Spread + Drop + Send +
     }
 }
 
-/// Searches by one, two and four workers, with rings of room for 1 and for 64 messages, have the answer of one thread.
+/// Checks that searches by one, two and four workers, with links of capacity 1 and 64, have the answer of one thread.
 fn agrees<'a, R: Threads + Wait + Clock + Sync + Abort, S: Spread + Drop + Send + Sync>(
     rt: &R,
     alloc: Global,
@@ -154,7 +156,7 @@ fn agrees<'a, R: Threads + Wait + Clock + Sync + Abort, S: Spread + Drop + Send 
     Ok(())
 }
 
-/// The same for a task.
+/// Runs `agrees` for a task.
 fn agrees_on<'t, R: Threads + Wait + Clock + Sync + Abort>(
     rt: &R,
     alloc: Global,
@@ -190,7 +192,7 @@ fn the_initial_state_is_a_goal(rt: HostRuntime) -> Result<(), Fail> {
     agrees_on(&rt, rt.alloc(), &task, SearchAnswer::Solved(0))
 }
 
-/// Searches of the task in which each owner may expand at most this many nodes.
+/// Checks that searches of the task stop if each owner may expand at most `limit` nodes.
 fn stops_on<'t, R: Threads + Wait + Clock + Sync + Abort>(
     rt: &R,
     alloc: Global,
@@ -221,7 +223,7 @@ fn a_limit_of_one_node(rt: HostRuntime) -> Result<(), Fail> {
     stops_on(&rt, rt.alloc(), &task, 1)
 }
 
-/// Operators that add or subtract 1 in one of several variables, all with the same number of values.
+/// Returns operators that add or subtract 1 in one of several variables, all with the same number of values.
 fn unit_steps(alloc: Global, variables: usize, values: u32) -> Result<Vec<Operator>, AllocError> {
     let mut operators = Vec::new(alloc);
     for variable in 0..variables {
@@ -235,7 +237,7 @@ fn unit_steps(alloc: Global, variables: usize, values: u32) -> Result<Vec<Operat
     Ok(operators)
 }
 
-/// A search by this many workers of a space whose cheapest plan has `cost` operators of cost 1.
+/// Checks a search by `workers` workers of a space whose cheapest plan has `cost` operators of cost 1.
 fn finds_plan<'a, R: Threads + Wait + Clock + Sync + Abort, S: Spread + Drop + Send + Sync>(
     rt: &R,
     alloc: Global,
@@ -259,7 +261,7 @@ fn finds_plan<'a, R: Threads + Wait + Clock + Sync + Abort, S: Spread + Drop + S
     }
 }
 
-/// Searches of the task, whose states are spread by hashes, by one to eight workers.
+/// Checks searches of the task, whose states are spread by hashes, by one to eight workers.
 fn finds_plans<'t, R: Threads + Wait + Clock + Sync + Abort>(
     rt: &R,
     alloc: Global,
@@ -284,7 +286,7 @@ fn finds_plans<'t, R: Threads + Wait + Clock + Sync + Abort>(
     Ok(())
 }
 
-/// The grid of four values in each of three variables, from one corner to another.
+/// Returns the grid of four values in each of three variables, from one corner to another.
 fn grid(alloc: Global) -> Result<Option<FdrTask>, AllocError> {
     let goal = &[fact(0, 3), fact(1, 3), fact(2, 3)];
     let operators = unit_steps(alloc, 3, 4)?;

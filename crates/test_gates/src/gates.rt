@@ -1,15 +1,15 @@
-//! Gates that hold workers back.
+//! Gates that delay workers.
 
 use optplan_sas::{Gate, Progress, Stop};
 use std::sync::atomic::{AtomicU64, Ordering};
 
-/// How many more turns of the others worker 0 waits for.
+/// The number of further turns of the others that worker 0 waits for.
 const TURNS: u64 = 1_000;
 
-/// How often a worker that waits looks before it goes on all the same.
+/// The number of polls after which a waiting worker continues anyway.
 const LOOKS: u32 = 1_000_000;
 
-/// Worker 0 begins a turn only after 1,000 more turns of the others, or 1,000,000 looks.
+/// Worker 0 begins a turn only after 1,000 more turns of the others, or 1,000,000 polls.
 #[derive(Drop)]
 pub(crate) struct FirstIsLate {
     /// The number of turns that the others have begun.
@@ -17,7 +17,7 @@ pub(crate) struct FirstIsLate {
 }
 
 impl FirstIsLate {
-    /// No turn has begun.
+    /// Creates the gate; no turn has begun.
     pub(crate) fn new() -> FirstIsLate {
         FirstIsLate {
             others: AtomicU64::new(0),
@@ -43,7 +43,8 @@ impl Gate for FirstIsLate {
     }
 }
 
-/// The last worker begins its turn of each number before the others begin theirs, unless they have looked 1,000,000 times.
+/// The last worker begins its turn of each number before the others begin theirs, unless they have polled 1,000,000
+/// times.
 #[derive(Drop)]
 pub(crate) struct LastIsFirst {
     /// The number of the last worker.
@@ -53,7 +54,7 @@ pub(crate) struct LastIsFirst {
 }
 
 impl LastIsFirst {
-    /// No turn has begun; there are this many workers.
+    /// Creates the gate of `workers` workers; no turn has begun.
     pub(crate) fn of(workers: usize) -> LastIsFirst {
         LastIsFirst {
             last: workers.saturating_sub(1),

@@ -1,4 +1,4 @@
-//! Searches by threads whose gates hold workers back: the answers are those of any other schedule.
+//! Multi-threaded searches whose gates delay workers: the answers are those of any other schedule.
 #![tactic(auto)]
 
 #[cfg(test)]

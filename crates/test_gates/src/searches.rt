@@ -1,4 +1,4 @@
-//! Worked tasks by two and four workers, under each of the gates.
+//! Worked tasks with two and four workers, under each of the gates.
 
 use crate::gates::{FirstIsLate, LastIsFirst};
 use crate::texts::{
@@ -31,7 +31,8 @@ fn certifies<R: Threads + Sync + Abort + AllocGlobal>(
     Ok(())
 }
 
-/// Checks that the answer is a plan whose text ends so, with a certificate for this cost; or, without a cost, that there is no plan.
+/// Checks that the answer is a plan whose text has this end, with a certificate for this cost; or, without a cost, that
+/// there is no plan.
 fn is_right<R: Threads + Sync + Abort + AllocGlobal>(
     rt: &R,
     domain: &str,
@@ -52,7 +53,7 @@ fn is_right<R: Threads + Sync + Abort + AllocGlobal>(
     }
 }
 
-/// The answers for a task under both gates, by two and by four workers.
+/// Checks the answers for a task under both gates, with two and with four workers.
 fn answers<R: Threads + Wait + Clock + Sync + Abort + AllocGlobal>(
     rt: &R,
     domain: &str,
@@ -99,7 +100,7 @@ fn two_balls(rt: HostRuntime) -> Result<(), Fail> {
     )
 }
 
-/// By two workers that wait for each other in their first turns.
+/// With two workers that wait for each other in their first turns.
 #[test]
 fn two_balls_by_workers_at_once(rt: HostRuntime) -> Result<(), Fail> {
     let meeting = Meeting::new();

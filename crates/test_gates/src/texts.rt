@@ -1,6 +1,6 @@
 //! Planning tasks with the costs of their cheapest plans.
 
-/// A step goes along a road, at cost 1.
+/// A step moves along a road, at cost 1.
 pub(crate) const ROAD_DOMAIN: &str = "(define (domain road)
  (:requirements :typing)
  (:types loc)
@@ -24,7 +24,7 @@ pub(crate) const ROAD_PROBLEM_WITHOUT_WAY: &str = "(define (problem r1) (:domain
  (:goal (at c)))
 ";
 
-/// A step goes along a road, at the cost of the road's length.
+/// A step moves along a road, at the cost of the road's length.
 pub(crate) const DRIVE_DOMAIN: &str = "(define (domain drive)
  (:requirements :typing)
  (:types loc)
@@ -57,7 +57,7 @@ pub(crate) const GRIP_DOMAIN: &str = "(define (domain grip)
   :effect (and (in ?b ?r) (free) (not (held ?b)))))
 ";
 
-/// Two balls that are to go from p to q.
+/// Two balls that are to be carried from p to q.
 pub(crate) const GRIP_PROBLEM: &str = "(define (problem g1) (:domain grip) (:objects p q x y)
  (:init (room p) (room q) (ball x) (ball y) (here p) (in x p) (in y p) (free))
  (:goal (and (in x q) (in y q))))

@@ -14,7 +14,7 @@ const ADDED: &[(&str, usize)] = &[
     ("box", 1),
 ];
 
-/// Adds the names, and checks the number that each is given.
+/// Adds the names, and checks the number that each gets.
 fn add_all(rt: &impl Abort, alloc: Global, names: &mut Names) {
     for (name, number) in ADDED {
         let given = names.add(alloc, name).expect(rt, "memory");
@@ -22,7 +22,7 @@ fn add_all(rt: &impl Abort, alloc: Global, names: &mut Names) {
     }
 }
 
-/// Whether the name has this number.
+/// Returns whether the name has this number.
 fn has_number(names: &Names, name: &str, number: usize) -> bool {
     names.place_of(name) == Some(number)
         && names.number_of(name) == number
@@ -37,7 +37,7 @@ fn have_numbers(rt: &impl Abort, names: &Names) {
     }
 }
 
-/// Whether a name which was not added has the number behind all.
+/// Returns whether the look-up of a name that was not added returns the number past the last.
 fn lacks_crate(names: &Names) -> bool {
     names.are_distinct();
     !names.contains("crate")

@@ -4,14 +4,14 @@ use crate::texts::{Told, joined, tells};
 use std::alloc::Global;
 use std::process::Abort;
 
-/// Towns a, b and c, and the place d.
+/// Towns a, b and c, and d, which is a `place` and not a town.
 const PLACES: &str =
     "(define (domain places) (:types town - place) (:constants a b c - town d - place)
     (:predicates (at ?x) (road ?x ?y) (done)) ";
 
 const AT_A: &str = "(define (problem p) (:init (at a) (road b c) (road a b)) (:goal ";
 
-/// The action that goes along a road.
+/// The action that moves along a road.
 const GO: &str =
     "(:action go :parameters (?x ?y - town) :precondition (and (at ?x) (road ?x ?y)) :effect (at ?y))";
 

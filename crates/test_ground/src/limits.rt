@@ -13,7 +13,7 @@ fn push_object(rt: &impl Abort, alloc: Global, text: &mut String, number: usize)
     text.push_str(name.as_str()).expect(rt, "memory");
 }
 
-/// A problem with `count` objects.
+/// Returns a problem with `count` objects.
 fn problem_of(rt: &impl Abort, alloc: Global, count: usize) -> String {
     let mut text = String::from_str(alloc, "(define (problem p) (:objects").expect(rt, "memory");
     for number in 0..count {

@@ -4,7 +4,7 @@ use crate::texts::{Told, joined, tells};
 use std::alloc::Global;
 use std::process::Abort;
 
-/// Towns a, b and c, and the place d.
+/// Towns a, b and c, and d, which is a `place` and not a town.
 const PLACES: &str =
     "(define (domain places) (:types town - place) (:constants a b c - town d - place)
     (:predicates (at ?x) (road ?x ?y) (done)) ";
@@ -14,10 +14,10 @@ const GO: &str =
 
 const BOTH: &str = "(:action both :parameters (?x - town) :effect (and (at c) (at ?x)))";
 
-/// The front of a problem, up to further initial atoms.
+/// The start of a problem, up to further initial atoms.
 const ROAD_A_B: &str = "(define (problem p) (:init (road a b) ";
 
-/// Checks the first action over these atoms, beside a road from a to b, that adds another atom, and the least such atom.
+/// Checks the first action over these atoms and a road from a to b that adds another atom, and the least such atom.
 fn opens(rt: &impl Abort, alloc: Global, action: &str, atoms: &str, want: &str) {
     let domain = joined(rt, alloc, PLACES, action, ")");
     let problem = joined(rt, alloc, ROAD_A_B, atoms, ") (:goal ()))");

@@ -1,4 +1,5 @@
-//! Groundings as texts: an atom or an action is its name and those of its objects, and two of them are separated by `|`.
+//! Groundings as texts: an atom or an action is its name and those of its objects, and two of them are separated by
+//! `|`.
 
 ghost use Rattle.std.specs.Prelude.{IsTrue};
 ghost use Rattle.pddl_task.specs.Planning.{has_small_costs};
@@ -11,7 +12,7 @@ use pddl_task::{GroundAction, GroundAtom, Task};
 use std::alloc::Global;
 use std::process::Abort;
 
-/// The three texts in one.
+/// Returns the three texts concatenated.
 pub(crate) fn joined(
     rt: &impl Abort,
     alloc: Global,
@@ -82,7 +83,7 @@ fn actions_text(rt: &impl Abort, alloc: Global, task: &Task, actions: &[GroundAc
     text
 }
 
-/// The atoms and the actions, separated by a blank line.
+/// Returns the atoms and the actions, separated by a blank line.
 fn lists_text(
     rt: &impl Abort,
     alloc: Global,
@@ -95,7 +96,7 @@ fn lists_text(
     joined(rt, alloc, atoms.as_str(), "\n\n", actions.as_str())
 }
 
-/// The text as one that is owned.
+/// Returns an owned copy of the text.
 fn owned(rt: &impl Abort, alloc: Global, text: &str) -> String {
     String::from_str(alloc, text).expect(rt, "memory")
 }
@@ -117,7 +118,7 @@ fn grounding_text(rt: &impl Abort, alloc: Global, task: &Task) -> String
     }
 }
 
-/// The atoms as a list without repeats.
+/// Returns the atoms as a list without duplicates.
 fn listed(rt: &impl Abort, alloc: Global, atoms: &[GroundAtom]) -> Atoms {
     let mut list = Atoms::new(alloc);
     for atom in atoms {
@@ -137,7 +138,7 @@ fn initial_actions(rt: &impl Abort, alloc: Global, task: &Task) -> String
     }
 }
 
-/// An action and an atom, separated by a `|`.
+/// Returns an action and an atom, separated by a `|`.
 fn open_text(
     rt: &impl Abort,
     alloc: Global,
@@ -161,7 +162,7 @@ fn opening_text(rt: &impl Abort, alloc: Global, task: &Task) -> String
     }
 }
 
-/// How many atoms a task's grounding has, or that there are more than the limit.
+/// Returns the number of atoms of a task's grounding, or that there are more than the limit.
 fn count_text(rt: &impl Abort, alloc: Global, task: &Task) -> String
     requires { IsTrue (has_small_costs task.now) }
 {
@@ -172,7 +173,7 @@ fn count_text(rt: &impl Abort, alloc: Global, task: &Task) -> String
     }
 }
 
-/// What is told of a task.
+/// A property of a task, as a text.
 #[derive(Clone, Copy)]
 pub(crate) enum Told {
     /// The atoms and the actions of its grounding, separated by a blank line.
@@ -196,8 +197,8 @@ fn told_of(rt: &impl Abort, alloc: Global, task: &Task, told: Told) -> String
     }
 }
 
-/// What is told of the task that the texts spell. Nothing else owns a task, since the proof of a function that does, and may return at many
-/// places, is long.
+/// Returns this property of the task that the texts spell. No other function owns a task, because the proof of a
+/// function that does, and may return in many branches, is long.
 fn text_of(rt: &impl Abort, alloc: Global, domain: &str, problem: &str, told: Told) -> String {
     match read_task(alloc, domain.as_bytes(), problem.as_bytes()) {
         Ok(task) => told_of(rt, alloc, &task, told),
@@ -205,7 +206,7 @@ fn text_of(rt: &impl Abort, alloc: Global, domain: &str, problem: &str, told: To
     }
 }
 
-/// Checks what is told of the task.
+/// Checks this property of the task.
 pub(crate) fn tells(
     rt: &impl Abort,
     alloc: Global,

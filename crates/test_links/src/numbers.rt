@@ -17,7 +17,7 @@ use test_tasks::states;
 /// The number of messages.
 const MESSAGES: u64 = 100_000;
 
-/// The message of the one state of a variable with one value, at this cost.
+/// Returns the message of the one state of a variable with one value, at this cost.
 fn message(alloc: Global, cost: u64) -> Result<Message<Bits<1>>, Fail>
     requires { cost ≤ 2 ^ 62 }
     ensures { IfOk result HasSmallRank }
@@ -38,7 +38,7 @@ fn message(alloc: Global, cost: u64) -> Result<Message<Bits<1>>, Fail>
     })
 }
 
-/// How often a full or an empty link is looked at before the test gives up.
+/// How many times a full or an empty link is polled before the test stops waiting.
 const LOOKS: u64 = 1_000_000_000;
 
 /// Sends a message as soon as there is room for it. Returns whether there was.
@@ -54,7 +54,7 @@ fn send(sender: &mut Out<Bits<1>>, message: Message<Bits<1>>) -> bool
     false
 }
 
-/// Sends a message for each number from 0 on, by copies of one. Returns how many were sent.
+/// Sends a message for each number from 0 on, by copies of one. Returns the number of messages sent.
 fn send_numbers(alloc: Global, mut sender: Out<Bits<1>>, first: Message<Bits<1>>) -> u64 {
     for cost in 0..MESSAGES {
         let Ok(state) = first.state.copy(alloc) else {
@@ -72,7 +72,8 @@ fn send_numbers(alloc: Global, mut sender: Out<Bits<1>>, first: Message<Bits<1>>
     MESSAGES
 }
 
-/// Takes that many messages, and returns how many of them came in the order in which they were sent.
+/// Takes at most `MESSAGES` messages, up to the first that is not in the order of sending, and returns how many were in
+/// order.
 fn take_numbers(receiver: &mut In<Bits<1>>) -> u64 {
     let mut taken = 0u64;
     for _ in 0..LOOKS {
@@ -88,7 +89,8 @@ fn take_numbers(receiver: &mut In<Bits<1>>) -> u64 {
     taken
 }
 
-/// Sends the messages in a thread of the scope, and takes them in the caller's. Returns how many were sent, and how many came in order.
+/// Sends the messages in a thread of the scope, and takes them in the caller's. Returns the numbers of messages sent,
+/// and of those that arrived in order.
 fn pass_in<'s, E: 's, R: Threads + Wait + Sync>(
     rt: &'s R,
     alloc: Global,
@@ -105,7 +107,7 @@ fn pass_in<'s, E: 's, R: Threads + Wait + Sync>(
     Ok((handle.join(rt), taken))
 }
 
-/// The same in a scope of its own.
+/// Runs `pass_in` in a scope of its own.
 fn pass<R: Threads + Wait + Sync>(
     rt: &R,
     alloc: Global,

@@ -1,23 +1,23 @@
-//! Two who wait for each other, for tests: that they meet shows that two threads ran at once.
+//! Two workers that wait for each other, for tests: if they meet, two threads ran concurrently.
 #![tactic(auto)]
 
 use engine_round::{Gate, Progress, Stop};
 use std::sync::atomic::{AtomicBool, Ordering};
 
-/// How often one of two looks for the other before it gives up.
+/// The number of times that one of the two polls for the other before it stops waiting.
 const MOST_LOOKS: u64 = 100_000_000;
 
-/// Two who wait for each other: if their turns followed each other in one thread, they would wait in vain.
+/// Two workers that wait for each other: if one thread ran their turns one by one, they would wait in vain.
 #[derive(Drop)]
 pub struct Meeting {
     first: AtomicBool,
     second: AtomicBool,
-    /// Whether one of them gave up.
+    /// Whether one of them stopped waiting.
     in_vain: AtomicBool,
 }
 
 impl Meeting {
-    /// Nobody is there.
+    /// Creates a meeting at which neither has arrived.
     pub fn new() -> Meeting {
         Meeting {
             first: AtomicBool::new(false),
@@ -26,7 +26,8 @@ impl Meeting {
         }
     }
 
-    /// The first of them, or the second, is there, and waits for the other. Returns whether that came.
+    /// Records that the first of them, or the second, has arrived, and waits for the other. Returns whether the other
+    /// arrived.
     pub fn meet(&self, is_first: bool) -> bool {
         let (mine, other) = if is_first {
             (&self.first, &self.second)
@@ -43,7 +44,7 @@ impl Meeting {
         false
     }
 
-    /// Whether both were there, and none gave up.
+    /// Returns whether both have arrived, and neither stopped waiting.
     pub fn is_met(&self) -> bool {
         self.first.load(Ordering::SeqCst)
             && self.second.load(Ordering::SeqCst)
@@ -54,7 +55,7 @@ impl Meeting {
 impl Gate for Meeting {
     ghost may_stop = { λ _ _ _ _. Unit {0} };
 
-    /// Each of workers 0 and 1 waits for the other in its first turn.
+    /// Makes workers 0 and 1 wait for each other in their first turns.
     fn turn(&self, worker: usize, turn: u64, _progress: Progress) -> Result<(), Stop> {
         if turn > 1 || self.meet(worker == 0) {
             Ok(())

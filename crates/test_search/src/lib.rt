@@ -1,4 +1,4 @@
-//! Tests of the machine of owners over small spaces, by lists of steps worked out by hand.
+//! Tests of the machine of owners over small spaces, with lists of steps worked out by hand.
 #![tactic(auto)]
 
 #[cfg(test)]

@@ -1,4 +1,4 @@
-//! Listed states that are looked up by their values.
+//! Look-ups of listed states by their values.
 
 use cert_value::ClosedList;
 use checker_states::ClosedIndex;
@@ -6,7 +6,7 @@ use std::alloc::Global;
 use std::process::Abort;
 use std::thread::Threads;
 
-/// Four states of two values, of which two are the same.
+/// Returns a list of four states of two values, two of which are the same.
 fn four_states(rt: &impl Abort, alloc: Global) -> ClosedList {
     let mut closed = ClosedList::new(alloc);
     closed.push(5, &[1, 2]).expect(rt, "memory");
@@ -22,7 +22,7 @@ fn four_states(rt: &impl Abort, alloc: Global) -> ClosedList {
 fn lists_the_four(rt: &impl Abort, index: &ClosedIndex<'_>) {
     assert!(rt;
         index.is_listed(&[1, 2], 5) && index.is_listed(&[1, 2], 3),
-        "a state that stands there twice"
+        "a state that is listed twice"
     );
     assert!(rt; !index.is_listed(&[1, 2], 2), "at less than both costs");
     assert!(rt;
@@ -60,7 +60,7 @@ fn finds_states_of_no_values(rt: HostRuntime) {
     lists_a_state_of_no_values(&rt, &index);
 }
 
-/// Whether the state of no values is listed in the list of no states.
+/// Returns whether the state of no values is listed in the empty list.
 fn is_listed_among_none<R: Abort + Threads + Sync>(rt: &R, alloc: Global) -> bool {
     let closed = ClosedList::new(alloc);
     let index = ClosedIndex::new(rt, alloc, &closed).expect(rt, "memory");

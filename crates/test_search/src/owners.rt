@@ -17,12 +17,12 @@ use test_tasks::walk;
 /// From 0 to 1 and to 2, from 1 to 2, and from 2 and 4 to 3, which is the goal.
 const STEPS: &[(u32, u32, u64)] = &[(0, 1, 1), (0, 2, 5), (1, 2, 1), (2, 3, 1), (4, 3, 1)];
 
-/// The distance of this number.
+/// Returns the distance of this number.
 fn dist(value: u64) -> Dist {
     Dist::fin(value).unwrap_or(Dist::inf())
 }
 
-/// The space of the task without columns.
+/// Returns the space of the task without columns.
 fn space_for<'a, R: Threads + Sync>(
     rt: &R,
     alloc: Global,
@@ -40,8 +40,7 @@ fn space_for<'a, R: Threads + Sync>(
     )
 }
 
-/// Expands the next node, and checks that there are then this number of states, and this least f-value of the nodes to
-/// expand.
+/// Expands the next node, and checks the resulting number of states and the least f-value of the nodes to expand.
 fn expands<S: Spread + Drop, F: StateForm + Drop>(
     rt: &impl Abort,
     owner: &mut Owner<'_, S, F>,
@@ -62,7 +61,7 @@ fn has_reached_the_goal<S: Spread + Drop, F: StateForm + Drop>(
     assert!(rt; owner.is_idle(dist(3)) && !owner.is_idle(dist(4)));
 }
 
-/// Checks that the state at place 2 is the one that was reached at cost 2 from the second state.
+/// Checks that the state at index 2 is the one that was reached at cost 2 from the second state.
 fn has_better_way<S: Spread + Drop, F: StateForm + Drop>(rt: &impl Abort, owner: &Owner<'_, S, F>) {
     assert!(rt; owner.len() == 4);
     let entry = owner.entry(2);
@@ -78,17 +77,17 @@ fn has_better_way<S: Spread + Drop, F: StateForm + Drop>(rt: &impl Abort, owner:
     assert!(rt; entry.expanded);
 }
 
-/// Checks that the initial state is all that there is.
+/// Checks that the initial state is the only one.
 fn has_begun<S: Spread + Drop, F: StateForm + Drop>(rt: &impl Abort, owner: &Owner<'_, S, F>) {
     assert_eq!(rt; (owner.len(), owner.least_open()), (1, Dist::ZERO));
 }
 
-/// Checks that there is nothing left to expand, and that expansions are not counted, as there is no limit.
+/// Checks that there is nothing left to expand, and that expansions are not counted, because there is no limit.
 fn is_done<S: Spread + Drop, F: StateForm + Drop>(rt: &impl Abort, owner: &Owner<'_, S, F>) {
     assert!(rt; owner.is_idle(Dist::inf()) && owner.expansions() == 0);
 }
 
-/// One owner expands all nodes.
+/// Expands all nodes with one owner, and checks the results.
 fn expand_alone<'a, S: Spread + Drop>(
     rt: &impl Abort,
     alloc: Global,
@@ -110,7 +109,7 @@ fn expand_alone<'a, S: Spread + Drop>(
     Ok(())
 }
 
-/// The same test over the task.
+/// Runs `expand_alone` over the task.
 fn expand_alone_of<'t, R: Threads + Sync + Abort>(
     rt: &R,
     alloc: Global,
@@ -127,7 +126,7 @@ fn one_owner_alone(rt: HostRuntime) -> Result<(), Fail> {
     expand_alone_of(&rt, rt.alloc(), &task)
 }
 
-/// Expands the next node below the bound 5, and checks that there are then this number of states.
+/// Expands the next node below the bound 5, and checks the resulting number of states.
 fn expands_below_5<S: Spread + Drop, F: StateForm + Drop>(
     rt: &impl Abort,
     owner: &mut Owner<'_, S, F>,
@@ -148,7 +147,7 @@ fn has_reached_the_limit<S: Spread + Drop, F: StateForm + Drop>(
     assert_eq!(rt; owner.expand(dist(2)), Ok(None), "nothing is below 2");
 }
 
-/// One owner expands below bounds, two nodes at most.
+/// Expands at most two nodes with one owner, below bounds, and checks the results.
 fn expand_below<'a, S: Spread + Drop>(
     rt: &impl Abort,
     alloc: Global,
@@ -162,7 +161,7 @@ fn expand_below<'a, S: Spread + Drop>(
     Ok(())
 }
 
-/// The same test over the task.
+/// Runs `expand_below` over the task.
 fn expand_below_of<'t, R: Threads + Sync + Abort>(
     rt: &R,
     alloc: Global,
@@ -179,7 +178,8 @@ fn drops_at_the_bound(rt: HostRuntime) -> Result<(), Fail> {
     expand_below_of(&rt, rt.alloc(), &task)
 }
 
-/// The first of two owners expands the initial state: 2 is its own state, and 1 is the other's.
+/// Expands the initial state with the first of two owners, and checks the results: 2 is its own state, and 1 is the
+/// other's.
 fn posts<S: Spread + Drop, F: StateForm + Drop>(rt: &impl Abort, owner: &mut Owner<'_, S, F>)
     requires { length owner.old.outboxes ≡ 2 }
     ensures space { owner.new.space ≡ owner.old.space }
@@ -220,7 +220,7 @@ fn has_one_state<S: Spread + Drop, F: StateForm + Drop>(
     assert_eq!(rt; (owner.len(), owner.least_open()), (1, cost));
 }
 
-/// Two owners, of which the first hands a state to the second.
+/// Sends a state from the first of two owners to the second, and checks the results.
 fn hand_over<'a, S: Spread + Drop>(
     rt: &impl Abort,
     alloc: Global,
@@ -248,7 +248,7 @@ fn hand_over<'a, S: Spread + Drop>(
     Ok(())
 }
 
-/// The same test over the task.
+/// Runs `hand_over` over the task.
 fn hand_over_of<'t, R: Threads + Sync + Abort>(
     rt: &R,
     alloc: Global,

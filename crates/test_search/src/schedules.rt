@@ -16,7 +16,8 @@ use std::alloc::{AllocError, Global};
 use std::process::Abort;
 use std::thread::Threads;
 
-/// One variable of three values, from 0 to 2. Operators 0: 0 to 1 at cost 0; 1: 1 to 0 at cost 0; 2: 1 to 2 at cost 1.
+/// One variable of three values, initially 0, with the goal 2. Operators 0: 0 to 1 at cost 0; 1: 1 to 0 at cost 0; 2: 1
+/// to 2 at cost 1.
 pub(crate) const CYCLE: &str = "begin_version
 3
 end_version
@@ -65,8 +66,8 @@ end_operator
 0
 ";
 
-/// One variable of four values, from 0 to 3. Operators 0: 0 to 1 at cost 9; 1: 0 to 2 at cost 2; 2: 2 to 1 at cost 2; 3:
-/// 0 to 3 at cost 3; 4: 1 to 3 at cost 5.
+/// One variable of four values, initially 0, with the goal 3. Operators 0: 0 to 1 at cost 9; 1: 0 to 2 at cost 2; 2: 2
+/// to 1 at cost 2; 3: 0 to 3 at cost 3; 4: 1 to 3 at cost 5.
 const DETOUR: &str = "begin_version
 3
 end_version
@@ -197,7 +198,7 @@ const DETOUR_GOAL_FIRST: &[WorldStep] = &[
     Rest(0),
 ];
 
-/// Owner 0 has seen the bound when it expands state 2, so the successor at cost 4 is dropped.
+/// Owner 0 has read the bound when it expands state 2, so the successor at cost 4 is discarded.
 const DETOUR_DROPPED: &[WorldStep] = &[
     Expand(0),
     Send(0, 1),
@@ -225,7 +226,7 @@ fn is_settled<S: Spread + Drop, F: StateForm + Drop>(
     assert_eq!(rt; answer, Some(SearchAnswer::Solved(cost)));
 }
 
-/// The plan to the best goal node, if there is one.
+/// Returns the plan to the best goal node, if there is one.
 fn best_plan<S: Spread + Drop, F: StateForm + Drop>(
     alloc: Global,
     joined: &Joined<'_, S, F>,
@@ -249,7 +250,7 @@ fn has_plan<S: Spread + Drop, F: StateForm + Drop>(
     assert_eq!(rt; found.as_slice(), plan);
 }
 
-/// The text of the certificate.
+/// Returns the text of the certificate.
 fn certificate_text<S: Spread + Drop, F: StateForm + Drop>(
     alloc: Global,
     joined: &Joined<'_, S, F>,
@@ -271,7 +272,7 @@ fn has_answer<S: Spread + Drop, F: StateForm + Drop>(
     assert_eq!(rt; written.as_slice(), text.as_bytes());
 }
 
-/// The space of the task without columns.
+/// Returns the space of the task without columns.
 fn space_for<'t, R: Threads + Sync>(
     rt: &R,
     alloc: Global,
@@ -288,7 +289,8 @@ fn space_for<'t, R: Threads + Sync>(
     )
 }
 
-/// Two owners do the steps, after which no work is left; they are settled at the cost. `None` if a step is refused.
+/// Performs the steps with two owners, and checks that no work is left and that they are settled at the cost. `None` if
+/// a step is refused.
 fn run_to_the_end<'a, S: Spread + Drop>(
     rt: &impl Abort,
     alloc: Global,
@@ -306,7 +308,7 @@ fn run_to_the_end<'a, S: Spread + Drop>(
     }
 }
 
-/// The same, with this plan and this text of a certificate at the end.
+/// As `run_to_the_end`, with this plan and this text of a certificate at the end.
 fn end_so<'a, S: Spread + Drop>(
     rt: &impl Abort,
     alloc: Global,
@@ -325,8 +327,8 @@ fn end_so<'a, S: Spread + Drop>(
     }
 }
 
-/// Two owners of the task's states do the steps, after which no work is left: they are settled at the cost, with this
-/// plan and this text of a certificate.
+/// Performs the steps with two owners of the task's states, and checks that no work is left and that they are settled
+/// at the cost, with this plan and this text of a certificate.
 fn settle<'t, R: Threads + Sync + Abort>(
     rt: &R,
     alloc: Global,
@@ -344,7 +346,7 @@ fn settle<'t, R: Threads + Sync + Abort>(
     );
 }
 
-/// The same for the task of a text.
+/// As `settle`, for the task of a text.
 fn settle_text<R: Threads + Sync + Abort>(
     rt: &R,
     alloc: Global,

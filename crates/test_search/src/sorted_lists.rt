@@ -36,7 +36,7 @@ fn sorts_states_without_values(rt: HostRuntime) {
     has_one_state(&rt, &closed);
 }
 
-/// The number of states of a list that is made of none.
+/// Returns the number of states of a list that is made from none.
 fn count_of_none(rt: &impl Abort, alloc: Global) -> usize {
     sorted_list(alloc, 3, &[], &[]).expect(rt, "memory").len()
 }

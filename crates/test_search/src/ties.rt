@@ -12,14 +12,14 @@ use std::test::Fail;
 use std::thread::Threads;
 use test_tasks::walk;
 
-/// From 0 to 1 and to 2 at cost 1, from 2 to 3 at no cost, and from there to 4, which is the goal.
+/// From 0 to 1 and to 2 at cost 1, from 2 to 3 at no cost, and from 3 to 4, which is the goal.
 const SAME_COSTS: &[(u32, u32, u64)] = &[(0, 1, 1), (0, 2, 1), (2, 3, 0), (3, 4, 1)];
 
 /// From 0 over 1 and over 2 to 3, which is the goal, at cost 3 each.
 const TWO_WAYS: &[(u32, u32, u64)] = &[(0, 1, 1), (0, 2, 2), (1, 3, 2), (2, 3, 1)];
 
-/// From 0 to 3 at cost 2: by three operators over 1 and 2, and by two operators over 4, which is found later. From 3 to 5,
-/// which is the goal.
+/// From 0 to 3 at cost 2: by three operators over 1 and 2, and by two operators over 4, which is found later. From 3 to
+/// 5, which is the goal.
 const SHORTER_WAY: &[(u32, u32, u64)] = &[
     (0, 1, 0),
     (0, 4, 1),
@@ -29,7 +29,7 @@ const SHORTER_WAY: &[(u32, u32, u64)] = &[
     (3, 5, 1),
 ];
 
-/// Expands the next node, and checks that it is the one at this place.
+/// Expands the next node, and checks that it is the one at this index.
 fn expands_at<S: Spread + Drop, F: StateForm + Drop>(
     rt: &impl Abort,
     owner: &mut Owner<'_, S, F>,
@@ -42,7 +42,8 @@ fn expands_at<S: Spread + Drop, F: StateForm + Drop>(
     assert!(rt; owner.entry(place).expanded, "the node {place} is next");
 }
 
-/// One owner expands the nodes at these places in this order, and no other; the last node that it found has this rank.
+/// Checks that one owner expands the nodes at these indices in this order, and no other, and that the last node that it
+/// found has this rank.
 fn expands_in_order<'a, S: Spread + Drop>(
     rt: &impl Abort,
     alloc: Global,
@@ -60,7 +61,7 @@ fn expands_in_order<'a, S: Spread + Drop>(
     Ok(())
 }
 
-/// The same over the task without columns: f is the cost.
+/// Runs `expands_in_order` over the task without columns: f is the cost.
 fn by_cost<'t, R: Threads + Sync + Abort>(
     rt: &R,
     alloc: Global,
@@ -82,7 +83,8 @@ fn by_cost<'t, R: Threads + Sync + Abort>(
     expands_in_order(rt, alloc, &space, places, last)
 }
 
-/// The same over the task with columns of one table: of one variable, so that the heuristic is the cost to the goal.
+/// Runs `expands_in_order` over the task with columns of one table, of its one variable, so that the heuristic is the
+/// cost to the goal.
 fn by_distance<'t, R: Threads + Sync + Abort>(
     rt: &R,
     alloc: Global,
@@ -132,7 +134,8 @@ fn nodes_of_the_same_f_value(rt: HostRuntime) -> Result<(), Fail> {
 #[test]
 fn a_node_improved_at_the_same_cost(rt: HostRuntime) -> Result<(), Fail> {
     let task = walk(rt.alloc(), 6, 5, SHORTER_WAY)?.ok_or("a task")?;
-    // 3 is at place 4: its old entry, of three operators, would come first in the deep order, and lead to 5 by four
+    // 3 has index 4: its stale entry, of three operators, would come first in the deep order, and 5 would be reached by
+    // four operators
     let last = Rank { cost: 3, steps: 3 };
     let places = [0, 1, 3, 2, 4, 5];
     by_cost(&rt, rt.alloc(), &task, Ties::Shallow, &places, last)?;

@@ -20,7 +20,7 @@ use std::process::Abort;
 use std::test::Fail;
 use std::thread::Threads;
 
-/// The message with which the second of two owners is handed the state 1, at the greatest cost.
+/// Returns the message with which the second of two owners receives the state 1, at the greatest cost.
 fn message_at_most_total<'a, F: StateForm + Drop, R: Abort>(
     rt: &R,
     alloc: Global,
@@ -46,7 +46,7 @@ fn message_at_most_total<'a, F: StateForm + Drop, R: Abort>(
     })
 }
 
-/// Checks that the one node is not expanded, as its successor would cost too much.
+/// Checks that the one node is not expanded, because its successor would cost too much.
 fn refuses<S: Spread + Drop, F: StateForm + Drop>(rt: &impl Abort, owner: &mut Owner<'_, S, F>) {
     let open = Dist::fin(MAX_TOTAL).expect(rt, "a distance");
     assert_eq!(rt; owner.least_open(), open);
@@ -55,7 +55,8 @@ fn refuses<S: Spread + Drop, F: StateForm + Drop>(rt: &impl Abort, owner: &mut O
     assert!(rt; !owner.entry(0).expanded);
 }
 
-/// Operator 1 leads on at cost 0, and operator 2 at cost 1, above the greatest total: so the state is not expanded.
+/// Checks that a state at the greatest total is not expanded: operator 1 has cost 0, but operator 2 has cost 1, which
+/// exceeds the total.
 fn refuse_total<'a, F: StateForm + Drop, R: Abort>(
     rt: &R,
     alloc: Global,
@@ -70,7 +71,7 @@ fn refuse_total<'a, F: StateForm + Drop, R: Abort>(
     Ok(())
 }
 
-/// The same test over the task, without columns.
+/// Runs `refuse_total` over the task, without columns.
 fn refuse_total_of<'t, R: Threads + Sync + Abort>(
     rt: &R,
     alloc: Global,

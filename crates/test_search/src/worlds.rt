@@ -15,7 +15,7 @@ use test_tasks::walk;
 /// From 0 to 1 and back at no cost, and from 1 to 2, which is the goal.
 const STEPS: &[(u32, u32, u64)] = &[(0, 1, 0), (1, 0, 0), (1, 2, 1)];
 
-/// The space of the task without columns.
+/// Returns the space of the task without columns.
 fn space_for<'a, R: Threads + Sync>(
     rt: &R,
     alloc: Global,
@@ -50,7 +50,7 @@ fn has_two_steps<S: Spread + Drop, F: StateForm + Drop>(rt: &impl Abort, world: 
     assert_eq!(rt; world.possible_step(2), None);
 }
 
-/// Checks that two units are counted, and that there is no answer yet.
+/// Checks that the count is two units, and that there is no answer yet.
 fn has_two_units<S: Spread + Drop, F: StateForm + Drop>(
     rt: &impl Abort,
     alloc: Global,
@@ -60,7 +60,7 @@ fn has_two_units<S: Spread + Drop, F: StateForm + Drop>(
     assert_eq!(rt; (world.count(), answer), (2, None));
 }
 
-/// The second owner comes to rest, and one step is left.
+/// Lets the second owner rest, and checks that one step is left.
 fn second_rests<S: Spread + Drop, F: StateForm + Drop>(
     rt: &impl Abort,
     world: &mut World<'_, S, F>,
@@ -83,7 +83,7 @@ fn idles_at_first<S: Spread + Drop, F: StateForm + Drop>(
     idles(rt, world, WorldStep::Send(0, 9));
 }
 
-/// Which steps would change something at the start, and which would not.
+/// Checks which steps would change something at the start, and which would not.
 fn first_steps<'a, S: Spread + Drop>(
     rt: &impl Abort,
     alloc: Global,
@@ -97,7 +97,7 @@ fn first_steps<'a, S: Spread + Drop>(
     Ok(())
 }
 
-/// The same test over the task.
+/// Runs `first_steps` over the task.
 fn first_steps_of<'t, R: Threads + Sync + Abort>(
     rt: &R,
     alloc: Global,

@@ -8,7 +8,7 @@ use std::alloc::Global;
 use std::process::Abort;
 use test_tasks::{fact, operator, states, task};
 
-/// Checks that these operators are found, whatever the vector holds before.
+/// Checks that these operators are found, whatever the vector held.
 fn finds(
     rt: &impl Abort,
     alloc: Global,
@@ -34,7 +34,7 @@ fn applies(rt: &impl Abort, alloc: Global, task: &FdrTask, state: &[u32], number
     }
 }
 
-/// Appends an operator.
+/// Pushes an operator.
 fn push(
     rt: &impl Abort,
     operators: &mut Vec<Operator>,
@@ -46,7 +46,7 @@ fn push(
     operators.push(next).expect(rt, "memory");
 }
 
-/// Two variables, of 2 and 3 values. Operators test one of them, both or none, and are in no order.
+/// Returns a task of two variables, of 2 and 3 values. Operators test one of them, both or none, and are in no order.
 fn crossing(rt: &impl Abort, alloc: Global) -> FdrTask {
     let mut operators = Vec::new(alloc);
     push(rt, &mut operators, alloc, &[fact(1, 1)], &[fact(1, 2)]);
@@ -90,7 +90,7 @@ fn finds_nothing_past_the_values(rt: HostRuntime) {
     applies(&rt, rt.alloc(), &task, &[4_294_967_295, 1], &[0, 2]);
 }
 
-/// A task without variables, of one operator.
+/// Returns a task without variables, of one operator.
 fn one_operator(rt: &impl Abort, alloc: Global) -> FdrTask {
     let mut operators = Vec::new(alloc);
     push(rt, &mut operators, alloc, &[], &[]);
@@ -113,7 +113,8 @@ fn finds_without_operators(rt: HostRuntime) {
     applies(&rt, rt.alloc(), &none, &[1], &[]);
 }
 
-/// Three variables of 3, 3 and 2 values. Preconditions begin with others, and two of them stand twice.
+/// Returns a task of three variables of 3, 3 and 2 values. Preconditions begin with others, and two of them occur
+/// twice.
 fn nested(rt: &impl Abort, alloc: Global) -> FdrTask {
     let mut operators = Vec::new(alloc);
     push(
@@ -144,8 +145,8 @@ fn finds_longer_and_equal_preconditions(rt: HostRuntime) {
     applies(&rt, rt.alloc(), &task, &[0, 1, 1], &[]);
 }
 
-/// Variables of 100 and 60,000 values. Of the first, each third value has an operator, and of the second the first and
-/// the last value.
+/// Returns a task of variables of 100 and 60,000 values. Each third value of the first has an operator, and the first
+/// and the last value of the second.
 fn wide(rt: &impl Abort, alloc: Global) -> FdrTask {
     let mut operators = Vec::new(alloc);
     for third in 0..34 {
@@ -168,7 +169,7 @@ fn finds_under_variables_of_many_values(rt: HostRuntime) {
     applies(&rt, rt.alloc(), &task, &[100, 60_000], &[]);
 }
 
-/// Operators of the first facts of a row: all of them, and all but the last, both twice.
+/// Returns a task with operators on the first facts of a row: all of them, and all but the last, both twice.
 fn deep(rt: &impl Abort, alloc: Global, facts: &[Fact]) -> FdrTask {
     let mut ranges = Vec::new(alloc);
     let mut initial = Vec::new(alloc);

@@ -8,12 +8,12 @@ use cost::Dist;
 use std::process::Abort;
 use std::test::Fail;
 
-/// A number as a distance.
+/// Returns a number as a distance.
 fn dist(rt: &impl Abort, value: u64) -> Dist {
     Dist::fin(value).expect(rt, "a small number")
 }
 
-/// Checks that nothing was done at the board.
+/// Checks that the board is unchanged since its creation.
 fn is_new(rt: &impl Abort, board: &Board, seat: &mut Seat)
     requires { IsSeatOf board.now seat.old }
     ensures { IsSeatOf board.now seat.new × ((view seat.new).parts ≡ (view seat.old).parts) }

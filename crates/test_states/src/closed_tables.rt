@@ -24,7 +24,7 @@ fn parent(index: usize) -> Parent {
     }
 }
 
-/// Checks the outcome of reaching a state from the node at that place.
+/// Checks the outcome of reaching a state from the node at that index.
 fn reaches<F: StateForm + Drop>(
     rt: &impl Abort,
     table: &mut ClosedTable<F>,
@@ -44,7 +44,7 @@ fn reaches<F: StateForm + Drop>(
     assert_eq!(rt; outcome, expected);
 }
 
-/// Checks the entry of the table at a place.
+/// Checks the entry of the table at an index.
 fn keeps<F: StateForm + Drop>(
     rt: &impl Abort,
     table: &ClosedTable<F>,
@@ -53,7 +53,7 @@ fn keeps<F: StateForm + Drop>(
     from: usize,
     expanded: bool,
 ) {
-    assert!(rt; index < table.len(), "a place");
+    assert!(rt; index < table.len(), "an index");
     let entry = Entry {
         rank,
         parent: Some(parent(from)),
@@ -62,23 +62,23 @@ fn keeps<F: StateForm + Drop>(
     assert_eq!(rt; table.entry(index), entry);
 }
 
-/// Marks the state at a place as expanded.
+/// Marks the state at an index as expanded.
 fn expands<F: StateForm + Drop>(rt: &impl Abort, table: &mut ClosedTable<F>, index: usize)
     ensures { table.new.ranges ≡ table.old.ranges }
 {
-    assert!(rt; index < table.len(), "a place");
+    assert!(rt; index < table.len(), "an index");
     table.mark_expanded(index);
 }
 
-/// Marks the state at a place as not expanded.
+/// Marks the state at an index as not expanded.
 fn reopens<F: StateForm + Drop>(rt: &impl Abort, table: &mut ClosedTable<F>, index: usize)
     ensures { table.new.ranges ≡ table.old.ranges }
 {
-    assert!(rt; index < table.len(), "a place");
+    assert!(rt; index < table.len(), "an index");
     table.mark_open(index);
 }
 
-/// Checks whether a state is known at a rank.
+/// Checks whether a state is a duplicate at a rank.
 fn is_known<F: StateForm + Drop>(
     rt: &impl Abort,
     alloc: Global,
@@ -95,7 +95,7 @@ fn is_known<F: StateForm + Drop>(
     assert_eq!(rt; table.knows(&form, rank), expected);
 }
 
-/// A state that is reached several times keeps the least rank.
+/// Checks that a state that is reached several times has the least rank.
 fn keeps_the_least_rank_in<F: StateForm + Drop, R: Abort>(
     rt: &R,
     alloc: Global,
@@ -166,7 +166,7 @@ fn keeps_the_least_rank(rt: HostRuntime) -> Result<(), Fail> {
     Ok(())
 }
 
-/// Checks that the table of no states takes the initial state and gives it back.
+/// Checks that the empty table stores the initial state and returns it.
 fn gives_back<F: StateForm + Drop>(
     rt: &impl Abort,
     alloc: Global,
@@ -186,7 +186,7 @@ fn gives_back<F: StateForm + Drop>(
     assert_eq!(rt; state.as_slice(), [1, 2].as_slice());
 }
 
-/// A table gives back the state that it was given.
+/// Checks that a table returns the state that was stored.
 fn gives_states_back_in<F: StateForm + Drop, R: Abort>(
     rt: &R,
     alloc: Global,
@@ -215,7 +215,7 @@ fn gives_states_back(rt: HostRuntime) -> Result<(), Fail> {
     Ok(())
 }
 
-/// Messages of these states and ranks.
+/// Returns messages of these states and ranks.
 fn messages<F: StateForm + Drop, R: Abort>(
     rt: &R,
     alloc: Global,
@@ -237,15 +237,15 @@ fn messages<F: StateForm + Drop, R: Abort>(
     messages
 }
 
-/// Whether the messages are of states of the layout.
+/// Returns whether the messages hold states of the layout.
 fn are_of<F: StateForm + Drop>(layout: &Layout, messages: &[Message<F>]) -> bool
     ensures { IsTrue result → All (λ m. F.IsForm layout.now m.state) messages.now }
 {
     messages.iter().all(|message| message.state.is_form(layout))
 }
 
-/// Whether the messages were taken. Checks their outcomes, which replace others, and that a failure leaves the table as it
-/// was.
+/// Returns whether the messages were taken. Checks their outcomes, which replace others, and that a failure leaves the
+/// table unchanged.
 fn takes<F: StateForm + Drop>(
     rt: &impl Abort,
     alloc: Global,
@@ -269,7 +269,7 @@ fn takes<F: StateForm + Drop>(
     }
 }
 
-/// Messages are taken one after the other.
+/// Checks that messages are taken in order.
 fn takes_messages_one_after_the_other_in<F: StateForm + Drop, R: Abort>(
     rt: &R,
     alloc: Global,

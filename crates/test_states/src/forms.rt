@@ -1,4 +1,4 @@
-//! Forms of states: what is packed is read back, by every form, and words of no state are no form.
+//! Forms of states: every form returns what was packed, and words of no state are not a form.
 
 ghost use Rattle.fdr.specs.Tasks.{IsState};
 
@@ -52,7 +52,7 @@ fn keeps<F: StateForm + Drop>(
     keeps_states::<F>(rt, alloc, &layout, first, second).expect(rt, "memory");
 }
 
-/// The layout of states of variables with these ranges, of which this is one.
+/// Returns the layout of states of variables with these ranges, of which `state` is one.
 fn layout_of(rt: &impl Abort, alloc: Global, ranges: &[usize], state: &[u32]) -> Layout {
     let task = states(alloc, ranges, state)
         .expect(rt, "memory")
@@ -60,7 +60,7 @@ fn layout_of(rt: &impl Abort, alloc: Global, ranges: &[usize], state: &[u32]) ->
     Layout::new(alloc, &task).expect(rt, "memory")
 }
 
-/// The form of a state of variables with these ranges.
+/// Returns the form of a state of variables with these ranges.
 fn form_of<F: StateForm + Drop>(
     rt: &impl Abort,
     alloc: Global,
@@ -75,7 +75,7 @@ fn form_of<F: StateForm + Drop>(
     F::pack(alloc, &layout, state).expect(rt, "memory")
 }
 
-/// Whether the form of a state over variables with some ranges is one over variables with other ranges.
+/// Returns whether the form of a state over variables with some ranges is one over variables with other ranges.
 fn is_also<F: StateForm + Drop>(
     rt: &impl Abort,
     alloc: Global,
@@ -116,7 +116,7 @@ fn two_variables(rt: HostRuntime) {
     keeps::<Bits<2>>(&rt, rt.alloc(), &[2, 3], &[1, 2], &[1, 0]);
 }
 
-/// Checks the forms of states of this many variables, of three values each.
+/// Checks the forms of states of `width` variables, of three values each.
 fn keeps_wide(rt: &impl Abort, alloc: Global, width: usize) {
     let ranges = vec![in alloc; 3; width].expect(rt, "memory");
     let first = vec![in alloc; 0u32; width].expect(rt, "memory");
@@ -180,7 +180,7 @@ fn many_variables(rt: HostRuntime) {
     keeps::<Bits<84>>(&rt, rt.alloc(), &ranges, &first, &second);
 }
 
-/// Whether a form of the state of no values is equal to its copy, and a form of its layout.
+/// Returns whether a form of the state of no values is equal to its copy, and a form of its layout.
 fn is_kept_without_values<F: StateForm + Drop>(
     rt: &impl Abort,
     alloc: Global,
@@ -222,7 +222,7 @@ fn words_of_no_state(rt: HostRuntime) {
     );
     assert!(rt;
         !is_also::<Bits<1>>(&rt, alloc, &[2], &[1], &[1], &[0]),
-        "a bit where none is used"
+        "a bit although none is used"
     );
     assert!(rt;
         !is_also::<Plain>(&rt, alloc, &[4], &[3], &[3], &[0]),

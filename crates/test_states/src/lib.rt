@@ -1,5 +1,5 @@
-//! Tests of what an owner of states keeps and shares: costs, forms of states, tables, open lists, applicable operators, and the
-//! boards and rings between workers.
+//! Tests of the data of an owner of states, and of what workers share: costs, forms of states, tables, open lists,
+//! applicable operators, and the boards and rings between workers.
 #![tactic(auto)]
 
 #[cfg(test)]

@@ -76,14 +76,15 @@ fn buckets_take_a_lower_f_after_a_pop(rt: HostRuntime) {
     lower_after_a_pop(&rt, &mut Buckets::new(rt.alloc()));
 }
 
-/// The next of a sequence of numbers that looks drawn (Marsaglia 2003, with the shifts 13, 7 and 17).
+/// Returns the next number of a pseudo-random sequence (Marsaglia 2003, with the shifts 13, 7 and 17).
 fn next_drawn(drawn: u64) -> u64 {
     let drawn = drawn ^ (drawn << 13);
     let drawn = drawn ^ (drawn >> 7);
     drawn ^ (drawn << 17)
 }
 
-/// Pushes and pops the same drawn entries on both lists, two pushes for each pop. The f-values are on both sides of 65536.
+/// Pushes and pops the same random entries on both lists, two pushes for each pop. The f-values are on both sides of
+/// 65536.
 fn push_and_pop<L: OpenList, M: OpenList>(rt: &impl Abort, first: &mut L, second: &mut M) {
     let mut drawn = 88_172_645_463_325_252;
     for index in 0..100_000usize {
@@ -100,7 +101,7 @@ fn push_and_pop<L: OpenList, M: OpenList>(rt: &impl Abort, first: &mut L, second
     }
 }
 
-/// Pops what is left of at most 100,000 entries.
+/// Pops the entries that are left, at most 100,000.
 fn pop_all<L: OpenList, M: OpenList>(rt: &impl Abort, first: &mut L, second: &mut M) {
     for _ in 0..100_000 {
         assert_eq!(rt; first.pop(), second.pop());

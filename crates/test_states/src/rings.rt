@@ -12,7 +12,7 @@ use std::process::Abort;
 use std::test::Fail;
 use test_tasks::states;
 
-/// The layout of the one state of a variable with one value.
+/// Returns the layout of the one state of a variable with one value.
 fn layout_of_one(rt: &impl Abort, alloc: Global) -> Layout {
     let task = states(alloc, &[1], &[0])
         .expect(rt, "memory")
@@ -20,7 +20,7 @@ fn layout_of_one(rt: &impl Abort, alloc: Global) -> Layout {
     Layout::new(alloc, &task).expect(rt, "memory")
 }
 
-/// The message of the one state of a variable with one value, at this cost.
+/// Returns the message of the one state of a variable with one value, at this cost.
 fn message(rt: &impl Abort, alloc: Global, cost: u64) -> Result<Message<Plain>, AllocError>
     requires { cost ≤ 2 ^ 62 }
     ensures { IfOk result HasSmallRank }
@@ -38,14 +38,14 @@ fn message(rt: &impl Abort, alloc: Global, cost: u64) -> Result<Message<Plain>, 
     })
 }
 
-/// The cost of the oldest message, which is taken, if there is one.
+/// Takes the oldest message, if there is one, and returns its cost.
 fn taken(receiver: &mut In<Plain>) -> Option<u64>
     ensures { SameIn receiver.old receiver.new }
 {
     receiver.pop().map(|message| message.rank.cost)
 }
 
-/// Whether the message went into the ring.
+/// Sends a message, and returns whether there was room for it.
 fn is_sent(sender: &mut Out<Plain>, message: Message<Plain>) -> bool
     requires { HasSmallRank message }
     ensures { SameOut sender.old sender.new }
@@ -53,7 +53,7 @@ fn is_sent(sender: &mut Out<Plain>, message: Message<Plain>) -> bool
     sender.push(message).is_ok()
 }
 
-/// A ring with room for one message takes one, and returns a second one.
+/// Checks that a ring with room for one message takes one, and returns a second one.
 fn takes_one(
     rt: &impl Abort,
     alloc: Global,
@@ -111,7 +111,7 @@ fn send_last(rt: &impl Abort, alloc: Global, outs: &mut Vec<Out<Plain>>, cost: u
     assert!(rt; is_sent(sender, message));
 }
 
-/// The cost of the message that is taken from the first worker, if there is one.
+/// Takes a message from the first worker, if there is one, and returns its cost.
 fn from_first(ins: &mut Vec<In<Plain>>) -> Option<u64> {
     taken(ins.first_mut()?)
 }

@@ -9,14 +9,14 @@ use std::process::Abort;
 use std::test::Fail;
 use test_tasks::{fact, operator, states, task};
 
-/// The owner of the state among seven.
+/// Returns the owner of the state among seven.
 fn owner_of_seven<S: Spread>(spread: &S, state: &[u32]) -> usize
     requires { IsState (S.ranges spread.now) state.now }
 {
     spread.owner_of(state, 7)
 }
 
-/// The owner among seven of the state with the facts' values in place of its own.
+/// Returns the owner among seven of the state with the facts' values instead of its own.
 fn owner_of_seven_after<S: Spread>(spread: &S, state: &[u32], facts: &[Fact]) -> usize
     requires state { IsState (S.ranges spread.now) state.now }
     requires facts { IsAssignment (S.ranges spread.now) facts.now }
@@ -57,8 +57,8 @@ fn owners_of_states(rt: HostRuntime) -> Result<(), Fail> {
     owned(&rt, rt.alloc(), &[], &[], 0, 0)
 }
 
-/// Checks that the state in which these facts hold, and else the values of `state`, has this owner among seven by its hash,
-/// and this one by its first value.
+/// Checks that the state in which these facts hold, and otherwise the values of `state`, has this owner among seven by
+/// its hash, and this one by its first value.
 fn owned_after(
     rt: &impl Abort,
     alloc: Global,
@@ -67,7 +67,7 @@ fn owned_after(
     by_hash: usize,
     by_value: usize,
 ) -> Result<(), Fail> {
-    // the facts are the goal, so that they are known to be at most one for each variable
+    // the facts are the goal, which shows that there is at most one for each variable
     let task = task(alloc, &[2, 3], state, facts, Vec::new(alloc))?.ok_or("a task")?;
     let zobrist = Zobrist::new(alloc, &task)?;
     assert_eq!(rt;
@@ -92,7 +92,7 @@ fn owners_of_changed_states(rt: HostRuntime) -> Result<(), Fail> {
     owned_after(&rt, rt.alloc(), &[0, 0], &[], 5, 0)
 }
 
-/// Operators of which the most change the last of three variables, some the one before, and none the first.
+/// Returns operators most of which change the last of three variables, some the one before, and none the first.
 fn last_changes_most(alloc: Global) -> Result<Vec<Operator>, AllocError> {
     let mut operators = Vec::new(alloc);
     operators.push(operator(alloc, &[fact(2, 0)], &[fact(2, 1)])?)?;
@@ -101,8 +101,8 @@ fn last_changes_most(alloc: Global) -> Result<Vec<Operator>, AllocError> {
     Ok(operators)
 }
 
-/// An operator that changes the first variable, and applies in all states; and one that changes the last, and applies in a
-/// quarter.
+/// Returns an operator that changes the first variable, and applies in all states; and one that changes the last, and
+/// applies in a quarter.
 fn first_changes_most(alloc: Global) -> Result<Vec<Operator>, AllocError> {
     let mut operators = Vec::new(alloc);
     operators.push(operator(alloc, &[], &[fact(0, 1)])?)?;
@@ -110,8 +110,8 @@ fn first_changes_most(alloc: Global) -> Result<Vec<Operator>, AllocError> {
     Ok(operators)
 }
 
-/// Checks that the state has this owner among seven by a hash of the variables that these operators seldom change, where three
-/// variables have 2, 3 and 4 values: as many variables as tell 6 of the 24 states apart.
+/// Checks that the state has this owner among seven by a hash of the variables that these operators seldom change, with
+/// three variables of 2, 3 and 4 values: as many variables as distinguish 6 of the 24 states.
 fn owned_by_projection(
     rt: &impl Abort,
     alloc: Global,

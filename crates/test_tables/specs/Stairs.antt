@@ -1,5 +1,5 @@
--- A staircase, for tests: an operator that touches the states leads down by one step more than its number, if there are
--- that many, and the others lead from each state to itself.
+-- A staircase, for tests: an operator that affects the states maps each step to the one below it by the operator's
+-- number plus 1, if there is such a step, and the others map each state to itself.
 use Rattle.std.specs.Prelude.{◌≡◌, ℕ, ◌+◌, ◌-◌, ◌<◌, ◌≤◌, Bool, false, nat_lt, if◌then◌else◌, List, [], ◌∷◌, length, replicate, Option, Some, None, option_and_then, IfSome, slice_index, slice_index_or, true}
 use Rattle.std.proofs.Common.{arith, ⊎_elim, ap, sym, subst, ◌∙◌}
 use Rattle.std.proofs.lemmas.Bool.Decides.{nat_tests}
@@ -18,7 +18,7 @@ absent_fact = record { variable = 0; value = 1 }
 abbrev blocked : Operator
 blocked = record { name = []; precondition = absent_fact ∷ []; effect = []; cost = 0 }
 
--- a task with one state, which is no goal and to which no operator applies
+-- a task with one state, which is not a goal and in which no operator applies
 abbrev pub stairs_task : ℕ → FiniteDomainTask
 stairs_task operators = record {
   metric = false;
@@ -84,7 +84,7 @@ stairs_abstracts goals touching operators some t =
       untouched = λ i o l away. step_same touching operators i o away;
     }
 
--- each operator that touches the states is a class of its own
+-- each operator that affects the states is a class of its own
 abbrev pub stair_classes : ℕ → Classes
 stair_classes touching = record { count = touching; class = λ o. if nat_lt o touching then Some o else None }
 

@@ -13,14 +13,15 @@ use test_tasks::walk;
 
 const HUGE: u64 = 18_446_744_073_709_551_615;
 
-/// One variable with the values 0, 1 and 2, at first 0; the goal is 2. Operators: 0 to 1 and 1 to 2, at 1 each.
+/// Returns a task of one variable with the values 0, 1 and 2, initially 0; the goal is 2. Operators: 0 to 1 and 1 to 2,
+/// at cost 1 each.
 fn road(rt: &impl Abort, alloc: Global) -> FdrTask {
     walk(alloc, 3, 2, &[(0, 1, 1), (1, 2, 1)])
         .expect(rt, "memory")
         .expect(rt, "a task")
 }
 
-/// States of one value each, with their costs.
+/// Returns a list of states of one value each, with their costs.
 fn listed(rt: &impl Abort, alloc: Global, states: &[(u64, u32)]) -> ClosedList {
     let mut closed = ClosedList::new(alloc);
     for &(cost, value) in states {
@@ -29,7 +30,7 @@ fn listed(rt: &impl Abort, alloc: Global, states: &[(u64, u32)]) -> ClosedList {
     closed
 }
 
-/// The first violation of the clauses from the initial state on.
+/// Returns the first violation of the clauses 6 to 8.
 fn uncovered<R: Threads + Sync>(
     rt: &R,
     alloc: Global,
@@ -49,7 +50,7 @@ fn uncovered<R: Threads + Sync>(
     coverage.first_successor_violation(rt, alloc)
 }
 
-/// The first violation of the clauses 4 to 8.
+/// Returns the first violation of the clauses 4 to 8.
 fn first_violation<R: Threads + Sync>(
     rt: &R,
     alloc: Global,
@@ -65,7 +66,7 @@ fn first_violation<R: Threads + Sync>(
     uncovered(rt, alloc, task, certificate)
 }
 
-/// The first violation of the clauses 4 to 8 of a certificate without tables.
+/// Returns the first violation of the clauses 4 to 8 of a certificate without tables.
 fn found<R: Threads + Sync + Abort>(
     rt: &R,
     alloc: Global,
@@ -105,7 +106,7 @@ const ROWS: &[Row] = &[
     (Some(2), &[(1, 0)], Some(Violation::Start)),
     // the second state is listed above the cost at which it is reached
     (Some(2), &[(0, 0), (2, 1)], Some(Violation::Successor(0, 0))),
-    // 2^64 - 1 and 1 more
+    // a distance of 2^64 - 1, plus 1
     (Some(1), &[(0, 0), (HUGE, 1)], None),
 ];
 

@@ -19,7 +19,7 @@ type Row = (
 /// A table that does not have the required form.
 const FORM: Option<Violation> = Some(Violation::TableForm(0, 1));
 
-/// Checks the violation of the table of a row, behind a table that does not fail.
+/// Checks the violation of the table of a row, after a table that does not fail.
 fn has_violation<R: Threads + Sync + Abort>(
     rt: &R,
     alloc: Global,
@@ -37,9 +37,9 @@ fn has_violation<R: Threads + Sync + Abort>(
     assert_eq!(rt; found, *violation);
 }
 
-/// Rows on the road of three towns, where the first operator leads from 0 to 1 and the second from 1 to 2, the goal.
+/// Rows on the road of three towns; the first operator maps 0 to 1 and the second 1 to 2, the goal.
 const CHAIN_ROWS: &[Row] = &[
-    // each value is a class, two values are one, all are one, and no row
+    // each value is a class, two values share a class, all share one, and no row
     (&[(0, &[0, 1, 2])], &[2, 1, 0], None),
     (&[(0, &[0, 0, 1])], &[1, 0], None),
     (&[(0, &[0, 1, 0])], &[0, 1], None),
@@ -73,7 +73,7 @@ const CHAIN_ROWS: &[Row] = &[
         &[0, 2],
         Some(Violation::Fall(0, 1, 1, 1)),
     ),
-    // the second operator leads from the class of 0 and 1
+    // the second operator is applicable in the class of 0 and 1
     (
         &[(0, &[0, 0, 1])],
         &[2, 0],
@@ -89,15 +89,15 @@ fn tables_of_a_road(rt: HostRuntime) {
     }
 }
 
-/// The values of a road of four towns that is broken off between 1 and 2.
+/// The values of a road of four towns that is interrupted between 1 and 2.
 const BROKEN: Given<'static> = Given {
     mapping: Kept::Pattern(&[0]),
     shares: &[(0, 1), (1, 1)],
     values: &[INF, INF, 1, 0],
 };
 
-/// Rows on this road. No town is at the end of the first operator and the start of the second, but the class of 1 and 2
-/// is.
+/// Rows on this road. No town is both the end of the first operator and the start of the second, but the class of 1 and
+/// 2 is.
 const BROKEN_ROWS: &[Row] = &[
     (&[(0, &[0, 1, 1, 2])], &[2, 1, 0], None),
     (
@@ -123,8 +123,8 @@ fn ways_between_classes(rt: HostRuntime) {
     }
 }
 
-/// A lock with a dial, at first 0, of the values 0, 1 and 2, and a door, at first 0, whose goal is 1. Operators: the dial
-/// from 0 to 1; the door from 0 to 1 where the dial is 2; the dial from 1 to 2.
+/// Returns a lock with a dial, initially 0, of the values 0, 1 and 2, and a door, initially 0, whose goal is 1.
+/// Operators: the dial from 0 to 1; the door from 0 to 1 if the dial is 2; the dial from 1 to 2.
 fn lock(rt: &impl Abort, alloc: Global) -> FdrTask {
     let turn = operator(alloc, &[fact(0, 0)], &[fact(0, 1)]).expect(rt, "memory");
     let open = operator(alloc, &[fact(0, 2), fact(1, 0)], &[fact(1, 1)]).expect(rt, "memory");
@@ -163,7 +163,7 @@ const LOCK_ROWS: &[Row] = &[
         &[2, 1, 0, 1],
         Some(Violation::GoalValue(0, 1, 3)),
     ),
-    // 1 and 2 of the dial are one class, and 0 and 2
+    // 1 and 2 of the dial share a class, and 0 and 2
     (
         &[(0, &[0, 1, 1]), (1, &[0, 1])],
         &[3, 1, 0, 0],
@@ -201,7 +201,7 @@ const NEAR: Given<'static> = Given {
     values: &[1, 0],
 };
 
-/// A town, a bound, and whether the table reaches it from there.
+/// A town, a bound, and whether the table's heuristic reaches the bound from the town.
 const REACHED_ROWS: &[(u32, u64, bool)] = &[
     (0, 1, true),
     (0, 2, false),

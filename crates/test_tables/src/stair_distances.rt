@@ -9,10 +9,10 @@ use std::alloc::Global;
 use std::process::Abort;
 use std::test::*;
 
-/// The number for an infinite distance.
+/// The number that denotes an infinite distance.
 const NONE: u64 = 18_446_744_073_709_551_615;
 
-/// Whether each share is below 2^31.
+/// Returns whether each share is below 2^31.
 #[tactic(auto, using(pdb::proofs::Lowering::small_everywhere))]
 fn are_small(shares: &[u32]) -> bool
     ensures { IsTrue result → (o : ℕ) → slice_index shares.now o < 2 ^ 31 }
@@ -34,8 +34,8 @@ fn are_distances(rt: &impl Abort, values: &Values, expected: &[u64]) {
     }
 }
 
-/// Whether the distances and the saturated shares of a staircase with these goals are those worked out, where the first
-/// `touching` operators touch the steps.
+/// Returns whether the distances and the saturated shares of a staircase with these goals are those worked out, if the
+/// first `touching` operators affect the steps.
 fn agrees(
     rt: &impl Abort,
     alloc: Global,
@@ -174,7 +174,7 @@ fn makes_the_table_of_each_job(rt: HostRuntime) -> Result<(), Fail> {
     Ok(())
 }
 
-/// The number of tables of no job.
+/// Returns the number of tables of no job.
 fn count_of_no_tables(rt: &impl Abort, alloc: Global) -> usize {
     let none: [Job<'_, Stairs>; 0] = [];
     build_all(alloc, &none).expect(rt, "memory").len()

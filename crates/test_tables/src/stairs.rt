@@ -6,14 +6,14 @@ use abstraction::Abstraction;
 use pdb_walks::{BackwardAbstraction, BackwardTransitions, Transition};
 use std::alloc::AllocError;
 
-/// A staircase: each abstract state is a step, counted from 0 at the bottom. An operator that touches the states leads
-/// down by one more than its number, if there are that many steps below, and one that does not leads from each state to
-/// itself.
+/// A staircase: each abstract state is a step, counted from 0 at the bottom. An operator that affects the states maps
+/// each step to the one below it by the operator's number plus 1, if there is such a step, and one that does not maps
+/// each state to itself.
 #[derive(Drop)]
 pub(crate) struct Stairs {
     /// For each step, whether it is an abstract goal.
     pub(crate) goals: Vec<bool>,
-    /// The number of operators that touch the states; these are the first ones.
+    /// The number of operators that affect the states; these are the first ones.
     pub(crate) touching: usize,
     /// The number of operators.
     pub(crate) operators: usize,

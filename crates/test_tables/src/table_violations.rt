@@ -19,7 +19,7 @@ pub(crate) const INF: u64 = u64::MAX;
 
 const HUGE: u64 = 9_223_372_036_854_775_808;
 
-/// What a table keeps of a state: a pattern, or variables with the classes of their values.
+/// The mapping of a table: a pattern, or variables with the classes of their values.
 #[derive(Clone, Copy)]
 pub(crate) enum Kept<'a> {
     Pattern(&'a [u32]),
@@ -95,7 +95,7 @@ pub(crate) fn certificate(rt: &impl Abort, alloc: Global, columns: &[&[Given<'_>
     )
 }
 
-/// The violation that the test of the third clause finds.
+/// Returns the violation that the test of the third clause finds.
 fn share_violation(
     rt: &impl Abort,
     alloc: Global,
@@ -106,7 +106,7 @@ fn share_violation(
     first_share_violation(alloc, task, &certificate).expect(rt, "memory")
 }
 
-/// The violation that the test of the fourth clause finds.
+/// Returns the violation that the test of the fourth clause finds.
 pub(crate) fn table_violation<R: Threads + Sync + Abort>(
     rt: &R,
     alloc: Global,
@@ -130,7 +130,8 @@ fn has_violations<R: Threads + Sync + Abort>(
     assert_eq!(rt; table_violation(rt, alloc, task, columns), tables);
 }
 
-/// One variable with the values 0, 1 and 2, at first 0; the goal is 2. Operators: 0 to 1 and 1 to 2, at 1 each.
+/// Returns a task of one variable with the values 0, 1 and 2, initially 0; the goal is 2. Operators: 0 to 1 and 1 to 2,
+/// at cost 1 each.
 pub(crate) fn chain(rt: &impl Abort, alloc: Global) -> FdrTask {
     walk(alloc, 3, 2, &[(0, 1, 1), (1, 2, 1)])
         .expect(rt, "memory")
@@ -226,7 +227,7 @@ const TABLE_ROWS: &[TableRow] = &[
     (&[0], &[HUGE, INF, 0], Violation::Fall(0, 1, 1, 1)),
 ];
 
-/// Checks that the table of a row fails so, behind one that does not and before others.
+/// Checks that the table of a row fails with this violation, after one that does not and before others.
 fn fails<R: Threads + Sync + Abort>(rt: &R, alloc: Global, chain: &FdrTask, row: &TableRow) {
     let (pattern, values, violation) = row;
     let failing = Given {
@@ -252,7 +253,7 @@ fn faults_of_tables(rt: HostRuntime) {
     assert_eq!(rt; at_fault, Some(Violation::Fall(0, 0, 1, 1)));
 }
 
-/// The heuristic of a certificate whose tables are tested.
+/// Returns the heuristic of a certificate whose tables are tested.
 fn heuristic<'a, R: Abort + Threads + Sync>(
     rt: &R,
     alloc: Global,
@@ -267,7 +268,8 @@ fn heuristic<'a, R: Abort + Threads + Sync>(
     }
 }
 
-/// Two variables with the values 0 and 1, at first 0 both; the goal is 1 for both, and there is no operator.
+/// Returns a task of two variables with the values 0 and 1, initially 0 both; the goal is 1 for both, and there is no
+/// operator.
 fn stuck(rt: &impl Abort, alloc: Global) -> FdrTask {
     let goal = [fact(0, 1), fact(1, 1)];
     task(alloc, &[2, 2], &[0, 0], &goal, Vec::new(alloc))
@@ -275,7 +277,7 @@ fn stuck(rt: &impl Abort, alloc: Global) -> FdrTask {
         .expect(rt, "a task")
 }
 
-/// Whether the heuristic of the certificate reaches the bound from the state, reached at the cost.
+/// Returns whether the heuristic of the certificate reaches the bound from the state, reached at the cost.
 pub(crate) fn certificate_reaches<R: Abort + Threads + Sync>(
     rt: &R,
     alloc: Global,
@@ -290,7 +292,7 @@ pub(crate) fn certificate_reaches<R: Abort + Threads + Sync>(
     Ok(heuristic.reaches(state, cost, dist(bound)))
 }
 
-/// Whether the columns' heuristic reaches the bound from the state, reached at the cost.
+/// Returns whether the columns' heuristic reaches the bound from the state, reached at the cost.
 fn reaches<R: Abort + Threads + Sync>(
     rt: &R,
     alloc: Global,

@@ -1,6 +1,7 @@
-//! Finite-domain tasks, as texts with `|` in place of line feeds.
+//! Finite-domain tasks, as texts with `|` instead of line feeds.
 
-/// Two balls and a gripper: where it is, where each ball is (in p, in q, held), and whether a hand is full.
+/// Two balls and a gripper. Variables: the gripper's room, the position of each ball (in p, in q, held), and whether a
+/// hand is full.
 pub(crate) const GRIPPER: &str =
     "begin_version|3|end_version|begin_metric|0|end_metric|4|begin_variable|var0|-1|2|v0|v1|\
 end_variable|begin_variable|var1|-1|3|v0|v1|v2|end_variable|begin_variable|var2|-1|3|v0|v1|v2|\
@@ -13,7 +14,7 @@ end_operator|begin_operator|o|1|0 1|2|0 2 1 2|0 3 0 1|1|end_operator|begin_opera
 begin_operator|o|1|0 0|2|0 2 2 0|0 3 -1 0|1|end_operator|begin_operator|o|1|0 1|2|0 2 2 1|\
 0 3 -1 0|1|end_operator|0";
 
-/// Four values, one after the other, at costs of 2, 3 and 4.
+/// A chain of four values, at costs of 2, 3 and 4.
 pub(crate) const CHAIN: &str =
     "begin_version|3|end_version|begin_metric|1|end_metric|1|begin_variable|var0|-1|4|v0|v1|v2|v3|\
 end_variable|0|begin_state|0|end_state|begin_goal|1|0 3|end_goal|3|begin_operator|o|0|1|0 0 0 1|\
@@ -27,7 +28,7 @@ end_variable|0|begin_state|0|end_state|begin_goal|1|0 3|end_goal|3|begin_operato
 2|end_operator|begin_operator|o|0|1|0 0 1 2|3|end_operator|begin_operator|o|0|1|0 0 2 3|4|\
 end_operator|0";
 
-/// An operator that costs nothing, one that costs 5, and one that leads back at no cost.
+/// An operator at cost 0, one at cost 5, and one back at cost 0.
 pub(crate) const FREE_STEPS: &str =
     "begin_version|3|end_version|begin_metric|1|end_metric|1|begin_variable|var0|-1|3|v0|v1|v2|\
 end_variable|0|begin_state|0|end_state|begin_goal|1|0 2|end_goal|3|begin_operator|o|0|1|0 0 0 1|\
@@ -67,7 +68,7 @@ end_variable|begin_variable|var1|-1|3|v0|v1|v2|end_variable|0|begin_state|0|0|en
 begin_goal|1|1 2|end_goal|3|begin_operator|o|0|1|0 0 0 1|1|end_operator|begin_operator|o|1|0 1|\
 1|0 1 0 1|10|end_operator|begin_operator|o|0|1|0 1 1 2|100|end_operator|0";
 
-/// An operator that leads to the goal from any value.
+/// An operator to the goal that applies to any value.
 pub(crate) const FROM_ANYWHERE: &str =
     "begin_version|3|end_version|begin_metric|1|end_metric|1|begin_variable|var0|-1|3|v0|v1|v2|\
 end_variable|0|begin_state|0|end_state|begin_goal|1|0 2|end_goal|1|begin_operator|o|0|1|\
@@ -79,7 +80,7 @@ pub(crate) const ONE_VALUE: &str =
 end_variable|begin_variable|var1|-1|2|v0|v1|end_variable|0|begin_state|0|0|end_state|begin_goal|\
 1|0 0|end_goal|1|begin_operator|o|0|1|0 1 0 1|1|end_operator|0";
 
-/// Roads from the first place to the second at 1, from there to the third, the goal, at 4, and straight to it at 8.
+/// Roads from the first town to the second at 1, from there to the third, the goal, at 4, and directly to it at 8.
 pub(crate) const ROADS: &str =
     "begin_version|3|end_version|begin_metric|1|end_metric|1|begin_variable|var0|-1|3|v0|v1|v2|\
 end_variable|0|begin_state|0|end_state|begin_goal|1|0 2|end_goal|3|begin_operator|o|0|1|\

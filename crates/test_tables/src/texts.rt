@@ -11,7 +11,7 @@ use sasfile::read_sas;
 use scp::Columns;
 use std::alloc::{AllocError, Global};
 
-/// The task of a text with `|` in place of line feeds.
+/// Returns the task of a text with `|` instead of line feeds.
 pub(crate) fn task_of(alloc: Global, text: &str) -> Result<Option<FdrTask>, AllocError> {
     let mut bytes = Vec::with_capacity(alloc, text.len())?;
     for byte in text.as_bytes() {
@@ -72,7 +72,7 @@ fn push_shares(
     Ok(())
 }
 
-/// The tables of the columns, one a line, and a separate line after each column.
+/// Returns the tables of the columns, one a line, and a separate line after each column.
 pub(crate) fn columns_text(alloc: Global, columns: &Columns<'_>) -> Result<String, AllocError> {
     let mut text = String::new(alloc);
     for column in columns.tables() {
@@ -86,7 +86,7 @@ pub(crate) fn columns_text(alloc: Global, columns: &Columns<'_>) -> Result<Strin
     Ok(text)
 }
 
-/// The mappings with at most this number of abstract states, one a line.
+/// Returns the mappings with at most `limit` abstract states, one a line.
 pub(crate) fn mappings_text(
     alloc: Global,
     task: &FdrTask,

@@ -1,4 +1,4 @@
--- Finite-domain tasks by their parts.
+-- Finite-domain tasks from their parts.
 use Rattle.std.specs.Prelude.{ℕ, ◌≤◌, true, List, [], ◌∷◌, map, replicate}
 use Rattle.fdr.specs.Tasks.{FiniteDomainTask, Operator}
 use Rattle.fdr.specs.declared.fact.Fact.{Fact}
@@ -25,7 +25,7 @@ step_operator (before, after, cost) =
 abbrev pub IsPriced : ℕ × ℕ × ℕ → Type 0
 IsPriced (before, after, cost) = cost ≤ 2147483647
 
--- the task of one variable, which is 0 at first and has the goal's value as its goal, and of these steps as operators
+-- the task of one variable, which is initially 0, with the goal value `goal` and these steps as operators
 abbrev pub walk_task : ℕ → ℕ → List (ℕ × ℕ × ℕ) → FiniteDomainTask
 walk_task values goal steps =
     task_with (values ∷ []) (0 ∷ []) (record { variable = 0; value = goal } ∷ []) (map step_operator steps)

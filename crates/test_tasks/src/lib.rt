@@ -11,14 +11,14 @@ use cost::Cost;
 use fdr::{Fact, FdrTask, Operator};
 use std::alloc::{AllocError, Global};
 
-/// The fact that a variable has a value.
+/// Returns the fact that a variable has a value.
 pub fn fact(variable: usize, value: u32) -> Fact
     ensures { result ≡ record { variable = variable; value = value } }
 {
     Fact { variable, value }
 }
 
-/// An operator without a name, at that cost. Fails only if allocation fails.
+/// Returns an operator without a name, at that cost.
 fn priced(
     alloc: Global,
     precondition: &[Fact],
@@ -35,7 +35,7 @@ fn priced(
     })
 }
 
-/// An operator without a name, at cost 1. Fails only if allocation fails.
+/// Returns an operator without a name, at cost 1.
 pub fn operator(
     alloc: Global,
     precondition: &[Fact],
@@ -46,14 +46,14 @@ pub fn operator(
     priced(alloc, precondition, effect, Cost::ONE)
 }
 
-/// Whether one of the facts is on the variable.
+/// Returns whether one of the facts is on the variable.
 fn names_variable(facts: &[Fact], variable: usize) -> bool
     ensures { result ≡ spec.names_variable facts.now variable }
 {
     facts.iter().any(|fact| fact.variable == variable)
 }
 
-/// Whether the facts are in range, with at most one for each variable.
+/// Returns whether the facts are in range, with at most one for each variable.
 fn is_assignment(ranges: &[usize], facts: &[Fact]) -> bool
     ensures { IsTrue result ↔ IsAssignment ranges.now facts.now }
 {
@@ -69,7 +69,7 @@ fn is_assignment(ranges: &[usize], facts: &[Fact]) -> bool
     true
 }
 
-/// Whether the operators' conditions and effects are assignments.
+/// Returns whether the operators' conditions and effects are assignments.
 fn are_operators(ranges: &[usize], operators: &[Operator]) -> bool
     ensures { IsTrue result ↔ All (IsOperator ranges.now) operators.now }
 {
@@ -83,7 +83,7 @@ fn are_operators(ranges: &[usize], operators: &[Operator]) -> bool
     true
 }
 
-/// Whether the values are a state.
+/// Returns whether the values are a state.
 fn is_state(ranges: &[usize], state: &[u32]) -> bool
     ensures { IsTrue result ↔ IsState ranges.now state.now }
 {
@@ -98,7 +98,7 @@ fn is_state(ranges: &[usize], state: &[u32]) -> bool
     true
 }
 
-/// `count` empty names. Fails only if allocation fails.
+/// Returns `count` empty names.
 fn blank(alloc: Global, count: usize) -> Result<Vec<String>, AllocError>
     ensures { IfOk result (λ names. map string_bytes names.items ≡ replicate count []) }
 {
@@ -109,7 +109,7 @@ fn blank(alloc: Global, count: usize) -> Result<Vec<String>, AllocError>
     Ok(names)
 }
 
-/// For each range, that number of empty names. Fails only if allocation fails.
+/// Returns that many empty names for each range.
 fn names_of(alloc: Global, ranges: &[usize]) -> Result<Vec<Vec<String>>, AllocError>
     ensures { IfOk result (λ names. names_in names.items ≡ blank_names ranges.now) }
 {
@@ -120,7 +120,7 @@ fn names_of(alloc: Global, ranges: &[usize]) -> Result<Vec<Vec<String>>, AllocEr
     Ok(names)
 }
 
-/// The number of values of each variable. Fails only if allocation fails.
+/// Returns the number of values of each variable.
 fn ranges_of(alloc: Global, names: &[Vec<String>]) -> Result<Vec<usize>, AllocError>
     ensures { IfOk result (λ ranges. ranges.items ≡ map length (names_in names.now)) }
 {
@@ -131,8 +131,7 @@ fn ranges_of(alloc: Global, names: &[Vec<String>]) -> Result<Vec<usize>, AllocEr
     Ok(ranges)
 }
 
-/// The task with these ranges and parts, and with the metric; `None` if that is no task or exceeds a limit. Fails only if
-/// allocation fails.
+/// Returns the task with these ranges and parts, and with the metric; `None` if that is not a task or exceeds a limit.
 pub fn task(
     alloc: Global,
     ranges: &[usize],
@@ -157,7 +156,7 @@ pub fn task(
     Ok(FdrTask::new(true, names, initial, goal, operators).ok())
 }
 
-/// The task with these ranges and this initial state, without goals and operators, as by `task`.
+/// Returns the task with these ranges and this initial state, without goals and operators, as by `task`.
 pub fn states(
     alloc: Global,
     ranges: &[usize],
@@ -170,8 +169,8 @@ pub fn states(
     task(alloc, ranges, initial, &[], Vec::new(alloc))
 }
 
-/// The task, as by `task`, of one variable that is 0 at first and has this value as its goal; each step (from, to, cost)
-/// is an operator. `None` also if a cost is too large.
+/// Returns the task, as by `task`, of one variable that is initially 0 and has the goal value `goal`; each step (from,
+/// to, cost) is an operator. `None` also if a cost is too large.
 pub fn walk(
     alloc: Global,
     values: usize,
@@ -192,7 +191,7 @@ pub fn walk(
     task(alloc, &[values], &[0], &[fact(0, goal)], operators)
 }
 
-/// Whether the values are a state of the task.
+/// Returns whether the values are a state of the task.
 pub fn is_state_of(task: &FdrTask, state: &[u32]) -> bool
     ensures { IsTrue result ↔ IsState (spec.ranges task.now) state.now }
 {
@@ -207,7 +206,7 @@ pub fn is_state_of(task: &FdrTask, state: &[u32]) -> bool
     true
 }
 
-/// Whether the numbers are strictly increasing.
+/// Returns whether the numbers are strictly increasing.
 pub fn is_increasing(numbers: &[usize]) -> bool
     ensures { IsTrue result ↔ IsStrictlyIncreasing numbers.now }
 {

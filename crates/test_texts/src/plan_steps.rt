@@ -1,4 +1,4 @@
-//! Steps of a plan by the names of operators, worked out by hand.
+//! Steps of a plan, from the names of operators, worked out by hand.
 
 use optplan_plans::named_step;
 use validate::Step;
@@ -35,7 +35,7 @@ fn steps_are_named(rt: HostRuntime) {
     }
 }
 
-/// Names with something that is no plan word.
+/// Names with a part that is not a plan word.
 const NO_STEPS: &[&str] = &[
     "", " ", "go ", " go", "go  b", "Go a", "go A", "go a;b", "(go a)", "go\ta", "g\u{f6}",
 ];

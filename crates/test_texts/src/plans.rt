@@ -12,7 +12,7 @@ use std::alloc::Global;
 use std::process::Abort;
 use validate::{Plan, PlanFault, plan_text, read_plan, validate, verdict_line};
 
-/// A plan's text that is written from this one, for a cost by numbers of steps or by the metric.
+/// Returns the plan's text that is written from this one, for a cost by numbers of steps or by the metric.
 fn rewritten(rt: &impl Abort, alloc: Global, text: &str, cost: u64, is_unit: bool) -> String {
     let plan = read_plan(alloc, text.as_bytes()).expect(rt, "a plan");
     plan_text(alloc, &plan, cost, is_unit).expect(rt, "memory")
@@ -22,19 +22,19 @@ fn fault_of(alloc: Global, text: &str) -> Option<PlanFault> {
     read_plan(alloc, text.as_bytes()).err()
 }
 
-/// Checks the text of a plan of these steps, whose cost and kind of cost is this.
+/// Checks the text of a plan: its steps, and its cost with the kind of cost.
 fn is_text(rt: &impl Abort, alloc: Global, text: &str, steps: &str, cost: &str) {
     let wanted = format!(in alloc; "{steps}; cost = {cost}\n").expect(rt, "memory");
     assert_eq!(rt; text, wanted.as_str());
 }
 
-/// Checks the text that is written from a plan's, for a cost of 2 by numbers of steps.
+/// Checks the text that is written from a plan's text, for a cost of 2 by numbers of steps.
 fn is_written_by_steps(rt: &impl Abort, alloc: Global, text: &str, steps: &str) {
     let written = rewritten(rt, alloc, text, 2, true);
     is_text(rt, alloc, written.as_str(), steps, "2 (unit cost)");
 }
 
-/// Checks the text that is written from a plan's, for a cost of 70 by the metric.
+/// Checks the text that is written from a plan's text, for a cost of 70 by the metric.
 fn is_written_by_metric(rt: &impl Abort, alloc: Global, text: &str, steps: &str) {
     let written = rewritten(rt, alloc, text, 70, false);
     is_text(rt, alloc, written.as_str(), steps, "70 (general cost)");
@@ -71,8 +71,8 @@ fn plans_of_another_shape_are_refused(rt: HostRuntime) {
     }
 }
 
-/// Goes from a place to a town over a road, at the road's length plus a fee of 10; stays where it is, where `at` is added and
-/// deleted in the order of the text. The towns are a, b and c; d is a place, and e an object.
+/// `go` moves from a `place` to a town over a road, at the road's length plus a fee of 10; `stay` adds and deletes the
+/// same `at`, in the order of the text. The towns are a, b and c; d is a `place`, and e an object.
 const JOURNEY: &str = "(define (domain journey) (:types town - place place - object)
     (:constants a b c - town d - place e - object)
     (:predicates (at ?x) (road ?x ?y) (locked ?x))
@@ -82,11 +82,12 @@ const JOURNEY: &str = "(define (domain journey) (:types town - place place - obj
      :effect (and (not (at ?x)) (at ?y) (increase (total-cost) (length ?x ?y)) (increase (total-cost) 10)))
     (:action stay :parameters (?x) :precondition (at ?x) :effect (and (at ?x) (not (at ?x)))))";
 
-/// At a, which is locked; roads lead from a to b and back, and from b to c. The road back to a has no length.
+/// The initial location is a, which is locked; there are roads from a to b and back, and from b to c. The road back to
+/// a has no length.
 const AT_A: &str = "(define (problem p) (:init (at a) (road a b) (road b a) (road b c) (locked a)
     (= (length a b) 3) (= (length b c) 4)) ";
 
-/// The line of the verdict on a plan that was read.
+/// Returns the line of the verdict on a plan that was read.
 fn verdict_on(rt: &impl Abort, alloc: Global, task: &Task, plan: &Plan) -> String
     requires small { IsTrue (has_small_costs task.now) }
     requires costs { CostsAtMost task.now max_cost }
@@ -95,7 +96,7 @@ fn verdict_on(rt: &impl Abort, alloc: Global, task: &Task, plan: &Plan) -> Strin
     verdict_line(alloc, task, &verdict).expect(rt, "memory")
 }
 
-/// The line of the verdict on a plan.
+/// Returns the line of the verdict on a plan.
 fn line_of(rt: &impl Abort, alloc: Global, task: &Task, plan: &str) -> String
     requires small { IsTrue (has_small_costs task.now) }
     requires costs { CostsAtMost task.now max_cost }
@@ -104,7 +105,7 @@ fn line_of(rt: &impl Abort, alloc: Global, task: &Task, plan: &str) -> String
     verdict_on(rt, alloc, task, &plan)
 }
 
-/// The line of the verdict on a plan for the journey with this goal.
+/// Returns the line of the verdict on a plan for the journey with this problem.
 #[tactic(auto, unfolding(validate::specs::Verdicts::CostsAtMost))]
 fn line(rt: &impl Abort, alloc: Global, problem: &str, plan: &str) -> String {
     let task = read_task(alloc, JOURNEY.as_bytes(), problem.as_bytes()).expect(rt, "a task");
@@ -137,7 +138,7 @@ const STEPS_NAME_ACTIONS: &[(&str, &str)] = &[
     ("(stay)", "no such action 1\n"),
     ("(go a f)", "no such action 1\n"),
     ("(go a road)", "no such action 1\n"),
-    // d is no town, and e no place
+    // d is not a town, and e is not a `place`
     ("(go a d)", "no such action 1\n"),
     ("(go e b)", "no such action 1\n"),
     ("(go a a)", "no such action 1\n"),
@@ -156,7 +157,7 @@ const STEPS_APPLY: &[(&str, &str)] = &[
     ("(go d b)", "not applicable 1 (at d)\n"),
     ("(stay e)", "not applicable 1 (at e)\n"),
     ("(go a b)(go b a)", "not applicable 2 (not (locked a))\n"),
-    // what is deleted and added stays true
+    // an atom that is deleted and added stays true
     ("(stay a)(stay a)(GO A B)(go b c)", "valid 4\n"),
 ];
 
@@ -211,9 +212,9 @@ fn no_goal_is_met(rt: HostRuntime) {
 const STEPS_COST_THEIR_INCREASES: &[(&str, &str)] = &[
     // 3 + 10 and 4 + 10
     ("(go a b)(go b c)", "valid 27\n"),
-    // to stay is free
+    // staying is free
     ("(stay a)(go a b)(stay b)(go b c)", "valid 27\n"),
-    // the way back to a has no length
+    // the road back to a has no length
     ("(go a b)(go b a)", "no such action 2\n"),
     ("(go a b)", "goal open (at c)\n"),
 ];

@@ -13,7 +13,7 @@ Atom at(a)\nAtom at(b)\nAtom at(c)\nend_variable\n1\nbegin_mutex_group\n3\n0 0\n
 begin_state\n0\nend_state\nbegin_goal\n1\n0 2\nend_goal\n2\nbegin_operator\ngo a b\n0\n1\n0 0 0 1\n1\nend_operator\n\
 begin_operator\ngo b c\n0\n1\n0 0 1 2\n1\nend_operator\n0\n";
 
-/// The walk with other bytes in place of a line.
+/// Returns the walk with a line replaced by other bytes.
 fn with_line(rt: &impl Abort, alloc: Global, line: usize, bytes: &[u8]) -> Vec<u8> {
     let mut text = Vec::new(alloc);
     for (index, old) in WALK.lines().enumerate() {
@@ -32,16 +32,16 @@ fn fault_of(alloc: Global, text: &[u8]) -> Option<SasFault> {
     read_sas(alloc, text).err()
 }
 
-/// The fault of the walk with other bytes in place of a line.
+/// Returns the fault of the walk with a line replaced by other bytes.
 fn edited_fault(rt: &impl Abort, alloc: Global, line: usize, bytes: &[u8]) -> Option<SasFault> {
     let edited = with_line(rt, alloc, line, bytes);
     fault_of(alloc, &edited)
 }
 
-/// A line of the walk, texts in its place, and the fault of each.
+/// A line of the walk, texts that replace it, and the fault of each.
 type Row = (usize, &'static [&'static str], SasFault);
 
-/// Checks that each of the texts in place of a line has the fault, or none.
+/// Checks that each of the texts that replace a line has the fault, or none.
 fn have_fault(
     rt: &impl Abort,
     alloc: Global,
@@ -103,7 +103,7 @@ fn is_task(task: &FdrTask, row: &TaskRow<'_>) -> bool {
         && are_operators(task.operators(), row.operators)
 }
 
-/// Whether the text spells a task of these parts.
+/// Returns whether the text spells a task of these parts.
 fn spells(alloc: Global, text: &[u8], row: &TaskRow<'_>) -> bool {
     match read_sas(alloc, text) {
         Ok(task) => is_task(&task, row),

@@ -15,8 +15,8 @@ fn atom(rt: &impl Abort, alloc: Global, predicate: usize, objects: &[usize]) -> 
     GroundAtom::new(predicate, objects)
 }
 
-/// Types: object, town, and place, which is above town. Objects: a, b and c are towns, and d is a place. The action goes from
-/// a town to a place over a road, at the road's length plus a fee of 10.
+/// Types: `object`, `town`, and `place`, a supertype of `town`. Objects: a, b and c are towns, and d is a `place`. The
+/// action moves from a town to a `place` over a road, at the road's length plus a fee of 10.
 const PLACES: &str = "(define (domain places) (:types town - place place - object)
     (:constants a b c - town d - place) (:predicates (at ?x) (road ?x ?y))
     (:functions (total-cost) - number (length ?x ?y) - number)
@@ -43,7 +43,7 @@ const TYPES: &[(usize, usize, bool)] = &[
     (3, 0, false),
 ];
 
-/// Checks whether objects are of types.
+/// Checks which objects are of which types.
 fn have_types(rt: &impl Abort, task: &Task) {
     for (type_number, object, want) in TYPES {
         assert!(rt;
@@ -53,7 +53,7 @@ fn have_types(rt: &impl Abort, task: &Task) {
     }
 }
 
-/// Checks whether objects are of types in the task.
+/// Checks which objects are of which types in the task of this problem.
 fn have_types_in(rt: &impl Abort, alloc: Global, problem: &str) {
     let task = read_task(alloc, PLACES.as_bytes(), problem.as_bytes()).expect(rt, "a task");
     have_types(rt, &task);
@@ -64,7 +64,7 @@ fn types_lead_to_their_supertypes(rt: HostRuntime) {
     have_types_in(&rt, rt.alloc(), WITH_METRIC);
 }
 
-/// Whether the atoms are `at` of this object alone.
+/// Returns whether the atoms are `at` of this object alone.
 fn is_at(atoms: &[GroundAtom], object: usize) -> bool {
     match atoms {
         [atom] => atom.predicate == 0 && atom.objects.as_slice() == [object].as_slice(),
@@ -72,7 +72,7 @@ fn is_at(atoms: &[GroundAtom], object: usize) -> bool {
     }
 }
 
-/// The cost of an action, if it leads from the one town to the other and its precondition has two literals; else 0.
+/// Returns the cost of an action, if it moves from `start` to `end` and its precondition has two literals; else 0.
 fn cost_of_trip(action: &GroundAction, start: usize, end: usize) -> u64 {
     if is_at(&action.adds, end) && is_at(&action.deletes, start) && action.precondition.len() == 2 {
         action.cost
@@ -81,7 +81,7 @@ fn cost_of_trip(action: &GroundAction, start: usize, end: usize) -> u64 {
     }
 }
 
-/// The cost of the action from a town to a place, if there is one.
+/// Returns the cost of the action from a town to a `place`, if there is one.
 fn cost_between(
     rt: &impl Abort,
     alloc: Global,
@@ -97,13 +97,13 @@ fn cost_between(
     }
 }
 
-/// The same in the task with the metric, or without it.
+/// Returns the same cost in the task of this problem, with the metric or without it.
 fn cost_of(rt: &impl Abort, alloc: Global, problem: &str, start: usize, end: usize) -> Option<u64> {
     let task = read_task(alloc, PLACES.as_bytes(), problem.as_bytes()).expect(rt, "a task");
     cost_between(rt, alloc, &task, start, end)
 }
 
-/// The start, the end, and the cost with the metric and without it, where there is an action.
+/// The start, the end, and the costs with the metric and without it, `None` if there is no action.
 const COSTS: &[(usize, usize, Option<u64>, Option<u64>)] = &[
     (0, 1, Some(13), Some(1)),
     (0, 3, Some(14), Some(1)),
@@ -123,13 +123,13 @@ fn actions_are_those_of_their_objects(rt: HostRuntime) {
     }
 }
 
-/// Whether a set of the one atom contains the other.
+/// Returns whether a set of the one atom contains the other.
 fn set_of_one_contains(alloc: Global, one: GroundAtom, other: &GroundAtom) -> bool {
     let mut set = HashSet::new(alloc);
     set.insert(one).is_ok() && set.contains(other)
 }
 
-/// Whether a set of the atom of 0, 1, 2, 3 and 4 contains that of these objects.
+/// Returns whether a set of the atom of 0, 1, 2, 3 and 4 contains that of these objects.
 fn set_contains(rt: &impl Abort, alloc: Global, objects: &[usize]) -> bool {
     let other = atom(rt, alloc, 1, objects);
     set_of_one_contains(alloc, atom(rt, alloc, 1, &[0, 1, 2, 3, 4]), &other)

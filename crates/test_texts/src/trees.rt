@@ -19,7 +19,7 @@ fn is_word(tree: &Tree, want: &str, place: Span) -> bool {
     }
 }
 
-/// Whether the tree is a list of this number of items at this place.
+/// Returns whether the tree is a list of `count` items at this span.
 fn is_list(tree: &Tree, count: usize, place: Span) -> bool {
     match tree {
         Tree::Word { .. } => false,
@@ -71,7 +71,7 @@ fn faults(rt: HostRuntime) {
     assert!(rt; fault == Some(SexpFault::NotAscii(4)));
 }
 
-/// The fault of a text of this many opening parentheses.
+/// Returns the fault of a text of `count` opening parentheses.
 fn fault_of_opened(rt: &impl Abort, alloc: Global, count: usize) -> Option<SexpFault> {
     let deep = vec![in alloc; b'('; count].expect(rt, "memory");
     fault(alloc, &deep)

@@ -65,7 +65,7 @@ fn have_same_parts(first: &FdrTask, second: &FdrTask) -> bool {
         && are_same(first.operators(), second.operators())
 }
 
-/// Whether the text spells a task of the same parts.
+/// Returns whether the text spells a task of the same parts.
 fn spells(alloc: Global, text: &[u8], task: &FdrTask) -> bool {
     match read_sas(alloc, text) {
         Ok(read) => have_same_parts(&read, task),
@@ -73,7 +73,7 @@ fn spells(alloc: Global, text: &[u8], task: &FdrTask) -> bool {
     }
 }
 
-/// Whether this text is written for the task, and spells it.
+/// Returns whether this text is written for the task, and spells it.
 fn is_written(alloc: Global, task: &FdrTask, sizes: &[usize], wanted: &str) -> bool {
     match write_sas(alloc, task, sizes) {
         Ok(written) => written.as_slice() == wanted.as_bytes() && spells(alloc, &written, task),
@@ -81,7 +81,7 @@ fn is_written(alloc: Global, task: &FdrTask, sizes: &[usize], wanted: &str) -> b
     }
 }
 
-/// Whether the second text is written for the task that the first spells.
+/// Returns whether the second text is written for the task that the first spells.
 fn is_rewritten(alloc: Global, spelled: &str, sizes: &[usize], wanted: &str) -> bool {
     match read_sas(alloc, spelled.as_bytes()) {
         Ok(task) => is_written(alloc, &task, sizes, wanted),
@@ -96,7 +96,7 @@ fn writes_what_is_worked_out(rt: HostRuntime) {
     assert!(rt; is_rewritten(rt.alloc(), NOTHING, &[], NOTHING));
 }
 
-/// The text of a plan for a task of two operators.
+/// Returns the text of a plan for a task of two operators.
 fn plan_of(rt: &impl Abort, alloc: Global, text: &str, plan: &[usize], cost: u64) -> String
     requires { All (λ o. o < 2) plan.now }
 {

@@ -1,5 +1,5 @@
-//! Rows worked out by hand. The tests are of the parts of a task, since what `assemble` requires of its lists cannot be
-//! tested.
+//! Parts of tasks, worked out by hand. Only the parts are tested, because what `assemble` requires of its lists cannot
+//! be tested at run time.
 
 ghost use Rattle.std.specs.Prelude.{◌<◌, ◌≤◌, All, IsTrue, length};
 ghost use Rattle.pddl_task.specs.Planning.{has_small_costs};
@@ -43,7 +43,7 @@ fn listed(rt: &impl Abort, alloc: Global, rows: &[Atom<'_>]) -> Atoms {
     atoms
 }
 
-/// Appends a literal for each row: its atom, or the negation of it.
+/// Pushes a literal for each row: its atom, or the negation of it.
 fn push_literals(
     rt: &impl Abort,
     alloc: Global,
@@ -59,7 +59,7 @@ fn push_literals(
     }
 }
 
-/// An atom for each wanted row, and the negation of one for each excluded row.
+/// Returns an atom for each wanted row, and the negation of one for each excluded row.
 fn literals(
     rt: &impl Abort,
     alloc: Global,
@@ -72,7 +72,7 @@ fn literals(
     literals
 }
 
-/// Its objects, the wanted and the excluded atoms, and what it adds and deletes.
+/// An action: its objects, the wanted and the excluded atoms, and what it adds and deletes.
 #[derive(Clone, Copy)]
 struct Row<'a> {
     objects: &'a [usize],
@@ -82,7 +82,7 @@ struct Row<'a> {
     deletes: &'a [Atom<'a>],
 }
 
-/// The action of the first schema, at this cost.
+/// Returns the action of the first schema, at this cost.
 fn action(rt: &impl Abort, alloc: Global, row: Row<'_>, cost: u64) -> GroundAction {
     GroundAction {
         schema: 0,
@@ -112,8 +112,8 @@ fn names(rt: &impl Abort, alloc: Global, texts: &[&str]) -> Names {
     names
 }
 
-/// The names of objects, predicates and schemas, the initial atoms, the atoms of the goal and those that it excludes, and
-/// whether there is a metric.
+/// The names of objects, predicates and schemas, the initial atoms, the atoms of the goal and those that it excludes,
+/// and whether there is a metric.
 #[derive(Clone, Copy)]
 struct TaskRow<'a> {
     objects: &'a [&'a str],
@@ -201,10 +201,10 @@ fn parts(
     parts_of(alloc, task, atoms, actions, variables).expect(rt, "memory")
 }
 
-/// The places of a variable's atoms, and whether it has a value besides.
+/// The indices of a variable's atoms, and whether it also has a none value.
 type VariableRow<'a> = (&'a [usize], bool);
 
-/// The parts of the task over these actions, with variables of these rows over atoms of these rows.
+/// Returns the parts of the task over these actions, with variables of these rows over atoms of these rows.
 fn parts_over(
     rt: &impl Abort,
     alloc: Global,
@@ -218,7 +218,7 @@ fn parts_over(
     parts(rt, alloc, task, &atoms, actions, &variables)
 }
 
-/// The parts of a task of rows.
+/// Returns the parts of a task of rows.
 fn parts_of_rows(
     rt: &impl Abort,
     alloc: Global,
@@ -241,18 +241,18 @@ fn name_of(names: &[Vec<String>], variable: usize, value: usize) -> &str {
     }
 }
 
-/// Whether the values of these variables have these names.
+/// Returns whether the values of these variables have these names.
 fn are_names(names: &[Vec<String>], rows: &[(usize, usize, &str)]) -> bool {
     rows.iter().all(|(variable, value, name)| name_of(names, *variable, *value) == *name)
 }
 
-/// Whether the facts are these, each a variable and a value.
+/// Returns whether the facts are these, each a variable and a value.
 fn are(facts: &[Fact], rows: &[(usize, u32)]) -> bool {
     facts.len() == rows.len()
         && facts.iter().zip(rows).all(|(fact, row)| fact.variable == row.0 && fact.value == row.1)
 }
 
-/// Whether the operator of this number has this name, precondition and effect.
+/// Returns whether the operator of this number has this name, precondition and effect.
 fn is(
     operators: &[Operator],
     number: usize,
@@ -281,7 +281,7 @@ const ROAD: TaskRow<'static> = TaskRow {
     metric: false,
 };
 
-/// At a, at b, at c and the two roads.
+/// The atoms at a, at b and at c, and the two roads.
 const ROAD_ATOMS: &[Atom<'static>] = &[(0, &[0]), (0, &[1]), (0, &[2]), (1, &[0, 1]), (1, &[1, 2])];
 
 const GO: &[Row<'static>] = &[
@@ -301,7 +301,7 @@ const GO: &[Row<'static>] = &[
     },
 ];
 
-/// The parts of the road, with these variables over its atoms.
+/// Returns the parts of the road, with these variables over its atoms.
 fn road(rt: &impl Abort, alloc: Global, rows: &[VariableRow<'_>]) -> Parts {
     let actions = actions(rt, alloc, GO, 1);
     parts_of_rows(rt, alloc, ROAD, ROAD_ATOMS, &actions, rows)
@@ -367,8 +367,8 @@ const GRIPPER_ATOMS: &[Atom<'static>] = &[
     (4, &[]),
 ];
 
-/// Variables for the gripper's room, for each ball, and for whether the gripper is free; the atoms of rooms and balls are
-/// constant.
+/// Variables for the gripper's room, for each ball, and for whether the gripper is free; the atoms of rooms and balls
+/// are constant.
 const GRIPPER_VARIABLES: &[VariableRow<'static>] = &[
     (&[2, 3], false),
     (&[4, 5, 6], false),
@@ -376,8 +376,8 @@ const GRIPPER_VARIABLES: &[VariableRow<'static>] = &[
     (&[10], true),
 ];
 
-/// The parts over all actions of the gripper: it goes from each of the rooms p and q to the other, and picks up and drops each
-/// of the balls x and y in each.
+/// Returns the parts over all actions of the gripper: it moves from each of the rooms p and q to the other, and picks
+/// up and drops each of the balls x and y in each.
 fn gripper_parts(rt: &impl Abort, alloc: Global, task: &Task) -> Parts
     requires { IsTrue (has_small_costs task.now) }
 {
@@ -397,7 +397,7 @@ fn gripper(rt: &impl Abort, alloc: Global) -> Parts {
     gripper_parts(rt, alloc, &task)
 }
 
-/// What holds before x is picked up in p, and before it is dropped in q.
+/// The facts before x is picked up in p, and before it is dropped in q.
 const PICK: &[(usize, u32)] = &[(0, 0), (1, 0), (3, 0)];
 
 const DROP: &[(usize, u32)] = &[(0, 1), (1, 2)];
@@ -483,7 +483,7 @@ const LAMPS: TaskRow<'static> = TaskRow {
     metric: true,
 };
 
-/// An action of the lamps: the wanted and the excluded atoms, and what it adds and deletes.
+/// Returns an action of the lamps: the wanted and the excluded atoms, and what it adds and deletes.
 const fn turn<'a>(
     wanted: &'a [Atom<'a>],
     excluded: &'a [Atom<'a>],
@@ -499,7 +499,8 @@ const fn turn<'a>(
     }
 }
 
-/// The parts of a task of these actions at this cost, with one variable for the red and the green lamp and one for the fan.
+/// Returns the parts of a task of these actions at this cost, with one variable for the red and the green lamp and one
+/// for the fan.
 fn lamps(rt: &impl Abort, alloc: Global, rows: &[Row<'_>], cost: u64) -> Parts {
     let actions = actions(rt, alloc, rows, cost);
     parts_of_rows(
@@ -512,7 +513,7 @@ fn lamps(rt: &impl Abort, alloc: Global, rows: &[Row<'_>], cost: u64) -> Parts {
     )
 }
 
-/// Whether the action has an operator with these facts before and after.
+/// Returns whether the action has an operator with these facts before and after.
 fn turns(
     rt: &impl Abort,
     alloc: Global,
@@ -527,7 +528,7 @@ fn turns(
 #[test]
 fn what_is_deleted(rt: HostRuntime) {
     let alloc = rt.alloc();
-    // where the green lamp is on, the red one is not
+    // if the green lamp is on, the red one is not
     let green = turn(&[GREEN], &[], &[], &[RED]);
     assert!(rt; turns(&rt, alloc, green, &[(0, 1)], &[]));
     let red = turn(&[RED], &[], &[], &[RED]);
@@ -564,7 +565,7 @@ fn a_goal_and_a_state_of_lamps(rt: HostRuntime) {
     assert!(rt; are_lamps(&parts));
 }
 
-/// Whether the actions of these numbers have an operator, and each has this cost.
+/// Returns whether the actions of these numbers have an operator, and each has this cost.
 fn are_carried(parts: &Parts, carried: &[usize], cost: Cost) -> bool {
     parts.carried.as_slice() == carried
         && parts.operators.iter().all(|operator| operator.cost == cost)

@@ -35,8 +35,8 @@ const SPELLED_BALLS: &str = "(define (problem p)
     (:init (room p) (room q) (ball x) (ball y) (here p) (in x p) (in y p) (free))
     (:goal (and (in x q) (in y q))))";
 
-/// Atoms: P a, P b, P c and Q a, at places 0 to 3. Its groups are places 0 and 3, which are full, and places 0, 1 and 2, of
-/// which P a may be left for none of them.
+/// Atoms: P a, P b, P c and Q a, numbered from 0 to 3. Its groups are 0 and 3, which are full, and 0, 1 and 2, of which
+/// P a may be deleted while none of them is added.
 const LETTERS: &str = "(define (domain letters) (:constants a b c) (:predicates (p ?x) (q ?x))
     (:action first :precondition (and (p b) (q a)) :effect (and (p a) (not (p b)) (not (q a))))
     (:action second :precondition (p b) :effect (and (p c) (not (p b))))
@@ -87,8 +87,8 @@ fn a_group_of_two_goals_waits(rt: HostRuntime) {
     has_variables(&rt, rt.alloc(), LETTERS, TWO_GOALS, &[2, 0, 3, 3, 1, 2]);
 }
 
-/// Of the two groups of one size the first is taken, and the rest of the second is no usable group, since 3 is added where
-/// 2 is removed.
+/// Of the two groups of the same size the first is chosen, and the rest of the second is not a usable group, because 3
+/// is added when 2 is deleted.
 #[test]
 fn a_rest_that_is_unusable_is_left(rt: HostRuntime) {
     has_variables(&rt, rt.alloc(), CIRCLES, AT_TWO, &[3, 0, 1, 2, 2, 3, 2, 4]);

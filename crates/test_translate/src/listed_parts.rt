@@ -1,4 +1,4 @@
-//! Faults of given atoms and variables.
+//! Faults of atoms and variables that are passed in.
 
 ghost use Rattle.std.specs.Prelude.{All, IsTrue};
 ghost use Rattle.std.specs.Bool.{OnTrue};
@@ -15,7 +15,7 @@ use std::test::*;
 use translate_theory::ListedVariable;
 use translate_vars::{TranslateFault, check_parts};
 
-/// A predicate, `at` of one object or `road` of two, and two objects or parameters, of which it takes the first ones.
+/// A predicate, `at` of one object or `road` of two, and two objects or parameters, of which it uses the first ones.
 type Row = (usize, [usize; 2]);
 
 const AT_A: Row = (0, [0, 0]);
@@ -28,7 +28,7 @@ const ROAD_A_B: Row = (1, [0, 1]);
 
 const ROAD_B_C: Row = (1, [1, 2]);
 
-/// The atoms of the task, where the last two are the roads.
+/// The atoms of the task; the last two are the roads.
 const LISTED: [Row; 5] = [AT_A, AT_B, AT_C, ROAD_A_B, ROAD_B_C];
 
 fn atom(rt: &impl Abort, alloc: Global, row: Row) -> GroundAtom {
@@ -50,7 +50,7 @@ fn atoms(rt: &impl Abort, alloc: Global, rows: &[Row]) -> Vec<GroundAtom> {
     atoms
 }
 
-/// A variable, given as the first place of its atoms, one past the last, and whether there is a none value.
+/// A variable: the index of its first atom, one past the last, and whether there is a none value.
 type VariableRow = (usize, usize, bool);
 
 fn variables(rt: &impl Abort, alloc: Global, rows: &[VariableRow]) -> Vec<ListedVariable> {
@@ -74,7 +74,7 @@ fn first_object(atom: &GroundAtom) -> usize {
     atom.objects.get(0).copied().unwrap_or(0)
 }
 
-/// The kind of a fault, with its place, its variable, or the first object of its atom.
+/// Returns the kind of a fault, with its index, its variable, or the first object of its atom.
 fn kind_of(fault: &TranslateFault) -> (&'static str, usize) {
     match fault {
         TranslateFault::OutOfMemory => ("memory", 0),
@@ -101,7 +101,7 @@ fn is_rising(places: &[usize]) -> bool
     true
 }
 
-/// Whether the variable has atoms, with increasing places below `count`.
+/// Returns whether the variable has atoms, with increasing numbers below `count`.
 fn is_placed(variable: &ListedVariable, count: usize) -> bool
     ensures { OnTrue result (IsPlaced count variable.now) }
 {
@@ -115,7 +115,7 @@ fn are_placed(variables: &[ListedVariable], count: usize) -> bool
     variables.iter().all(|variable| is_placed(variable, count))
 }
 
-/// The fault of the atoms and the variables, or "fit" with the number of actions.
+/// Returns the fault of the atoms and the variables, or "fit" with the number of actions.
 fn answer(
     rt: &impl Abort,
     alloc: Global,
@@ -137,7 +137,7 @@ fn answer(
 const ROAD: &str = "(define (domain road) (:constants a b c) (:predicates (at ?x) (road ?x ?y))
     (:action go :parameters (?x ?y) :precondition (and (at ?x) (road ?x ?y)) :effect (and (at ?y) (not (at ?x)))))";
 
-/// Initial atoms beside the roads from a by b to c, a goal, atoms and variables, and the answer for them.
+/// Initial atoms in addition to the roads from a by b to c, a goal, atoms and variables, and the answer for them.
 #[derive(Clone, Copy)]
 struct Case<'a> {
     initial: &'a str,
@@ -166,7 +166,7 @@ fn check_all(rt: &impl Abort, alloc: Global, cases: &[Case<'_>]) {
     }
 }
 
-/// From a with the goal c, over all atoms.
+/// Returns the case of these variables over all atoms, from a with the goal c.
 const fn with_variables<'a>(variables: &'a [VariableRow], want: (&'a str, usize)) -> Case<'a> {
     Case {
         initial: "(at a)",
@@ -192,7 +192,7 @@ fn the_first_fault_of_variables_is_told(rt: HostRuntime) {
     check_all(&rt, rt.alloc(), &cases);
 }
 
-/// One variable of all three atoms.
+/// Returns the case of one variable of all three atoms.
 const fn with_one_variable<'a>(
     initial: &'a str,
     goal: &'a str,
@@ -216,7 +216,7 @@ fn two_true_atoms_or_goals_are_in_no_variable(rt: HostRuntime) {
     check_all(&rt, rt.alloc(), &cases);
 }
 
-/// From a, without variables.
+/// Returns the case of these atoms, from a, without variables.
 const fn with_atoms<'a>(goal: &'a str, listed: &'a [Row], want: (&'a str, usize)) -> Case<'a> {
     Case {
         initial: "(at a)",

@@ -12,14 +12,14 @@ use std::alloc::Global;
 use std::process::Abort;
 use translate_choice::choose_variables;
 
-/// What is asked of a task: the groups that are proposed, or the variables that are chosen.
+/// A question about a task: the groups that are proposed, or the variables that are chosen.
 #[derive(Clone, Copy)]
 pub(crate) enum Asked {
     Groups,
     Variables,
 }
 
-/// The groups over the atoms and actions, each as its length and then its places.
+/// Returns the groups over the atoms and actions, each as its length and then the numbers of its atoms.
 fn group_numbers(rt: &impl Abort, alloc: Global, index: &ActionIndex<'_>) -> Vec<usize> {
     let mut numbers = Vec::new(alloc);
     for group in groups(alloc, index).expect(rt, "memory").as_slice() {
@@ -31,7 +31,7 @@ fn group_numbers(rt: &impl Abort, alloc: Global, index: &ActionIndex<'_>) -> Vec
     numbers
 }
 
-/// The variables over the atoms and actions, each as its number of values and then its places.
+/// Returns the variables over the atoms and actions, each as its number of values and then the numbers of its atoms.
 fn variable_numbers(rt: &impl Abort, alloc: Global, index: &ActionIndex<'_>) -> Vec<usize> {
     let groups = groups(alloc, index).expect(rt, "memory");
     let mut numbers = Vec::new(alloc);

@@ -24,8 +24,8 @@ use Rattle.translate_vars.specs.Parts.{AreFit}
 use Rattle.translate_vars.specs.declared.fault.TranslateFault.{TranslateFault}
 use Rattle.translate_vars.specs.declared.fault.TranslateFault.TheVariants as fault
 
--- what holds of every task that texts spell: costs are small, and the initial atoms, the atoms of the goal and those that
--- actions add are atoms of the task
+-- what holds of every task that texts spell: costs are small, and the initial atoms, the atoms of the goal and those
+-- that actions add are atoms of the task
 pub record IsReadTask (task : PlanningTask) : Type 0 where
   pub small : IsTrue (has_small_costs task)
   pub costs : (a : Action) → IsActionOf task a → a.cost ≤ max_cost
@@ -33,7 +33,7 @@ pub record IsReadTask (task : PlanningTask) : Type 0 where
   pub goals : All (λ (l : Literal). IsAtomOf task l.atom) task.goal
   pub added : (a : Action) → IsActionOf task a → All (IsAtomOf task) a.adds
 
--- the atoms, the variables over them, the finite-domain task, and for each operator the place of its action
+-- the atoms, the variables over them, the finite-domain task, and for each operator the index of its action
 pub record TranslatedTask : Type 0 where
   pub atoms : List Atom
   pub variables : List PlacedVariable
@@ -48,7 +48,7 @@ actions_of task t = actions_over task (contains t.atoms)
 abbrev pub operator_actions : PlanningTask → TranslatedTask → List Action
 operator_actions task t = filter_map (slice_get (actions_of task t)) t.places
 
--- the atoms and variables are fit, the finite-domain task is the translation over them, and each operator has the place
+-- the atoms and variables are fit, the finite-domain task is the translation over them, and each operator has the index
 -- of its action
 pub record IsTranslation (task : PlanningTask) (t : TranslatedTask) : Type 0 where
   pub placed : All (IsPlaced (length t.atoms)) t.variables
@@ -71,7 +71,7 @@ pub record HasSamePlans (task : PlanningTask) (t : TranslatedTask) : Type 0 wher
   pub bounds : (bound : Distance) → EveryPlanCostsAtLeast t.task bound ↔ ValidPlansCostAtLeast task bound
   pub none : HasNoPlan t.task ↔ HasNoValidPlan task
 
--- the translation over these atoms and variables passes a limit of finite-domain tasks
+-- the translation over these atoms and variables exceeds a limit of finite-domain tasks
 abbrev pub IsTooLarge : PlanningTask → List Atom → List PlacedVariable → TranslateFault → Type 0
 IsTooLarge task atoms variables fault.OutOfMemory = ⊤
 IsTooLarge task atoms variables (fault.Limit l) = IsPastLimit (translation task (variables_at atoms variables) (actions_over task (contains atoms))) l
@@ -99,7 +99,7 @@ pub record AreChosenParts (task : PlanningTask) (atoms : List Atom) (variables :
   pub fit : AreVariables task atoms (actions_over task (contains atoms)) (variables_at atoms variables)
   pub ordered : IsNonDecreasingBy least_place variables
 
--- there are too many atoms or actions; or the finite-domain task over the chosen variables passes a limit
+-- there are too many atoms or actions; or the finite-domain task over the chosen variables exceeds a limit
 abbrev pub IsUntranslated : PlanningTask → TranslateFault → Type 0
 IsUntranslated task fault.OutOfMemory = ⊤
 IsUntranslated task fault.GroundLimit = IsPastLimits task

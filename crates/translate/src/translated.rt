@@ -7,7 +7,7 @@ use ground_atoms::Atoms;
 use std::marker::Model;
 use translate_theory::ListedVariable;
 
-/// A finite-domain task with the atoms and the variables that it is over, and for each operator the place of its action
+/// A finite-domain task with the atoms and the variables that it is over, and for each operator the index of its action
 /// among the ground actions over the atoms.
 #[derive(Drop)]
 pub struct Translated {
@@ -29,7 +29,7 @@ impl Model for Translated {
 }
 
 impl Translated {
-    /// Returns the listed atoms, in the order of their places.
+    /// Returns the listed atoms, in the order of their indices.
     pub fn atoms(&self) -> &Atoms
         ensures { result.now ≡ self.now.atoms }
     {
@@ -50,7 +50,7 @@ impl Translated {
         &self.task
     }
 
-    /// Returns the place of the operator's action among the ground actions over the atoms, counted from 0, or `None` if
+    /// Returns the index of the operator's action among the ground actions over the atoms, counted from 0, or `None` if
     /// there is no such operator.
     pub fn action_of(&self, operator: usize) -> Option<usize>
         ensures place { result ≡ slice_get self.now.places operator }

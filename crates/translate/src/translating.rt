@@ -25,8 +25,8 @@ use translate_choice::choose_variables;
 use translate_theory::ListedVariable;
 use translate_vars::{ListedParts, TranslateFault, check_parts};
 
-/// The translation over atoms and variables that are fit. Fails with the first limit that its task would pass, or if
-/// allocation fails.
+/// Returns the translation over atoms and variables that are fit. Fails with the first limit that its task would
+/// exceed, or if allocation fails.
 fn translated(
     alloc: Global,
     task: &Task,
@@ -85,8 +85,8 @@ pub fn with_variables(
     translated(alloc, task, parts, variables)
 }
 
-/// The least closed set of atoms, with the actions over it. Fails if a limit on atoms or actions is passed, or if
-/// allocation fails.
+/// Computes the least closed set of atoms, with the actions over it. Fails if a limit on atoms or actions is exceeded,
+/// or if allocation fails.
 fn grounded(alloc: Global, task: &Task) -> Result<Grounded, TranslateFault>
     requires small { IsTrue (has_small_costs task.now) }
     ensures least { IfOk result (λ g. IsLeastClosedSet task.now (contains g.atoms)) }
@@ -99,7 +99,7 @@ fn grounded(alloc: Global, task: &Task) -> Result<Grounded, TranslateFault>
 {
     match ground(alloc, task) {
         Ok(grounded) => {
-            // reading the list of atoms brings its invariant, that they are distinct, into the proof
+            // only for the proof: reading the list of atoms brings its invariant, that they are distinct, into it
             let _ = grounded.atoms.as_slice().len();
             Ok(grounded)
         }
@@ -108,7 +108,7 @@ fn grounded(alloc: Global, task: &Task) -> Result<Grounded, TranslateFault>
     }
 }
 
-/// Chooses variables over the least closed set, by the proposed mutex groups. Fails only if allocation fails.
+/// Chooses variables over the least closed set, by the proposed mutex groups.
 fn chosen(
     alloc: Global,
     task: &Task,

@@ -1,10 +1,10 @@
--- The places of the actions that have an operator.
+-- The indices of the actions that have an operator.
 use Rattle.std.specs.Prelude.{◌≡◌, ℕ, ◌<◌, List, length, Some, slice_get, All}
 use Rattle.std.specs.List.Sorted.{IsStrictlyIncreasing}
 use Rattle.pddl_task.specs.Planning.{Action}
 use Rattle.translate_theory.specs.Translations.{Variable, carried}
 
--- for each operator the place of its action in the list of actions: as many places as operators, each below the number
+-- for each operator the index of its action in the list of actions: as many indices as operators, each below the number
 -- of actions, and strictly increasing
 pub record AreCarriedAt (variables : List Variable) (actions : List Action) (places : List ℕ) : Type 0 where
   pub count : length places ≡ length (carried variables actions)

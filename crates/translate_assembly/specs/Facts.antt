@@ -17,7 +17,7 @@ value_at (f ∷ fs) k = if f.variable == k then Some f.value else value_at fs k
 abbrev pub has_fact : List Fact → Fact → Bool
 has_fact facts f = option_map_or (λ x. f.value == x) (value_at facts f.variable) false
 
--- the facts with this one in place of the one on its variable
+-- the facts with `new`, which replaces the one on its variable
 abbrev pub set_fact : List Fact → Fact → List Fact
 set_fact [] new = new ∷ []
 set_fact (f ∷ fs) new =
@@ -28,11 +28,11 @@ abbrev pub with_fact : List Fact → Option Fact → List Fact
 with_fact facts None = facts
 with_fact facts (Some f) = set_fact facts f
 
--- the facts after those that the elements give have been set, in their order
+-- the facts after setting those that `given` has for the elements, in their order
 abbrev pub assigned : {X : Type 0} → (X → Option Fact) → List Fact → List X → List Fact
 assigned given facts xs = fold (λ fs x. with_fact fs (given x)) facts xs
 
--- the place of the fact on this variable, or the place where it would be inserted
+-- the index of the fact on this variable, or the index at which it would be inserted
 abbrev pub one_more : Result ℕ ℕ → Result ℕ ℕ
 one_more (Ok i) = Ok (i + 1)
 one_more (Err i) = Err (i + 1)

@@ -58,7 +58,7 @@ module _ (slots : Lookup) where
         cost = a.cost;
       }) else None
 
--- the places of the elements that pass the test, where the first element has this place
+-- the indices of the elements that pass the test, counted from `place`
 abbrev pub places_where : {X : Type 0} → (X → Bool) → ℕ → List X → List ℕ
 places_where test place [] = []
 places_where test place (x ∷ xs) =

@@ -9,14 +9,14 @@ use Rattle.translate_assembly.specs.declared.slot.Slot.{Slot}
 abbrev pub Lookup : Type 0
 Lookup = Atom → Option Slot
 
--- the slot of the first element that passes the test, in a variable with this number and this number of atoms, where
--- the first element has this value
+-- the slot of the first element that passes the test, in the variable number `variable` of `count` atoms, whose values
+-- are counted from `value`
 abbrev pub first_slot : {X : Type 0} → (X → Bool) → ℕ → ℕ → ℕ → List X → Option Slot
 first_slot test variable count value [] = None
 first_slot test variable count value (x ∷ xs) =
     if test x then Some (record { variable = variable; value = value; count = count }) else first_slot test variable count (value + 1) xs
 
--- the slot of the first such element in the variables, where the first variable has this number
+-- the slot of the first such element in the variables, which are counted from `variable`
 abbrev pub slots_from : {X : Type 0} → (X → Bool) → ℕ → List (List X) → Option Slot
 slots_from test variable [] = None
 slots_from test variable (xs ∷ rest) =
@@ -26,16 +26,16 @@ slots_from test variable (xs ∷ rest) =
 abbrev pub slot_of : List Variable → Lookup
 slot_of variables p = slots_from (same_atom p) 0 (map (λ v. v.atoms) variables)
 
--- slots by the places of atoms
+-- slots by the indices of atoms
 pub record SlotTable : Type 0 where
   pub atoms : List Atom
   pub slots : List (Option Slot)
 
--- the slot at the place of the atom
+-- the slot at the index of the atom
 abbrev pub look_up : SlotTable → Lookup
 look_up table p = option_and_then (λ k. slice_index_or table.slots k None) (position (same_atom p) table.atoms)
 
--- the values, where the variable of the slot has the value of the slot
+-- the values after the variable of the slot is set to the value of the slot
 abbrev pub with_slot : List ℕ → Option Slot → List ℕ
 with_slot values None = values
 with_slot values (Some s) = slice_set values s.variable s.value

@@ -25,7 +25,7 @@ use translate_theory::ListedVariable;
 pub enum AssemblyFault {
     /// Memory ran out.
     OutOfMemory,
-    /// F18: the task would have more variables, values of a variable or operators than a task may have.
+    /// F18: the task would have more variables, values of a variable or operators than the limits of a task allow.
     Limit(TaskLimit),
 }
 
@@ -53,12 +53,12 @@ impl From<TaskLimit> for AssemblyFault {
     }
 }
 
-/// A finite-domain task, and the places of its operators' actions in the list of actions, counted from 0.
+/// A finite-domain task, and the indices of its operators' actions in the list of actions, counted from 0.
 #[derive(Drop)]
 pub struct Assembled {
     /// The finite-domain task.
     pub task: FdrTask,
-    /// For each operator the place of its action, strictly increasing. There are as many places as operators.
+    /// For each operator the index of its action, strictly increasing. There are as many indices as operators.
     pub carried: Vec<usize>,
 }
 
@@ -67,7 +67,7 @@ pub struct Assembled {
 /// (Helmert 2009).
 ///
 /// For each literal of an action it looks up the atom by hash and its fact by binary search; a new fact is inserted in
-/// the order of the variables. Fails with the first limit that the task would pass, or if allocation fails.
+/// the order of the variables. Fails with the first limit that the task would exceed, or if allocation fails.
 pub fn assemble(
     alloc: Global,
     task: &Task,
@@ -101,7 +101,7 @@ pub fn assemble(
     })
 }
 
-/// Checks the limits on variables and on the values of a variable. Fails with the first one that is passed.
+/// Checks the limits on variables and on the values of a variable. Fails with the first one that is exceeded.
 fn check_limits(variables: &[ListedVariable]) -> Result<(), TaskLimit>
     ensures short { OnOk result (All (λ v. length v.places ≤ max_values) variables.now) }
     ensures past { IfErr result (IsPastLimitAt variables.now) }
@@ -115,7 +115,7 @@ fn check_limits(variables: &[ListedVariable]) -> Result<(), TaskLimit>
     Ok(())
 }
 
-/// Whether a variable has more values than it may have.
+/// Returns whether a variable has more values than it may have.
 fn has_long_range(variables: &[ListedVariable]) -> bool
     ensures { result ≡ list_any is_long variables.now }
 {

@@ -34,7 +34,7 @@ impl Assignment {
         }
     }
 
-    /// The place of the fact on a variable, or the place where it would be inserted.
+    /// Returns the index of the fact on a variable, or as an error the index at which it would be inserted.
     fn search(&self, variable: usize) -> Result<usize, usize>
         ensures place { result ≡ place_in self.now variable }
         ensures bound { IfOk result (λ place. place < length self.now) }
@@ -43,7 +43,7 @@ impl Assignment {
             .binary_search_by_key(&variable, |fact| fact.variable)
     }
 
-    /// Sets the fact, in place of the one on its variable if there is one. Fails only if allocation fails.
+    /// Sets the fact, replacing the one on its variable if there is one.
     fn set(&mut self, fact: Fact) -> Result<(), AllocError>
         ensures { OnOk result (self.new ≡ set_fact self.old fact) }
     {
@@ -54,7 +54,7 @@ impl Assignment {
         Ok(())
     }
 
-    /// Sets the fact, if there is one. Fails only if allocation fails.
+    /// Sets the fact, if there is one.
     pub(crate) fn set_some(&mut self, fact: Option<Fact>) -> Result<(), AllocError>
         ensures { OnOk result (self.new ≡ with_fact self.old fact) }
     {
@@ -64,7 +64,7 @@ impl Assignment {
         Ok(())
     }
 
-    /// Whether the fact is one of these.
+    /// Returns whether the fact is one of these.
     pub(crate) fn holds(&self, fact: Fact) -> bool
         ensures { result ≡ has_fact self.now fact }
     {

@@ -13,7 +13,7 @@ use fdr::Fact;
 use pddl_task::GroundLiteral;
 use std::alloc::{AllocError, Global};
 
-/// The facts that the literals require. Literals on atoms in no variable require none. Fails only if allocation fails.
+/// Returns the facts that the literals require. Literals on atoms in no variable require none.
 pub(crate) fn condition(
     alloc: Global,
     table: &Table<'_>,
@@ -27,7 +27,7 @@ pub(crate) fn condition(
     Ok(facts)
 }
 
-/// Sets the none value of the variable of each excluded atom. Fails only if allocation fails.
+/// Sets the none value of the variable of each excluded atom.
 fn set_excluded(
     facts: &mut Assignment,
     table: &Table<'_>,
@@ -50,7 +50,7 @@ fn excluded_fact(table: &Table<'_>, literal: &GroundLiteral) -> Option<Fact>
     Some(table.slot(&literal.atom)?.none_fact())
 }
 
-/// Sets the value of each wanted atom. Fails only if allocation fails.
+/// Sets the value of each wanted atom.
 fn set_wanted(
     facts: &mut Assignment,
     table: &Table<'_>,
@@ -73,8 +73,8 @@ fn wanted_fact(table: &Table<'_>, literal: &GroundLiteral) -> Option<Fact>
     Some(table.slot(&literal.atom)?.own_fact())
 }
 
-/// Whether the facts that the literals require agree with each of the literals. If they do not, two wanted atoms are of
-/// one variable, or an atom is both wanted and excluded.
+/// Returns whether the facts that the literals require agree with each of the literals. If they do not, two wanted
+/// atoms are in one variable, or an atom is both wanted and excluded.
 pub(crate) fn are_consistent(
     table: &Table<'_>,
     facts: &Assignment,

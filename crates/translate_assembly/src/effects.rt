@@ -11,7 +11,7 @@ use fdr::Fact;
 use pddl_task::{GroundAction, GroundAtom};
 use std::alloc::{AllocError, Global};
 
-/// The facts that hold after the action and are not in its condition. Fails only if allocation fails.
+/// Returns the facts that hold after the action and are not in its condition.
 pub(crate) fn effect(
     alloc: Global,
     table: &Table<'_>,
@@ -26,8 +26,7 @@ pub(crate) fn effect(
     changes(alloc, condition, facts.as_slice())
 }
 
-/// Sets the none value of the variables of which the deletion of an atom leaves none true. Fails only if allocation
-/// fails.
+/// Sets the none value of the variables of which the deletion of an atom leaves none true.
 fn set_removed(
     facts: &mut Assignment,
     table: &Table<'_>,
@@ -42,7 +41,7 @@ fn set_removed(
     Ok(())
 }
 
-/// The none value for a deleted atom, if the atom was true by the condition or is the only one of its variable.
+/// Returns the none value for a deleted atom, if the atom was true by the condition or is the only one of its variable.
 fn removed_fact(table: &Table<'_>, condition: &Assignment, atom: &GroundAtom) -> Option<Fact>
     ensures { result ≡ removed_fact (look_up table.now) condition.now atom.now }
 {
@@ -54,7 +53,7 @@ fn removed_fact(table: &Table<'_>, condition: &Assignment, atom: &GroundAtom) ->
     }
 }
 
-/// Sets the value of each added atom. Fails only if allocation fails.
+/// Sets the value of each added atom.
 fn set_added(
     facts: &mut Assignment,
     table: &Table<'_>,
@@ -74,7 +73,7 @@ fn added_fact(table: &Table<'_>, atom: &GroundAtom) -> Option<Fact>
     Some(table.slot(atom)?.own_fact())
 }
 
-/// The facts that are not in the condition. Fails only if allocation fails.
+/// Returns the facts that are not in the condition.
 fn changes(alloc: Global, condition: &Assignment, facts: &[Fact]) -> Result<Vec<Fact>, AllocError>
     ensures { IfOk result (λ changes. changes.items ≡ filter (λ f. not (has_fact condition.now f)) facts.now) }
 {

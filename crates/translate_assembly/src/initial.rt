@@ -10,7 +10,7 @@ use pddl_task::GroundAtom;
 use std::alloc::{AllocError, Global};
 use translate_theory::ListedVariable;
 
-/// For each variable the value of its initially true atom, or the none value. Fails only if allocation fails.
+/// Returns for each variable the value of its initially true atom, or the none value.
 pub(crate) fn initial_state(
     alloc: Global,
     table: &Table<'_>,
@@ -28,7 +28,7 @@ pub(crate) fn initial_state(
     Ok(state)
 }
 
-/// The none value of each variable: its number of atoms. Fails only if allocation fails.
+/// Returns the none value of each variable: its number of atoms.
 fn none_values(alloc: Global, variables: &[ListedVariable]) -> Result<Vec<u32>, AllocError>
     requires { All (λ v. length v.places ≤ max_values) variables.now }
     ensures { IfOk result (λ values. values.items ≡ map (λ v. length v.places) variables.now) }

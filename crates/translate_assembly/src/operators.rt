@@ -15,7 +15,7 @@ use pddl_task::{GroundAction, Vocabulary};
 use std::alloc::{AllocError, Global};
 use translate_names::action_name;
 
-/// Operators, and for each the place of its action in the list of actions.
+/// Operators, and for each the index of its action in the list of actions.
 #[derive(Drop)]
 pub(crate) struct CarriedOperators {
     pub(crate) operators: Vec<Operator>,
@@ -23,7 +23,7 @@ pub(crate) struct CarriedOperators {
 }
 
 impl CarriedOperators {
-    /// Makes the operators of those actions that have one. Fails only if allocation fails.
+    /// Makes the operators of those actions that have one.
     pub(crate) fn new(
         alloc: Global,
         vocabulary: &Vocabulary,
@@ -46,7 +46,7 @@ impl CarriedOperators {
         Ok(made)
     }
 
-    /// Appends the operator of the action at the place, if it has one. Fails only if allocation fails.
+    /// Appends the operator of the action at index `place`, if it has one.
     fn push(&mut self, place: usize, operator: Option<Operator>) -> Result<(), AllocError>
         ensures operators { OnOk result (self.new.operators.items ≡ self.old.operators.items ++ cons_option operator []) }
         ensures carried { OnOk result (self.new.carried.items
@@ -60,8 +60,7 @@ impl CarriedOperators {
     }
 }
 
-/// The operator of an action, or `None` if its precondition cannot hold in a reachable state. Fails only if allocation
-/// fails.
+/// Returns the operator of an action, or `None` if its precondition cannot hold in a reachable state.
 fn operator(
     alloc: Global,
     vocabulary: &Vocabulary,

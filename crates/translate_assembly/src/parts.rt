@@ -32,7 +32,7 @@ pub struct Parts {
     pub goal: Vec<Fact>,
     /// The operators, in the order of their actions.
     pub operators: Vec<Operator>,
-    /// For each operator the place of its action in the list of actions, counted from 0.
+    /// For each operator the index of its action in the list of actions, counted from 0.
     pub carried: Vec<usize>,
 }
 
@@ -40,7 +40,7 @@ pub struct Parts {
 /// the actions.
 ///
 /// `value_names` and `initial` have one item for each variable, and `operators` and `carried` one for each action that
-/// has an operator. Fails only if allocation fails.
+/// has an operator.
 pub fn parts_of(
     alloc: Global,
     task: &Task,

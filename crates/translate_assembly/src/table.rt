@@ -14,7 +14,7 @@ use std::alloc::{AllocError, Global};
 use std::marker::Model;
 use translate_theory::ListedVariable;
 
-/// The slot of each listed atom that is in a variable, by the place of the atom in the list.
+/// The slot of each listed atom that is in a variable, by the index of the atom in the list.
 #[derive(Drop)]
 pub(crate) struct Table<'a> {
     atoms: &'a Atoms,
@@ -30,8 +30,7 @@ impl<'a> Model for Table<'a> {
 }
 
 impl<'a> Table<'a> {
-    /// Makes the table of these variables. If an atom is in several, the first one counts. Fails only if allocation
-    /// fails.
+    /// Makes the table of these variables. If an atom is in several, the first one counts.
     pub(crate) fn new(
         alloc: Global,
         atoms: &'a Atoms,
@@ -55,7 +54,7 @@ impl<'a> Table<'a> {
     }
 }
 
-/// The slot of each place below `count`. Fails only if allocation fails.
+/// Returns the slot of each index below `count`.
 fn slots(
     alloc: Global,
     count: usize,
@@ -73,7 +72,7 @@ fn slots(
     Ok(slots)
 }
 
-/// Sets the slots of the places to the values of this variable, where they have none yet.
+/// Sets the slots at the indices `places` to the values of this variable, unless they are set.
 fn mark(slots: &mut [Option<Slot>], variable: usize, places: &[usize])
     requires within { All (λ p. p < length slots.old) places.now }
     requires short { length places.now ≤ max_values }
@@ -95,7 +94,7 @@ fn mark(slots: &mut [Option<Slot>], variable: usize, places: &[usize])
     }
 }
 
-/// Sets the slot of the place, if it has none yet.
+/// Sets the slot at index `place`, unless it is set.
 fn mark_one(slots: &mut [Option<Slot>], place: usize, slot: Slot)
     requires { place < length slots.old }
     ensures { (q : ℕ) → slice_index_or slots.new q None

@@ -1,4 +1,4 @@
--- The state of the choice of variables, by the places of the atoms.
+-- The state of the choice of variables, by the indices of the atoms.
 use Rattle.std.specs.Prelude.{◌≡◌, ℕ, ◌<◌, Bool, true, false, ◌||◌, ◌&&◌, not, if◌then◌else◌, List, [], ◌∷◌, ◌++◌, length, slice_get, slice_index_or, Some, count_by, All}
 use Rattle.std.specs.List.Sorted.{IsStrictlyIncreasing}
 use Rattle.std.specs.Option.{option_map_or}
@@ -11,27 +11,27 @@ use Rattle.mutex_proposals.specs.Proposals.{is_movable}
 use Rattle.translate_choice.specs.Greedy.{is_in, IsSingle}
 use Rattle.translate_choice.specs.declared.choice.Choice.{Choice}
 
--- the place of the first atom of the variable
+-- the index of the first atom of the variable
 abbrev pub least_place : PlacedVariable → ℕ
 least_place v = slice_index_or v.places 0 0
 
--- whether there is an atom at the place, and it is constant
+-- whether there is an atom at index `place`, and it is constant
 abbrev pub is_constant_at : Indexed → ℕ → Bool
 is_constant_at index place = option_map_or (is_constant index.task index.actions) (slice_get index.atoms place) false
 
--- whether the place is not taken, and does not have a constant atom
+-- whether index `place` is not taken, and does not have a constant atom
 abbrev pub is_left : Indexed → List Bool → ℕ → Bool
 is_left index taken place = not (slice_index_or taken place false) && not (is_constant_at index place)
 
--- the flag at each place is whether the atom is a goal
+-- the flag at each index is whether the atom is a goal
 abbrev pub AreGoals : Indexed → List Bool → Type 0
 AreGoals index flags = (p : ℕ) (x : Atom) → slice_get index.atoms p ≡ Some x → slice_index_or flags p false ≡ wants index.task.goal x
 
--- none of the places is taken
+-- none of the indices is taken
 abbrev pub AreFree : List Bool → List ℕ → Type 0
 AreFree taken places = All (λ p. slice_index_or taken p false ≡ false) places
 
--- strictly increasing places, none of them taken, of atoms that are neither constant nor excluded
+-- strictly increasing indices, none of them taken, of atoms that are neither constant nor excluded
 pub record IsRest (index : Indexed) (taken : List Bool) (places : List ℕ) : Type 0 where
   pub rising : IsStrictlyIncreasing places
   pub movable : All (λ p. is_movable index p ≡ true) places
@@ -47,7 +47,7 @@ pub record IsNext (index : Indexed) (taken : List Bool) (v : PlacedVariable) : T
   pub changing : All (λ p. is_constant_at index p ≡ false) v.places
   pub free : AreFree taken v.places
 
--- each place that is taken is in exactly one variable and is not constant, and each other place is in none
+-- each index that is taken is in exactly one variable and its atom is not constant, and each other index is in none
 pub record IsChoice (index : Indexed) (choice : Choice) : Type 0 where
   pub size : length choice.taken.items ≡ length index.atoms
   pub placed : All (IsPlaced (length index.atoms)) choice.variables.items
@@ -57,14 +57,14 @@ pub record IsChoice (index : Indexed) (choice : Choice) : Type 0 where
   pub told : (p : ℕ) → slice_index_or choice.taken.items p false ≡ is_in choice.variables.items p
   pub changing : (p : ℕ) → p < length index.atoms → slice_index_or choice.taken.items p false ≡ true → is_constant_at index p ≡ false
 
--- the variable has been added, and its places have been taken
+-- the variable has been added, and its indices have been taken
 pub record AddsVariable (old new : Choice) (v : PlacedVariable) : Type 0 where
   pub variables : new.variables.items ≡ old.variables.items ++ v ∷ []
   pub size : length new.taken.items ≡ length old.taken.items
   pub taken : (p : ℕ) → p < length old.taken.items
       → slice_index_or new.taken.items p false ≡ (slice_index_or old.taken.items p false || has v.places p)
 
--- each place before this one is taken or constant
+-- each index below `end` is taken or its atom is constant
 abbrev pub IsDoneBelow : Indexed → Choice → ℕ → Type 0
 IsDoneBelow index choice end =
     (p : ℕ) → p < end → slice_index_or choice.taken.items p false ≡ false → is_constant_at index p ≡ true

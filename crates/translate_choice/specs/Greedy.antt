@@ -1,4 +1,5 @@
--- The greedy choice of variables (Helmert 2009): the largest of the groups by what the variables before it leave of them.
+-- The greedy choice of variables (Helmert 2009): the group with the most atoms that the variables before it leave comes
+-- first.
 use Rattle.std.specs.Prelude.{◌≡◌, ℕ, ◌<◌, ◌≤◌, ◌⊎◌, ⊤, Bool, true, false, ◌&&◌, not, nat_lt, List, [], ◌∷◌, ◌++◌, length, slice_index_or, filter, All, Contains}
 use Rattle.std.specs.List.{list_any}
 use Rattle.std.specs.List.Sorted.{IsPermutation}
@@ -24,15 +25,15 @@ variable_of index places =
 abbrev pub group_at : List (List ℕ) → ℕ → List ℕ
 group_at groups number = row groups number
 
--- whether the place is in one of the variables
+-- whether the index is in one of the variables
 abbrev pub is_in : List PlacedVariable → ℕ → Bool
 is_in variables p = list_any (λ v. has v.places p) variables
 
--- what the variables leave of the group
+-- the indices of the group that are in none of the variables
 abbrev pub left_by : List PlacedVariable → List ℕ → List ℕ
 left_by variables group = filter (λ p. not (is_in variables p)) group
 
--- what the places that are taken leave of the group
+-- the indices of the group that are not taken
 abbrev pub left_of : List Bool → List ℕ → List ℕ
 left_of taken group = filter (λ p. not (slice_index_or taken p false)) group
 
@@ -40,19 +41,19 @@ left_of taken group = filter (λ p. not (slice_index_or taken p false)) group
 abbrev pub GoesFirst : ℕ → ℕ → ℕ → ℕ → Type 0
 GoesFirst size number other_size other = (other_size < size) ⊎ ((other_size ≡ size) × (number ≤ other))
 
--- given what is left of each group: what is left of the group with this number is fit, it goes first of all of which that
--- is so, and the variable is that of its atoms
+-- given the rest that is left of each group: the rest of the group with this number is fit, it goes first of all rests
+-- that are fit, and the variable is that of its atoms
 pub record IsLargest (index : Indexed) (groups : List (List ℕ)) (left : List ℕ → List ℕ) (number : ℕ) (v : PlacedVariable) : Type 0 where
   pub fit : is_fit index (left (group_at groups number)) ≡ true
   pub first : (other : ℕ) → is_fit index (left (group_at groups other)) ≡ true
       → GoesFirst (length (left (group_at groups number))) number (length (left (group_at groups other))) other
   pub is : v ≡ variable_of index (left (group_at groups number))
 
--- given what is left of each group: of no group it is fit
+-- given the rest that is left of each group: no group has a rest that is fit
 abbrev pub NoneFits : Indexed → List (List ℕ) → (List ℕ → List ℕ) → Type 0
 NoneFits index groups left = (number : ℕ) → is_fit index (left (group_at groups number)) ≡ false
 
--- each variable is that of the group that goes first by what the variables before it leave
+-- each variable is that of the group that goes first by the rest that the variables before it leave
 abbrev pub AreTakenAfter : Indexed → List (List ℕ) → List PlacedVariable → List PlacedVariable → Type 0
 AreTakenAfter index groups earlier [] = ⊤
 AreTakenAfter index groups earlier (v ∷ variables) =
@@ -63,8 +64,8 @@ pub record IsSingle (v : PlacedVariable) : Type 0 where
   pub one : length v.places ≡ 1
   pub none : v.has_none ≡ true
 
--- the variables are, in some order, those that are taken from the groups, one after the other as long as one is fit, and
--- variables of one atom
+-- the variables are, in some order, those that are taken from the groups, one after the other as long as the rest of a
+-- group is fit, and variables of one atom
 pub record AreChosen (index : Indexed) (groups : List (List ℕ)) (variables : List PlacedVariable) : Type 0 where
   pub taken : List PlacedVariable
   pub singles : List PlacedVariable
@@ -79,7 +80,7 @@ pub record AreChosen (index : Indexed) (groups : List (List ℕ)) (variables : L
 abbrev pub IsQueued : List Candidate → ℕ → ℕ → Type 0
 IsQueued queue size number = (c : Candidate) × Contains queue c × (c.size ≡ size) × (c.group.0 ≡ number)
 
--- if what is left of the group is fit, the group is queued with the number of its atoms that are left
+-- if the rest of the group is fit, the group is queued with the number of atoms in its rest
 abbrev pub IsQueuedIfFit : Indexed → List (List ℕ) → List Bool → List Candidate → ℕ → Type 0
 IsQueuedIfFit index groups taken queue number =
     is_fit index (left_of taken (group_at groups number)) ≡ true → IsQueued queue (length (left_of taken (group_at groups number))) number
@@ -87,7 +88,7 @@ IsQueuedIfFit index groups taken queue number =
 abbrev pub AreQueued : Indexed → List (List ℕ) → List Bool → List Candidate → Type 0
 AreQueued index groups taken queue = (number : ℕ) → IsQueuedIfFit index groups taken queue number
 
--- what is queued stays
+-- each group that is queued stays queued
 abbrev pub Keeps : List Candidate → List Candidate → Type 0
 Keeps old new = (size number : ℕ) → IsQueued old size number → IsQueued new size number
 
@@ -97,6 +98,6 @@ pub record IsFound (index : Indexed) (groups : List (List ℕ)) (taken : List Bo
   pub largest : IsLargest index groups (left_of taken) number v
   pub others : (other : ℕ) → (other ≡ number → ⊥) → IsQueuedIfFit index groups taken queue other
 
--- each group that has an atom at one of the places is listed
+-- each group that has an atom at one of the indices is listed
 abbrev pub HasEach : List (List ℕ) → List ℕ → List ℕ → Type 0
 HasEach groups_at places groups = (p g : ℕ) → has places p ≡ true → has (row groups_at p) g ≡ true → has groups g ≡ true

@@ -18,7 +18,7 @@ use mutex_proposals::Groups;
 use std::alloc::{AllocError, Global};
 use translate_theory::ListedVariable;
 
-/// For each place whether the atom is taken, and the variables that have taken the atoms.
+/// For each atom, by its index, whether it is taken, and the variables that have taken the atoms.
 #[derive(Drop)]
 struct Choice {
     taken: Vec<bool>,
@@ -26,7 +26,7 @@ struct Choice {
 }
 
 impl Choice {
-    /// Makes a choice without variables, over this number of atoms. Fails only if allocation fails.
+    /// Makes a choice without variables, over `count` atoms.
     fn new(alloc: Global, count: usize) -> Result<Choice, AllocError>
         ensures choice { IfOk result (λ choice. (index : Indexed) → length index.atoms ≡ count → IsChoice index choice) }
         ensures empty { IfOk result (λ choice. choice.variables.items ≡ []) }
@@ -37,7 +37,7 @@ impl Choice {
         })
     }
 
-    /// Adds a variable and marks its atoms as taken. Fails only if allocation fails.
+    /// Adds a variable and marks its atoms as taken.
     fn add(&mut self, variable: ListedVariable) -> Result<(), AllocError>
         ensures { OnOk result (AddsVariable self.old self.new variable) }
     {
@@ -47,8 +47,9 @@ impl Choice {
     }
 }
 
-/// The variable of the largest group by what is left of it, and of several of the earliest, among those of which it is
-/// fit. Candidates before it are removed from the queue. Fails only if allocation fails.
+/// Returns the variable of the group with the most untaken atoms among the groups whose untaken atoms are fit (of
+/// several the earliest), or `None` if there is none. The candidates up to that of the group are removed from the
+/// queue.
 fn next_variable(
     alloc: Global,
     offers: &Offers<'_>,
@@ -69,7 +70,7 @@ fn next_variable(
     Ok(None)
 }
 
-/// Takes groups as long as one is fit. Fails only if allocation fails.
+/// Takes groups as long as the untaken atoms of one are fit.
 fn take_groups(alloc: Global, offers: &Offers<'_>, choice: &mut Choice) -> Result<(), AllocError>
     requires choice { IsChoice offers.now.index.now choice.old }
     requires empty { choice.old.variables.items ≡ [] }
@@ -79,7 +80,7 @@ fn take_groups(alloc: Global, offers: &Offers<'_>, choice: &mut Choice) -> Resul
 {
     let groups_at = GroupsAt::new(alloc, choice.taken.len(), offers.groups())?;
     let mut queue = offers.queue_all(alloc, &choice.taken)?;
-    // Each turn takes at least two atoms, so there are fewer turns than atoms.
+    // Each iteration but the last takes at least two atoms, so there are at most as many iterations as atoms.
     for _turn in 0..choice.taken.len() {
         match next_variable(alloc, offers, &choice.taken, &mut queue)? {
             Some(variable) => {
@@ -93,7 +94,7 @@ fn take_groups(alloc: Global, offers: &Offers<'_>, choice: &mut Choice) -> Resul
     Ok(())
 }
 
-/// Whether the atom is neither taken nor constant.
+/// Returns whether the atom is neither taken nor constant.
 fn is_left(index: &ActionIndex<'_>, taken: &[bool], place: usize) -> bool
     requires { place < length index.now.atoms }
     ensures { result ≡ is_left index.now taken.now place }
@@ -101,7 +102,7 @@ fn is_left(index: &ActionIndex<'_>, taken: &[bool], place: usize) -> bool
     !is_set(taken, place) && !index.is_constant(place)
 }
 
-/// Takes the atom as a variable of its own, unless it is taken or constant. Fails only if allocation fails.
+/// Takes the atom as a variable of its own, unless it is taken or constant.
 fn take_atom(
     alloc: Global,
     index: &ActionIndex<'_>,
@@ -124,7 +125,7 @@ fn take_atom(
     })
 }
 
-/// Takes each atom that is neither taken nor constant as a variable of its own. Fails only if allocation fails.
+/// Takes each atom that is neither taken nor constant as a variable of its own.
 fn take_atoms(alloc: Global, index: &ActionIndex<'_>, choice: &mut Choice) -> Result<(), AllocError>
     requires { IsChoice index.now choice.old }
     ensures choice { OnOk result (IsChoice index.now choice.new) }
@@ -137,7 +138,7 @@ fn take_atoms(alloc: Global, index: &ActionIndex<'_>, choice: &mut Choice) -> Re
     Ok(())
 }
 
-/// The place of the first atom of the variable.
+/// Returns the index of the first atom of the variable.
 fn least_place(variable: &ListedVariable) -> usize
     ensures { result ≡ least_place variable.now }
 {
@@ -148,7 +149,7 @@ fn least_place(variable: &ListedVariable) -> usize
 /// mutex groups). The groups are considered without the atoms that are already taken. As long as some of them have at
 /// least two atoms, at most one of them a goal, and are usable, the largest of these becomes a variable, and of several
 /// the earliest. Each other atom that is not constant becomes a variable of its own. A variable has the none value
-/// unless it has several atoms and they are a full group. Fails only if allocation fails.
+/// unless it has several atoms and they are a full group.
 ///
 /// The groups must be those of the index's atoms, none of them constant or excluded, as `mutex_proposals::groups`
 /// returns them. A group is examined again each time that it loses atoms.

@@ -1,18 +1,18 @@
-//! Flags by place.
+//! Flags by index.
 
 ghost use Rattle.std.specs.Prelude.{◌≡◌, ◌<◌, ◌==◌, ◌||◌, ℕ, false, length, slice_index_or, IfOk};
 ghost use Rattle.mutex.specs.Places.{has};
 
 use std::alloc::{AllocError, Global};
 
-/// Whether the flag at a place is set. It is not set past the end.
+/// Returns whether the flag at index `place` is set: false past the end.
 pub(crate) fn is_set(flags: &[bool], place: usize) -> bool
     ensures { result ≡ slice_index_or flags.now place false }
 {
     flags.get(place).copied().unwrap_or(false)
 }
 
-/// Sets the flag at a place.
+/// Sets the flag at index `place`, if there is one.
 fn set_one(flags: &mut [bool], place: usize)
     ensures { (p : ℕ) → p < length flags.old →
         slice_index_or flags.new p false ≡ (slice_index_or flags.old p false || place == p) }
@@ -22,7 +22,7 @@ fn set_one(flags: &mut [bool], place: usize)
     }
 }
 
-/// Sets the flags at these places.
+/// Sets the flags at the indices `places`.
 pub(crate) fn set(flags: &mut [bool], places: &[usize])
     ensures { (p : ℕ) → p < length flags.old →
         slice_index_or flags.new p false ≡ (slice_index_or flags.old p false || has places.now p) }
@@ -32,7 +32,7 @@ pub(crate) fn set(flags: &mut [bool], places: &[usize])
     }
 }
 
-/// Returns `count` flags, of which those at these places are set. Fails only if allocation fails.
+/// Returns `count` flags, of which those at the indices `places` are set.
 pub(crate) fn set_flags(
     alloc: Global,
     count: usize,

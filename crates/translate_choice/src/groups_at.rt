@@ -1,4 +1,4 @@
-//! The groups that have an atom, by the atom's place.
+//! The groups that have an atom, by the atom's index.
 
 ghost use Rattle.std.specs.Prelude.{◌≡◌, ◌<◌, ◌==◌, ◌&&◌, ◌||◌, ◌++◌, ℕ, [], ◌∷◌, true, length, replicate, slice_index_or, IfOk, OnOk};
 ghost use Rattle.mutex.specs.Places.{has, AreSameSet};
@@ -46,7 +46,7 @@ impl Row {
     }
 }
 
-/// For each place the numbers of the groups that have its atom.
+/// For each atom, by its index, the numbers of the groups that have it.
 #[derive(Drop)]
 pub(crate) struct GroupsAt {
     rows: Vec<Row>,
@@ -61,7 +61,7 @@ impl Model for GroupsAt {
 }
 
 impl GroupsAt {
-    /// The groups of each place below `count`. Fails only if allocation fails.
+    /// Lists the groups of each index below `count`.
     pub(crate) fn new(alloc: Global, count: usize, groups: &[Group]) -> Result<GroupsAt, AllocError>
         ensures { IfOk result (IsTranspose count groups.now) }
     {
@@ -69,7 +69,7 @@ impl GroupsAt {
         Ok(GroupsAt { rows })
     }
 
-    /// The groups that have one of the atoms at these places, in increasing order. Fails only if allocation fails.
+    /// Returns the groups that have one of the atoms at the indices `places`, in increasing order.
     pub(crate) fn groups_with(
         &self,
         alloc: Global,
@@ -83,7 +83,7 @@ impl GroupsAt {
         Ok(groups)
     }
 
-    /// The same, with repeats.
+    /// Returns the groups of `groups_with` with duplicates, in no particular order.
     fn listed_with(&self, alloc: Global, places: &[usize]) -> Result<Vec<usize>, AllocError>
         ensures { IfOk result (λ groups. HasEach self.now places.now groups.items) }
     {
@@ -94,7 +94,7 @@ impl GroupsAt {
         Ok(groups)
     }
 
-    /// The groups that have the atom at the place.
+    /// Returns the groups that have the atom at index `place`, or none if there is no such index.
     fn row(&self, place: usize) -> &[usize]
         ensures { result.now ≡ row self.now place }
     {
@@ -115,7 +115,7 @@ fn empty_rows(alloc: Global, count: usize) -> Result<Vec<Row>, AllocError>
     Ok(rows)
 }
 
-/// Appends the number to the row at this place, if there is one.
+/// Appends `number` to the row at index `place`, if there is one.
 fn put_one(rows: &mut [Row], place: usize, number: usize) -> Result<(), AllocError>
     ensures { OnOk result ((p k : ℕ) → p < length rows.old →
         has (slice_index_or rows.new p []) k ≡ (has (slice_index_or rows.old p []) k || (number == k && place == p))) }
@@ -126,7 +126,7 @@ fn put_one(rows: &mut [Row], place: usize, number: usize) -> Result<(), AllocErr
     Ok(())
 }
 
-/// Appends the number to the rows at these places.
+/// Appends `number` to the rows at the indices `places`.
 fn put(rows: &mut [Row], places: &[usize], number: usize) -> Result<(), AllocError>
     ensures { OnOk result ((p k : ℕ) → p < length rows.old →
         has (slice_index_or rows.new p []) k ≡ (has (slice_index_or rows.old p []) k || (number == k && has places.now p))) }
@@ -137,7 +137,7 @@ fn put(rows: &mut [Row], places: &[usize], number: usize) -> Result<(), AllocErr
     Ok(())
 }
 
-/// For each place below `count` the numbers of the groups that contain it.
+/// Returns for each index below `count` the numbers of the groups that contain it.
 fn rows_of(alloc: Global, count: usize, groups: &[Group]) -> Result<Vec<Row>, AllocError>
     ensures { IfOk result (λ rows. IsTranspose count groups.now rows.items) }
 {

@@ -1,4 +1,4 @@
-//! The proposed groups, and the variables that their remaining atoms make.
+//! The proposed groups, and the variables of their untaken atoms.
 
 ghost use Rattle.std.specs.Prelude.{◌≡◌, ◌<◌, ℕ, length, true, false, not, slice_index_or, nat_le, count_by, position, None, if◌then◌else◌, All, IfOk, OnOk};
 ghost use Rattle.std.specs.List.Sorted.{IsStrictlyIncreasing};
@@ -19,7 +19,7 @@ use pddl_task::GroundLiteral;
 use std::alloc::{AllocError, Global};
 use translate_theory::ListedVariable;
 
-/// Groups of an index's atoms, and for each place whether the atom is a goal.
+/// Groups of an index's atoms, and for each atom, by its index, whether it is a goal.
 #[derive(Drop)]
 pub(crate) struct Offers<'a> {
     pub(crate) index: &'a ActionIndex<'a>,
@@ -40,7 +40,7 @@ impl<'a> Offers<'a> {
         ensures index { IfOk result (λ offers. offers.index.now ≡ index.now) }
         ensures groups { IfOk result (λ offers. offers.groups.now ≡ groups.now) }
     {
-        // reading the list of atoms brings its invariant, that they are distinct, into the proof
+        // only for the proof: reading the list of atoms brings its invariant, that they are distinct, into it
         let _ = index.atoms().as_slice().len();
         Ok(Offers {
             index,
@@ -55,7 +55,7 @@ impl<'a> Offers<'a> {
         self.groups
     }
 
-    /// The places of the group with this number, or none if there is no such group.
+    /// Returns the atom indices of the group with this number, or none if there is no such group.
     fn places_of(&self, group: usize) -> &[usize]
         ensures { result.now ≡ group_at self.now.groups.now group }
     {
@@ -65,7 +65,7 @@ impl<'a> Offers<'a> {
         }
     }
 
-    /// The places of the group that are not taken. Fails only if allocation fails.
+    /// Returns the atom indices of the group that are not taken.
     pub(crate) fn rest(
         &self,
         alloc: Global,
@@ -78,7 +78,7 @@ impl<'a> Offers<'a> {
         untaken(alloc, taken, self.places_of(group))
     }
 
-    /// Whether at most one of the atoms is a goal.
+    /// Returns whether at most one of the atoms is a goal.
     fn has_one_goal(&self, places: &[usize]) -> bool
         ensures { result ≡ nat_le (count_by (λ p. slice_index_or self.now.goals.items p false) places.now) 1 }
     {
@@ -89,7 +89,7 @@ impl<'a> Offers<'a> {
             <= 1
     }
 
-    /// Whether there are several atoms, at most one of them a goal, and they are a usable group.
+    /// Returns whether there are several atoms, at most one of them a goal, and they are a usable group.
     pub(crate) fn is_fit(&self, places: &[usize]) -> bool
         requires rising { IsStrictlyIncreasing places.now }
         requires within { All (λ p. p < length self.now.index.now.atoms) places.now }
@@ -101,7 +101,7 @@ impl<'a> Offers<'a> {
         self.index.is_usable(places)
     }
 
-    /// Returns the variable of the atoms at these places.
+    /// Returns the variable of the atoms at the indices `places`.
     pub(crate) fn variable(&self, places: Vec<usize>) -> ListedVariable
         requires rising { IsStrictlyIncreasing places.items }
         requires within { All (λ p. p < length self.now.index.now.atoms) places.items }
@@ -111,8 +111,7 @@ impl<'a> Offers<'a> {
         ListedVariable { places, has_none }
     }
 
-    /// Queues the group with the number of its atoms that are not taken, unless they are fewer than two. Fails only if
-    /// allocation fails.
+    /// Queues the group with the number of its atoms that are not taken, unless they are fewer than two.
     fn queue_one(&self, queue: &mut Queue, group: usize, taken: &[bool]) -> Result<(), AllocError>
         ensures keeps { OnOk result (Keeps queue.old queue.new) }
         ensures queued { OnOk result (IsQueuedIfFit self.now.index.now self.now.groups.now taken.now queue.new group) }
@@ -124,7 +123,7 @@ impl<'a> Offers<'a> {
         Ok(())
     }
 
-    /// Queues these groups. Fails only if allocation fails.
+    /// Queues these groups.
     pub(crate) fn queue_each(
         &self,
         queue: &mut Queue,
@@ -141,7 +140,7 @@ impl<'a> Offers<'a> {
         Ok(())
     }
 
-    /// The queue of all groups. Fails only if allocation fails.
+    /// Returns the queue of all groups.
     pub(crate) fn queue_all(&self, alloc: Global, taken: &[bool]) -> Result<Queue, AllocError>
         ensures { IfOk result (AreQueued self.now.index.now self.now.groups.now taken.now) }
     {
@@ -153,7 +152,7 @@ impl<'a> Offers<'a> {
     }
 }
 
-/// Those of the places that are not taken. Fails only if allocation fails.
+/// Returns those of the indices `places` that are not taken.
 fn untaken(alloc: Global, taken: &[bool], places: &[usize]) -> Result<Vec<usize>, AllocError>
     ensures { IfOk result (λ rest. rest.items ≡ left_of taken.now places.now) }
 {
@@ -164,7 +163,7 @@ fn untaken(alloc: Global, taken: &[bool], places: &[usize]) -> Result<Vec<usize>
         .collect(alloc)
 }
 
-/// How many of the places are not taken.
+/// Returns how many of the indices `places` are not taken.
 fn left_count(taken: &[bool], places: &[usize]) -> usize
     ensures { result ≡ count_by (λ p. not (slice_index_or taken.now p false)) places.now }
 {
@@ -174,7 +173,7 @@ fn left_count(taken: &[bool], places: &[usize]) -> usize
         .count()
 }
 
-/// The place of the literal's atom, if the literal is positive and the atom is listed.
+/// Returns the index of the literal's atom, if the literal is positive and the atom is listed.
 fn place_of_goal(atoms: &Atoms, literal: &GroundLiteral) -> Option<usize>
     ensures { result ≡ (if (if literal.now.positive then true else not true)
         then position (same_atom literal.now.atom) atoms.now else None) }
@@ -186,7 +185,7 @@ fn place_of_goal(atoms: &Atoms, literal: &GroundLiteral) -> Option<usize>
     }
 }
 
-/// The places of the atoms of the goal. Fails only if allocation fails.
+/// Returns the indices of the atoms of the goal.
 fn goal_places(alloc: Global, index: &ActionIndex<'_>) -> Result<Vec<usize>, AllocError>
     ensures { IfOk result (λ places. places.items ≡ literal_places index.now.atoms true index.now.task.goal) }
 {
@@ -199,7 +198,7 @@ fn goal_places(alloc: Global, index: &ActionIndex<'_>) -> Result<Vec<usize>, All
         .collect(alloc)
 }
 
-/// For each place whether the atom is a goal. Fails only if allocation fails.
+/// Returns for each atom, by its index, whether it is a goal.
 fn goal_flags(alloc: Global, index: &ActionIndex<'_>) -> Result<Vec<bool>, AllocError>
     ensures { IfOk result (λ flags. AreGoals index.now flags.items) }
 {

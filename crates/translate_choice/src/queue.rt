@@ -17,8 +17,8 @@ pub(crate) struct Candidate {
     pub(crate) group: Reverse<usize>,
 }
 
-/// Groups by the number of their atoms that are left. A group is queued again each time that it loses atoms, and what
-/// was queued before stays.
+/// Groups by the number of their untaken atoms. A group is queued again each time that it loses atoms; its outdated
+/// candidates remain in the queue.
 #[derive(Drop)]
 pub(crate) struct Queue {
     heap: BinaryHeap<Candidate>,
@@ -45,7 +45,7 @@ impl Queue {
         }
     }
 
-    /// Queues the group with this number of atoms. Fails only if allocation fails.
+    /// Queues the group with this number of atoms.
     pub(crate) fn push(&mut self, size: usize, group: usize) -> Result<(), AllocError>
         ensures keeps { OnOk result (Keeps self.old self.new) }
         ensures queued { OnOk result (IsQueued self.new size group) }

@@ -61,7 +61,7 @@ fn push_atom(
     Ok(())
 }
 
-/// The word followed by the text of the atom. Fails only if allocation fails.
+/// Returns `word` followed by the text of the atom.
 fn atom_name(
     alloc: Global,
     word: &str,
@@ -75,7 +75,7 @@ fn atom_name(
     Ok(text)
 }
 
-/// The names of the values of the atoms at these places. Fails only if allocation fails.
+/// Returns the names of the values of the atoms at these indices.
 fn place_names(
     alloc: Global,
     vocabulary: &Vocabulary,
@@ -93,7 +93,7 @@ fn place_names(
     Ok(texts)
 }
 
-/// The name of the value at which none of the atoms at these places is true. Fails only if allocation fails.
+/// Returns the name of the value at which none of the atoms at these indices is true.
 fn none_name(
     alloc: Global,
     vocabulary: &Vocabulary,
@@ -114,7 +114,7 @@ fn none_name(
     )
 }
 
-/// The names of the values of a variable. Fails only if allocation fails.
+/// Returns the names of the values of a variable.
 fn variable_names(
     alloc: Global,
     vocabulary: &Vocabulary,
@@ -133,7 +133,7 @@ fn variable_names(
 }
 
 /// Returns for each variable the names of its values, in their order: those of its atoms, and that of the none value if
-/// it has one (Helmert 2006). Fails only if allocation fails.
+/// it has one (Helmert 2006).
 pub fn value_names(
     alloc: Global,
     vocabulary: &Vocabulary,
@@ -152,7 +152,7 @@ pub fn value_names(
 }
 
 /// Returns the name of the operator of an action: the name of the schema, followed by the name of each object after a
-/// blank. Fails only if allocation fails.
+/// blank.
 pub fn action_name(
     alloc: Global,
     vocabulary: &Vocabulary,

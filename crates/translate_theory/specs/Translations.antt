@@ -42,7 +42,7 @@ pub record AreVariables (task : PlanningTask) (atoms : List Atom) (actions : Lis
 abbrev pub range_of : Variable → ℕ
 range_of v = if v.has_none then length v.atoms + 1 else length v.atoms
 
--- the place of the first true atom, or the none value if none is true
+-- the index of the first true atom, or the none value if none is true
 abbrev pub value_in : State → Variable → ℕ
 value_in state v = position_or_len state v.atoms
 
@@ -57,8 +57,8 @@ is_single [] = false
 is_single (p ∷ []) = true
 is_single (p ∷ q ∷ rest) = false
 
--- the value that the action gives the variable: that of the added atom, or the none value if the action only removes
--- atoms, and a removed atom is in the precondition or is the only atom of the variable
+-- the value that the action assigns to the variable: that of the added atom, or the none value if the action only
+-- removes atoms, and a removed atom is in the precondition or is the only atom of the variable
 abbrev pub target_on : Action → Variable → Option ℕ
 target_on a v =
     if list_any (contains a.adds) v.atoms then Some (position_or_len (contains a.adds) v.atoms)
@@ -74,7 +74,7 @@ unless_equal (Some x) (Some y) = if x == y then None else Some x
 abbrev pub effect_on : Action → Variable → Option ℕ
 effect_on a v = unless_equal (target_on a v) (condition_on a.precondition v)
 
--- a fact for each variable that is given a value, in the order of the variables
+-- a fact for each variable for which `given` has a value, in the order of the variables
 abbrev pub facts : (Variable → Option ℕ) → List Variable → List Fact
 facts given variables =
     filter_map (λ e. option_map (λ x. record { variable = e.0; value = x }) (given e.1)) (enumerate_from 0 variables)
@@ -93,7 +93,7 @@ operator_of names variables a =
       cost = a.cost;
     }
 
--- the actions that have an operator, in order: the action of operator o is at place o
+-- the actions that have an operator, in order: the action of operator o is at index o
 abbrev pub carried : List Variable → List Action → List Action
 carried variables actions = filter (has_operator variables) actions
 

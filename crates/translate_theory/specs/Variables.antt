@@ -1,16 +1,16 @@
--- Variables over a list of atoms, given by the places of the atoms in the list.
+-- Variables over a list of atoms, given by the indices of the atoms in the list.
 use Rattle.std.specs.Prelude.{ℕ, ◌<◌, Bool, List, length, map, All}
 use Rattle.std.specs.List.Sorted.{IsStrictlyIncreasing}
 use Rattle.pddl_task.specs.Atoms.{Atom}
 use Rattle.mutex.specs.Places.{atoms_at}
 use Rattle.translate_theory.specs.Translations.{Variable}
 
--- the places of the atoms, and whether the variable has the none value
+-- the indices of the atoms, and whether the variable has the none value
 pub record PlacedVariable : Type 0 where
   pub places : List ℕ
   pub has_none : Bool
 
--- there is at least one place, the places are strictly increasing, and each is below the number of atoms
+-- there is at least one index, the indices are strictly increasing, and each is below the number of atoms
 pub record IsPlaced (count : ℕ) (v : PlacedVariable) : Type 0 where
   pub some : 0 < length v.places
   pub rising : IsStrictlyIncreasing v.places

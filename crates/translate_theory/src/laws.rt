@@ -1,4 +1,4 @@
-//! Laws of translations, for every planning task. Each function states one in its contract; its body is empty.
+//! Laws of translations, for every planning task.
 
 ghost use Rattle.std.specs.Prelude.{◌≡◌, ℕ, ◌↔◌, true, false, List, [], ◌∷◌, length, slice_get, Some, All, Contains, codes, map, option_map};
 ghost use Rattle.cost.specs.Distances.{Distance};
@@ -58,9 +58,9 @@ pub fn values_tell_atoms()
         (state p ≡ true) ↔ (value_in state v ≡ k) }
 {}
 
-/// Proves that the definitions give translations that were worked out by hand: a road as one variable, in the form that
-/// Fast Downward would write; the road with two variables; and a gripper, of which operator 2 picks up a ball and
-/// operator 7 drops one.
+/// Proves that the definitions yield the translations worked out by hand: a road as one variable, in the form that Fast
+/// Downward would write; the road with two variables; and a gripper, of which operator 2 picks up a ball and operator 7
+/// drops one.
 pub fn worked_tasks_translate()
     ensures one_variable { translation named_road (variable (at_a ∷ at_b ∷ at_c ∷ []) false ∷ []) go_b_go_c ≡ record {
       metric = false;

@@ -19,7 +19,7 @@ use Rattle.translate_vars.specs.declared.fault.TranslateFault.TheVariants as fau
 use Rattle.translate_vars.specs.Parts.{has_long_range, AreWithinLimits}
 use Rattle.fdr.specs.Limits.{max_variables}
 
--- the first of the limits that is passed
+-- the first limit that is exceeded
 abbrev pub IsPassed : List Atom → List PlacedVariable → TaskLimit → Type 0
 IsPassed atoms variables limit.Variables = (length atoms ≤ max_atoms) × (max_variables < length variables)
 IsPassed atoms variables limit.Values = (length atoms ≤ max_atoms) × (length variables ≤ max_variables) × (has_long_range variables ≡ true)
@@ -30,7 +30,7 @@ pub record AreAtomsOf (task : PlanningTask) (atoms : List Atom) : Type 0 where
   pub known : (k : ℕ) (p : Atom) → slice_get atoms k ≡ Some p → IsAtomOf task p
   pub distinct : AreDistinct atoms
 
--- the atoms before this place are distinct atoms of the task, and with the one at the place they are not
+-- the atoms before index `k` are distinct atoms of the task, and together with the atom at `k` they are not
 pub record IsBadAtom (task : PlanningTask) (atoms : List Atom) (k : ℕ) : Type 0 where
   pub there : k < length atoms
   pub before : AreAtomsOf task (take k atoms)
@@ -84,7 +84,7 @@ module _ (task : PlanningTask) (actions : List Action) where
   abbrev pub is_uncovered : List Variable → State
   is_uncovered variables p = not (is_constant task actions p) && not (list_any (λ v. contains v.atoms p) variables)
 
-  -- the first such atom, where the variables have no fault
+  -- the first such atom, if the variables have no fault
   pub record IsFirstUncovered (atoms : List Atom) (variables : List Variable) (k : ℕ) : Type 0 where
     pub in_order : AreInOrder variables (length variables)
     pub uncovered : IsSomeAnd (slice_get atoms k) (λ p. is_uncovered variables p ≡ true)

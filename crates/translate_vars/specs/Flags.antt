@@ -1,4 +1,4 @@
--- Flags by the places of listed atoms, and what they imply for a variable.
+-- Flags by the indices of listed atoms, and what they imply for a variable.
 use Rattle.std.specs.Prelude.{◌≡◌, ℕ, Bool, false, ◌&&◌, ◌||◌, not, nat_le, nat_lt, if◌then◌else◌, count_by, List, length, Option, Some, None, slice_get, slice_index_or}
 use Rattle.std.specs.List.{list_any}
 use Rattle.pddl_task.specs.Atoms.{Atom, State, wants}
@@ -13,7 +13,7 @@ use Rattle.translate_vars.specs.declared.flags.AtomFlags.{AtomFlags}
 abbrev pub flag_at : List Bool → ℕ → Bool
 flag_at flags k = slice_index_or flags k false
 
--- at the place of each atom the flag is the value of the test for it
+-- at the index of each atom the flag is the value of the test for it
 pub record Tell (atoms : List Atom) (test : State) (flags : List Bool) : Type 0 where
   pub told : (k : ℕ) (p : Atom) → slice_get atoms k ≡ Some p → flag_at flags k ≡ test p
 

@@ -1,4 +1,4 @@
-//! Whether listed atoms are a closed set of a task.
+//! The test whether listed atoms are a closed set of a task.
 
 ghost use Rattle.std.specs.Prelude.{◌≡◌, ◌≤◌, true, not, find, length, List, OnOk, IfErr};
 ghost use Rattle.std.specs.List.{list_all};
@@ -17,7 +17,7 @@ use ground_atoms::Atoms;
 use pddl_task::{GroundAction, GroundAtom, GroundLiteral, Task};
 use std::alloc::Global;
 
-/// The first atom of a positive literal that is not listed.
+/// Returns the first atom of a positive literal that is not listed.
 fn first_missing<'a>(atoms: &Atoms, literals: &'a [GroundLiteral]) -> Option<&'a GroundAtom>
     ensures { option_copied result ≡ find (λ q. not (contains atoms.now q)) (wanted_atoms literals.now) }
 {

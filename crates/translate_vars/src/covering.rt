@@ -1,4 +1,4 @@
-//! Whether each variable is fit, and each atom that is not constant is in one.
+//! The test whether each variable is fit, and each atom that is not constant is in one.
 
 ghost use Rattle.std.specs.Prelude.{◌≡◌, ◌||◌, ℕ, ◌<◌, true, false, None, All, length, IfSome, OnOk, IfErr};
 ghost use Rattle.pddl_task.specs.Atoms.{contains};
@@ -19,7 +19,7 @@ use pddl_task::{GroundAction, Task};
 use std::alloc::Global;
 use translate_theory::ListedVariable;
 
-/// The first place below `count` at which neither flag is set.
+/// Returns the first index below `count` at which neither flag is set.
 fn first_unset(constant: &[bool], taken: &[bool], count: usize) -> Option<usize>
     ensures none { result ≡ None → (k : ℕ) → k < count → (flag_at constant.now k || flag_at taken.now k) ≡ true }
     ensures some { IfSome result (λ place. (place < count) × ((flag_at constant.now place || flag_at taken.now place) ≡ false)
@@ -62,7 +62,7 @@ fn check_each(
     }
 }
 
-/// The same, over the actions of a closed set of atoms.
+/// Checks as `check_each` does that the variables are fit, over the actions of a closed set of atoms.
 pub(crate) fn check_variables(
     alloc: Global,
     task: &Task,

@@ -8,7 +8,7 @@ use ground::GroundFault;
 use pddl_task::GroundAtom;
 use std::alloc::{AllocError, AllocFailed};
 
-/// Why listed atoms and variables are not fit for a translation. Places of atoms in their list, and variables, count
+/// Why listed atoms and variables are not fit for a translation. Indices of atoms in their list, and variables, count
 /// from 0.
 #[derive(Debug, Drop)]
 pub enum TranslateFault {
@@ -18,13 +18,13 @@ pub enum TranslateFault {
     GroundLimit,
     /// F18: there are more than 65,536 variables, or more than 65,536 values of one variable.
     Limit(TaskLimit),
-    /// F30: the atom at this place is not an atom of the task, or is listed before.
+    /// F30: the atom at this index is not an atom of the task, or is a duplicate of an earlier one.
     BadAtom(usize),
     /// F31: the atom is initially true or a goal, and is not listed.
     Missing(GroundAtom),
     /// F32: an action over the listed atoms adds this atom, which is not listed.
     NotClosed(GroundAtom),
-    /// F33: the atom at this place is not constant, and in no variable.
+    /// F33: the atom at this index is not constant, and in no variable.
     Uncovered(usize),
     /// F34: the variable has several atoms, which are not a usable mutex group.
     NotGroup(usize),

@@ -1,4 +1,4 @@
-//! Properties of listed atoms, by their places.
+//! Properties of listed atoms, by their indices.
 
 ghost use Rattle.std.specs.Prelude.{◌≡◌, ◌==◌, ◌||◌, ℕ, ◌<◌, length, IfOk};
 ghost use Rattle.pddl_task.specs.Atoms.{Atom, contains, wants};
@@ -11,7 +11,7 @@ use mutex::ActionIndex;
 use pddl_task::GroundLiteral;
 use std::alloc::{AllocError, Global};
 
-/// For each listed atom, by its place: whether it is constant, whether its negation is a precondition or a goal, and
+/// For each listed atom, by its index: whether it is constant, whether its negation is a precondition or a goal, and
 /// whether it is a goal.
 #[derive(Drop)]
 pub(crate) struct AtomFlags {
@@ -34,14 +34,14 @@ impl AtomFlags {
     }
 }
 
-/// The flag at a place. It is not set past the end.
+/// Returns the flag at index `place`: false past the end.
 pub(crate) fn flag(flags: &[bool], place: usize) -> bool
     ensures { result ≡ flag_at flags.now place }
 {
     flags.get(place).copied().unwrap_or(false)
 }
 
-/// Sets the flag at a place.
+/// Sets the flag at index `place`, if there is one.
 fn mark_one(flags: &mut [bool], place: usize)
     ensures { (k : ℕ) → k < length flags.old → flag_at flags.new k ≡ (flag_at flags.old k || place == k) }
 {
@@ -50,7 +50,7 @@ fn mark_one(flags: &mut [bool], place: usize)
     }
 }
 
-/// Sets the flags at these places.
+/// Sets the flags at the indices `places`.
 pub(crate) fn mark(flags: &mut [bool], places: &[usize])
     ensures { (k : ℕ) → k < length flags.old → flag_at flags.new k ≡ (flag_at flags.old k || has places.now k) }
 {
@@ -79,7 +79,7 @@ fn excluded_flags(alloc: Global, index: &ActionIndex) -> Result<Vec<bool>, Alloc
     Ok(flags)
 }
 
-/// The atoms of the positive literals. Fails only if allocation fails.
+/// Returns the atoms of the positive literals.
 fn wanted_atoms(alloc: Global, literals: &[GroundLiteral]) -> Result<Atoms, AllocError>
     ensures { IfOk result (λ atoms. (p : Atom) → contains atoms p ≡ wants literals.now p) }
 {

@@ -1,4 +1,4 @@
-//! Laws of the first fault. Each function states one in its contract; its body is empty.
+//! Laws of the first fault.
 
 ghost use Rattle.std.specs.Prelude.{◌≡◌, ◌≢◌, List};
 ghost use Rattle.pddl_task.specs.Atoms.{Atom};

@@ -12,7 +12,7 @@ use ground::MAX_ATOMS;
 use pddl_task::GroundAtom;
 use translate_theory::ListedVariable;
 
-/// Whether the variable has more than `MAX_VALUES` values: its atoms, and the none value if it has one.
+/// Returns whether the variable has more than `MAX_VALUES` values: its atoms, and the none value if it has one.
 fn is_long(variable: &ListedVariable) -> bool
     ensures { result ≡ nat_lt max_values (value_count variable.now) }
 {
@@ -29,7 +29,7 @@ fn has_long_range(variables: &[ListedVariable]) -> bool
     variables.iter().any(|variable| is_long(variable))
 }
 
-/// Checks the limits on atoms, variables and values. Fails with the first limit that is passed.
+/// Checks the limits on atoms, variables and values. Fails with the first limit that is exceeded.
 pub(crate) fn check_limits(
     atoms: &[GroundAtom],
     variables: &[ListedVariable],

@@ -1,4 +1,4 @@
-//! Whether listed atoms are distinct atoms of a task.
+//! The test whether listed atoms are distinct atoms of a task.
 
 ghost use Rattle.std.specs.Prelude.{◌≡◌, ◌↔◌, IsTrue, List, IfOk, OnOk, IfErr};
 ghost use Rattle.pddl_task.specs.Planning.{IsAtomOf};
@@ -11,7 +11,7 @@ use ground_atoms::Atoms;
 use pddl_task::{GroundAtom, Task};
 use std::alloc::Global;
 
-/// Whether the predicate exists and takes this number of objects, and the objects exist.
+/// Returns whether the predicate exists and takes this number of objects, and the objects exist.
 fn is_atom_of(task: &Task, atom: &GroundAtom) -> bool
     ensures { IsTrue result ↔ IsAtomOf task.now atom.now }
 {
@@ -25,8 +25,8 @@ fn is_atom_of(task: &Task, atom: &GroundAtom) -> bool
             .all(|object| *object < task.object_types.len())
 }
 
-/// A copy of the atoms, indexed by hash. Fails with the first place of an atom that is not one of the task or is listed
-/// before, or if allocation fails.
+/// Returns a copy of the atoms, indexed by hash. Fails with the first index of an atom that is not one of the task or
+/// is a duplicate of an earlier one, or if allocation fails.
 pub(crate) fn list_atoms(
     alloc: Global,
     task: &Task,

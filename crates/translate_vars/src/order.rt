@@ -1,4 +1,4 @@
-//! Whether one variable is fit, given the earlier ones.
+//! The test whether one variable is fit, after the earlier ones.
 
 ghost use Rattle.std.specs.Prelude.{◌≡◌, nat_le, length, count_by, not};
 ghost use Rattle.std.specs.List.{list_any};
@@ -10,21 +10,22 @@ use crate::flags::{AtomFlags, flag};
 use mutex::ActionIndex;
 use translate_theory::ListedVariable;
 
-/// Whether the flag is set at one of the places.
+/// Returns whether the flag is set at one of the indices `places`.
 fn has_flag(flags: &[bool], places: &[usize]) -> bool
     ensures { result ≡ list_any (flag_at flags.now) places.now }
 {
     places.iter().any(|place| flag(flags, *place))
 }
 
-/// Whether the flag is set at two or more of the places.
+/// Returns whether the flag is set at two or more of the indices `places`.
 fn has_two_flags(flags: &[bool], places: &[usize]) -> bool
     ensures { result ≡ not (nat_le (count_by (flag_at flags.now) places.now) 1) }
 {
     1 < places.iter().filter(|place| flag(flags, **place)).count()
 }
 
-/// Whether the flags show that the variable has an atom that it must not have, or a single atom and no none value.
+/// Returns whether the flags show that the variable has an atom that it must not have, or a single atom and no none
+/// value.
 fn is_misplaced(flags: &AtomFlags, taken: &[bool], variable: &ListedVariable) -> bool
     ensures { result ≡ is_misplaced_at flags.now taken.now variable.now }
 {
@@ -37,7 +38,7 @@ fn is_misplaced(flags: &AtomFlags, taken: &[bool], variable: &ListedVariable) ->
     has_flag(&flags.excluded, &variable.places) || has_two_flags(&flags.goal, &variable.places)
 }
 
-/// The fault of the variable with this number, given the places that earlier variables have taken.
+/// Returns the fault of the variable with this number, given which atoms earlier variables have taken.
 pub(crate) fn fault_at(
     index: &ActionIndex,
     flags: &AtomFlags,

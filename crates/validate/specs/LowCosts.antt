@@ -1,4 +1,4 @@
--- Tasks whose actions have low costs by a simple test.
+-- Tasks whose actions are shown to have low costs by a simple test.
 use Rattle.std.specs.Prelude.{nat_lt, ◌&&◌, Bool, true, false, List, [], ◌∷◌}
 use Rattle.std.specs.List.{list_all}
 use Rattle.pddl_task.specs.declared.schema.Increase.{Increase}

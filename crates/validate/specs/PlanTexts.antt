@@ -1,4 +1,4 @@
--- Which bytes spell which plan, and the fault of a text that spells none.
+-- Which bytes spell which plan, and the fault of a text that spells no plan.
 use Rattle.std.specs.Prelude.{◌≡◌, ℕ, ◌<◌, ◌≤◌, List, [], ◌∷◌, ◌++◌, length, Option, Some, None, false, Result, Ok, Err}
 use Rattle.sexp.specs.Forms.{Forms, none, word, group}
 use Rattle.sexp.specs.Grammar.{SpellsAll}
@@ -29,21 +29,22 @@ steps_of none = []
 steps_of (word s e t f) = steps_of f
 steps_of (group s e i f) = with_step (step_of i) (steps_of f)
 
--- ---- the places at which something other than a list of words stands, in the order of the text
+-- ---- the places of expressions other than lists of words, in the order of the text
 
--- the places at which lists begin
+-- the byte offsets at which lists begin
 abbrev pub lists_in : Forms → List ℕ
 lists_in none = []
 lists_in (word s e t f) = lists_in f
 lists_in (group s e i f) = s ∷ lists_in f
 
--- the places at which the content of the list at this place is not that of a step: it is empty, or has lists
+-- the places of the faults of the list at offset `at`, which must be a list of words: its own if it is empty, and those
+-- of the lists in it
 abbrev pub list_faults : ℕ → Forms → List ℕ
 list_faults at none = at ∷ []
 list_faults at (word s e t f) = lists_in (word s e t f)
 list_faults at (group s e i f) = lists_in (group s e i f)
 
--- a word outside a list, an empty list, or a list inside one
+-- the places of each word outside a list, empty list, and list inside a list
 abbrev pub shape_faults : Forms → List ℕ
 shape_faults none = []
 shape_faults (word s e t f) = s ∷ shape_faults f
@@ -65,7 +66,7 @@ pub record SpellsPlan (bytes : List ℕ) (steps : List Step) : Type 0 where
   pub steps_are : steps ≡ steps_of forms
   pub few : length steps ≤ max_steps
 
--- the fault of the text: that of its trees, its first place that is at fault, or the number of its steps
+-- the fault of the text: the first fault of its trees, its first place that is not a list of words, or too many steps
 abbrev pub IsPlanFault : List ℕ → PlanFault → Type 0
 IsPlanFault bytes OutOfMemory = Unit {0}
 IsPlanFault bytes (Tree e) = IsFirstFault false bytes e

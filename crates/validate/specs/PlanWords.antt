@@ -1,4 +1,4 @@
--- Words that stand in a plan's text as they are.
+-- Words that are written and read unchanged in the text of a plan.
 use Rattle.std.specs.Prelude.{◌≡◌, ◌≢◌, ℕ, ◌==◌, ◌&&◌, nat_lt, Bool, true, false, List, [], length, String}
 use Rattle.std.specs.List.{AllByRecursion, list_all}
 use Rattle.std.specs.Char.{to_ascii_lowercase}
@@ -9,7 +9,7 @@ use Rattle.sexp.specs.Bytes.{kind}
 use Rattle.sexp.specs.Forms.{Forms, none, word, group}
 use Rattle.validate.specs.Steps.{Step}
 
--- a byte of a word, which is 33 to 126 and no parenthesis and no semicolon, and no capital letter
+-- a byte of a plan word: from 33 to 126, and no parenthesis, semicolon or capital letter
 abbrev pub IsPlanByte : ℕ → Type 0
 IsPlanByte b = (kind b ≡ Letter) × (to_ascii_lowercase b ≡ b)
 
@@ -21,13 +21,13 @@ pub record IsPlanStep (s : Step) : Type 0 where
   pub name : IsPlanWord s.name
   pub arguments : AllByRecursion IsPlanWord s.arguments
 
--- each word of the expressions, also within lists, has the property
+-- each word of the expressions, including words in lists, has the property
 abbrev pub AreAll : (List ℕ → Type 0) → Forms → Type 0
 AreAll P none = Unit {0}
 AreAll P (word s e t f) = P t × AreAll P f
 AreAll P (group s e i f) = AreAll P i × AreAll P f
 
--- ---- the same as tests
+-- ---- the corresponding tests
 
 abbrev pub is_letter : ByteKind → Bool
 is_letter Blank = false

@@ -4,7 +4,7 @@ use Rattle.std.specs.HashSet.{contains as has}
 use Rattle.pddl_task.specs.Atoms.{Atom, State, same_atom}
 use Rattle.validate.specs.declared.state.AtomSet.{AtomSet}
 
--- the set as a test
+-- the membership test of the set
 abbrev pub holds_in : AtomSet → State
 holds_in s p = has same_atom s.atoms p
 

@@ -18,9 +18,9 @@ abbrev pub numbers_of : List (List ℕ) → List (List ℕ) → Option (List ℕ
 numbers_of names [] = Some []
 numbers_of names (t ∷ ts) = with_number (place_of names t) (numbers_of names ts)
 
--- The ground action that a step names. There is none if no schema has the name, if the number of arguments is not that
--- of the parameters, if an object does not exist or does not fit, if an equality condition fails or if, under the
--- metric, an increase has no amount.
+-- The ground action that a step names. There is none if no schema has the name, if the number of arguments differs from
+-- that of the parameters, if an object does not exist or does not have its parameter's type, if an equality condition
+-- fails or if, under the metric, an increase has no amount.
 abbrev pub action_named : PlanningTask → Step → Option Action
 action_named task step =
     option_and_then

@@ -38,7 +38,7 @@ abbrev pub at_step : ℕ → State → (Action → Verdict) → Option Action �
 at_step number state behind None = NoSuchAction number
 at_step number state behind (Some a) = at_precondition number (first_failing state a.precondition) (behind a)
 
--- the verdict from a state with this cost so far, where the first of the steps has this number
+-- the verdict from a state with this cost so far; the first of the steps has this number
 abbrev pub verdict_from : PlanningTask → List Step → ℕ → State → ℕ → Verdict
 verdict_from task [] number state cost = at_end cost (first_failing state task.goal)
 verdict_from task (s ∷ steps) number state cost =

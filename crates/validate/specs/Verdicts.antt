@@ -8,7 +8,7 @@ use Rattle.validate.specs.Steps.{Step, action_named, AreActionsOf}
 use Rattle.validate.specs.declared.verdict.Verdict.{Verdict}
 use Rattle.validate.specs.declared.verdict.Verdict.TheVariants.{Valid, NoSuchAction, NotApplicable, GoalOpen}
 
--- the literal is the first of these that does not hold
+-- the literal is the first of these literals that does not hold
 pub record IsFirstFailing (state : State) (literals : List Literal) (l : Literal) : Type 0 where
   pub before : List Literal
   pub after : List Literal
@@ -16,13 +16,13 @@ pub record IsFirstFailing (state : State) (literals : List Literal) (l : Literal
   pub hold : satisfies state before ≡ true
   pub fails : literal_holds state l ≡ false
 
--- the steps name actions that are applicable in turn and lead from the initial state to this state
+-- the steps name actions that are applicable in turn from the initial state and reach this state
 pub record LeadTo (task : PlanningTask) (steps : List Step) (state : State) : Type 0 where
   pub plan : List Action
   pub named : AreActionsOf task steps plan
   pub run : state_after (contains task.initial) plan ≡ Some state
 
--- The steps before the one with this number, counted from 1, lead to a state in which that step is wrong.
+-- The steps before the one with this number, counted from 1, reach a state in which that step is wrong.
 pub record FailsAt (task : PlanningTask) (steps : List Step) (number : ℕ) (IsWrong : State → Step → Type 0) : Type 0 where
   pub before : List Step
   pub step : Step
@@ -33,7 +33,7 @@ pub record FailsAt (task : PlanningTask) (steps : List Step) (number : ℕ) (IsW
   pub led : LeadTo task before state
   pub wrong : IsWrong state step
 
--- the verdict is that on the plan
+-- the verdict is the correct one for the plan with these steps
 abbrev pub IsVerdict : PlanningTask → List Step → Verdict → Type 0
 IsVerdict task steps (Valid cost) = (plan : List Action) × AreActionsOf task steps plan × IsValidPlan task plan × (total_cost plan ≡ cost)
 IsVerdict task steps (NoSuchAction number) = FailsAt task steps number (λ state step. action_named task step ≡ None)

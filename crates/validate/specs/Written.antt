@@ -16,7 +16,7 @@ spaced words = flat_map (λ t. codes " " ++ t) words
 abbrev pub step_line : Step → List ℕ
 step_line s = codes "(" ++ s.name ++ spaced s.arguments ++ codes ")\n"
 
--- how the end of the cost's line names the kind of cost: each action costs 1 (`unit`), or not
+-- the end of the cost line, which names the kind of cost: each action costs 1 (`unit`), or not
 abbrev pub cost_kind : Bool → List ℕ
 cost_kind unit = if unit then codes " (unit cost)\n" else codes " (general cost)\n"
 

@@ -1,5 +1,4 @@
-//! Laws of plans and verdicts. The contract of each function states one, for every text and every plan; its body is
-//! empty.
+//! Laws of plans and verdicts, for every text and every plan.
 
 ghost use Rattle.std.specs.Prelude.{◌≡◌, ◌≢◌, ◌⊎◌, ℕ, List};
 ghost use Rattle.pddl_task.specs.Planning.{PlanningTask};

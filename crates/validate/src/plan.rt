@@ -11,9 +11,9 @@ use sexp::{ByteKind, SexpFault, kind_of};
 use std::alloc::{AllocError, AllocFailed};
 use std::marker::Model;
 
-/// A step of a plan: the name of an action schema, and the names of the objects for its parameters. Each of them is a plan
-/// word: it is not empty, and its bytes are 33 to 126 without parentheses, semicolon and capital letters. So a step's text
-/// is read as that step.
+/// A step of a plan: the name of an action schema, and the names of the objects for its parameters. Each of them is a
+/// plan word: it is not empty, and its bytes are from 33 to 126, without parentheses, semicolons and capital letters.
+/// So the text of a step is read back as that step.
 #[derive(Debug, Drop)]
 pub struct Step {
     name: String,
@@ -53,13 +53,13 @@ impl Model for Plan {
     ghost invariant = { λ p. (length p.steps.items ≤ max_steps) × AllByRecursion IsPlanStep p.steps.items };
 }
 
-/// Why a text is not a plan.
+/// The reason why a text is not a plan.
 #[derive(Clone, Copy, Debug, PartialEq, Eq)]
 pub enum PlanFault {
     OutOfMemory,
     /// The text is not a list of expressions (F1 to F5).
     Tree(SexpFault),
-    /// F25: a word outside a list, an empty list, or a list inside one. The place is a byte, counted from 0.
+    /// F25: a word outside a list, an empty list, or a list inside one. The place is a byte offset, counted from 0.
     PlanShape(usize),
     /// F26: more than 1,048,576 steps.
     PlanLimit,
@@ -113,7 +113,7 @@ fn is_plan_step(name: &str, arguments: &[String]) -> bool
 }
 
 impl Step {
-    /// The step of this name and these arguments, or `None` if one of them is no plan word.
+    /// Returns the step with this name and these arguments, or `None` if one of them is no plan word.
     pub fn new(name: String, arguments: Vec<String>) -> Option<Step>
         ensures some { IfSome result (λ s. s ≡ record { name = string_bytes name; arguments = texts_of arguments.items }) }
         ensures words { IfSome result IsPlanStep }
@@ -126,7 +126,7 @@ impl Step {
         }
     }
 
-    /// The name of an action schema.
+    /// Returns the name of the action schema.
     pub fn name(&self) -> &str
         ensures name { result.now ≡ self.now.name }
         ensures word { IsPlanWord self.now.name }
@@ -134,7 +134,7 @@ impl Step {
         &self.name
     }
 
-    /// The names of the objects for its parameters.
+    /// Returns the names of the objects for its parameters.
     pub fn arguments(&self) -> &[String]
         ensures arguments { texts_of result.now ≡ self.now.arguments }
         ensures words { AllByRecursion IsPlanWord self.now.arguments }
@@ -144,7 +144,7 @@ impl Step {
 }
 
 impl Plan {
-    /// The plan with these steps, of which there are at most `MAX_STEPS`.
+    /// Returns the plan with these steps, of which there are at most `MAX_STEPS`.
     pub fn new(steps: Vec<Step>) -> Plan
         requires few { length steps.items ≤ max_steps }
         requires words { AllByRecursion IsPlanStep steps.items }
@@ -153,7 +153,7 @@ impl Plan {
         Plan { steps }
     }
 
-    /// The steps, in order.
+    /// Returns the steps, in order.
     pub fn steps(&self) -> &[Step]
         ensures steps { result.now ≡ self.now }
         ensures few { length self.now ≤ max_steps }

@@ -16,7 +16,7 @@ use std::alloc::{AllocError, Global};
 /// The greatest number of steps of a plan.
 const MAX_STEPS: usize = 1_048_576;
 
-// ---- something else than lists of words
+// ---- expressions other than lists of words
 
 #[tactic(auto, using(sexp::proofs::Walking::walking))]
 fn list_at(tree: &Tree) -> Option<usize>
@@ -28,7 +28,7 @@ fn list_at(tree: &Tree) -> Option<usize>
     }
 }
 
-/// The place of the first list among these trees.
+/// Returns the byte offset of the first list among these trees.
 fn first_list(items: &[Tree]) -> Option<usize>
     ensures { result ≡ first_of_places (lists_in (views items.now)) }
 {
@@ -40,7 +40,8 @@ fn first_list(items: &[Tree]) -> Option<usize>
     None
 }
 
-/// The first place at which the list at `at` is not a list of words, or `None` if it is one.
+/// Returns the place of the first fault of the list at `at`: the list itself if it is empty, otherwise the first list
+/// in it. Returns `None` if it is a list of words.
 #[tactic(auto, using(sexp::proofs::Walking::walking, crate::proofs::PlanLaws::list_faults_filled))]
 fn list_fault(items: &[Tree], at: usize) -> Option<usize>
     ensures { result ≡ first_of_places (list_faults at (views items.now)) }
@@ -61,7 +62,7 @@ fn tree_fault(tree: &Tree) -> Option<usize>
     }
 }
 
-/// The first place at which something other than a list of words stands.
+/// Returns the place of the first fault of the trees, which must all be lists of words, or `None` if they are.
 fn shape_fault(trees: &[Tree]) -> Option<usize>
     ensures { result ≡ first_of_places (shape_faults (views trees.now)) }
 {
@@ -88,7 +89,7 @@ fn push_word(alloc: Global, tree: &Tree, words: &mut Vec<String>) -> Result<(), 
     }
 }
 
-/// The words among the trees.
+/// Returns the words among the trees.
 fn words(alloc: Global, items: &[Tree]) -> Result<Vec<String>, AllocError>
     ensures { IfOk result (λ words. texts_of words.items ≡ words_of (views items.now)) }
 {
@@ -99,7 +100,7 @@ fn words(alloc: Global, items: &[Tree]) -> Result<Vec<String>, AllocError>
     Ok(words)
 }
 
-/// The step of a list whose first tree is `name`, or `None` if that is no word.
+/// Returns the step of a list whose first tree is `name`, or `None` if `name` is no word.
 #[tactic(auto, using(sexp::proofs::Walking::walking))]
 fn headed(alloc: Global, name: &Tree, arguments: &[Tree]) -> Result<Option<Step>, AllocError>
     requires { AreAll IsPlanWord (before name.now (views arguments.now)) }
@@ -115,7 +116,7 @@ fn headed(alloc: Global, name: &Tree, arguments: &[Tree]) -> Result<Option<Step>
     }
 }
 
-/// The step of a list, or `None` if it does not begin with a word.
+/// Returns the step of a list, or `None` if it does not begin with a word.
 #[tactic(auto, using(sexp::proofs::Walking::walking))]
 fn step(alloc: Global, items: &[Tree]) -> Result<Option<Step>, AllocError>
     requires { AreAll IsPlanWord (views items.now) }
@@ -144,7 +145,7 @@ fn push_step(alloc: Global, tree: &Tree, steps: &mut Vec<Step>) -> Result<(), Al
     }
 }
 
-/// The steps of the lists among the trees.
+/// Returns the steps of the lists among the trees.
 fn steps(alloc: Global, trees: &[Tree]) -> Result<Vec<Step>, AllocError>
     requires { AreAll IsPlanWord (views trees.now) }
     ensures { IfOk result (λ steps. steps.items ≡ steps_of (views trees.now)) }
@@ -156,7 +157,7 @@ fn steps(alloc: Global, trees: &[Tree]) -> Result<Vec<Step>, AllocError>
     Ok(steps)
 }
 
-/// The expressions of the text. Fails with its first fault, or if allocation fails.
+/// Returns the expressions of the text. Fails with its first fault, or if allocation fails.
 fn trees(alloc: Global, bytes: &[u8]) -> Result<Vec<Tree>, PlanFault>
     ensures found { IfOk result (λ v. SpellsAll bytes.now (views v.items)) }
     ensures fault { IfErr result (λ e. IsPlanFault bytes.now e) }
@@ -168,7 +169,7 @@ fn trees(alloc: Global, bytes: &[u8]) -> Result<Vec<Tree>, PlanFault>
     }
 }
 
-/// The plan of the text. Fails with its first fault, or if allocation fails.
+/// Returns the plan of the text. Fails with its first fault, or if allocation fails.
 fn plan(alloc: Global, bytes: &[u8]) -> Result<Plan, PlanFault>
     ensures found { IfOk result (λ plan. SpellsPlan bytes.now plan) }
     ensures fault { IfErr result (λ e. IsPlanFault bytes.now e) }
@@ -186,9 +187,9 @@ fn plan(alloc: Global, bytes: &[u8]) -> Result<Plan, PlanFault>
 /// Reads a plan: any number of lists of words, each a step, with comments and blanks between them, in upper or lower
 /// case.
 ///
-/// Fails with the first fault of its trees (F1 to F5); if there is none, with the first place, in the order of the
-/// text, at which something other than a list of words stands (F25); if there is none, for more than 1,048,576 steps
-/// (F26); or if allocation fails.
+/// Fails with the first fault of its trees (F1 to F5); if there is none, with F25 at the first word outside a list,
+/// empty list or list inside a list, in the order of the text; if there is none, with F26 for more than 1,048,576
+/// steps; or if allocation fails.
 pub fn read_plan(alloc: Global, bytes: &[u8]) -> Result<Plan, PlanFault>
     // The result is what the text spells.
     ensures found { IfOk result (λ plan. SpellsPlan bytes.now plan) }

@@ -26,7 +26,7 @@ impl AtomSet {
         }
     }
 
-    /// The state in which exactly these atoms are true. Fails only if allocation fails.
+    /// Returns the state in which exactly these atoms are true.
     pub fn of(alloc: Global, atoms: &[GroundAtom]) -> Result<AtomSet, AllocError>
         ensures { IfOk result (λ s. holds_in s ≡ contains atoms.now) }
     {
@@ -68,8 +68,8 @@ impl AtomSet {
         }
     }
 
-    /// Applies an action: makes the atoms that it deletes false, and then those that it adds true. Fails only if
-    /// allocation fails, and then the state must not be used again.
+    /// Applies an action: makes the atoms that it deletes false, and then those that it adds true. After a failure the
+    /// state must not be used again.
     pub fn apply(&mut self, action: GroundAction) -> Result<(), AllocError>
         ensures { OnOk result (holds_in self.new ≡ next_state (holds_in self.old) action) }
     {
@@ -83,7 +83,7 @@ impl AtomSet {
         self.atoms.contains(&literal.atom) == literal.positive
     }
 
-    /// The first of the literals that does not hold, or `None` if all hold.
+    /// Returns the first of the literals that does not hold, or `None` if all hold.
     pub fn first_failing<'a>(&self, literals: &'a [GroundLiteral]) -> Option<&'a GroundLiteral>
         ensures { option_copied result ≡ first_failing (holds_in self.now) literals.now }
     {

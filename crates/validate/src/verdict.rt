@@ -30,7 +30,7 @@ pub enum Verdict {
     GoalOpen(GroundLiteral),
 }
 
-/// The numbers of these names, or `None` if one of them has none.
+/// Returns the numbers of these names, or `None` if one of them has no number.
 fn numbers_of(
     alloc: Global,
     names: &Names,
@@ -48,7 +48,7 @@ fn numbers_of(
     Ok(Some(numbers))
 }
 
-/// The ground action that a step names, or `None` if it names none.
+/// Returns the ground action that a step names, or `None` if it names no action.
 fn action_named(alloc: Global, task: &Task, step: &Step) -> Result<Option<GroundAction>, AllocError>
     requires { IsTrue (has_small_costs task.now) }
     ensures { IfOk result (λ a. a ≡ action_named task.now step.now) }
@@ -62,7 +62,7 @@ fn action_named(alloc: Global, task: &Task, step: &Step) -> Result<Option<Ground
     }
 }
 
-/// The verdict on a plan, by applying its steps one after the other.
+/// Returns the verdict on a plan, by applying its steps one after the other.
 fn verdict_of(alloc: Global, task: &Task, plan: &Plan) -> Result<Verdict, AllocError>
     requires small { IsTrue (has_small_costs task.now) }
     requires costs { CostsAtMost task.now max_cost }
@@ -86,11 +86,9 @@ fn verdict_of(alloc: Global, task: &Task, plan: &Plan) -> Result<Verdict, AllocE
     }
 }
 
-/// The verdict on a plan in a task: its cost if it is valid, otherwise its first step that is not applicable, or the
-/// first literal of the goal that does not hold at its end (Fox and Long 2003). The time for a step depends on the
-/// schema and the effects of its action, and not on the size of the state.
-///
-/// Fails only if allocation fails.
+/// Returns the verdict on a plan in a task: its cost if it is valid, otherwise its first step that is not applicable,
+/// or the first literal of the goal that does not hold at its end (Fox and Long 2003). The time for a step depends on
+/// the schema and the effects of its action, but not on the size of the state.
 pub fn validate(alloc: Global, task: &Task, plan: &Plan) -> Result<Verdict, AllocError>
     requires small { IsTrue (has_small_costs task.now) }
     requires costs { CostsAtMost task.now max_cost }

@@ -24,7 +24,7 @@ fn push_number(text: &mut String, number: u64) -> Result<(), AllocError>
 
 // ---- plans
 
-/// Adds each of the words, with a blank before it.
+/// Appends each of the words, with a blank before it.
 #[tactic(auto, using(crate::proofs::PlanLaws::appending))]
 fn push_words(text: &mut String, words: &[String]) -> Result<(), AllocError>
     ensures { OnOk result (string_bytes text.new ≡ string_bytes text.old ++ spaced (texts_of words.now)) }
@@ -79,13 +79,11 @@ fn steps_text(alloc: Global, steps: &[Step], cost: u64, unit: bool) -> Result<St
     Ok(text)
 }
 
-/// The plan as a text: a line for each step, such as `(go a b)`, and a last line such as `; cost = 2 (unit cost)`. If
-/// `unit` is not set that line ends with `(general cost)`.
-///
-/// Fails only if allocation fails.
+/// Returns the plan as a text: a line for each step, such as `(go a b)`, and a last line such as `; cost = 2 (unit
+/// cost)`. If `unit` is not set, that line ends with `(general cost)`.
 pub fn plan_text(alloc: Global, plan: &Plan, cost: u64, unit: bool) -> Result<String, AllocError>
     ensures written { IfOk result (λ text. string_bytes text ≡ plan_text_of plan.now cost unit) }
-    // `read_plan` gives the plan back, unless the text is too long for it.
+    // `read_plan` reads the text back as this plan, unless the text is too long.
     ensures read { IfOk result (λ text. length (string_bytes text) ≤ max_bytes → SpellsPlan (string_bytes text) plan.now) }
 {
     let text = steps_text(alloc, plan.steps(), cost, unit)?;
@@ -94,7 +92,7 @@ pub fn plan_text(alloc: Global, plan: &Plan, cost: u64, unit: bool) -> Result<St
 
 // ---- verdicts
 
-/// Adds the name with this number, or nothing if there is none.
+/// Appends the name with this number, or nothing if there is none.
 fn push_name(text: &mut String, names: &Names, number: usize) -> Result<(), AllocError>
     ensures { OnOk result (string_bytes text.new ≡ string_bytes text.old ++ name_of names.now number) }
 {
@@ -104,7 +102,7 @@ fn push_name(text: &mut String, names: &Names, number: usize) -> Result<(), Allo
     }
 }
 
-/// Adds the name of each of the numbers, with a blank before it.
+/// Appends the name of each of the numbers, with a blank before it.
 #[tactic(auto, using(crate::proofs::PlanLaws::appending))]
 fn push_names(text: &mut String, names: &Names, numbers: &[usize]) -> Result<(), AllocError>
     ensures { OnOk result (string_bytes text.new ≡ string_bytes text.old ++ spaced_names names.now numbers.now) }
@@ -179,10 +177,8 @@ fn push_verdict(
     Ok(())
 }
 
-/// The verdict as a line: `valid 7`, `no such action 2`, `not applicable 2 (at a)` or `goal open (not (at a))`, with a
-/// line feed. Literals are written with the names of the task; for a number that has no name nothing is written.
-///
-/// Fails only if allocation fails.
+/// Returns the verdict as a line: `valid 7`, `no such action 2`, `not applicable 2 (at a)` or `goal open (not (at a))`,
+/// with a line feed. Literals are written with the names of the task; a number without a name is written as nothing.
 pub fn verdict_line(alloc: Global, task: &Task, verdict: &Verdict) -> Result<String, AllocError>
     ensures { IfOk result (λ text. string_bytes text ≡ verdict_line_of task.now verdict.now) }
 {

@@ -1,4 +1,5 @@
--- What a worker does in one step, and in one turn: a pass of the loop of hash distributed A* (Kishimoto, Fukunaga and Botea 2013).
+-- The effects of single steps and of a turn of a worker: a pass of the loop of hash distributed A* (Kishimoto, Fukunaga
+-- and Botea 2013).
 use Rattle.std.specs.Prelude.{◌≡◌, ◌≢◌, ℕ, zero, suc, ◌+◌, ◌<◌, ◌≤◌, ◌⊎◌, Bool, true, false, ◌&&◌, ◌||◌, not, ◌==◌, List, [], ◌∷◌, ◌++◌, length, slice_get, slice_set, Option, Some, None, pos, ◌+ℤ◌, ◌-ℤ◌}
 use Rattle.cost.specs.Distances.{Distance, ◌≤ᵈ◌, lesser}
 use Rattle.owner_theory.specs.Owners.{Message, list_at, put, took, fits}
@@ -17,14 +18,14 @@ use Rattle.worker.specs.declared.outcome.Turn.{Turn}
 use Rattle.worker.specs.declared.outcome.Turn.TheVariants.{Next, Last, Misfit}
 use Rattle.worker.specs.Workers.{WorkerOf, values_in, sent_to, received_from, known_from, AreSameOuts, AreSameIns}
 
--- R 0, R 1, .. R (n - 1) in this order, each from where the last one ended
+-- `R 0`, `R 1`, .. `R (n - 1)` in this order, each from the result of the last one
 abbrev pub chained : {W : Type 0} → (ℕ → W → W → Type 0) → ℕ → W → W → Type 0
 chained R zero a b = b ≡ a
 chained {W} R (suc k) a b = (m : W) × chained R k a m × R k m b
 
 -- ---- single steps
 
--- the bound is read, and the seat has read it; it is at most what the seat had read and offered
+-- the bound is read, and the seat has seen it; it is at most what the seat had seen and offered
 pub record HasLooked {S F : Type 0} (old new : WorkerOf S F) (before after : View) : Type 0 where
   pub view : after ≡ with_seen before new.bound
   pub falls : (new.bound ≤ᵈ before.seen) × (new.bound ≤ᵈ before.offered)
@@ -39,12 +40,13 @@ abbrev pub posted_by : Option ℕ → ℕ
 posted_by None = 0
 posted_by (Some posted) = posted
 
--- the next node below the bound read last is expanded, and the messages are yet to be added to the units; or there is none
+-- the next node below the bound read last is expanded, and the messages are yet to be added to the units; or there is
+-- none
 pub record HasExpanded {S F : Type 0} (owner : S → List ℕ → ℕ → ℕ) (old new : WorkerOf S F) (posted : Option ℕ) : Type 0 where
   pub expansion : IsExpansion owner old.bound old.owner new.owner posted
   pub worker : new ≡ record old { owner = new.owner; uncounted = old.uncounted + posted_by posted }
 
--- why it is not expanded; the worker is as it was
+-- the reason why no node is expanded; the worker is unchanged
 abbrev pub IsExpandRefusal : {S F : Type 0} → (S → List ℕ → ℕ → ℕ) → WorkerOf S F → WorkerOf S F → OwnerFault → Type 0
 IsExpandRefusal owner old new fault = IsRefusal owner old.bound old.owner new.owner fault × (new ≡ old)
 
@@ -53,7 +55,7 @@ pub record HasAdded {S F : Type 0} (old new : WorkerOf S F) (before after : View
   pub view : after ≡ with_share before (before.share +ℤ pos old.uncounted)
   pub worker : new ≡ record old { uncounted = 0 }
 
--- the oldest message for that worker is sent
+-- the oldest message for worker `to` is sent
 pub record HasSent {S F : Type 0} (values : List ℕ → F → List ℕ) (to : ℕ) (old new : WorkerOf S F) : Type 0 where
   pub message : Message
   pub outbox : list_at old.owner.outboxes to ≡ message ∷ list_at new.owner.outboxes to
@@ -64,7 +66,7 @@ pub record HasSent {S F : Type 0} (values : List ℕ → F → List ℕ) (to : �
     outs = new.outs;
   }
 
--- nothing is sent to that worker: there is no message for it, or the link was not known to have room
+-- nothing is sent to worker `to`: there is no message for it, or the link was not known to have room
 pub record HasNotSent {S F : Type 0} (values : List ℕ → F → List ℕ) (to : ℕ) (old new : WorkerOf S F) : Type 0 where
   pub why : (o : Out F) → slice_get old.outs to ≡ Some o → 0 < room o → list_at old.owner.outboxes to ≡ []
   pub link : (v : ℕ) → sent_to (values_in values old) new.outs v ≡ sent_to (values_in values old) old.outs v
@@ -75,13 +77,14 @@ abbrev pub SendsOrNot : {S F : Type 0} → (List ℕ → F → List ℕ) → ℕ
 SendsOrNot values to old new true = HasSent values to old new
 SendsOrNot values to old new false = HasNotSent values to old new
 
--- the oldest message from that worker was taken from the link, and of those that were known to be in its ring no other
+-- the oldest message from worker `from` was taken from the link, and of those that were known to be in its ring no
+-- other
 pub record HasPopped {S F : Type 0} (values : List ℕ → F → List ℕ) (from : ℕ) (message : Message) (old new : WorkerOf S F) : Type 0 where
   pub link : (u : ℕ) → received_from (values_in values old) new.ins u ≡ put (received_from (values_in values old) old.ins) from (received_from (values_in values old) old.ins from ++ message ∷ []) u
   pub fewer : length (known_from (values_in values old) old.ins from) ≤ suc (length (known_from (values_in values old) new.ins from))
   pub ends : AreSameIns old.ins new.ins
 
--- the oldest message from that worker is taken by the owner, and is yet to be subtracted from the units
+-- the oldest message from worker `from` is taken by the owner, and is yet to be subtracted from the units
 pub record HasTaken {S F : Type 0} (owner : S → List ℕ → ℕ → ℕ) (values : List ℕ → F → List ℕ) (from : ℕ) (old new : WorkerOf S F) : Type 0 where
   pub message : Message
   pub popped : HasPopped values from message old new
@@ -96,21 +99,22 @@ pub record HasNothingTaken {S F : Type 0} (values : List ℕ → F → List ℕ)
   pub ends : AreSameIns old.ins new.ins
   pub worker : new ≡ record old { ins = new.ins }
 
--- the oldest message from that worker does not fit this owner and is set aside
+-- the oldest message from worker `from` does not fit this owner and is set aside
 pub record HasSetAside {S F : Type 0} (owner : S → List ℕ → ℕ → ℕ) (values : List ℕ → F → List ℕ) (from : ℕ) (old new : WorkerOf S F) : Type 0 where
   pub message : Message
   pub popped : HasPopped values from message old new
   pub unfit : fits (space_of owner old.owner) old.owner.worker message ≡ false
   pub worker : new ≡ record old { ins = new.ins; misfits = record { sender = from; message = message } ∷ [] }
 
--- the owner could not take the oldest message from that worker, and the worker holds it: the message is known to be left to take
+-- the owner could not take the oldest message from worker `from`, and the worker holds it: the message is known to be
+-- left to take
 pub record HasHeld {S F : Type 0} (values : List ℕ → F → List ℕ) (from : ℕ) (old new : WorkerOf S F) : Type 0 where
   pub link : (u : ℕ) → received_from (values_in values old) new.ins u ≡ received_from (values_in values old) old.ins u
   pub known_is : known_from (values_in values old) new.ins from ≢ []
   pub ends : AreSameIns old.ins new.ins
   pub worker : new ≡ record old { ins = new.ins }
 
--- what came of receiving from that worker
+-- the result of receiving from worker `from`
 abbrev pub HasReceived : {S F : Type 0} → (S → List ℕ → ℕ → ℕ) → (List ℕ → F → List ℕ) → ℕ → WorkerOf S F → WorkerOf S F → Received → Type 0
 HasReceived owner values from old new Taken = HasTaken owner values from old new
 HasReceived owner values from old new Nothing = HasNothingTaken values from old new
@@ -130,7 +134,8 @@ SendsTo values to old new = HasSent values to old new ⊎ HasNotSent values to o
 abbrev pub wakes : {S F : Type 0} → WorkerOf S F → Bool
 wakes w = w.resting && not (w.taken == 0)
 
--- the worker comes to rest: it counts among the units, and has nothing to expand below its bound and nothing to hand out
+-- the worker comes to rest: it counts among the units, has nothing to expand below its bound and no message in its
+-- outboxes
 abbrev pub comes_to_rest : {S F : Type 0} → (S → List ℕ → ℕ → ℕ) → WorkerOf S F → Bool
 comes_to_rest owner w = (not w.resting || wakes w) && idle (space_of owner w.owner) (under w.owner w.bound)
 
@@ -138,14 +143,16 @@ abbrev pub one_if : Bool → ℕ
 one_if true = 1
 one_if false = 0
 
--- the messages that were taken are subtracted from the units, and the worker counts among them exactly where it is not resting
+-- the messages that were taken are subtracted from the units, and the worker counts among them exactly if it is not at
+-- rest
 pub record HasCounted {S F : Type 0} (owner : S → List ℕ → ℕ → ℕ) (old new : WorkerOf S F) (before after : View) : Type 0 where
   pub view : after ≡ with_share before
       (((before.share +ℤ pos (one_if (wakes old))) -ℤ pos old.taken) -ℤ pos (one_if (comes_to_rest owner old)))
   pub worker : new ≡ record old { taken = 0; resting = (old.resting && not (wakes old)) || comes_to_rest owner old }
 
--- one turn, in this order: at most one message is taken from each link, the bound is read, at most one node is expanded, its messages
--- are added to the units, the best goal is offered, at most one message is sent over each link, and the rest is counted
+-- one turn, in this order: at most one message is taken from each link, the bound is read, at most one node is
+-- expanded, its messages are added to the units, the best goal is offered, at most one message is sent over each link,
+-- and the messages taken and the worker's own unit are counted
 pub record HasTurned {S F : Type 0} (owner : S → List ℕ → ℕ → ℕ) (values : List ℕ → F → List ℕ) (old new : WorkerOf S F) (before after : View) : Type 0 where
   pub received : WorkerOf S F
   pub receives : chained (ReceivesFrom owner values) (length old.ins) old received
@@ -173,7 +180,8 @@ pub record HasStopped {S F : Type 0} (owner : S → List ℕ → ℕ → ℕ) (v
   pub receives : chained (ReceivesFrom owner values) from old received
   pub aside : HasSetAside owner values from received new
 
--- a turn that ends with a message that the owner could not take: the links before it were received from, and nothing else is done
+-- a turn that ends with a message that the owner could not take: the links before it were received from, and nothing
+-- else is done
 pub record HasHeldBack {S F : Type 0} (owner : S → List ℕ → ℕ → ℕ) (values : List ℕ → F → List ℕ) (old new : WorkerOf S F) : Type 0 where
   pub from : ℕ
   pub within : from < length old.ins
@@ -181,26 +189,28 @@ pub record HasHeldBack {S F : Type 0} (owner : S → List ℕ → ℕ → ℕ) (
   pub receives : chained (ReceivesFrom owner values) from old received
   pub held : HasHeld values from received new
 
--- what came of receiving from each link: no message was set aside, or one was, and nothing was received from the links after it
+-- the result of receiving from each link: no message was set aside, or one was, and nothing was received from the links
+-- after it
 abbrev pub HasReceivedEach : {S F : Type 0} → (S → List ℕ → ℕ → ℕ) → (List ℕ → F → List ℕ) → WorkerOf S F → WorkerOf S F → Bool → Type 0
 HasReceivedEach owner values old new true = chained (ReceivesFrom owner values) (length old.ins) old new
 HasReceivedEach owner values old new false = HasStopped owner values old new
 
--- a turn that the owner refused when it was asked to expand: nothing was done after the bound was read
+-- a turn in which the owner refused to expand: nothing was done after the bound was read
 pub record HasRefused {S F : Type 0} (owner : S → List ℕ → ℕ → ℕ) (values : List ℕ → F → List ℕ) (fault : OwnerFault) (old new : WorkerOf S F) (before after : View) : Type 0 where
   pub received : WorkerOf S F
   pub receives : chained (ReceivesFrom owner values) (length old.ins) old received
   pub looks : HasLooked received new before after
   pub refusal : IsRefusal owner new.bound new.owner new.owner fault
 
--- why a turn is refused: memory ran out for a message, and the worker holds it; or the owner refused to expand
+-- the reason why a turn is refused: memory ran out for a message, and the worker holds it; or the owner refused to
+-- expand
 abbrev pub IsTurnRefusal : {S F : Type 0} → (S → List ℕ → ℕ → ℕ) → (List ℕ → F → List ℕ) → WorkerOf S F → WorkerOf S F → View → View → OwnerFault → Type 0
 IsTurnRefusal owner values old new before after OutOfMemory =
     (HasHeldBack owner values old new × (after ≡ before)) ⊎ HasRefused owner values OutOfMemory old new before after
 IsTurnRefusal owner values old new before after LimitReached = HasRefused owner values LimitReached old new before after
 IsTurnRefusal owner values old new before after TotalTooLarge = HasRefused owner values TotalTooLarge old new before after
 
--- what came of a turn; a round is over for the worker where the board says so
+-- the result of a turn; a round is over for the worker if the board says so
 abbrev pub IsTurn : {S F : Type 0} → (S → List ℕ → ℕ → ℕ) → (List ℕ → F → List ℕ) → WorkerOf S F → WorkerOf S F → View → View → Turn → Type 0
 IsTurn owner values old new before after Next = HasTurned owner values old new before after
 IsTurn owner values old new before after Last = HasTurned owner values old new before after

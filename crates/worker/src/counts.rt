@@ -1,5 +1,5 @@
-//! The units of a worker: it counts among the units of work that are left while it is not at rest, and so does each message from
-//! when it stands in an outbox until it is taken.
+//! How a worker counts units of work: while it is not at rest it is one of the units that are left, and each message is
+//! one from when it is put into an outbox until it is taken.
 
 ghost use Rattle.std.specs.Prelude.{◌≡◌, ◌<◌, pos, ◌+ℤ◌, ◌-ℤ◌, false, not, ◌||◌};
 ghost use Rattle.board.specs.Rule.{with_share};
@@ -12,20 +12,20 @@ use board::{Board, Seat};
 use packed::StateForm;
 use packed_spread::Spread;
 
-/// A worker looks once, at least, while it counts so many times, at what others have sent since it looked last. It counts in each turn, and
-/// in a round once more after it, so that it looks in one of eight turns. What others write comes from the cache of another processor, a line
-/// at a time, so that several messages of one sender come as fast as one.
+/// At most this many counting steps pass between two polls of the incoming rings. A worker counts in each turn, and in
+/// a round once more after it, so it polls in one of eight turns. What others write is read from another processor's
+/// cache, a line at a time, so several messages of one sender cost as much as one.
 const MOST_TURNS: usize = 16;
 
-/// 1 if the flag is set, and 0 if not.
+/// Returns 1 if the flag is set, and 0 if not.
 fn one_if(flag: bool) -> u64
     ensures { result ≡ one_if flag }
 {
     if flag { 1 } else { 0 }
 }
 
-/// Adds the first number of units and subtracts the second one, in one atomic step, or in none where they are equal: all workers change
-/// the word of the units, and each change waits for the line of the cache that holds it.
+/// Adds `more` units and subtracts `fewer`, in one atomic step, or in none if they are equal: all workers change the
+/// word of the units, and each change waits for its cache line.
 fn change_units(board: &Board, seat: &mut Seat, more: u64, fewer: u64)
     requires { IsSeatOf board.now seat.old }
     ensures seat { IsSeatOf board.now seat.new }
@@ -39,7 +39,7 @@ fn change_units(board: &Board, seat: &mut Seat, more: u64, fewer: u64)
 }
 
 impl<'a, S: Spread + Drop, F: StateForm + Drop> Worker<'a, S, F> {
-    /// The worker at the start of a round: it counts among the units, and no message is left to be added or subtracted.
+    /// Starts a round: the worker counts among the units, and no message is left to be added or subtracted.
     pub fn begin_round(&mut self)
         ensures { self.new ≡ record self.old { resting = false; uncounted = 0; taken = 0 } }
     {
@@ -48,8 +48,8 @@ impl<'a, S: Spread + Drop, F: StateForm + Drop> Worker<'a, S, F> {
         self.taken = 0;
     }
 
-    /// How many times it counts until it looks again at what others have sent: rings are not to fill up meanwhile, and a node rarely has
-    /// more than one successor for each worker.
+    /// Returns the number of counting steps between two polls of the incoming rings. It depends on the capacity because
+    /// rings must not fill up between polls; a node rarely has more than one successor for each worker.
     fn turns_a_look(&self) -> u32
         ensures { 0 < result }
     {
@@ -59,35 +59,36 @@ impl<'a, S: Spread + Drop, F: StateForm + Drop> Worker<'a, S, F> {
         }
     }
 
-    /// Whether it looks in this turn at what others have sent since it looked last: always where it is at rest, and else in one of several
-    /// turns.
+    /// Returns whether this turn polls for messages sent since the last poll: always if the worker is at rest, and else
+    /// in one of several turns.
     pub(crate) fn looks(&self) -> bool {
         self.resting || self.turns == 0
     }
 
-    /// Whether it is at rest and has taken a message, so that it counts among the units again.
+    /// Returns whether the worker is at rest and has taken a message, so that it counts among the units again.
     fn wakes(&self) -> bool
         ensures { result ≡ wakes self.now }
     {
         self.resting && self.taken != 0
     }
 
-    /// Whether it counts among the units, or does so again.
+    /// Returns whether the worker counts among the units, or does so again.
     fn counts(&self) -> bool
         ensures { result ≡ (not self.now.resting || wakes self.now) }
     {
         !self.resting || self.wakes()
     }
 
-    /// Whether it counts among the units, and has nothing to expand below its bound and nothing to hand out.
+    /// Returns whether the worker counts among the units, has nothing to expand below its bound and no message in its
+    /// outboxes.
     fn comes_to_rest(&self) -> bool
         ensures { result ≡ comes_to_rest S.owner self.now }
     {
         self.counts() && self.owner.is_idle(self.bound)
     }
 
-    /// Brings the units up to date before anything is sent: adds the messages that stand in outboxes and are not yet added, and 1 where
-    /// it wakes, and subtracts the messages that it has taken.
+    /// Brings the units up to date before anything is sent: adds the messages in outboxes that are not yet added, and 1
+    /// if the worker wakes, and subtracts the messages that it has taken.
     pub(crate) fn balance(&mut self, board: &Board, seat: &mut Seat)
         requires { IsSeatOf board.now seat.old }
         ensures seat { IsSeatOf board.now seat.new }
@@ -98,8 +99,8 @@ impl<'a, S: Spread + Drop, F: StateForm + Drop> Worker<'a, S, F> {
         self.uncounted = 0;
     }
 
-    /// Ends the counting, where the messages that were taken are subtracted already: it no longer counts among the units where it comes to
-    /// rest, and is one time nearer to where it looks at its links.
+    /// Ends the counting, after the messages that were taken are subtracted: subtracts the worker from the units if it
+    /// comes to rest, and counts one step towards the next poll.
     pub(crate) fn rest(&mut self, board: &Board, seat: &mut Seat)
         requires { IsSeatOf board.now seat.old }
         ensures seat { IsSeatOf board.now seat.new }
@@ -114,8 +115,8 @@ impl<'a, S: Spread + Drop, F: StateForm + Drop> Worker<'a, S, F> {
         self.turns = self.turns.wrapping_add(1) % interval;
     }
 
-    /// Subtracts the messages that were taken from the units, and counts this worker among them exactly if it is not at rest.
-    /// It adds before it subtracts, so that the units are 0 only when no work is left.
+    /// Subtracts the messages that were taken from the units, and counts this worker among them exactly if it is not at
+    /// rest. It adds before it subtracts, so that the units are 0 only when no work is left.
     pub fn count_taken(&mut self, board: &Board, seat: &mut Seat)
         requires { IsSeatOf board.now seat.old }
         ensures seat { IsSeatOf board.now seat.new }

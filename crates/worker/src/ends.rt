@@ -12,7 +12,7 @@ ghost use Rattle.worker.specs.Workers.{sent_to, received_from, known_from, AreSa
 use links::{In, Message, Out};
 use packed::StateForm;
 
-/// Whether there certainly is room for a message to that worker. Allocates nothing.
+/// Returns whether there certainly is room for a message to worker `to`.
 pub(crate) fn has_room<F: StateForm + Drop>(outs: &mut Vec<Out<F>>, to: usize) -> bool
     requires { to < length outs.old.items }
     ensures same { AreSameOuts outs.old.items outs.new.items }
@@ -23,7 +23,7 @@ pub(crate) fn has_room<F: StateForm + Drop>(outs: &mut Vec<Out<F>>, to: usize) -
     outs[to].has_room()
 }
 
-/// Sends a message to that worker, for which there is room. Allocates nothing.
+/// Sends a message to worker `to`; there must be room for it.
 pub(crate) fn push<F: StateForm + Drop>(outs: &mut Vec<Out<F>>, to: usize, message: Message<F>)
     requires within { to < length outs.old.items }
     requires small { HasSmallRank message }
@@ -35,7 +35,7 @@ pub(crate) fn push<F: StateForm + Drop>(outs: &mut Vec<Out<F>>, to: usize, messa
     let _ = pushed; // there is room
 }
 
-/// Takes the oldest message from that worker, if the link is found to hold one. Allocates nothing.
+/// Takes the oldest message from worker `from`, if the link is found to hold one.
 pub(crate) fn pop<F: StateForm + Drop>(ins: &mut Vec<In<F>>, from: usize) -> Option<Message<F>>
     requires { from < length ins.old.items }
     ensures same { AreSameIns ins.old.items ins.new.items }
@@ -49,7 +49,7 @@ pub(crate) fn pop<F: StateForm + Drop>(ins: &mut Vec<In<F>>, from: usize) -> Opt
     ins[from].pop()
 }
 
-/// Whether no message from that worker is known to be left to take. It does not look at what was sent since it looked last.
+/// Returns whether no message from worker `from` is known to be left to take. Does not poll the link.
 pub(crate) fn knows_none<F: StateForm + Drop>(ins: &[In<F>], from: usize) -> bool
     requires { from < length ins.now }
     ensures { IsTrue result → (i : InOf F) → slice_get ins.now from ≡ Some i → known i ≡ [] }
@@ -57,7 +57,7 @@ pub(crate) fn knows_none<F: StateForm + Drop>(ins: &[In<F>], from: usize) -> boo
     ins[from].knows_none()
 }
 
-/// Gives back the message that was taken last from that worker. Allocates nothing.
+/// Puts back the message that was taken last from worker `from`.
 pub(crate) fn give_back<F: StateForm + Drop>(ins: &mut Vec<In<F>>, from: usize, message: Message<F>)
     requires within { from < length ins.old.items }
     requires last { (i : InOf F) → slice_get ins.old.items from ≡ Some i → WasTakenLast i message }

@@ -11,7 +11,8 @@ use owner::Space;
 use packed::StateForm;
 use packed_spread::Spread;
 
-/// Whether the message is of a state of the task that this one of several owners has; the buffer is for use within.
+/// Returns whether the message is for owner `number` of `owners`: its state is one of the task and belongs to this
+/// owner. `state` is a buffer.
 pub(crate) fn is_for<S: Spread + Drop, F: StateForm + Drop>(
     space: &Space<'_, S>,
     number: usize,

@@ -1,5 +1,5 @@
-//! One worker of a search by threads: an owner of states, its ends of the links to other workers, and its seat at the board (hash
-//! distributed A*: Kishimoto, Fukunaga and Botea 2013).
+//! One worker of a multi-threaded search: an owner of states, its ends of the links to other workers, and its seat at
+//! the board (hash distributed A*: Kishimoto, Fukunaga and Botea 2013).
 #![tactic(auto)]
 
 mod counts;

@@ -1,4 +1,4 @@
-//! Links looked at from both of their ends, while no other thread has one of them.
+//! Counts of the messages in a link, from both of its ends, while no other thread has one of them.
 
 ghost use Rattle.std.specs.Prelude.{◌≡◌, ◌<◌, length};
 ghost use Rattle.worker.specs.Matching.{AreLinked, IsMatchedUp};
@@ -8,7 +8,7 @@ use links::{In, Out, match_up};
 use packed::StateForm;
 use packed_spread::Spread;
 
-/// The number of messages in the ring of a link, from both of its ends in their rows. Allocates nothing.
+/// Returns the number of messages in the ring of a link, given the rows of its two ends.
 fn match_in_rows<F: StateForm + Drop>(
     outs: &mut Vec<Out<F>>,
     to: usize,
@@ -24,8 +24,8 @@ fn match_in_rows<F: StateForm + Drop>(
 }
 
 impl<'a, S: Spread + Drop, F: StateForm + Drop> Worker<'a, S, F> {
-    /// The number of messages in the ring of the link from this worker to another one. The other worker then receives as many
-    /// from this one, a message with each call. Allocates nothing.
+    /// Returns the number of messages in the ring of the link from this worker to another one. The other worker's next
+    /// calls of `receive` find them, a message each.
     pub fn match_link(&mut self, receiver: &mut Worker<'a, S, F>) -> usize
         requires to { receiver.old.owner.worker < length self.old.outs }
         requires from { self.old.owner.worker < length receiver.old.ins }
@@ -42,7 +42,7 @@ impl<'a, S: Spread + Drop, F: StateForm + Drop> Worker<'a, S, F> {
         )
     }
 
-    /// The number of messages in the ring of the link from this worker to itself. Allocates nothing.
+    /// Returns the number of messages in the ring of the link from this worker to itself.
     pub fn match_own_link(&mut self) -> usize
         requires within { self.old.owner.worker < length self.old.outs }
         requires linked { AreLinked self.old.outs self.old.owner.worker self.old.ins self.old.owner.worker }

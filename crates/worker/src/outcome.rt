@@ -1,6 +1,6 @@
-//! What comes of receiving a message, and of a turn.
+//! Results of receiving a message and of a turn.
 
-/// What came of receiving from a link.
+/// The result of receiving from a link.
 #[derive(Clone, Copy, Debug, PartialEq, Eq)]
 pub enum Received {
     /// The owner took the oldest message.
@@ -11,13 +11,13 @@ pub enum Received {
     SetAside,
 }
 
-/// What came of a turn.
+/// The result of a turn.
 #[derive(Clone, Copy, Debug, PartialEq, Eq)]
 pub enum Turn {
     /// The round goes on.
     Next,
-    /// Nothing is counted as left to do, or the round was ended.
+    /// No units of work are left, or the round was ended.
     Last,
-    /// A message was set aside that is not for this owner. The worker takes no more turns.
+    /// A message that is not for this owner was set aside. The worker takes no further turns.
     Misfit,
 }

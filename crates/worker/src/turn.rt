@@ -13,8 +13,9 @@ use packed::StateForm;
 use packed_spread::Spread;
 use std::alloc::AllocError;
 
-/// Whether a worker takes another turn: not where nothing is counted as left to do, or the round was ended. A worker that is not at
-/// rest is counted itself, and does not look at the units, which other workers change all the time.
+/// Returns whether a worker takes another turn: it does not if no units of work are left, or the round was ended. A
+/// worker that is not at rest is one of the units itself, so it does not read their number, a word that other workers
+/// change all the time.
 fn next_turn(board: &Board, seat: &mut Seat, is_resting: bool) -> Turn
     requires { IsSeatOf board.now seat.old }
     ensures turn { result ≢ Turn.Misfit }
@@ -29,9 +30,9 @@ fn next_turn(board: &Board, seat: &mut Seat, is_resting: bool) -> Turn
 }
 
 impl<'a, S: Spread + Drop, F: StateForm + Drop> Worker<'a, S, F> {
-    /// Takes at most one message from each link: in some turns from those only that are known to hold one. Returns false if one was set
-    /// aside, after which it takes no more. Fails only if allocation fails, and then the worker holds the message that could not be taken,
-    /// and has taken none after it.
+    /// Takes at most one message from each link; in turns that do not poll, only from the links that are known to hold
+    /// one. Returns false if a message was set aside, after which none is taken. If allocation fails, the worker holds
+    /// the message that could not be taken, and has taken none after it.
     fn receive_each(&mut self) -> Result<bool, AllocError>
         requires none_aside { self.old.misfits ≡ [] }
         requires none_taken { self.old.taken ≡ 0 }
@@ -50,7 +51,7 @@ impl<'a, S: Spread + Drop, F: StateForm + Drop> Worker<'a, S, F> {
         Ok(true)
     }
 
-    /// Sends at most one message over each link. Allocates nothing.
+    /// Sends at most one message over each link.
     fn send_each(&mut self)
         requires { self.old.uncounted ≡ 0 }
         ensures { chained (SendsTo F.values) (length self.old.outs) self.old self.new }
@@ -60,13 +61,13 @@ impl<'a, S: Spread + Drop, F: StateForm + Drop> Worker<'a, S, F> {
         }
     }
 
-    /// One turn, in this order: it takes at most one message from each link, in some turns only where one is known to be left; reads the
-    /// bound, expands at most one node, adds the messages that this put into outboxes to the units and subtracts those that it has taken,
-    /// offers its best goal, sends at most one message over each link, and counts itself among the units no longer where it comes to
-    /// rest. A message that is not for its owner ends the turn.
+    /// Takes one turn, in this order: takes at most one message from each link (in turns that do not poll, only if one
+    /// is known to be left); reads the bound; expands at most one node; adds the messages that this put into outboxes
+    /// to the units and subtracts those that it has taken; offers its best goal; sends at most one message over each
+    /// link; and stops counting among the units if it comes to rest. A message that is not for its owner ends the turn.
     ///
-    /// A fault leaves the worker as it was after it read the bound; where memory ran out for a message, the worker holds it and it
-    /// still counts as pending. A caller that goes on after a fault calls `count_taken` first.
+    /// A fault leaves the worker as it was after it read the bound; if memory ran out for a message, the worker holds
+    /// it and it still counts as pending. A caller that continues after a fault calls `count_taken` first.
     pub fn turn(&mut self, board: &Board, seat: &mut Seat) -> Result<Turn, OwnerFault>
         requires seat { IsSeatOf board.now seat.old }
         requires none_aside { self.old.misfits ≡ [] }

@@ -1,4 +1,4 @@
-//! The worker, and what it does in one step.
+//! The worker and its single steps.
 
 ghost use Rattle.std.specs.Prelude.{◌≡◌, ℕ, ◌+◌, ◌^◌, ◌<◌, [], length, IfOk, IfErr};
 ghost use Rattle.fdr.specs.Tasks.{ranges};
@@ -19,8 +19,8 @@ use packed_spread::Spread;
 use std::alloc::{AllocError, Global};
 use std::marker::Model;
 
-/// An owner with its ends of the links to other workers, and what it has seen of the board and offered there. A contract sees it
-/// without its buffer.
+/// An owner with its ends of the links to other workers, and what it has seen of the board and offered there. Contracts
+/// do not see its buffer.
 #[derive(Drop)]
 pub struct Worker<'a, S: Spread + Drop, F: StateForm + Drop> {
     pub(crate) owner: Owner<'a, S, F>,
@@ -44,7 +44,7 @@ pub struct Worker<'a, S: Spread + Drop, F: StateForm + Drop> {
     pub(crate) uncounted: u64,
     /// The number of messages that it has taken and not yet subtracted from the units.
     pub(crate) taken: u64,
-    /// How often it has counted, in turns and after them, since it last was to look at what others had sent; 0 where it is to look.
+    /// The number of counting steps, in turns and after them, since the last turn that polls; 0 if this turn polls.
     pub(crate) turns: u32,
 }
 
@@ -82,7 +82,7 @@ impl<'a, S: Spread + Drop, F: StateForm + Drop> Model for Worker<'a, S, F> {
     }) };
 }
 
-/// The number of messages that an expansion put into outboxes, 0 if there was none.
+/// Returns the number of messages that an expansion put into outboxes, 0 if there was none.
 fn posted_by(posted: Option<usize>) -> u64
     ensures { result ≡ posted_by posted }
 {
@@ -92,7 +92,7 @@ fn posted_by(posted: Option<usize>) -> u64
     }
 }
 
-/// What a worker is made of.
+/// The parts of a worker.
 #[derive(Drop)]
 pub struct Parts<'a, S: Spread + Drop, F: StateForm + Drop> {
     /// The owner.
@@ -106,9 +106,8 @@ pub struct Parts<'a, S: Spread + Drop, F: StateForm + Drop> {
 }
 
 impl<'a, S: Spread + Drop, F: StateForm + Drop> Worker<'a, S, F> {
-    /// A worker at the start: worker `number` of `workers`, counted from 0, with its ends of links over which nothing was sent.
-    /// States of the task have the form `F`.
-    /// Fails only if allocation fails.
+    /// Creates worker `number` of `workers`, counted from 0, with its ends of links over which nothing was sent. States
+    /// of the task have the form `F`.
     pub fn start(
         alloc: Global,
         space: &'a Space<'a, S>,
@@ -161,8 +160,8 @@ impl<'a, S: Spread + Drop, F: StateForm + Drop> Worker<'a, S, F> {
         self.offered = self.offered.min(best);
     }
 
-    /// Sends the oldest message for that worker, if there is one and the link has room for it. Returns whether one was sent.
-    /// Allocates nothing.
+    /// Sends the oldest message for worker `to`, if there is one and the link has room for it. Returns whether one was
+    /// sent.
     pub fn send(&mut self, to: usize) -> bool
         requires within { to < length self.old.outs }
         requires none_uncounted { self.old.uncounted ≡ 0 }
@@ -181,9 +180,9 @@ impl<'a, S: Spread + Drop, F: StateForm + Drop> Worker<'a, S, F> {
         true
     }
 
-    /// Takes the oldest message from that worker, if the link is found to hold one. A message that is not for this owner is set
-    /// aside. Fails only if allocation fails, and then the worker holds the message: it is the next that is taken from that worker,
-    /// and it still counts as pending.
+    /// Takes the oldest message from worker `from`, if the link is found to hold one. A message that is not for this
+    /// owner is set aside. If allocation fails, the worker holds the message: it is the next that is taken from that
+    /// worker, and it still counts as pending.
     pub fn receive(&mut self, from: usize) -> Result<Received, AllocError>
         requires within { from < length self.old.ins }
         requires none_aside { self.old.misfits ≡ [] }
@@ -225,8 +224,8 @@ impl<'a, S: Spread + Drop, F: StateForm + Drop> Worker<'a, S, F> {
         }
     }
 
-    /// Expands the next node below the bound that was read last. Returns how many messages that put into outboxes, or `None` if
-    /// there is no such node. A fault is that of the owner, and leaves the worker as it was.
+    /// Expands the next node below the bound that was read last. Returns the number of messages that this put into
+    /// outboxes, or `None` if there is no such node. A fault is that of the owner, and leaves the worker unchanged.
     pub fn expand(&mut self) -> Result<Option<usize>, OwnerFault>
         requires { self.old.uncounted ≡ 0 }
         ensures expanded { IfOk result (HasExpanded S.owner self.old self.new) }
@@ -237,14 +236,14 @@ impl<'a, S: Spread + Drop, F: StateForm + Drop> Worker<'a, S, F> {
         Ok(posted)
     }
 
-    /// The number of messages that it has taken and not yet subtracted from the units.
+    /// Returns the number of messages that it has taken and not yet subtracted from the units.
     pub fn taken(&self) -> u64
         ensures { result ≡ self.now.taken }
     {
         self.taken
     }
 
-    /// The number of workers.
+    /// Returns the number of workers.
     pub fn workers(&self) -> usize
         ensures outs { result ≡ length self.now.outs }
         ensures ins { result ≡ length self.now.ins }
@@ -252,36 +251,36 @@ impl<'a, S: Spread + Drop, F: StateForm + Drop> Worker<'a, S, F> {
         self.outs.len()
     }
 
-    /// Its owner of states.
+    /// Returns its owner of states.
     pub fn owner(&self) -> &Owner<'a, S, F>
         ensures { result.now ≡ self.now.owner }
     {
         &self.owner
     }
 
-    /// The least cost at which its owner has taken a goal state, infinite if it took none.
+    /// Returns the least cost at which its owner has taken a goal state, infinite if it took none.
     pub fn best_goal(&self) -> Dist
         ensures { result ≡ self.now.owner.best }
     {
         self.owner.best_goal()
     }
 
-    /// Whether it is not counted among the units, because it had nothing to do.
+    /// Returns whether it is not counted among the units, because it had nothing to do.
     pub fn is_resting(&self) -> bool
         ensures { result ≡ self.now.resting }
     {
         self.resting
     }
 
-    /// What holds of every worker, the type's invariant stated as a contract: it has a link to each worker and from each, and its
-    /// owner is at the end of a run that tells what went over its links, and what was seen and offered.
+    /// States the type's invariant as a contract: the worker has a link to each worker and from each, and its owner is
+    /// at the end of a run that records what went over its links, and what was seen and offered. Only for proofs.
     pub fn recall(&self)
         ensures { IsKept S.owner F.values self.now }
     {
         let _ = &self.owner; // what is told of a worker is known where a field of it is read
     }
 
-    /// The owner, the ends of its links, and the message that stands aside, if there is one.
+    /// Returns the owner, the ends of its links, and the message that was set aside, if there is one.
     pub fn into_parts(self) -> Parts<'a, S, F>
         ensures owner { result.owner ≡ self.entry.owner }
         ensures outs { result.outs.items ≡ self.entry.outs }
