@@ -11,8 +11,8 @@ PARTS = ("src", "specs", "proofs")
 # The proof of one function: no other function's proof and no crate above can cite it.
 PROOFS_OF_ONE_FUNCTION = ("Answers.antt", "Invariants.antt", "Proof.antt")
 COMMENTS = {".rt": b"//", ".antt": b"--"}
-# A crate, a toolchain and a state.
-LINE_OF_RECORD = re.compile(r"(\w+) ([\w.-]+) ([0-9a-f]+)\n?")
+# A crate, a state and a toolchain.
+LINE_OF_RECORD = re.compile(r"(\w+) ([0-9a-f]+) (.+)\n?")
 
 
 class Repository:
@@ -34,7 +34,7 @@ class Repository:
 
     @functools.lru_cache(maxsize=None)
     def below(self, name):
-        """The crates of the tree that a crate stands on, each after those that it stands on itself."""
+        """Returns the crates of the tree that a crate stands on, each after those that it stands on itself."""
         found = {}
         for used in self.uses[name]:
             if used in self.uses:
@@ -42,14 +42,14 @@ class Repository:
         return tuple(found)
 
     def closure(self, names):
-        """These crates and all that they stand on, each after those that it stands on itself."""
+        """Returns these crates and all that they stand on, each after those that it stands on itself."""
         found = {}
         for name in names:
             found.update(dict.fromkeys([*self.below(name), name]))
         return list(found)
 
     def edits(self, name):
-        """The paths of a crate's must-fail edits, in order."""
+        """Returns the paths of a crate's must-fail edits, in order."""
         folder = f"{self.folder(name)}/must-fail"
         names = sorted(os.listdir(folder)) if os.path.isdir(folder) else []
         return [f"{folder}/{it}" for it in names if it.endswith(".edit")]
@@ -59,9 +59,9 @@ class Repository:
 
     @functools.lru_cache(maxsize=None)
     def state(self, name):
-        """A sum over all on which the answers of a crate's edits depend: the crate, what crates above can cite of those below it,
-        and the toolchain. Comments, blank lines and the proofs of single functions below do not count."""
-        total = hashlib.sha256(toolchain())
+        """Returns a sum over all sources on which the answers of a crate's edits depend: the crate, and what crates above can cite of those
+        below it. Comments, blank lines and the proofs of single functions below do not count."""
+        total = hashlib.sha256()
         for it in self.below(name):
             total.update(self.sum_of(it, True))
         total.update(self.sum_of(name, False))
@@ -75,7 +75,7 @@ class Repository:
         return total.digest()
 
     def files(self, name, is_below):
-        """The paths, relative to a crate, of what counts in its state."""
+        """Yields the paths, relative to a crate, of what counts in its state."""
         folder = self.folder(name)
         for part in PARTS if is_below else (*PARTS, "must-fail"):
             for at, _, names in os.walk(f"{folder}/{part}"):
@@ -83,12 +83,12 @@ class Repository:
                 yield from (f"{inside}/{it}" for it in names if not (is_below and it in PROOFS_OF_ONE_FUNCTION))
 
     def unfit_edits(self):
-        """What is wrong with edits that cannot be applied: an `old:` text stands exactly once in its file."""
+        """Returns what is wrong with edits that cannot be applied: an `old:` text stands exactly once in its file."""
         return [f"{name}/{os.path.basename(it)}: {why}"
                 for name in self.uses for it in self.edits(name) if (why := self.misfit(name, it))]
 
     def misfit(self, name, edit):
-        """Why an edit cannot be applied to its crate, or None."""
+        """Returns why an edit cannot be applied to its crate, or None."""
         path, texts, pairs = None, {}, 0
         with open(edit, encoding="utf-8") as file:
             lines = file.read().split("\n")
@@ -110,7 +110,7 @@ class Repository:
 
 
 def text_of(path):
-    """The lines of a file that are neither blank nor comments."""
+    """Returns the lines of a file that are neither blank nor comments."""
     mark = COMMENTS.get(os.path.splitext(path)[1])
     with open(path, "rb") as file:
         lines = file.read().split(b"\n")
@@ -119,42 +119,39 @@ def text_of(path):
 
 @functools.lru_cache(maxsize=None)
 def toolchain():
-    """The toolchain's identity, as it prints it."""
-    return subprocess.run(["rt", "version"], check=True, stdout=subprocess.PIPE).stdout
-
-
-def toolchain_name():
-    return toolchain().split()[0].decode()
+    """Returns the toolchain's identity, the line that it prints."""
+    return subprocess.run(["rt", "version"], check=True, stdout=subprocess.PIPE, text=True).stdout.strip()
 
 
 class Record:
-    """The file that tells for which states of crates the prover refused every edit: a line for a crate and a toolchain, with the crate's name,
-    the first word of the toolchain's identity, and the state."""
+    """The file that names the states of crates for which the prover refused every edit: a line for a crate and a toolchain, with the
+    crate's name, the state, and the toolchain's identity."""
 
-    HEAD = ("# Where the prover refused each must-fail edit of a crate: the crate, the toolchain, and the state of all on which that depends.\n"
-            "# Written by .ci/run alone.\n")
+    HEAD = ("# The crates whose must-fail edits were all refused: the crate, a sum over the sources on which that depends, and the toolchain.\n"
+            "# Written by .ci/run alone, which drops the lines of sources that have changed since.\n")
 
     def __init__(self, path):
         self.path = path
         self.states = {}
         if os.path.isfile(path):
             with open(path, encoding="utf-8") as file:
-                self.states = {(it[1], it[2]): it[3] for it in map(LINE_OF_RECORD.fullmatch, file) if it}
+                self.states = {(it[1], it[3]): it[2] for it in map(LINE_OF_RECORD.fullmatch, file) if it}
 
     def holds(self, repository, name):
-        return self.states.get((name, toolchain_name())) == repository.state(name)
+        return self.states.get((name, toolchain())) == repository.state(name)
 
     def add(self, repository, names):
-        """Records crates beside what the file says by then, and writes it."""
-        self.states = Record(self.path).states | {(it, toolchain_name()): repository.state(it) for it in names}
+        """Adds crates to what the file has by then, and writes it."""
+        self.states = Record(self.path).states | {(it, toolchain()): repository.state(it) for it in names}
         self.write()
 
-    def keep(self, names):
-        """Drops what the file says of crates other than these."""
-        self.states = {it: state for it, state in Record(self.path).states.items() if it[0] in names}
+    def keep_current(self, repository):
+        """Drops the lines of crates that have no edits or whose sources have changed, of any toolchain."""
+        names = repository.with_edits()
+        self.states = {it: state for it, state in Record(self.path).states.items() if it[0] in names and state == repository.state(it[0])}
         self.write()
 
     def write(self):
         with open(f"{self.path}.new", "w", encoding="utf-8") as file:
-            file.write(self.HEAD + "".join(f"{name} {by} {state}\n" for (name, by), state in sorted(self.states.items())))
+            file.write(self.HEAD + "".join(f"{name} {state} {kit}\n" for (name, kit), state in sorted(self.states.items())))
         os.replace(f"{self.path}.new", self.path)

@@ -1,5 +1,8 @@
 """The system refuses one call of a run. A share of all growths of memory, and each other call; `refusals.py` refuses all."""
 
+import shutil
+import unittest
+
 from program import ProgramTest, run
 from refusals import KINDS, commands, is_right, refused_in_turn
 
@@ -7,6 +10,7 @@ from refusals import KINDS, commands, is_right, refused_in_turn
 STEP = 97
 
 
+@unittest.skipUnless(shutil.which("cc"), "there is no C compiler (cc)")
 class Refusals(ProgramTest):
     def test_each_command(self):
         for command, files in commands():
