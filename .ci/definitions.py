@@ -1,9 +1,10 @@
 #!/usr/bin/env python3
-"""Lists the files of definitions on which statements stand: what has to be read to believe them.
+"""Lists the files of definitions on which statements depend: what you must read to trust them.
 
-usage: .ci/definitions.py [CRATE/FILE..]    the files in the `specs/` of crates from which to start, as `pddl/Texts`; without any, those of the
-                                            headline: what two texts spell, what a valid plan is and costs, a lower bound, and a plan's text. The last line
-                                            is the number of lines and of files
+usage: .ci/definitions.py [CRATE/FILE..]    the files in the `specs/` of crates from which to start, as `pddl/Texts`;
+                                            without any, those of the headline: what two texts spell, valid plans and
+                                            their costs, lower bounds, and a plan's text. The last line is the number of
+                                            lines and of files
 """
 
 import os
@@ -22,14 +23,14 @@ def path_of(name):
 
 
 def used_by(name):
-    """The files of the repository's definitions that a file names."""
+    """Returns the files of the repository's definitions that a file uses."""
     with open(path_of(name), encoding="utf-8") as file:
         found = (USE.match(it) for it in file)
         return {f"{it[1]}/{it[2]}" for it in found if it and os.path.isfile(path_of(f"{it[1]}/{it[2]}"))}
 
 
 def all_below(names):
-    """These files and all on which they stand."""
+    """Returns these files and all that they use, directly or not."""
     found, rest = set(), list(names)
     while rest:
         name = rest.pop()

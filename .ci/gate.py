@@ -1,9 +1,10 @@
-"""The merge gate: proves every crate and its tests of the last commit from nothing, runs every program, the tests of `tests/` on both
-builds of optplan, and must-fail edits.
+"""The merge gate. On the last commit it proves every crate and its tests from nothing, runs every program, runs the
+tests of `tests/` on both builds of optplan, and tries must-fail edits.
 
-A toolchain that keeps what it proved of the very same files may take that again; one that keeps nothing proves all in each run. An edit
-changes its answer only where its crate, something below it, or the toolchain changed. So `.ci/refused.txt` records for which state of a
-crate all its edits were refused, and the gate tries those of the crates whose state is not recorded.
+A toolchain that stores proofs may reuse those of the very same files; one that stores none proves everything in each
+run. The answer of an edit changes only if its crate, something below it, or the toolchain changes. So `.ci/refused.txt`
+records the state of each crate for which all its edits were refused, and the gate tries those of the crates whose state
+is not recorded.
 """
 
 import contextlib
@@ -16,27 +17,31 @@ import sys
 import tempfile
 import time
 
+import release
 from repository import Record, Repository
 from seconds import ProverSeconds, free_bytes
 
 TOP = os.path.dirname(os.path.dirname(os.path.abspath(__file__)))
 RECORD = f"{TOP}/.ci/refused.txt"
+# The folder of a tree into which the program is built.
+OUTPUT = "crates/optplan/out"
 USAGE = """usage: .ci/run                 the gate: proofs, tests, programs, and the edits of crates whose state is not recorded
-       .ci/run --all           the gate with every edit, whatever is recorded
+       .ci/run --all           the gate with every edit, recorded or not
        .ci/run --edits [NAME..]  outside the gate: the edits that are not recorded, of these crates or of all
-Each takes the last commit, and records in .ci/refused.txt where all edits were refused. --edits proves what these crates stand on first,
-records some crates at a time, and may be ended at any time: the toolchain keeps what it has proved and tried."""
-# The seconds in which the gate is to end, and what was measured on four busy processors, in seconds of one processor: all proofs
-# and tests together, and one edit on average.
+       .ci/run --release       writes release/ from what the gate built from the last commit's sources, and refuses if it has built nothing
+Each takes the last commit, and records in .ci/refused.txt the crates whose edits were all refused. --edits first proves what these crates
+use, records some crates at a time, and may be ended at any time: the toolchain stores what it has proved and tried."""
+# The seconds after which the gate should have ended; and processor seconds, measured on four busy processors: of all
+# proofs and tests together, and of one edit on average.
 SECONDS_OF_A_RUN = 9900
 SECONDS_WITHOUT_EDITS = 15000
 SECONDS_OF_AN_EDIT = 46
 GIB = 2**30
-# The room that a run takes on the disk, at most.
+# The greatest disk space of a run.
 BYTES_OF_A_RUN = 16 * GIB
-# How many edits --edits tries before it records what was refused.
+# The number of edits that --edits tries before it records what was refused.
 EDITS_AT_ONCE = 60
-# The builds of the program, as two compilers make it, on which the tests of `tests/` are run.
+# The builds of the program by two compilers, on which the tests of `tests/` are run.
 BUILDS = ("optplan", "optplan.by-rattle")
 REFUSED = re.compile(r"rt: must-fail (\w+)/(\S+): refused, as it must be(.*)")
 COUNTS = re.compile(r"(\d+) passed, (\d+) failed.*")
@@ -48,7 +53,7 @@ def say(text):
 
 
 def take_room():
-    """Moves temporary folders, those of the toolchain too, beside the repository where only there is room enough for a run."""
+    """Moves temporary folders, those of the toolchain too, into `.git` if only that has enough disk space for a run."""
     beside = f"{TOP}/.git"
     if free_bytes() < BYTES_OF_A_RUN and os.path.isdir(beside) and shutil.disk_usage(beside).free > 2 * free_bytes():
         os.environ["TMPDIR"] = tempfile.tempdir = beside
@@ -56,7 +61,7 @@ def take_room():
 
 @contextlib.contextmanager
 def last_commit():
-    """A copy of the last commit without `drafts/`, which holds what is unfinished."""
+    """Yields a copy of the last commit without `drafts/`, which has unfinished work."""
     with tempfile.TemporaryDirectory(prefix="optplan-gate-") as copy:
         archive = subprocess.Popen(["git", "-C", TOP, "archive", "HEAD"], stdout=subprocess.PIPE)
         subprocess.run(["tar", "-x", "-C", copy], stdin=archive.stdout, check=True)
@@ -77,7 +82,8 @@ def keep_crates(repository, names):
 
 
 def run_toolchain(copy, tell, on_crate=None):
-    """Runs the toolchain's gate in a copy, and hands on each line that it prints. Gives its status and the seconds of its provers."""
+    """Runs the toolchain's gate in a copy, and passes on each line that it prints. Returns its status and the seconds
+    of its provers."""
     gate = subprocess.Popen(["rt", "ci"], cwd=copy, stdin=subprocess.DEVNULL, stdout=subprocess.PIPE, stderr=subprocess.STDOUT,
                             text=True, errors="replace", start_new_session=True)
     seconds = ProverSeconds(gate.pid, on_crate)
@@ -86,19 +92,19 @@ def run_toolchain(copy, tell, on_crate=None):
             tell(line)
         return gate.wait(), seconds
     finally:
-        # The toolchain ends what it has started where it is ended itself.
+        # The toolchain ends the processes that it has started when it is ended itself.
         gate.kill()
         gate.wait()
         seconds.end()
 
 
 def missing_edits(repository, record, names, tries_all):
-    """The crates, of these, whose edits are to be tried."""
+    """Returns those of these crates whose edits are to be tried."""
     return [it for it in names if tries_all or not record.holds(repository, it)]
 
 
 def most_edits(processors):
-    """For how many edits a run has time beside the proofs and tests."""
+    """Returns the number of edits for which a run has time, besides the proofs and tests."""
     return max(0, SECONDS_OF_A_RUN * processors - SECONDS_WITHOUT_EDITS) // SECONDS_OF_AN_EDIT
 
 
@@ -107,15 +113,15 @@ def count_of_edits(repository, names):
 
 
 def keep_edits(repository, tried):
-    """Takes the edits of all crates but these out of a copy."""
+    """Removes the edits of all crates but these from a copy."""
     for name in repository.with_edits():
         if name not in tried:
             shutil.rmtree(f"{repository.folder(name)}/must-fail")
 
 
 def try_crates(repository, record, tried):
-    """Runs the toolchain's gate over a repository with the edits of `tried` alone, and records the crates all of whose edits were refused.
-    Gives the status, and how much passed and failed."""
+    """Runs the toolchain's gate over a repository with only the edits of `tried`, and records the crates whose edits
+    were all refused. Returns the status, and the numbers of passed and failed tests."""
     keep_edits(repository, tried)
     lines, started, free = [], time.time(), free_bytes()
 
@@ -127,26 +133,28 @@ def try_crates(repository, record, tried):
     status, seconds = run_toolchain(repository.top, tell)
     refused, weak = sorted_edits(repository.top, lines)
     print("\n".join(seconds.table()))
-    say(f"{(time.time() - started) / 60:.1f} minutes on {len(os.sched_getaffinity(0))} processors; of {free / GIB:.1f} GiB of free disk "
-        f"never less than {seconds.least_free / GIB:.1f} were left")
+    say(f"{(time.time() - started) / 60:.1f} minutes on {len(os.sched_getaffinity(0))} processors; of {free / GIB:.1f} GiB of free disk space "
+        f"at least {seconds.least_free / GIB:.1f} were left")
     tell_weak(weak)
     record.add(repository, [it for it in tried if refused.issuperset(repository.edits(it))])
     return status or int(bool(weak)), counts_of(lines)
 
 
 def counts_of(lines):
-    """How much passed and failed, by the last of these lines: one failed where it does not say."""
+    """Returns the numbers of passed and failed tests that the last of these lines reports: one failed if it reports
+    none."""
     found = COUNTS.fullmatch(lines[-1].strip()) if lines else None
     return (int(found[1]), int(found[2])) if found else (0, 1)
 
 
 def run_tests(copy):
-    """Runs the tests of `tests/` on each build of the program, under the program's name. Gives how many passed and failed."""
+    """Runs the tests of `tests/` on each build of the program, under the program's name. Returns the numbers of passed
+    and failed tests."""
     passed = failed = 0
     for it in BUILDS:
         started = time.time()
         with tempfile.TemporaryDirectory(prefix="optplan-build-") as folder:
-            program = shutil.copy(f"{copy}/crates/optplan/out/{it}", f"{folder}/optplan")
+            program = shutil.copy(f"{copy}/{OUTPUT}/{it}", f"{folder}/optplan")
             run = subprocess.run([f"{copy}/tests/run.py", program], stdin=subprocess.DEVNULL, stdout=subprocess.PIPE,
                                  stderr=subprocess.STDOUT, text=True, errors="replace", check=False)
         well, bad = counts_of(run.stdout.splitlines())
@@ -156,40 +164,59 @@ def run_tests(copy):
     return passed, failed
 
 
+def pages_are_right(copy):
+    """Returns whether pages and comments avoid the words of `language.txt`, and ARCHITECTURE.md has the layers of
+    `crates.txt`. Prints what is wrong."""
+    scripts = ("language.py", "layers.py")
+    return not any([subprocess.run([sys.executable, f"{copy}/.ci/{it}"], check=False).returncode for it in scripts])
+
+
 def gate(tries_all):
     record, started = Record(RECORD), time.time()
     take_room()
+    if not shutil.which("cc"):
+        say("there is no C compiler (cc), so some tests would be skipped")
+        print("0 passed, 1 failed")
+        return 1
     with last_commit() as copy:
         repository = Repository(copy)
+        if not pages_are_right(copy):
+            print("0 passed, 1 failed")
+            return 1
         unfit = repository.unfit_edits()
         for it in unfit:
             say(f"must-fail {it}")
         names = repository.with_edits()
-        record.keep(names)
+        record.keep_current(repository)
         tried = missing_edits(repository, record, names, tries_all)
         edits, missing = count_of_edits(repository, names), count_of_edits(repository, tried)
         say(f"of {edits} must-fail edits {edits - missing} are recorded as refused, and {missing}, of {len(tried)} crates, are tried now")
         most = most_edits(len(os.sched_getaffinity(0)))
         if unfit or (missing > most and not tries_all):
             if missing > most:
-                say(f"that is more than the {most} for which there is time: call .ci/run --edits, which records what is refused, first")
+                say(f"there is time for {most} at most: first call .ci/run --edits, which records what is refused")
             print("0 passed, 1 failed")
             return 1
         status, (passed, failed) = try_crates(repository, record, tried)
         if not status:
             well, bad = run_tests(copy)
             status, passed, failed = int(bad > 0), passed + well, failed + bad
+        if not status:
+            is_same, what = release.difference(copy, release.contents(f"{copy}/{OUTPUT}/optplan"))
+            say(what)
+            passed, failed, status = passed + is_same, failed + (not is_same), int(not is_same)
         if not status and is_tree_committed():
             try:
-                keep_program(copy, started)
+                keep_program(copy, started, "gate")
             except OSError as error:
-                say(f"the program is not kept for the first command: {error}")
+                say(f"the program is not stored for ./optplan: {error}")
         print(f"{passed} passed, {max(failed, int(status != 0))} failed", flush=True)
         return status
 
 
 def edits_alone(names):
-    """Tries the edits that are not recorded, of these crates of the last commit or of all, and records some crates at a time."""
+    """Tries the edits that are not recorded, of these crates of the last commit or of all, and records some crates at a
+    time."""
     record, status = Record(RECORD), 0
     take_room()
     with last_commit() as copy:
@@ -210,7 +237,7 @@ def edits_alone(names):
 
 
 def in_groups(repository, names):
-    """These crates, those that others stand on first, in groups that have some EDITS_AT_ONCE edits each."""
+    """Returns these crates in groups of about EDITS_AT_ONCE edits each; crates that others use come first."""
     groups, count = [[]], 0
     for name in sorted(names, key=lambda it: len(repository.below(it))):
         if count >= EDITS_AT_ONCE:
@@ -221,7 +248,8 @@ def in_groups(repository, names):
 
 
 def sorted_edits(top, lines):
-    """The paths of the edits that these lines of the toolchain say to be refused, and of those refused only over a name in a proof."""
+    """Returns the paths of the edits that these lines of the toolchain report as refused, and of those refused only
+    because of a name in a proof."""
     refused, weak = set(), []
     for line in lines:
         found = REFUSED.match(line)
@@ -233,33 +261,52 @@ def sorted_edits(top, lines):
 
 def tell_weak(weak):
     for it in weak:
-        say(f"{os.path.basename(it)} is refused only over a name in a proof: change a value, and keep the names")
+        say(f"{os.path.basename(it)} is refused only because of a name in a proof: change a value instead of a name")
 
 
 def is_tree_committed():
-    """Whether the work tree is the last commit, as far as the program's crates go."""
+    """Returns whether the program's crates in the work tree are those of the last commit."""
     changed = subprocess.run(["git", "-C", TOP, "status", "--porcelain", "crates", "crates.txt"], stdout=subprocess.PIPE, check=True)
     return not changed.stdout
 
 
-def keep_program(copy, started):
-    """Puts the program that was built in a copy into the work tree, whole or not at all, with the names of the crates that it
-    stands on. That file's time is that at which the copy was taken."""
-    output = f"{TOP}/crates/optplan/out"
+def keep_program(copy, started, maker):
+    """Puts the program that was built in a copy into the work tree, all or nothing, with the file `built`, which says
+    what it was built from and by whom. That file's time is the time at which the copy was made."""
+    output, program = f"{TOP}/{OUTPUT}", release.contents(f"{copy}/{OUTPUT}/optplan")
     os.makedirs(output, exist_ok=True)
-    shutil.copy(f"{copy}/crates/optplan/out/optplan", f"{output}/optplan.new")
+    shutil.copy(f"{copy}/{OUTPUT}/optplan", f"{output}/optplan.new")
     with open(f"{output}/built.new", "w", encoding="utf-8") as file:
-        file.writelines(f"{it}\n" for it in Repository(copy).closure(["optplan"]))
+        file.write(f"{release.description(copy, program)}by {maker}\n")
     os.utime(f"{output}/built.new", (started, started))
     for it in ("optplan", "built"):
         os.replace(f"{output}/{it}.new", f"{output}/{it}")
 
 
+def write_release():
+    """Writes release/ from the program in `out/`, if the gate built it from the last commit's sources with this
+    toolchain."""
+    try:
+        program, built = release.contents(f"{TOP}/{OUTPUT}/optplan"), release.contents(f"{TOP}/{OUTPUT}/built").decode()
+    except OSError:
+        program = built = None
+    with last_commit() as copy:
+        text = program and release.description(copy, program)
+    if not text or built != f"{text}by gate\n":
+        say("the gate has not built the program of the last commit here: call .ci/run first")
+        return 1
+    release.write(TOP, program, text)
+    say("release/ is written: commit it alone")
+    return 0
+
+
 def main(words):
-    # Temporary folders go also where the gate is ended from outside.
+    # Temporary folders are also removed if the gate is ended from outside.
     signal.signal(signal.SIGTERM, lambda *_: sys.exit(143))
     if not words or words == ["--all"]:
         return gate(bool(words))
+    if words == ["--release"]:
+        return write_release()
     if words[0] == "--edits" and not any(it.startswith("-") for it in words[1:]):
         return edits_alone(words[1:])
     print(USAGE, file=sys.stdout if words == ["--help"] else sys.stderr)

@@ -62,7 +62,7 @@ def differences(layers, uses, page):
     for name in order:
         for used in sorted(uses[name]):
             if order.index(used) > order.index(name):
-                yield f"crates.txt: the layer {name} stands before {used}, which it uses"
+                yield f"crates.txt: the layer {name} is before {used}, which it uses"
     found = PICTURE.search(page)
     if not found or found[1] != picture(layers, uses):
         yield "ARCHITECTURE.md: the picture is not that of crates.txt: call .ci/layers.py --write"

@@ -1,4 +1,4 @@
-"""Proves what the program stands on, side by side and without tests and edits, and builds it. ./optplan calls this."""
+"""Proves the crates that the program uses, without tests and edits, and builds it. `./optplan` calls this."""
 
 import os
 import shutil
@@ -17,7 +17,8 @@ def say(text):
 
 
 def take_tree(copy):
-    """Copies the crates that the program stands on from the work tree, without what was built there and without edits."""
+    """Copies the crates that the program uses from the work tree, without their `out/` and their edits, and returns the
+    copy."""
     for name in ("crates.txt", "HANDLES"):
         shutil.copy(f"{TOP}/{name}", copy)
     tree = Repository(TOP)
@@ -44,7 +45,7 @@ def main():
             sys.stderr.writelines(lines[-40:])
             say("the program could not be proved and built")
             return 1
-        keep_program(copy, started)
+        keep_program(copy, started, "build")
     return 0
 
 

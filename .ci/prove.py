@@ -1,9 +1,10 @@
 #!/usr/bin/env python3
-"""Proves crates side by side over what earlier runs kept in their `out/`, each once what it stands on is proved: for work on crates
-whose lower layers are not yet built here. It gives no verdict: `.ci/run` does.
+"""Proves crates side by side over what earlier runs stored in their `out/`, each as soon as the crates that it uses are
+proved: for work on crates whose lower layers are not yet built here. The verdict is that of `.ci/run`.
 
-usage: .ci/prove.py [--jobs N] [NAME..]    these crates and all that they stand on, or every crate; what no crate stands on is checked
-                                           with its tests. The toolchain's report of a crate is crates/NAME/out/proved.txt
+usage: .ci/prove.py [--jobs N] [NAME..]    these crates and all that they use, or every crate; crates that no crate uses
+                                           are checked with their tests. The toolchain's report of a crate is
+                                           crates/NAME/out/proved.txt
 """
 
 import functools
@@ -19,7 +20,8 @@ TOP = os.path.dirname(os.path.dirname(os.path.abspath(__file__)))
 
 
 def toolchain():
-    """The toolchain's library, which lies beside the command `rt`. It has no public interface for this."""
+    """Returns the toolchain's library, which is in the folder of the command `rt`. It has no public interface for
+    this."""
     sys.dont_write_bytecode = True
     path = os.path.join(os.path.dirname(os.path.realpath(shutil.which("rt"))), "rtlib.py")
     loader = importlib.machinery.SourceFileLoader("rtlib", path)
@@ -30,7 +32,8 @@ def toolchain():
 
 
 def remembered(method):
-    """A method of crates whose answer stays the same while nothing is edited, and is found anew for each path otherwise."""
+    """Returns a method of crates that computes its answer once for each folder; the answer does not change while
+    nothing is edited."""
     answers = {}
 
     @functools.wraps(method)
@@ -43,7 +46,7 @@ def remembered(method):
 
 
 class Side:
-    """Crates that are proved by some threads, the longest way up first."""
+    """Crates that several threads prove; those with the longest chain of crates above them come first."""
 
     def __init__(self, crates, used, processors):
         self.crates, self.used, self.processors = crates, used, processors
@@ -52,11 +55,11 @@ class Side:
 
     @functools.lru_cache(maxsize=None)
     def height(self, crate):
-        """How many crates stand on one another above this one."""
+        """Returns the number of crates on the longest chain from this one upwards."""
         return 1 + max((self.height(it) for it in self.crates if crate in it.deps), default=0)
 
     def next(self):
-        """The crate to prove now, or None where all are started. Waits until one is ready."""
+        """Returns the crate to prove next, or None if all are started. Waits until one is ready."""
         with self.turn:
             while True:
                 for it in self.crates:
@@ -74,8 +77,8 @@ class Side:
                 self.turn.wait()
 
     def prove(self, crate):
-        """Whether the crate is proved: built for the crates above it, or checked with its tests where there is none. A crate
-        that few others run beside gets their processors too."""
+        """Proves a crate, and returns whether that succeeded: it is built for the crates that use it, or checked with
+        its tests if there are none. If few others run, it gets their processors too."""
         with self.turn:
             beside = len(self.started) - len(self.proved) - len(self.failed)
         jobs = ["--jobs", str(max(1, self.processors // max(1, beside)))]
@@ -113,8 +116,8 @@ def main(words):
     crates = library.crates_below(TOP)
     used = {it for crate in crates for it in crate.deps}
     if words:
-        kept = {it for crate in crates if crate.name in words for it in [*crate.below(), crate]}
-        crates = [it for it in crates if it in kept]
+        wanted = {it for crate in crates if crate.name in words for it in [*crate.below(), crate]}
+        crates = [it for it in crates if it in wanted]
     side = Side(crates, used, jobs)
     threads = [threading.Thread(target=side.work) for _ in range(jobs)]
     for it in threads:

@@ -1,7 +1,7 @@
 """The program as the gate proved and built it, in the folder release/: `optplan.gz`, and `release.txt`, which says what it was built from.
 
 `release.txt` has a line each for the toolchain (`kit`, as `rt version` prints it), the system and the processor, the least version of
-the C library, the sum over the sources (`source_sum`), the sum of the unpacked program, and each crate that the program stands on. The
+the C library, the sum over the sources (`source_sum`), the sum of the unpacked program, and each crate that the program uses. The
 file `built` beside a program in `out/` has the same lines, and one more: `by gate`, `by build` or `by release`.
 """
 

@@ -1,4 +1,5 @@
-"""The crates of a tree: what each stands on, its must-fail edits, and the state on which the answers of these edits depend."""
+"""The crates of a tree: what each one uses, its must-fail edits, and the state on which the answers of these edits
+depend."""
 
 import functools
 import hashlib
@@ -11,7 +12,7 @@ PARTS = ("src", "specs", "proofs")
 # The proof of one function: no other function's proof and no crate above can cite it.
 PROOFS_OF_ONE_FUNCTION = ("Answers.antt", "Invariants.antt", "Proof.antt")
 COMMENTS = {".rt": b"//", ".antt": b"--"}
-# A crate, a state and a toolchain.
+# A line of the record: a crate, a state and a toolchain.
 LINE_OF_RECORD = re.compile(r"(\w+) ([0-9a-f]+) (.+)\n?")
 
 
@@ -20,7 +21,7 @@ class Repository:
 
     def __init__(self, top):
         self.top = top
-        # The line of each crate, and what it stands on.
+        # The line of each crate, and the names of what it uses.
         self.lines, self.uses = {}, {}
         with open(f"{top}/crates.txt", encoding="utf-8") as file:
             for line in file:
@@ -34,7 +35,7 @@ class Repository:
 
     @functools.lru_cache(maxsize=None)
     def below(self, name):
-        """Returns the crates of the tree that a crate stands on, each after those that it stands on itself."""
+        """Returns the crates of the tree that a crate uses, directly or not, each after those that it uses itself."""
         found = {}
         for used in self.uses[name]:
             if used in self.uses:
@@ -42,7 +43,7 @@ class Repository:
         return tuple(found)
 
     def closure(self, names):
-        """Returns these crates and all that they stand on, each after those that it stands on itself."""
+        """Returns these crates and all that they use, each after those that it uses itself."""
         found = {}
         for name in names:
             found.update(dict.fromkeys([*self.below(name), name]))
@@ -59,8 +60,9 @@ class Repository:
 
     @functools.lru_cache(maxsize=None)
     def state(self, name):
-        """Returns a sum over all sources on which the answers of a crate's edits depend: the crate, and what crates above can cite of those
-        below it. Comments, blank lines and the proofs of single functions below do not count."""
+        """Returns a hash over all sources on which the answers of a crate's edits depend: the crate, and what crates
+        above can cite of those below it. Comments, blank lines and the proofs of single functions below do not
+        count."""
         total = hashlib.sha256()
         for it in self.below(name):
             total.update(self.sum_of(it, True))
@@ -75,7 +77,7 @@ class Repository:
         return total.digest()
 
     def files(self, name, is_below):
-        """Yields the paths, relative to a crate, of what counts in its state."""
+        """Yields the paths, relative to a crate, of the files that count in its state."""
         folder = self.folder(name)
         for part in PARTS if is_below else (*PARTS, "must-fail"):
             for at, _, names in os.walk(f"{folder}/{part}"):
@@ -83,7 +85,8 @@ class Repository:
                 yield from (f"{inside}/{it}" for it in names if not (is_below and it in PROOFS_OF_ONE_FUNCTION))
 
     def unfit_edits(self):
-        """Returns what is wrong with edits that cannot be applied: an `old:` text stands exactly once in its file."""
+        """Returns what is wrong with edits that cannot be applied: an `old:` text must occur exactly once in its
+        file."""
         return [f"{name}/{os.path.basename(it)}: {why}"
                 for name in self.uses for it in self.edits(name) if (why := self.misfit(name, it))]
 
@@ -103,7 +106,7 @@ class Repository:
             elif word == "old" and path:
                 old = rest
                 if texts[path].count(old) != 1:
-                    return f"an 'old:' text stands {texts[path].count(old)} times, and not once"
+                    return f"an 'old:' text occurs {texts[path].count(old)} times, and not once"
             elif word.rstrip(":") == "new" and path:
                 texts[path], pairs = texts[path].replace(old, rest), pairs + 1
         return None if pairs else "it has no 'old:' and 'new:' pair"
@@ -119,13 +122,13 @@ def text_of(path):
 
 @functools.lru_cache(maxsize=None)
 def toolchain():
-    """Returns the toolchain's identity, the line that it prints."""
+    """Returns the toolchain's identity: the line that `rt version` prints."""
     return subprocess.run(["rt", "version"], check=True, stdout=subprocess.PIPE, text=True).stdout.strip()
 
 
 class Record:
-    """The file that names the states of crates for which the prover refused every edit: a line for a crate and a toolchain, with the
-    crate's name, the state, and the toolchain's identity."""
+    """The file that names the states of crates for which the prover refused every edit. A line has a crate's name, the
+    state, and the toolchain's identity."""
 
     HEAD = ("# The crates whose must-fail edits were all refused: the crate, a sum over the sources on which that depends, and the toolchain.\n"
             "# Written by .ci/run alone, which drops the lines of sources that have changed since.\n")

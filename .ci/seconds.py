@@ -1,4 +1,5 @@
-"""What the prover's processes take: the processor seconds of each crate, by what they prove, read from /proc, and room on the disk."""
+"""Resources of the prover's processes: processor seconds by crate and by what they prove, read from /proc, and disk
+space."""
 
 import collections
 import os
@@ -11,14 +12,14 @@ KINDS = ("proof", "tests", "edits")
 
 
 def free_bytes():
-    """The room that is left on the disk of temporary folders."""
+    """Returns the free space of the disk of temporary folders."""
     return shutil.disk_usage(tempfile.gettempdir()).free
 
 
 class ProverSeconds(threading.Thread):
     """Watches the provers of a session of processes, until `end` is called.
 
-    `on_crate` is called with the name of each crate at the first sight of its proof. Where there is no /proc, nothing is seen.
+    `on_crate` is called with the name of each crate when its proof is first seen. Without /proc, nothing is seen.
     """
 
     def __init__(self, session, on_crate=None):
@@ -38,14 +39,14 @@ class ProverSeconds(threading.Thread):
                 try:
                     self.look(process)
                 except (OSError, ValueError, IndexError):
-                    # It ended meanwhile.
+                    # The process has ended.
                     pass
 
     def look(self, process):
         with open(f"/proc/{process}/stat", encoding="ascii", errors="replace") as file:
             stat = file.read()
         name, fields = stat[stat.index("(") + 1 : stat.rindex(")")], stat[stat.rindex(")") + 2 :].split()
-        # (fields 6, 14, 15 and 22 of proc(5): the session, user time, system time, start)
+        # fields 6, 14, 15 and 22 of proc(5): the session, user time, system time, start
         if not name.startswith("rattle") or int(fields[3]) != self.session:
             return
         key = process, fields[19]
@@ -54,7 +55,7 @@ class ProverSeconds(threading.Thread):
         self.seen[key][2] = (int(fields[11]) + int(fields[12])) / os.sysconf("SC_CLK_TCK")
 
     def task_of(self, process):
-        """The crate at which a process works, and whether at its proof, its tests or an edit."""
+        """Returns the crate on which a process works, and whether on its proof, its tests or an edit."""
         with open(f"/proc/{process}/cmdline", "rb") as file:
             words = file.read().decode(errors="replace").split("\0")
         crate = words[words.index("--crate-name") + 1]
@@ -71,7 +72,8 @@ class ProverSeconds(threading.Thread):
         self.join()
 
     def table(self):
-        """Lines of a table: the seconds of each crate's proof, tests and edits, the longest first, and their sums."""
+        """Returns the lines of a table: the seconds of each crate's proof, tests and edits, the longest first, and
+        their sums."""
         sums = collections.defaultdict(collections.Counter)
         for crate, kind, seconds in self.seen.values():
             sums[crate][kind] += seconds

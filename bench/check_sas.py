@@ -4,19 +4,19 @@
     check_sas.py [OPTPLAN]
 
 OPTPLAN is the program's file; without it, the one that ../optplan has built. Each certificate is made by
-generate_certificate.py: 12 variables, 400 operators, of which 12 apply in each closed state, and no table. The program runs three
-times on each. The table has a line for each:
+generate_certificate.py: 12 variables, 400 operators, of which 12 apply in each closed state, and no table. The program
+runs three times on each. The table has a line for each:
 
     states      closed states
     text MB     task and certificate together, in millions of bytes
-    seconds     from the program's start to its end, in the fastest run
+    seconds     wall time of the whole program, in the fastest run
     states/s    states divided by seconds, in thousands
     ns/next     seconds divided by the successors that are looked up, 12 for each state, in nanoseconds
-    growth      how much seconds grew from the line above, divided by how much the states did: 1.00 is linear
-    peak MB     the most memory that was resident, in millions of bytes, over all runs
+    growth      growth of seconds since the line above, divided by that of the states: 1.00 is linear
+    peak MB     greatest resident memory of all runs, in millions of bytes
     peak/text   peak MB divided by text MB
 
-Figures are only printed. The status is 1 where an answer is wrong, and 2 where there is no program.
+The status is 1 if an answer is wrong, and 2 if there is no program.
 """
 
 import sys

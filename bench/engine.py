@@ -1,36 +1,44 @@
 #!/usr/bin/env python3
-"""Measures how a search by threads grows with their number: in nodes expanded a second, in the time of the search, and in nodes expanded again.
+"""Measures how a multi-threaded search scales with its number of workers: in expansions a second, in the time of the
+search, and in the nodes that are expanded again.
 
-    engine.py BENCH_ENGINE [--baseline BASELINE] FILE..
+    engine.py BENCH_ENGINE [--baseline PROGRAM] FILE..
 
-BENCH_ENGINE is the program that `rt run` in crates/bench_engine has built. BASELINE is a planner that takes the words `hda FILE --workers N`, with
-`--blind` where it is to make no tables and else the same tables as BENCH_ENGINE, ends after the seconds of `--time` at the latest with status 5, and
-prints lines `cost N`, `expanded N` and `seconds_search S`, with status 0, or 4 and no cost where there is no plan. Each FILE is an output.sas.
+BENCH_ENGINE is the program that `rt run` in crates/bench_engine has built, and each FILE an output.sas. PROGRAM, if
+given, is another planner. It is called as
 
-Each task is searched blind and with tables of at most 100,000 abstract states, by 1, 2, 4 and 64 workers, with links that have room for 64 messages.
-A search that one worker settles with at most 2,000,000 expansions in at most 120 seconds is done to its end by any number of workers. Else 400,000
-expansions are divided among the workers, the search is stopped as soon as one of them has done its share, and BASELINE runs for ten seconds at most. Runs of
-both programs, and of all numbers of workers, alternate, and the fastest of three runs counts: the one that expands the most nodes a second, if the
-search is stopped. A line for a search has
+    PROGRAM hda FILE --workers N --quiet --time S [--blind]
+
+and is to search with N threads, with `--blind` without a heuristic and else with the same tables as BENCH_ENGINE. Its
+status is 0 with a plan, 4 if there is none, and 5 if it ended after S seconds without an answer. Its standard output
+has lines `expanded N` (nodes), `seconds_search S` (wall time of the search) and, with status 0, `cost N`.
+
+Each task is searched blind and with tables of at most 100,000 abstract states, by 1, 2, 4 and 64 workers, with links
+for 64 messages. If one worker settles a search with at most 2,000,000 expansions in at most 120 seconds, it is run to
+its end with every number of workers. Otherwise 400,000 expansions are divided among the workers, the search ends as
+soon as one of them has done its share, and PROGRAM runs for at most ten seconds. Runs of both programs, and of all
+numbers of workers, alternate. The fastest of three runs counts, by seconds, or by expansions a second if the search is
+stopped. A line for a search has
 
     task        the file's name
     tables      whether there are tables
     program     ours or baseline
-    workers     how many threads search
-    expanded    how many nodes all workers expand, each as often as it is expanded
-    a second    how many nodes all workers expand in a second of the search, in thousands
-    rate        how many times as many nodes a second as the same program with one worker
-    seconds     wall time of the search alone, without reading and tables
-    speed       how many times as fast as the same program with one worker
-    more        how many nodes more than the same program with one worker are expanded
+    workers     the number of threads
+    expanded    nodes that all workers expand, each as often as it is expanded
+    a second    expanded divided by the seconds, in thousands
+    rate        `a second` divided by that of the same program with one worker
+    seconds     wall time of the search, without reading and tables
+    speed       seconds of the same program with one worker, divided by seconds
+    more        expanded minus that of the same program with one worker
 
-where speed and more are left out if the search is stopped, and all figures if a run takes more than 120 seconds in all, which ends it. The last lines are
-medians of rate and speed. A search is left out that one worker settles with fewer than 20,000 expansions, or in less than 0.05 seconds.
+Speed and more are left out if the search is stopped, and all figures if a run is ended because it takes more than 120
+seconds in all. The last lines are medians of rate and speed. A search is left out if one worker settles it with fewer
+than 20,000 expansions, or in less than 0.05 seconds.
 
-Figures are only printed. The status is 1 where a program fails, or answers differ: the costs of one task, or how its search ends.
+The status is 1 if a program fails, or if the costs or the ends of two searches of a task differ, and 2 if the arguments
+are wrong.
 """
 
-import argparse
 import os
 import re
 import statistics
@@ -38,7 +46,8 @@ import subprocess
 import sys
 import time
 
-RUNS = 3
+import measuring
+
 WORKERS = (1, 2, 4, 64)
 RING = 64
 TABLE = 100_000
@@ -49,18 +58,18 @@ CAP = 120
 SECONDS = 10
 FEWEST = 20_000
 LEAST_SECONDS = 0.05
-# A search is taken to last at least this many seconds: the programs tell no less than milliseconds.
+# The least seconds of a search: the programs report milliseconds.
 LEAST_TIME = 1e-3
 ANSWER = re.compile(r"(?:settled (?P<cost>\d+|infinite)|stopped)\n")
 FIGURES = re.compile(r"expansions (?P<expansions>\d+), states \d+, milliseconds (?P<milliseconds>\d+)\n")
 
 
 class Fault(Exception):
-    """A program failed, or answered otherwise than it may."""
+    """A program failed, or printed something else than its usage allows."""
 
 
 class Run:
-    """One run of a program: the cost that it tells, None if it was stopped, with its expansions and the seconds of its search."""
+    """One run of a program: its cost, None if it was stopped, its expansions and the seconds of its search."""
 
     def __init__(self, cost, expansions, seconds):
         self.cost, self.expansions, self.seconds = cost, expansions, max(seconds, LEAST_TIME)
@@ -69,23 +78,24 @@ class Run:
         return self.expansions / self.seconds
 
     def is_faster(self, other):
-        """Whether it is faster than another run of the same search, which is in nodes a second if one of them was stopped."""
+        """Returns whether it is faster than another run of the same search: by expansions a second if one of them was
+        stopped."""
         if self.cost is None or other.cost is None:
             return self.rate() > other.rate()
         return self.seconds < other.seconds
 
 
-def run(words):
-    """The status of a run and what it writes on both streams, or None where it is ended by the cap."""
+def run(command):
+    """Returns the status of a run and what it writes to both streams, or None if it was ended by the cap."""
     try:
-        ran = subprocess.run(words, stdin=subprocess.DEVNULL, stdout=subprocess.PIPE, stderr=subprocess.PIPE, timeout=CAP, check=False)
+        ran = subprocess.run(command, stdin=subprocess.DEVNULL, stdout=subprocess.PIPE, stderr=subprocess.PIPE, timeout=CAP, check=False)
     except subprocess.TimeoutExpired:
         return None
     return ran.returncode, ran.stdout.decode("ascii", "replace"), ran.stderr.decode("ascii", "replace")
 
 
 def run_ours(program, file, workers, with_tables, limit):
-    """One run of BENCH_ENGINE, or None where it is ended by the cap."""
+    """Returns one run of BENCH_ENGINE, or None if it was ended by the cap."""
     ran = run([program, file, str(workers), str(RING), str(TABLE if with_tables else 0), str(limit)])
     if ran is None:
         return None
@@ -97,27 +107,27 @@ def run_ours(program, file, workers, with_tables, limit):
 
 
 def run_baseline(program, file, workers, with_tables, seconds):
-    """One run of BASELINE, or None where it is ended by the cap."""
+    """Returns one run of the baseline, or None if it was ended by the cap."""
     ran = run([program, "hda", file, "--workers", str(workers), "--quiet", "--time", str(seconds), *([] if with_tables else ["--blind"])])
     if ran is None:
         return None
     status, output, errors = ran
-    told = dict(line.split(" ", 1) for line in output.splitlines() if " " in line)
-    if status not in (0, 4, 5) or "expanded" not in told or "seconds_search" not in told or (status == 0 and "cost" not in told):
+    figures = dict(line.split(" ", 1) for line in output.splitlines() if " " in line)
+    if status not in (0, 4, 5) or not figures.keys() >= {"expanded", "seconds_search", *(["cost"] if status == 0 else [])}:
         raise Fault(f"the baseline with {workers} workers: status {status}, {output[-100:]!r}, {errors[:200]!r}")
-    cost = {0: told.get("cost"), 4: "infinite", 5: None}[status]
-    return Run(cost, int(told["expanded"]), float(told["seconds_search"]))
+    cost = {0: figures.get("cost"), 4: "infinite", 5: None}[status]
+    return Run(cost, int(figures["expanded"]), float(figures["seconds_search"]))
 
 
 class Search:
-    """The fastest of some runs of a program with this many workers."""
+    """The fastest run of a program with this many workers."""
 
     def __init__(self, program, workers, run_once):
         self.program, self.workers, self.run_once = program, workers, run_once
         self.best, self.is_past, self.costs = None, False, set()
 
     def run(self):
-        """Runs it once more, if no run was ended by the cap."""
+        """Runs it once more, unless a run was ended by the cap."""
         if self.is_past:
             return
         ran = self.run_once()
@@ -129,14 +139,14 @@ class Search:
             self.best = ran
 
     def figures(self, one):
-        """Rate and speed beside the search by one worker, each None where it is left out."""
+        """Returns rate and speed beside the search by one worker, each None if it is left out."""
         if self.best is None or one.best is None:
             return None, None
         is_settled = None not in self.costs | one.costs
         return self.best.rate() / one.best.rate(), one.best.seconds / self.best.seconds if is_settled else None
 
     def line(self, one):
-        """Its columns from the third one on."""
+        """Returns its columns from the third one on."""
         head = f"{self.program:<8} {self.workers:>7}"
         if self.best is None:
             return f"{head} past {CAP} seconds"
@@ -147,7 +157,7 @@ class Search:
 
 
 def searches_of(program, baseline, file, with_tables, is_settled):
-    """The searches of a task, by their program and the number of workers."""
+    """Returns the searches of a task, by program and number of workers."""
     limits = {workers: NO_LIMIT if is_settled else SHARED // workers for workers in WORKERS}
     seconds = CAP - SECONDS if is_settled else SECONDS
     searches = {}
@@ -160,13 +170,14 @@ def searches_of(program, baseline, file, with_tables, is_settled):
 
 
 def measure(program, baseline, file, with_tables):
-    """The searches of a task, none if they are left out. Fails where a program fails, or does not end the search as it should."""
+    """Returns the searches of a task, none if they are left out. Fails if a program fails, or does not end the search
+    as it should."""
     first = run_ours(program, file, 1, with_tables, MOST)
     is_settled = first is not None and first.cost is not None
     if is_settled and (first.expansions < FEWEST or first.seconds < LEAST_SECONDS):
         return {}
     searches = searches_of(program, baseline, file, with_tables, is_settled)
-    for _ in range(RUNS):
+    for _ in range(measuring.RUNS):
         for search in searches.values():
             search.run()
     for (name, workers), search in searches.items():
@@ -183,9 +194,9 @@ def print_searches(name, with_tables, searches):
 
 
 def median(values):
-    """The median of the values that are not left out, as it is printed."""
-    known = [it for it in values if it is not None]
-    return f"{statistics.median(known):.2f}" if known else "-"
+    """Returns the median of the values that are not None, as it is printed."""
+    found = [it for it in values if it is not None]
+    return f"{statistics.median(found):.2f}" if found else "-"
 
 
 def print_medians(with_tables, measured):
@@ -200,18 +211,14 @@ def print_medians(with_tables, measured):
 
 def main(arguments):
     """Measures each task and prints the lines."""
-    parser = argparse.ArgumentParser(prog="engine.py", usage="engine.py BENCH_ENGINE [--baseline BASELINE] FILE..", add_help=False)
-    parser.add_argument("program")
-    parser.add_argument("--baseline")
-    parser.add_argument("files", nargs="+")
-    words = parser.parse_args(arguments)
+    given = measuring.compared("engine.py", "BENCH_ENGINE", False, arguments)
     print(f"{'task':<20} {'tables':>6} {'program':<8} {'workers':>7} {'expanded':>11} {'a second':>8} {'rate':>6} {'seconds':>8} {'speed':>6} {'more':>11}")
-    started, failed, costs = time.time(), False, {file: set() for file in words.files}
+    started, failed, costs = time.time(), False, {file: set() for file in given.files}
     for with_tables in (False, True):
         measured = []
-        for file in words.files:
+        for file in given.files:
             try:
-                searches = measure(words.program, words.baseline, file, with_tables)
+                searches = measure(given.program, given.baseline, file, with_tables)
             except (Fault, OSError) as fault:
                 failed = True
                 print(f"engine.py: {file}: {fault}", file=sys.stderr)
@@ -220,10 +227,10 @@ def main(arguments):
             print_searches(os.path.splitext(os.path.basename(file))[0], with_tables, searches)
             costs[file].update(*(it.costs for it in searches.values()))
         print_medians(with_tables, measured)
-    for file, told in costs.items():
-        if len(told - {None}) > 1:
+    for file, found in costs.items():
+        if len(found - {None}) > 1:
             failed = True
-            print(f"engine.py: {file}: answers differ: {' and '.join(sorted(told - {None}))}", file=sys.stderr)
+            print(f"engine.py: {file}: answers differ: {' and '.join(sorted(found - {None}))}", file=sys.stderr)
     print(f"{time.time() - started:.0f} seconds in all")
     return int(failed)
 

@@ -1,12 +1,12 @@
 #!/usr/bin/env python3
-"""Writes a PDDL task of a wanted size and a valid plan for it, the same ones at each call.
+"""Writes a PDDL task of a given size and a valid plan for it, the same ones at each call.
 
     generate.py FOLDER SIZE
 
-FOLDER gets domain.pddl, problem.pddl and plan.txt. Trucks drive back and forth on a square grid of places, which has
-roads between the nearest places, as many as SIZE asks for. Each road goes both ways, and each way has a length of its
-own, from 1 to 9. `:init` has SIZE items, rounded down to a multiple of 4, and the plan has SIZE steps. Standard output
-gets the plan's cost, the sum of its lengths.
+FOLDER gets domain.pddl, problem.pddl and plan.txt. Trucks drive back and forth on a square grid of places. Roads join
+the nearest pairs of places, as many as SIZE asks for; each goes both ways, and each direction has a length of its own,
+from 1 to 9. `:init` has SIZE items, rounded down to a multiple of 4, and the plan has SIZE steps, 40 to 1,000,000.
+Standard output gets the plan's cost, the sum of its lengths.
 """
 
 import os
@@ -31,21 +31,21 @@ LEAST_SIZE = 40
 GREATEST_SIZE = 1_000_000  # items of :init
 GREATEST_TEXT = 16_777_216  # bytes of one text
 GREATEST_SIDE = 30  # places along a side of the grid: all their names have two letters or digits
-GREATEST_LENGTH = 9  # one digit, which keeps the text short
-# Three places, and the cost of 0, make the number of items a multiple of 4, as each road has 4 items.
+GREATEST_LENGTH = 9  # one digit, so that the text is short
+# The three trucks and the initial cost are 4 items, and so are those of each road.
 TRUCKS = ["t", "u", "v"]
 DIGITS = "0123456789abcdefghijklmnopqrstuvwxyz"
-FIRST_NAME = 10 * 36  # a0, the first number of base 36 that begins with a letter and has two digits
+FIRST_NAME = 10 * 36  # a0: the least two-digit number of base 36 that begins with a letter
 
 
 def place_name(place):
-    """The name of the place with that number, from 0: two digits of base 36, the first one a letter."""
+    """Returns the name of a place by its number: two digits of base 36, the first one a letter."""
     first, second = divmod(FIRST_NAME + place, 36)
     return DIGITS[first] + DIGITS[second]
 
 
 def nearest_roads(side, wanted):
-    """The `wanted` nearest pairs of places in a grid of `side` times `side` places, each pair once."""
+    """Returns the `wanted` nearest pairs of places in a grid of `side` times `side` places, each pair once."""
     offsets = [(down, right) for down in range(side) for right in range(1 - side, side) if (down, right) > (0, 0)]
     offsets.sort(key=lambda offset: (offset[0] ** 2 + offset[1] ** 2, offset))
     roads = []
@@ -59,16 +59,16 @@ def nearest_roads(side, wanted):
 
 
 def make_task(size):
-    """The problem's text, the plan's text and the plan's cost, for `size` items and steps.
+    """Returns the problem's text, the plan's text and the plan's cost, for `size` items and steps.
 
-    Of Python's random module it uses random() alone, whose numbers are the same in each version of Python.
+    Of Python's random module it uses random() alone, whose numbers are the same in every version of Python.
     """
     chance = random.Random(size).random
     side = min(GREATEST_SIDE, max(3, int((size / 8) ** 0.5)))
     names = [place_name(place) for place in range(side * side)]
     roads = nearest_roads(side, size // 4 - 1)
     roads.sort(key=lambda road: chance())
-    lengths = [{} for _ in names]  # for each place, the length of the road to each place that it leads to
+    lengths = [{} for _ in names]  # for each place, the length of the road to each neighbour
     items = []
     for one, other in roads:
         for start, end in ((one, other), (other, one)):
@@ -105,7 +105,7 @@ def make_task(size):
 
 
 def main(arguments):
-    """Writes the three files and prints the cost. The status is 2 where the arguments are wrong."""
+    """Writes the three files and prints the cost. The status is 2 if the arguments are wrong."""
     if len(arguments) != 2 or not arguments[1].isdecimal():
         print("usage: generate.py FOLDER SIZE", file=sys.stderr)
         return 2

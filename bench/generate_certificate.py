@@ -3,10 +3,11 @@
 
     generate_certificate.py FOLDER DEPTH
 
-FOLDER gets task.sas and certificate.txt. The task has 12 counters that begin at 0, four with 35 values and eight with 34, and
-400 operators, each of which raises one counter by one from one value. The goal is that all counters are at their last values, which
-costs 400. The certificate's bound is DEPTH + 1: it closes every state whose counters sum to at most DEPTH, each at that
-cost, and has no table. Standard output gets the number of closed states.
+FOLDER gets task.sas and certificate.txt. The task has 12 counters that begin at 0, four with 35 values and eight with
+34, and 400 operators, each of which raises one counter by one from one value. The goal is that all counters have their
+greatest values, which costs 400. The certificate has the bound DEPTH + 1, with a DEPTH of 0 to 20: it closes every
+state whose counters sum to at most DEPTH, at that sum as its cost, and has no table. Standard output gets the number of
+closed states.
 """
 
 import os
@@ -19,7 +20,7 @@ GREATEST_DEPTH = 20
 
 
 def sas_lines():
-    """The lines of the task's text."""
+    """Returns the lines of the task's text."""
     goals = [(variable, values - 1) for variable, values in enumerate(RANGES)]
     operators = [operator_lines(f"raise counter{variable} {value}", [], variable, value, value + 1)
                  for variable, values in enumerate(RANGES) for value in range(values - 1)]
@@ -27,7 +28,8 @@ def sas_lines():
 
 
 def closed_lines(depth, counters, values, total):
-    """The lines of the states that go on from these values with this many more counters, in the order of their values."""
+    """Yields the lines of the states that continue these values with this many more counters, in lexicographic
+    order."""
     if counters == 0:
         yield f"{total}{values}"
         return
@@ -36,7 +38,7 @@ def closed_lines(depth, counters, values, total):
 
 
 def state_count(depth):
-    """How many states have a sum of at most the depth."""
+    """Returns the number of states whose sum is at most the depth."""
     count = 1
     for counter in range(1, len(RANGES) + 1):
         count = count * (depth + counter) // counter
@@ -44,7 +46,7 @@ def state_count(depth):
 
 
 def main(arguments):
-    """Writes the two files."""
+    """Writes the two files and prints the number of closed states."""
     if len(arguments) != 2 or not arguments[1].isdecimal() or not 0 <= int(arguments[1]) <= GREATEST_DEPTH:
         print(f"usage: generate_certificate.py FOLDER DEPTH, with a depth of at most {GREATEST_DEPTH}", file=sys.stderr)
         return 2

@@ -3,10 +3,10 @@
 
     generate_grounding.py FOLDER PACKAGES
 
-FOLDER gets domain.pddl and problem.pddl: 20 cities of 15 places each, a truck in each city, 22 airplanes, and PACKAGES packages,
-from 1 to 700, which trucks and airplanes carry from any place to any other. With 0 packages it is another task: a schema of 8
-parameters over 60 objects, of which static preconditions leave 5,000 bindings. Standard output gets the number of atoms that can be
-reached, and of the actions over them, which are told by the sizes alone.
+FOLDER gets domain.pddl and problem.pddl: 20 cities of 15 places each, a truck in each city, 22 airplanes, and PACKAGES
+packages, from 1 to 700, which trucks and airplanes carry from any place to any other. With 0 packages it is another
+task: a schema of 8 parameters over 60 objects, of which static preconditions leave 5,000 bindings. Standard output gets
+the number of relaxed reachable atoms and that of the actions over them, computed from the sizes.
 """
 
 import os
@@ -39,7 +39,7 @@ LOGISTICS = """(define (domain logistics)
 
 
 def logistics_items(packages):
-    """The items of `:init`. Trucks, airplanes and packages stand at places that their numbers tell."""
+    """Yields the items of `:init`. The number of a truck, an airplane or a package determines its first place."""
     for city in range(CITIES):
         yield f"(city c{city}) (airport l{city}x0) (truck t{city}) (at t{city} l{city}x{city % PLACES})"
         for place in range(PLACES):
@@ -51,7 +51,7 @@ def logistics_items(packages):
 
 
 def logistics(packages):
-    """The domain, the problem, and how many atoms and actions there are."""
+    """Returns the domain, the problem, and the numbers of atoms and actions."""
     places = CITIES * PLACES
     objects = [f"c{city} t{city}" for city in range(CITIES)]
     objects += [f"l{city}x{place}" for city in range(CITIES) for place in range(PLACES)]
@@ -67,8 +67,9 @@ def logistics(packages):
 
 
 def chains():
-    """Relations e0 to e6, each from 5 or 2 objects to as many: each chain through all of them is a binding."""
-    sizes = [5, 2, 5, 2, 5, 5, 2, 1]  # as many objects at each place of a chain; their product is 5,000
+    """Returns the same of the task without packages: relations e0 to e6, each from 5 or 2 objects to as many. Each
+    chain through all of them is a binding."""
+    sizes = [5, 2, 5, 2, 5, 5, 2, 1]  # the objects at each place of a chain; their product is 5,000
     parameters = " ".join(f"?x{place}" for place in range(8))
     conditions = " ".join(f"(e{place} ?x{place} ?x{place + 1})" for place in range(7))
     domain = (f"(define (domain chains) (:predicates {' '.join(f'(e{place} ?a ?b)' for place in range(7))} (done ?a ?b))\n"
@@ -81,7 +82,7 @@ def chains():
 
 
 def main(arguments):
-    """Writes the task."""
+    """Writes the task and prints the two numbers."""
     if len(arguments) != 2 or not arguments[1].isdigit() or int(arguments[1]) > GREATEST:
         print(f"usage: generate_grounding.py FOLDER PACKAGES, with 0 to {GREATEST} packages", file=sys.stderr)
         return 2

@@ -5,22 +5,23 @@
 
 FOLDER gets task.sas. KIND is one of two:
 
-    drawn       12 variables of 4 to 6 values, and 400 operators that are drawn by SplitMix64 from seed 1: each has 2 or 3
-                preconditions, gives 1 or 2 of their variables another value, and costs 1 to 9. The goal is the last value of each variable.
-    logistics   2 trucks and 6 packages among 7 places on a ring with two roads across, of lengths 1 to 9, all of them at one place; each
-                package has a goal. A truck drives along a road, which costs its length; to load or unload a package costs 1. Each of the
-                7 ** 2 * (7 + 2) ** 6 = 26,040,609 states can be reached.
+    random      12 variables of 4 to 6 values, and 400 operators, made with the outputs of SplitMix64 from seed 1: each
+                has 2 or 3 preconditions, changes 1 or 2 of their variables, and costs 1 to 9. The goal is the last
+                value of each variable.
+    logistics   2 trucks and 6 packages, all at one of 7 places, which are on a ring with two roads across. A truck
+                drives along a road at the cost of its length, 1 to 9; to load or unload a package costs 1. Each package
+                has a goal. All 7 ** 2 * (7 + 2) ** 6 = 26,040,609 states are reachable.
 
-Standard output gets two numbers: how many states are known, and the least cost of those that are not expanded, after STEPS expansions
-without a lower bound, in the order of cost, number of operators, and time of the first arrival. They are counted here by a search
-of its own, which takes some 0.2 ms an expansion.
+Standard output gets two numbers: the states that are stored, and the least cost of those that are not expanded, after
+STEPS expansions without a heuristic, in the order of cost, number of operators, and time of the first arrival. A search
+in this script counts them, at about 0.2 ms an expansion.
 """
 
 import heapq
 import os
 import sys
 
-from generate_tables import drawn_words
+from generate_tables import split_mix
 from sas_lines import task_lines, transition_lines
 
 RANGES = [4] * 10 + [5, 6]
@@ -29,28 +30,28 @@ PLACES, TRUCKS, PACKAGES = 7, 2, 6
 ROADS = [(place, (place + 1) % PLACES) for place in range(PLACES)] + [(0, 3), (2, 5)]
 
 
-def drawn_operators():
-    """The operators that are drawn: each with its name, prevail conditions, effects and cost."""
-    words = drawn_words(1)
+def random_operators():
+    """Yields random operators: each with its name, prevail conditions, effects and cost."""
+    outputs = split_mix(1)
     for number in range(OPERATORS):
         variables = []
         while len(variables) < 2 + number % 2:
-            variable = next(words) % len(RANGES)
+            variable = next(outputs) % len(RANGES)
             if variable not in variables:
                 variables.append(variable)
-        before = [next(words) % RANGES[variable] for variable in variables]
-        effects = 1 + next(words) % 2
-        after = [(value + 1 + next(words) % (RANGES[variable] - 1)) % RANGES[variable]
+        before = [next(outputs) % RANGES[variable] for variable in variables]
+        effects = 1 + next(outputs) % 2
+        after = [(value + 1 + next(outputs) % (RANGES[variable] - 1)) % RANGES[variable]
                  for variable, value in zip(variables[:effects], before)]
         yield (f"change {number}", list(zip(variables[effects:], before[effects:])),
-               list(zip(variables[:effects], before, after)), 1 + next(words) % GREATEST_COST)
+               list(zip(variables[:effects], before, after)), 1 + next(outputs) % GREATEST_COST)
 
 
 def logistics_operators():
-    """Drives, loads and unloads. A package's value is its place, or beyond the places its truck."""
-    words = drawn_words(1)
+    """Yields drives, loads and unloads. A package's value is its place or, from PLACES on, its truck."""
+    outputs = split_mix(1)
     for one, other in ROADS:
-        length = 1 + next(words) % GREATEST_COST
+        length = 1 + next(outputs) % GREATEST_COST
         for truck in range(TRUCKS):
             yield f"drive {truck} {one} {other}", [], [(truck, one, other)], length
             yield f"drive {truck} {other} {one}", [], [(truck, other, one)], length
@@ -62,16 +63,17 @@ def logistics_operators():
 
 
 def task_of(kind):
-    """The ranges, goals and operators of a kind of task."""
-    if kind == "drawn":
-        return RANGES, [(variable, values - 1) for variable, values in enumerate(RANGES)], list(drawn_operators())
+    """Returns the ranges, goals and operators of a kind of task."""
+    if kind == "random":
+        return RANGES, [(variable, values - 1) for variable, values in enumerate(RANGES)], list(random_operators())
     ranges = [PLACES] * TRUCKS + [PLACES + TRUCKS] * PACKAGES
     goals = [(TRUCKS + package, 1 + package) for package in range(PACKAGES)]
     return ranges, goals, list(logistics_operators())
 
 
 def searched(ranges, operators, steps):
-    """How many states are known after this many expansions, and the least cost of those that are not expanded."""
+    """Returns the number of states that are stored after this many expansions, and the least cost of those that are not
+    expanded."""
     rows = [(prevails + [(variable, before) for variable, before, _ in effects],
              [(variable, after) for variable, _, after in effects], cost) for _, prevails, effects, cost in operators]
     initial = (0,) * len(ranges)
@@ -99,9 +101,9 @@ def searched(ranges, operators, steps):
 
 
 def main(arguments):
-    """Writes the file."""
-    if len(arguments) != 3 or arguments[1] not in ("drawn", "logistics") or not arguments[2].isdecimal():
-        print("usage: generate_search.py FOLDER drawn|logistics STEPS", file=sys.stderr)
+    """Writes the file and prints the two numbers."""
+    if len(arguments) != 3 or arguments[1] not in ("random", "logistics") or not arguments[2].isdecimal():
+        print("usage: generate_search.py FOLDER random|logistics STEPS", file=sys.stderr)
         return 2
     folder, kind, steps = arguments[0], arguments[1], int(arguments[2])
     ranges, goals, operators = task_of(kind)

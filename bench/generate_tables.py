@@ -5,16 +5,19 @@
 
 FOLDER gets task.sas. KIND is one of three:
 
-    one     three variables of SIZE values, at most 91: the last counts up to its goal, the second has to walk from end to end
-            between two of its steps, and the first before each turn of the second. 500 operators: those, and others that lower the last
-            variable, 50 of them from any state. One table has all SIZE * SIZE * SIZE abstract states.
-    many    64 pairs of variables of SIZE values, of which one counts up to its goal, and the other has to walk from end to end
-            between two of its steps. There are 8 columns of 64 tables of SIZE * SIZE abstract states.
-    classes one variable of SIZE values, more than 1,000, which 450 operators lead step by step from the first value to its goal, the
-            last one, and 50 lead from any value to the first. A table of at most 1,000 abstract states is over classes of its values.
+    one       three variables of SIZE values, 2 to 91: the last counts up to its goal, the second has to walk from end
+              to end between two of its steps, and the first before each turn of the second. 500 operators: those, and
+              others that lower the last variable, 50 of them from any state. One table has all SIZE ** 3 abstract
+              states.
+    many      64 pairs of variables of SIZE values, 2 to 91, of which one counts up to its goal, and the other has to
+              walk from end to end between two of its steps. There are 8 columns of 64 tables of SIZE ** 2 abstract
+              states.
+    classes   one variable of SIZE values, 1,001 to 65,536, with 450 operators from value to value up to its goal, the
+              last one, and 50 from any value to the first. A table of at most 1,000 abstract states is a domain
+              abstraction.
 
-Standard output gets three numbers: how many tables there are in all columns, the lower bound of the initial state, which is the cost
-of a cheapest plan, and the greatest bound of 1,000 states that are drawn by SplitMix64 from seed 1 (of `many` alone, else 0).
+Standard output gets three numbers: the tables of all columns, the lower bound of the initial state, which is the cost
+of a cheapest plan, and for `many` the greatest bound of 1,000 random states (SplitMix64 from seed 1), else 0.
 """
 
 import os
@@ -23,18 +26,19 @@ import sys
 from sas_lines import operator_lines, task_lines
 
 OPERATORS, FROM_ANYWHERE, PAIRS, COLUMNS, STATES = 500, 50, 64, 8, 1000
-GREATEST_SIZE = 91  # with which 500 operators are enough
-CLASSES, GREATEST_RANGE = 1000, 65_536  # the most values that a variable may have
+GREATEST_SIZE = 91  # for which 500 operators suffice
+CLASSES, GREATEST_RANGE = 1000, 65_536  # the greatest range of a variable
 WORD = (1 << 64) - 1
 
 
 def end_of(step, size):
-    """Where the walking variable has to be for a step of the counting one."""
+    """Returns the value that the walking variable must have for a step of the counting one."""
     return 0 if step % 2 == 0 else size - 1
 
 
 def pair_operators(name, walker, counter, size, gate):
-    """The operators of a pair of variables. `gate` gives the prevail conditions of a turn of the walker at an end."""
+    """Yields the operators of a pair of variables. `gate` returns the prevail conditions of a turn of the walker at an
+    end."""
     for step in range(size - 1):
         yield operator_lines(f"count {name} {step}", [(walker, end_of(step, size))], counter, step, step + 1)
         yield operator_lines(f"up {name} {step}", gate(step == 0, size - 1), walker, step, step + 1)
@@ -42,7 +46,7 @@ def pair_operators(name, walker, counter, size, gate):
 
 
 def one_operators(size):
-    """The operators of the task with one table."""
+    """Returns the operators of the task with one table."""
     operators = list(pair_operators("b", 1, 2, size, lambda turns, value: [(0, value)] if turns else []))
     for step in range(size - 1):
         operators.append(operator_lines(f"up a {step}", [], 0, step, step + 1))
@@ -56,7 +60,7 @@ def one_operators(size):
 
 
 def classes_operators(size):
-    """The operators of the task with one variable: a way to its last value, and resets to its first."""
+    """Yields the operators of the task with one variable: steps up to its last value, and resets to its first."""
     steps = OPERATORS - FROM_ANYWHERE
     for step in range(steps):
         yield operator_lines(f"step {step}", [], 0, step, step + 1 if step + 1 < steps else size - 1)
@@ -65,7 +69,8 @@ def classes_operators(size):
 
 
 def distance(walker, counter, size):
-    """The cost of a cheapest way to the last value of a counting variable of a pair: its steps, and walks to where they may be made."""
+    """Returns the cost of a cheapest plan for a pair of variables: the steps of the counting one, and walks to the
+    values that they need."""
     total = 0
     for step in range(counter, size - 1):
         total += abs(walker - end_of(step, size)) + 1
@@ -73,8 +78,8 @@ def distance(walker, counter, size):
     return total
 
 
-def drawn_words(state):
-    """The words of SplitMix64."""
+def split_mix(state):
+    """Yields the outputs of SplitMix64 from this state."""
     while True:
         state = (state + 0x9E3779B97F4A7C15) & WORD
         word = ((state ^ (state >> 30)) * 0xBF58476D1CE4E5B9) & WORD
@@ -82,14 +87,14 @@ def drawn_words(state):
         yield word ^ (word >> 31)
 
 
-def greatest_of_drawn(size):
-    """The greatest sum over the pairs of the costs of the states that are drawn."""
-    words = drawn_words(1)
-    return max(sum(distance(next(words) % size, next(words) % size, size) for _ in range(PAIRS)) for _ in range(STATES))
+def greatest_of_random(size):
+    """Returns the greatest sum over the pairs of the costs of random states."""
+    outputs = split_mix(1)
+    return max(sum(distance(next(outputs) % size, next(outputs) % size, size) for _ in range(PAIRS)) for _ in range(STATES))
 
 
 def main(arguments):
-    """Writes the file."""
+    """Writes the file and prints the three numbers."""
     sizes = {"one": (2, GREATEST_SIZE), "many": (2, GREATEST_SIZE), "classes": (CLASSES + 1, GREATEST_RANGE)}
     least, greatest = sizes.get(arguments[1], (1, 0)) if len(arguments) == 3 else (1, 0)
     if greatest == 0 or not arguments[2].isdecimal() or not least <= int(arguments[2]) <= greatest:
@@ -108,7 +113,7 @@ def main(arguments):
         operators = [lines for pair in range(PAIRS)
                      for lines in pair_operators(str(pair), 2 * pair, 2 * pair + 1, size, lambda turns, value: [])]
         lines = task_lines(1, "value", [size] * (2 * PAIRS), [(2 * pair + 1, size - 1) for pair in range(PAIRS)], operators)
-        numbers = PAIRS * COLUMNS, PAIRS * distance(0, 0, size), greatest_of_drawn(size)
+        numbers = PAIRS * COLUMNS, PAIRS * distance(0, 0, size), greatest_of_random(size)
     with open(os.path.join(folder, "task.sas"), "w", encoding="ascii", newline="\n") as file:
         file.writelines(line + "\n" for line in lines)
     print(*numbers)

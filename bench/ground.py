@@ -1,21 +1,22 @@
 #!/usr/bin/env python3
 """Measures how the time and the memory of grounding grow with the number of packages of a logistics task.
 
-    ground.py [COUNT_GROUNDINGS]
+    ground.py [BENCH_GROUNDING]
 
-COUNT_GROUNDINGS is the program's file; without it, the one that `rt run` in crates/bench_grounding has built. The program reads a task that
-generate_grounding.py makes, and runs three times on each. The first line is another task: a schema of 8 parameters over 60 objects,
-of which 5,000 bindings are left. The table has a line for each:
+BENCH_GROUNDING is the program's file; without it, the one that `rt run` in crates/bench_grounding has built. It reads a
+task that generate_grounding.py makes, grounds it and counts; it runs three times on each. The first line is another
+task: a schema of 8 parameters over 60 objects, of which static preconditions leave 5,000 bindings. The table has a line
+for each:
 
     packages    packages of the task
-    atoms       atoms that can be reached
+    atoms       relaxed reachable atoms
     actions     ground actions over them
-    seconds     from the program's start to its end, in the fastest run
-    us/action   seconds divided by the actions, in millionths
-    growth      how much seconds grew from the line above, divided by how much the actions did: 1.00 is linear
-    peak MB     the most memory that was resident, in millions of bytes, over all runs
+    seconds     wall time of the whole program, in the fastest run
+    us/action   seconds divided by the actions, in microseconds
+    growth      growth of seconds since the line above, divided by that of the actions: 1.00 is linear
+    peak MB     greatest resident memory of all runs, in millions of bytes
 
-Figures are only printed. The status is 1 where an answer is wrong, and 2 where there is no program.
+The status is 1 if an answer is wrong, and 2 if there is no program.
 """
 
 import os
@@ -30,18 +31,18 @@ BUILT = os.path.join(measuring.FOLDER, "..", "crates", "bench_grounding", "out",
 
 def main(arguments):
     """Measures each size and prints the table."""
-    program = measuring.program_of("ground.py", arguments or [BUILT])
+    program = measuring.program_of("ground.py", arguments, "BENCH_GROUNDING", BUILT, "`rt run` in crates/bench_grounding builds it")
     if program is None:
         return 2
     print(f"{'packages':>8} {'atoms':>8} {'actions':>8} {'seconds':>8} {'us/action':>9} {'growth':>7} {'peak MB':>8}")
     all_right = True
     before = None  # seconds for an action in the line above
     for size in SIZES:
-        told = []
+        expected = []
         right, _, seconds, peak = measuring.measure(
-            "ground.py", program, None, "generate_grounding.py", FILES, size, lambda line, told=told: told.append(line) or line)
+            "ground.py", program, None, "generate_grounding.py", FILES, size, lambda line, expected=expected: expected.append(line) or line)
         all_right = all_right and right
-        atoms, _, actions, _ = told[0].split()
+        atoms, _, actions, _ = expected[0].split()
         each = seconds / int(actions)
         growth = f"{each / before:.2f}" if before else "-"
         print(f"{size:>8} {int(atoms):>8,} {int(actions):>8,} {seconds:>8.3f} {each * 1e6:>9.2f} {growth:>7} {peak / 1e6:>8.1f}", flush=True)

@@ -1,43 +1,70 @@
-"""Runs the program and measures its time and its memory, for the benchmarks of this folder."""
+"""Runs programs and measures their time and their memory, for the benchmarks of this folder."""
 
+import argparse
 import os
+import resource
 import subprocess
 import sys
 import tempfile
 import time
 
 RUNS = 3
+# Processor seconds after which the system ends a run of `run_capped`.
+CAP = 60
 FOLDER = os.path.dirname(os.path.abspath(__file__))
 BUILT = os.path.join(FOLDER, "..", "crates", "optplan", "out", "optplan")
-# Bytes in the unit in which the system tells the most resident memory of a process.
+# Bytes in the unit in which the system reports the peak of a process's resident memory.
 RESIDENT_UNIT = 1 if sys.platform == "darwin" else 1024
 
 
-def program_of(name, arguments):
-    """The program's file, from the words of a benchmark's command, or None where that is said to be wrong."""
-    if len(arguments) > 1:
-        print(f"usage: {name} [OPTPLAN]", file=sys.stderr)
+def program_of(name, arguments, operand="OPTPLAN", built=BUILT, how="the first call of ../optplan builds it"):
+    """Returns the path of the program to measure: the one argument of benchmark `name`, or `built` without arguments.
+
+    Returns None after a message if the arguments are wrong or if there is no such program; `how` says how to build it.
+    """
+    if len(arguments) > 1 or arguments[:1] == ["--help"]:
+        print(f"usage: {name} [{operand}]", file=sys.stderr)
         return None
-    program = os.path.abspath(arguments[0] if arguments else BUILT)
+    program = os.path.abspath(arguments[0] if arguments else built)
     if not os.access(program, os.X_OK):
-        print(f"{name}: there is no program {program}; the first call of ../optplan builds it", file=sys.stderr)
+        print(f"{name}: there is no program {program}; {how}", file=sys.stderr)
         return None
     return program
+
+
+def compared(name, operand, is_required, arguments):
+    """Returns the arguments of a benchmark that compares optplan with another planner on the tasks of some files:
+    `program`, which the usage names `operand`, `baseline`, which is None if it is not required and not given, and
+    `files`.
+
+    Ends the process with status 2 and the usage if the arguments are wrong or a program is missing.
+    """
+    option = "--baseline PROGRAM" if is_required else "[--baseline PROGRAM]"
+    parser = argparse.ArgumentParser(prog=name, usage=f"{name} {operand} {option} FILE..", add_help=False)
+    parser.add_argument("program", metavar=operand)
+    parser.add_argument("--baseline", metavar="PROGRAM", required=is_required)
+    parser.add_argument("files", metavar="FILE", nargs="+")
+    given = parser.parse_intermixed_args(arguments)
+    for program in filter(None, (given.program, given.baseline)):
+        if not os.access(program, os.X_OK) or os.path.isdir(program):
+            parser.error(f"there is no program {program}")
+    return given
 
 
 def generate(script, folder, size):
     """Runs a generator of this folder, and returns what it prints.
 
-    This is left to another process, since a program's peak memory counts from that of the process that starts it.
+    It runs in a process of its own, since a program's peak memory is at least that of the process that starts it.
     """
     command = [sys.executable, os.path.join(FOLDER, script), folder, str(size)]
     return subprocess.run(command, check=True, stdout=subprocess.PIPE).stdout.decode("ascii").strip()
 
 
-def run(program, words):
-    """Runs the program once: its standard output, its status, seconds, and the peak of resident memory in bytes."""
+def run(program, arguments):
+    """Runs the program once. Returns its standard output, its status, seconds, and the peak of resident memory in
+    bytes."""
     start = time.perf_counter()
-    process = subprocess.Popen([program, *words], stdin=subprocess.DEVNULL, stdout=subprocess.PIPE)
+    process = subprocess.Popen([program, *arguments], stdin=subprocess.DEVNULL, stdout=subprocess.PIPE)
     with process.stdout:
         output = process.stdout.read()
     _, wait_status, usage = os.wait4(process.pid, 0)
@@ -46,11 +73,26 @@ def run(program, words):
     return output.decode("ascii", "replace"), process.returncode, seconds, usage.ru_maxrss * RESIDENT_UNIT
 
 
+def run_capped(command):
+    """Runs a command once, for at most CAP processor seconds. Returns its status, None if the system ended it, its
+    standard output, processor seconds, and the peak of resident memory in bytes."""
+    def cap():
+        resource.setrlimit(resource.RLIMIT_CPU, (CAP, CAP))
+
+    process = subprocess.Popen(command, stdin=subprocess.DEVNULL, stdout=subprocess.PIPE, stderr=subprocess.DEVNULL, preexec_fn=cap)
+    with process.stdout:
+        output = process.stdout.read().decode("ascii", "replace")
+    _, wait_status, usage = os.wait4(process.pid, 0)
+    process.returncode = os.waitstatus_to_exitcode(wait_status)
+    status = None if process.returncode < 0 else process.returncode
+    return status, output, usage.ru_utime + usage.ru_stime, usage.ru_maxrss * RESIDENT_UNIT
+
+
 def measure(name, program, command, script, files, size, answer):
     """Runs a command, or a program without commands, RUNS times on the files that a generator makes for a size.
 
-    `answer` gives the line that is wanted, from what the generator prints. Returns whether each answer was right, the text's
-    bytes, the least seconds and the greatest peak in bytes.
+    `answer` returns the expected line, from what the generator prints. Returns whether each answer was right, the
+    text's bytes, the least seconds and the greatest peak in bytes.
     """
     with tempfile.TemporaryDirectory() as folder:
         wanted = answer(generate(script, folder, size))

@@ -1,31 +1,31 @@
 #!/usr/bin/env python3
-"""Measures how long tables take to be made, and a look-up in one.
+"""Measures how long it takes to make pattern databases and tables of domain abstractions, and to look values up.
 
-    tables.py [MEASURE_TABLES]
+    tables.py [BENCH_TABLES]
 
-MEASURE_TABLES is the program's file; without it, the one that `rt run` in crates/bench_tables has built. The program reads a task that
-generate_tables.py makes, and runs three times on each. The first table has a line for each size of a task with one table and
-500 operators that touch it:
+BENCH_TABLES is the program's file; without it, the one that `rt run` in crates/bench_tables has built. It reads a task
+that generate_tables.py makes, makes tables and evaluates lower bounds; it runs three times on each. The first table has
+a line for each size of a task with one table and 500 operators that affect it:
 
     states      abstract states
-    seconds     from the program's start to its end, in the fastest run: reading, the search backwards, the saturated shares
-    growth      how much seconds grew from the line above, divided by how much the states did: 1.00 is linear
-    peak MB     the most memory that was resident, in millions of bytes, over all runs
+    seconds     wall time of the whole program, in the fastest run: reading, backward search, saturated shares
+    growth      growth of seconds since the line above, divided by that of the states: 1.00 is linear
+    peak MB     greatest resident memory of all runs, in millions of bytes
 
 The second table has a line for each size of the 64 tables of a column, of which there are 8:
 
     states      abstract states of each table
-    seconds     from the program's start to its end without a look-up, in the fastest run
-    ns/look-up  how much longer it took to ask for the lower bounds of states, divided by the tables that were looked up, in nanoseconds
+    seconds     wall time of the whole program without look-ups, in the fastest run
+    ns/look-up  additional time with look-ups, divided by the number of look-ups, in nanoseconds
     peak MB     as above
 
-The third table has a line for a goal variable of some number of values, of which a table has classes, 2 of them or 1,000, with 500 operators:
+The third table has a line for the domain abstraction of a goal variable, with 2 or 1,000 classes and 500 operators:
 
     values      values of the variable
     classes     classes of the table
-    seconds     from the program's start to its end, in the fastest run: nearly all of it reading where there are 2 classes
+    seconds     wall time of the whole program, in the fastest run; with 2 classes nearly all of it is reading
 
-Figures are only printed. The status is 1 where an answer is wrong, and 2 where there is no program.
+The status is 1 if an answer is wrong, and 2 if there is no program.
 """
 
 import os
@@ -44,14 +44,15 @@ BUILT = os.path.join(measuring.FOLDER, "..", "crates", "bench_tables", "out", "b
 
 
 def generate(folder, kind, size):
-    """Makes a task, and returns the numbers that are wanted."""
+    """Makes a task, and returns the numbers that its generator prints."""
     command = [sys.executable, os.path.join(measuring.FOLDER, "generate_tables.py"), folder, kind, str(size)]
     return subprocess.run(command, check=True, stdout=subprocess.PIPE).stdout.decode("ascii").split()
 
 
 def measure(program, kind, size, limit, times, bound=None):
-    """Runs the program on a task. Returns whether each answer was right, the least seconds and the greatest peak in bytes. `bound` is the
-    lower bound of the initial state where it is not the task's own, as with tables that merge more."""
+    """Runs the program on a task. Returns whether each answer was right, the least seconds and the greatest peak in
+    bytes. `bound` is the lower bound of the initial state if it is not the task's own, as with tables that merge
+    more."""
     with tempfile.TemporaryDirectory() as folder:
         tables, own_bound, greatest = generate(folder, kind, size)
         bound = own_bound if bound is None else bound
@@ -70,7 +71,7 @@ def measure(program, kind, size, limit, times, bound=None):
 
 def main(arguments):
     """Measures each size and prints the tables."""
-    program = measuring.program_of("tables.py", arguments or [BUILT])
+    program = measuring.program_of("tables.py", arguments, "BENCH_TABLES", BUILT, "`rt run` in crates/bench_tables builds it")
     if program is None:
         return 2
     all_right = True

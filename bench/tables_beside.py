@@ -1,65 +1,59 @@
 #!/usr/bin/env python3
-"""Measures how long all tables of a task take to be made, beside another planner that makes the same tables.
+"""Measures how long it takes to make all tables of a task, beside another planner that makes the same tables.
 
-    tables_beside.py MEASURE_TABLES BASELINE FILE..
+    tables_beside.py BENCH_TABLES --baseline PROGRAM FILE..
 
-MEASURE_TABLES is the program that `rt run` in crates/bench_tables has built, BASELINE a planner that takes the words
-`pdb FILE --states 1 --quiet`, makes at most 64 tables for each of 8 columns, of at most 100,000 abstract states each, and gives up
-at the first state. Each FILE is an output.sas. A line for each file has
+BENCH_TABLES is the program that `rt run` in crates/bench_tables has built, and each FILE an output.sas. PROGRAM is the
+other planner. It is called as
+
+    PROGRAM pdb FILE --states 1 --quiet
+
+and is to make at most 64 tables for each of 8 columns, of at most 100,000 abstract states each, and to end at the first
+state of its search. Its output and its status are ignored. A line for each file has
 
     task      the file's name
-    seconds   processor time of MEASURE_TABLES, from its start to its end, in the fastest of three runs
-    baseline  that of BASELINE
-    ratio     seconds divided by baseline; `-` where a run took more than 60 seconds
+    seconds   processor time of BENCH_TABLES as a whole, in the fastest of three runs
+    baseline  that of PROGRAM
+    ratio     seconds divided by baseline; `-` if a run took more than 60 processor seconds
 
-and the last line the median of the ratios. Runs of both programs alternate. Figures are only printed.
+and the last line the median of the ratios. Runs of both programs alternate. The status is 2 if the arguments are wrong.
 """
 
 import os
-import resource
 import statistics
-import subprocess
 import sys
 
-RUNS = 3
+import measuring
+
 LIMIT = 100_000
-CAP = 60
 
 
-def processor_seconds(words):
-    """The processor time of one run, or None if it took longer than the cap."""
-    def cap():
-        resource.setrlimit(resource.RLIMIT_CPU, (CAP, CAP))
-
-    process = subprocess.Popen(words, stdin=subprocess.DEVNULL, stdout=subprocess.DEVNULL, stderr=subprocess.DEVNULL, preexec_fn=cap)
-    _, status, usage = os.wait4(process.pid, 0)
-    process.returncode = os.waitstatus_to_exitcode(status)
-    return None if process.returncode < 0 else usage.ru_utime + usage.ru_stime
+def processor_seconds(command):
+    """Returns the processor time of one run, or None if it was ended by the cap."""
+    status, _, seconds, _ = measuring.run_capped(command)
+    return None if status is None else seconds
 
 
 def least(times):
-    """The least of the times, or None if one of them is missing."""
+    """Returns the least of the times, or None if one of them is missing."""
     return None if None in times else min(times)
 
 
 def main(arguments):
     """Measures each file and prints the lines."""
-    if len(arguments) < 3:
-        print("usage: tables_beside.py MEASURE_TABLES BASELINE FILE..", file=sys.stderr)
-        return 2
-    program, baseline, *files = arguments
+    given = measuring.compared("tables_beside.py", "BENCH_TABLES", True, arguments)
     ratios = []
     print(f"{'task':<20} {'seconds':>8} {'baseline':>8} {'ratio':>6}")
-    for file in files:
+    for file in given.files:
         ours, others = [], []
-        for _ in range(RUNS):
-            ours.append(processor_seconds([program, file, str(LIMIT), "0"]))
-            others.append(processor_seconds([baseline, "pdb", file, "--states", "1", "--quiet"]))
+        for _ in range(measuring.RUNS):
+            ours.append(processor_seconds([given.program, file, str(LIMIT), "0"]))
+            others.append(processor_seconds([given.baseline, "pdb", file, "--states", "1", "--quiet"]))
         seconds, beside = least(ours), least(others)
         ratio = seconds / beside if seconds is not None and beside else None
         ratios.append(ratio if ratio is not None else float("inf"))
         name = os.path.splitext(os.path.basename(file))[0]
-        shown = f"{seconds:.3f}" if seconds is not None else f">{CAP}"
+        shown = f"{seconds:.3f}" if seconds is not None else f">{measuring.CAP}"
         print(f"{name:<20} {shown:>8} {beside or 0:>8.3f} {f'{ratio:.2f}' if ratio is not None else '-':>6}", flush=True)
     print(f"median ratio {statistics.median(ratios):.2f}")
     return 0

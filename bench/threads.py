@@ -1,21 +1,23 @@
 #!/usr/bin/env python3
-"""Measures how a search by threads grows with their number.
+"""Measures how the time of `optplan solve` depends on the number of worker threads.
 
     threads.py [OPTPLAN]
 
-OPTPLAN is the program's file; without it, what ./optplan has built is run. It solves towers of Hanoi without tables, each three times with each
-number of workers. The discs stand in 3 ** DISCS ways, and all but few of them cost less than the 2 ** DISCS - 1 moves to the goal: so whatever
-the number of workers, nearly each state is expanded, mostly once. The table has a line for each search:
+OPTPLAN is the program's file; without it, the one that ../optplan has built. It solves towers of Hanoi without pattern
+databases, each three times with each number of workers. All but few of the 3 ** DISCS states cost less than the 2 **
+DISCS - 1 moves to the goal, so nearly every state is expanded for any number of workers, mostly once. The table has a
+line for each search:
 
     discs       DISCS
     states      3 ** DISCS
-    workers     how many threads search
-    seconds     from the program's start to its end, in the fastest run: with reading, translation and the certificate, which one thread makes
-    states/s    states divided by these seconds
-    speed       how many times as fast as one worker
-    peak MB     the most resident memory of all runs
+    workers     the number of threads
+    seconds     wall time of the whole program, in the fastest run: reading, translation, search, and the certificate,
+                which one thread makes
+    states/s    states divided by seconds
+    speed       seconds of one worker divided by seconds
+    peak MB     greatest resident memory of all runs, in millions of bytes
 
-Figures are only printed. The status is 1 where an answer is wrong, and 2 where there is no program.
+The status is 1 if an answer is wrong, and 2 if there is no program.
 """
 
 import os
@@ -37,7 +39,7 @@ DOMAIN = """(define (domain hanoi)
 
 
 def tower(discs):
-    """A tower of this many discs on peg a, which is to stand on peg c. Disc 0 is the smallest."""
+    """Returns the problem of moving a tower of this many discs from peg a to peg c. Disc 0 is the smallest."""
     names = [f"d{number}" for number in range(discs)]
     fits = " ".join(f"(fits {name} {below})" for number, name in enumerate(names) for below in [*"abc", *names[number + 1:]])
     pile = " ".join(f"(on {name} {below})" for name, below in zip(names, names[1:]))
@@ -47,7 +49,8 @@ def tower(discs):
 
 
 def measure(program, folder, discs, workers):
-    """The least seconds and the greatest peak of three runs, and whether each has found a cheapest plan."""
+    """Returns whether each of three runs found a cheapest plan, their least seconds and their greatest peak in
+    bytes."""
     files = [os.path.join(folder, name) for name in ("domain.pddl", "problem.pddl")]
     right, seconds, peaks = True, [], []
     for _ in range(measuring.RUNS):

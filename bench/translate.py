@@ -3,20 +3,20 @@
 
     translate.py [OPTPLAN]
 
-OPTPLAN is the program's file; without it, the one that the first call of ../optplan has built. It translates a task that
-generate_grounding.py makes, three times for each size. Each truck, airplane and package is a variable, and each action an operator; the
-text is searched for both numbers. The table has a line for each size:
+OPTPLAN is the program's file; without it, the one that ../optplan has built. It translates a task that
+generate_grounding.py makes, three times for each size. Each truck, airplane and package is a variable, and each action
+an operator; both numbers are compared with those of the text. The table has a line for each size:
 
     packages    packages of the task
     actions     ground actions
     variables   variables of the text
     text MB     the text that is printed, in millions of bytes
-    seconds     from the program's start to its end, in the fastest run
-    us/action   seconds divided by the actions, in millionths
-    growth      how much seconds grew from the line above, divided by how much the actions did: 1.00 is linear
-    peak MB     the most memory that was resident, in millions of bytes, over all runs
+    seconds     wall time of the whole program, in the fastest run
+    us/action   seconds divided by the actions, in microseconds
+    growth      growth of seconds since the line above, divided by that of the actions: 1.00 is linear
+    peak MB     greatest resident memory of all runs, in millions of bytes
 
-Figures are only printed. The status is 1 where an answer is wrong, and 2 where there is no program.
+The status is 1 if an answer is wrong, and 2 if there is no program.
 """
 
 import os
@@ -31,7 +31,7 @@ FILES = ["domain.pddl", "problem.pddl"]
 
 
 def counts(text):
-    """The number of variables, which stands in line 7, and of operators."""
+    """Returns the number of variables, which is in line 7, and the number of operators."""
     lines = text.split("\n", 7)
     return int(lines[6]) if len(lines) > 6 else -1, text.count("\nbegin_operator\n")
 

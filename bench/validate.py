@@ -3,18 +3,18 @@
 
     validate.py [OPTPLAN]
 
-OPTPLAN is the program's file; without it, the one that ../optplan has built. Each task is made by generate.py, which
-knows what its plan costs. The program runs three times on each. The table has a line for each size:
+OPTPLAN is the program's file; without it, the one that ../optplan has built. Each task and its plan are made by
+generate.py, which computes the plan's cost. The program runs three times on each. The table has a line for each size:
 
-    items       items of `:init`, and as many steps of the plan
+    items       items of `:init`, and steps of the plan
     text MB     domain, problem and plan together, in millions of bytes
-    seconds     from the program's start to its end, in the fastest run
+    seconds     wall time of the whole program, in the fastest run
     MB/s        text MB divided by seconds
     growth      seconds divided by those of the line above, which has half the items: 2.00 is linear
-    peak MB     the most memory that was resident, in millions of bytes, over all runs
+    peak MB     greatest resident memory of all runs, in millions of bytes
     peak/text   peak MB divided by text MB
 
-Figures are only printed. The status is 1 where an answer is wrong, and 2 where there is no program.
+The status is 1 if an answer is wrong, and 2 if there is no program.
 """
 
 import sys

@@ -1,11 +1,12 @@
-"""Damaged texts: each byte changed in sixteen ways, and each line in some."""
+"""Damaged texts: with a byte or a line changed."""
 
 import re
 
 
 def damaged_bytes(text, step=1, first=0):
-    """Yields texts with one byte changed: each of its bits turned, replaced by a line feed, a blank, a digit, a letter or a parenthesis, doubled, left
-    out, or exchanged with the next. Of all these every `step`-th is given, from number `first` on."""
+    """Yields texts with one byte changed: one of its bits flipped, replaced by a line feed, a blank, a digit, a letter
+    or a parenthesis, doubled, removed, or swapped with the next. Of all these texts it yields every `step`-th, from
+    number `first` on."""
     ways = [lambda t, i, bit=bit: t[:i] + bytes([t[i] ^ 1 << bit]) + t[i + 1:] for bit in range(8)]
     ways += [lambda t, i, by=by: t[:i] + by + t[i + 1:] for by in (b"\n", b" ", b"9", b"A", b")")]
     ways += [lambda t, i: t[:i] + t[i:i + 1] + t[i:], lambda t, i: t[:i] + t[i + 1:], lambda t, i: t[:i] + t[i + 1:i + 2] + t[i:i + 1] + t[i + 2:]]
@@ -14,8 +15,8 @@ def damaged_bytes(text, step=1, first=0):
 
 
 def damaged_lines(text, step=1, first=0):
-    """Yields texts with one line left out, doubled, exchanged with the next, cut in its middle, ended by a carriage return too, or with one of its
-    digits changed. Of all these every `step`-th is given, from number `first` on."""
+    """Yields texts with one line removed, doubled, swapped with the next, cut in its middle, ended by a carriage return
+    too, or with one of its digits changed. Of all these texts it yields every `step`-th, from number `first` on."""
     lines = text.split(b"\n")
     number = 0
     for place, line in enumerate(lines):
@@ -29,7 +30,7 @@ def damaged_lines(text, step=1, first=0):
 
 
 def tokens(text):
-    """The tokens of a text of lists, in lower case; None where it has a byte that stands in no token."""
+    """Returns the tokens of a text of lists, in lower case; None if it has a byte that no token can have."""
     bare = re.sub(rb";[^\n]*", b"", text)
     if re.search(rb"[^\t\n\r -~]", bare):
         return None

@@ -1,4 +1,4 @@
-"""The program as the tests call it: a run over files in a folder of its own, and what it prints, reports and writes."""
+"""Runs the program for the tests: over files in a folder of its own, with what it prints, reports and writes."""
 
 import dataclasses
 import os
@@ -7,7 +7,7 @@ import subprocess
 import tempfile
 import unittest
 
-# The seconds after which a run is ended, and fails.
+# The seconds after which a run is ended and fails.
 SECONDS_OF_A_RUN = 60
 EXAMPLES = os.path.join(os.path.dirname(os.path.dirname(os.path.abspath(__file__))), "examples")
 
@@ -27,8 +27,9 @@ def as_bytes(text):
 
 
 def run(*words, files=None, memory=None, environment=None, descriptors=()):
-    """The outcome of the program with these words, in a folder that has these files: texts or bytes by their names. Its addresses take at most
-    `memory` bytes, if these are given. It has these variables beside those of the environment, and these descriptors stay open for it."""
+    """Returns the outcome of the program with these arguments, in a folder with these files: texts or bytes by their
+    names. Its address space has at most `memory` bytes, if given. `environment` is added to the environment's
+    variables, and these descriptors are inherited."""
     given = {name: as_bytes(text) for name, text in (files or {}).items()}
     with tempfile.TemporaryDirectory(prefix="optplan-test-") as folder:
         for name, text in given.items():
@@ -42,7 +43,7 @@ def run(*words, files=None, memory=None, environment=None, descriptors=()):
 
 
 def written(folder, given):
-    """The files of a folder that are new or have other bytes than were given."""
+    """Returns the files of a folder that are new, or whose bytes differ from those given."""
     found = {}
     for name in os.listdir(folder):
         with open(os.path.join(folder, name), "rb") as file:
@@ -53,35 +54,35 @@ def written(folder, given):
 
 
 def example(task, name):
-    """The text of a file of an example task."""
+    """Returns the text of a file of an example task."""
     with open(os.path.join(EXAMPLES, task, name), encoding="ascii") as file:
         return file.read()
 
 
 def validated(domain, problem, plan=""):
-    """The outcome of a plan's validation over these texts."""
+    """Returns the outcome of a plan's validation over these texts."""
     return run("validate", "d", "p", "l", files={"d": domain, "p": problem, "l": plan})
 
 
 def checked(domain, problem, cert):
-    """The outcome of a certificate's check for a planning task over these texts."""
+    """Returns the outcome of a certificate's check for a planning task over these texts."""
     return run("check", "d", "p", "c", files={"d": domain, "p": problem, "c": cert})
 
 
 def checked_sas(sas, cert):
-    """The outcome of a certificate's check for a finite-domain task over these texts."""
+    """Returns the outcome of a certificate's check for a finite-domain task over these texts."""
     return run("check-sas", "s", "c", files={"s": sas, "c": cert})
 
 
 def translated(domain, problem):
-    """The outcome of a planning task's translation."""
+    """Returns the outcome of a planning task's translation."""
     return run("translate", "d", "p", files={"d": domain, "p": problem})
 
 
 def wanted(answer):
-    """The outcome that is expected for an answer: a verdict's line on standard output, or a fault's line, with the program's name, on
-    standard error, and nothing else. A fault's answer starts with `F`. Status 0 is that of a plan that is valid and of a certificate that
-    is accepted, and 3 that of one that is not."""
+    """Returns the outcome that is expected for an answer: a verdict's line on standard output or, if the answer starts
+    with `F`, a fault's line on standard error, after the program's name, and nothing else. The status is 0 for a valid
+    plan and an accepted certificate, 3 for others, and 1 for a fault."""
     line = as_bytes(answer) + b"\n"
     if line.startswith(b"F"):
         return Outcome(err=b"optplan: " + line, status=1)
@@ -89,12 +90,13 @@ def wanted(answer):
 
 
 class ProgramTest(unittest.TestCase):
-    """Tests that run the program. A row of texts that has another outcome than expected fails alone: the rows behind it are run too."""
+    """Tests that run the program. A row with another outcome than expected fails alone; the rows after it are run
+    too."""
 
     maxDiff = 4000
 
     def is_answered(self, outcome, answer, **row):
-        """Fails, with the row, unless the outcome is that of this answer."""
+        """Fails, and names the row, unless the outcome is that of this answer."""
         with self.subTest(**row):
             self.assertEqual(outcome, wanted(answer))
 

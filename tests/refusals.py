@@ -1,13 +1,14 @@
 #!/usr/bin/env python3
-"""Runs of the program in which the system refuses one call: memory, a thread, or a call on a file. Which one is refused is said by a library that
-is loaded before the C library (`refusing.c`, built by `cc`), so that each call of each thread is reached.
+"""Runs the program while the system refuses one call: memory, a thread, or a call on a file. A library that is loaded
+before the C library (`refusing.c`, built by `cc`) selects the call, so each call of each thread can be refused.
 
     refusals.py OPTPLAN
 
-Refuses each call of each kind in turn, in a run of its own, under each command on small examples, until a run makes no further call of the kind. A
-refused growth leaves the answer as it is or ends in `optplan: out of memory`; a refused thread leaves the answer as it is; a file that cannot be
-opened, read or written is named by its fault. The last line says how many runs were refused a call, and how many ended wrongly; each of these is
-printed, and the status is then 1. Takes some minutes.
+Refuses each call of each kind in turn, in a run of its own, under each command on small examples, until a run makes no
+further call of the kind. After a refused growth of memory the answer is unchanged or `optplan: out of memory`; after a
+refused thread it is unchanged; a file that cannot be opened, read or written is named by its fault. Wrong runs are
+printed, and the last line is the number of runs with a refused call and of those that ended wrongly. The status is 1 if
+one did. Takes some minutes.
 """
 
 import atexit
@@ -30,7 +31,7 @@ CANNOT_WRITE = re.compile(rb"optplan: F71 CannotWrite (plan|cert|output)\n")
 
 @functools.lru_cache(maxsize=None)
 def library():
-    """The path of the library that refuses a call."""
+    """Returns the path of the library that refuses a call."""
     folder = tempfile.mkdtemp(prefix="optplan-refusing-")
     atexit.register(shutil.rmtree, folder, ignore_errors=True)
     source, path = os.path.join(os.path.dirname(os.path.abspath(__file__)), "refusing.c"), os.path.join(folder, "refusing.so")
@@ -39,7 +40,8 @@ def library():
 
 
 def run_refusing(kind, number, words, files):
-    """The outcome of a run in which the call of this kind with this number is refused, and whether it came to such a call."""
+    """Returns the outcome of a run in which the call of this kind with this number is refused, and whether it made such
+    a call."""
     reader, writer = os.pipe()
     try:
         environment = {"LD_PRELOAD": library(), "REFUSE_KIND": kind, "REFUSE_AT": str(number), "REFUSE_TOLD": str(writer)}
@@ -47,12 +49,12 @@ def run_refusing(kind, number, words, files):
     finally:
         os.close(writer)
         with os.fdopen(reader, "rb") as file:
-            told = file.read()
-    return outcome, bool(told)
+            report = file.read()
+    return outcome, bool(report)
 
 
 def refused_in_turn(kind, words, files, step=1):
-    """The number of a call and the outcome of the run in which it was refused, for every `step`-th call of this kind."""
+    """Yields, for every `step`-th call of this kind, its number and the outcome of the run in which it was refused."""
     number = (step + 1) // 2
     while True:
         outcome, was_refused = run_refusing(kind, number, words, files)
@@ -63,7 +65,8 @@ def refused_in_turn(kind, words, files, step=1):
 
 
 def files_of(task, *names):
-    """The files of an example by one-letter names: `d`, `p`, `l`, `s` and `c` for the domain, the problem, the plan, the task and the certificate."""
+    """Returns the files of an example by one-letter names: `d`, `p`, `l`, `s` and `c` for the domain, the problem, the
+    plan, the task and the certificate."""
     return {letter: example(task, name) for letter, name in names}
 
 
@@ -71,7 +74,8 @@ PLANNING = (("d", "domain.pddl"), ("p", "problem.pddl"))
 
 
 def commands():
-    """Words with the files that they name, for each command: a task that is solved and one without a plan, by drawn steps and by threads."""
+    """Yields the arguments of each command with the files that they name: a task with a plan and one without, solved by
+    random steps and with threads."""
     for files in (files_of("road", *PLANNING), files_of("grip", *PLANNING), {"d": ROAD_DOMAIN, "p": ROAD_TO_NOWHERE}):
         for schedule in (("--simulate", "1"), ("--workers", "2")):
             yield ("solve", "d", "p", *schedule, "--plan", "plan", "--cert", "cert"), files
@@ -87,12 +91,13 @@ def commands():
 
 
 def last_lines(outcome):
-    """What is the same of two answers that name two cheapest plans."""
+    """Returns what two answers have in common if they name two cheapest plans."""
     return outcome.out.splitlines()[-1:], outcome.err, outcome.status, sorted(outcome.files)
 
 
 def is_right(kind, plain, outcome):
-    """Whether the run in which a call of this kind was refused ended as it should, where a run without a refusal ends in `plain`."""
+    """Returns whether the run in which a call of this kind was refused ended as it should; `plain` is the outcome
+    without a refusal."""
     if last_lines(outcome) == last_lines(plain):
         return True
     if kind == "growth":

@@ -1,12 +1,14 @@
 #!/usr/bin/env python3
-"""Owners of states that go on where memory is refused: a step that is refused leaves all as it was, and is asked for again.
+"""Tests that owners of states continue after a refused allocation: the refused step leaves everything unchanged and is
+repeated.
 
     refused_steps.py [PROGRAM]
 
-PROGRAM is the program of `crates/bench_refusals`; without it, the one that `rt run` there has left. It searches a grid by three owners and tells
-all their states. Each growth of memory is refused in turn, in a run of its own: the states are the same as without a refusal, entry by entry, or
-memory was refused before the search or behind it and nothing is told. The last line says how many runs were refused a growth, in how many of them
-it was that of a step, and how many ended wrongly; the status is 1 if one did, or if no step was refused.
+PROGRAM is the program of `crates/bench_refusals`; without it, the one that `rt run` has built there. It searches a grid
+by three owners and reports all their states. Each growth of memory is refused in turn, in a run of its own. The states
+must be the same as without a refusal, entry by entry, or memory was refused before or after the search and nothing is
+reported. The last line is the number of runs with a refused growth, of those in which a step was refused, and of those
+that ended wrongly. The status is 1 if a run ended wrongly, or if no step was refused.
 """
 
 import os
@@ -20,7 +22,8 @@ BUILT = os.path.join(os.path.dirname(FOLDER), "crates", "bench_refusals", "out",
 
 
 def run_refusing(program, number):
-    """The output, the standard error and the status of a run whose growth with this number is refused, and whether it came to that growth."""
+    """Returns the output, the standard error and the status of a run whose growth with this number is refused, and
+    whether it made that growth."""
     reader, writer = os.pipe()
     try:
         environment = {"LD_PRELOAD": library(), "REFUSE_KIND": "growth", "REFUSE_AT": str(number), "REFUSE_TOLD": str(writer)}
@@ -28,8 +31,8 @@ def run_refusing(program, number):
     finally:
         os.close(writer)
         with os.fdopen(reader, "rb") as file:
-            told = file.read()
-    return (ended.stdout, ended.stderr, ended.returncode), bool(told)
+            report = file.read()
+    return (ended.stdout, ended.stderr, ended.returncode), bool(report)
 
 
 def main(words):

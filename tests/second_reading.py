@@ -1,5 +1,6 @@
-"""A second reading of finite-domain tasks and of certificates, and a second check of one for the other, written from docs/FORMATS.md and
-docs/FAULTS.md: what `check-sas` prints for two texts. It is slow and simple, and shares nothing with the program."""
+"""A second reader of finite-domain tasks and of certificates, and a second checker, written from docs/FORMATS.md and
+docs/FAULTS.md: what `check-sas` prints for two texts. It is slow and simple, and shares nothing with the program.
+"""
 
 import itertools
 import math
@@ -133,7 +134,8 @@ class TaskReader:
 
 
 class Task:
-    """A finite-domain task: the ranges of variables, the initial state, the goal, and operators (conditions, changes, cost)."""
+    """A finite-domain task: the ranges of variables, the initial state, the goal, and operators (conditions, changes,
+    cost)."""
 
     def __init__(self, text):
         it = TaskReader(text)
@@ -166,12 +168,12 @@ class Task:
 
 
 def number_of(word, most):
-    """The number that a word spells, up to a limit, or None."""
+    """Returns the number that a word spells, or None if it spells none or one above `most`."""
     return int(word) if re.fullmatch(rb"0|[1-9][0-9]*", word) and int(word) <= most else None
 
 
 class CertificateReader:
-    """The lines of a certificate. On one line F53 goes before F51, that before F52, that before F55, and that before F57."""
+    """The lines of a certificate. The order of faults on one line is F53, F51, F52, F55, F57."""
 
     def __init__(self, text):
         self.text, self.at, self.place, self.version = text, 0, 0, None
@@ -205,14 +207,15 @@ class CertificateReader:
         return math.inf if word == b"inf" else self.number(word, most)
 
     def keyword(self, word, most, least=0, with_infinite=False):
-        """The number of a line of a keyword and a number."""
+        """Reads a line of a keyword and a number, and returns the number."""
         words = self.words()
         if len(words) != 2 or words[0] != word:
             raise self.fault("F51 Expected")
         return self.value(words[1], most) if with_infinite else self.number(words[1], most, least)
 
     def counted(self, words, at, each):
-        """Tests the number of words behind the word at a place, which counts them by `each`, where that spells a number."""
+        """Tests that the word at a position, if it spells a number, is the number of groups of `each` words after
+        it."""
         if len(words) <= at:
             raise self.fault("F51 Expected")
         count = number_of(words[at], math.inf)
@@ -220,7 +223,8 @@ class CertificateReader:
             raise self.fault("F51 Expected")
 
     def list(self, word, each):
-        """The words of a line of a keyword, a count and that many words, by `each`: the count and the others."""
+        """Reads a line of a keyword, a count and that many groups of `each` words. Returns the count and these
+        words."""
         words = self.words()
         if words[0] != word:
             raise self.fault("F51 Expected")
@@ -244,13 +248,13 @@ class CertificateReader:
         self.increase(self.numbers(words[2:], atoms - 1))
 
     def pattern(self):
-        """The variables of a pattern, each without classes."""
+        """Reads a pattern, and returns its variables, each without classes."""
         count, rest = self.list(b"table", 1)
         self.number(count, MAX_WORD, 1)
         return [(variable, None) for variable in self.increase(self.numbers(rest, MAX_WORD))]
 
     def rows(self):
-        """Variables, each with the class of each of its values."""
+        """Reads the rows of a domain abstraction: variables, each with the class of each of its values."""
         found = []
         for _ in range(self.keyword(b"domain", MAX_WORD, 1)):
             words = self.words()
@@ -286,8 +290,8 @@ class CertificateReader:
 
 
 class Certificate:
-    """A certificate's kind, bound, columns (lists of tables: variables with classes or None, shares, values) and closed states with
-    their costs."""
+    """A certificate's kind, bound, columns (lists of tables: variables with classes or None, shares, values) and closed
+    states with their costs."""
 
     def __init__(self, text):
         it = CertificateReader(text)
@@ -328,7 +332,7 @@ def successor(state, changes):
 
 
 def abstract_states(ranges):
-    """The combinations of values, the first variable's the fastest."""
+    """Returns the combinations of values; those of the first variable change fastest."""
     return [it[::-1] for it in itertools.product(*(range(values) for values in reversed(ranges)))]
 
 
@@ -361,7 +365,7 @@ class Check:
                     yield f"C4 column {number} table {place}{it}"
 
     def classes(self, mapping):
-        """For each variable the class of each of its values, each value its own where there are no classes."""
+        """Returns, for each variable, the class of each of its values; without classes each value is its own."""
         return [list(range(self.task.ranges[variable])) if classes is None else classes for variable, classes in mapping]
 
     def falls(self, mapping, shares, values):
@@ -394,7 +398,7 @@ class Check:
             before = state
 
     def value(self, state):
-        """The heuristic value of a state."""
+        """Returns the heuristic value of a state."""
         def of_table(mapping, _, values):
             place, weight = 0, 1
             for (variable, _), classes in zip(mapping, self.classes(mapping)):
@@ -423,7 +427,7 @@ class Check:
 
 
 def check_sas(sas, certificate):
-    """What `check-sas` is to say of two texts: the line of its verdict or of the fault."""
+    """Returns what `check-sas` is to print for two texts: the line of its verdict or of the fault."""
     try:
         task, read = Task(sas), Certificate(certificate)
         if read.kind != b"sas":
@@ -434,7 +438,7 @@ def check_sas(sas, certificate):
 
 
 def certificate_fault(text):
-    """The line of a certificate's fault, or None where it can be read."""
+    """Returns the line of a certificate's fault, or None if it can be read."""
     try:
         Certificate(text)
         return None

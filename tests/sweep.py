@@ -1,12 +1,13 @@
 #!/usr/bin/env python3
-"""Damages the examples in every way of `damages.py`, and compares what the program answers with a second reading.
+"""Damages the examples in every way of `damages.py`, and compares the program's answers with those of a second reader.
 
     sweep.py OPTPLAN
 
-For a finite-domain task and a certificate that is a second reading and a second check, to the byte (`second_reading.py`). A certificate for a planning task is
-read a second time, and judged by the program alone. A domain, a problem or a plan whose tokens are still the same has the same verdict; of any other the
-program says a verdict or a fault that is named, at a place within the text. The last line says how many texts were tried, and how many were answered
-wrongly; each of these is printed, and the status is then 1. Takes some minutes.
+The answers for a finite-domain task and a certificate must be those of `second_reading.py`, byte for byte. A
+certificate for a planning task is read by it too, and judged by the program alone. A domain, a problem or a plan with
+unchanged tokens must have the same verdict; for any other, the program must print a verdict or a named fault at a place
+within the text. Wrong answers are printed, and the last line is the number of texts and of wrong answers. The status is
+1 if there is one. Takes some minutes.
 """
 
 import os
@@ -26,7 +27,7 @@ FAULT = re.compile(rb"optplan: F(\d+) [A-Za-z]+( [^\n ]+)?( (domain|problem|plan
 
 
 class Sweep:
-    """Counts the texts that were tried, every `step`-th damage of all, and holds those that were answered wrongly with what was said."""
+    """Tries every `step`-th damage. Counts the texts, and stores those that were answered wrongly, with the answers."""
 
     def __init__(self, step=1):
         self.step, self.tried, self.wrong = step, 0, []
@@ -41,7 +42,7 @@ class Sweep:
             self.wrong.append((text, outcome))
 
     def damage_finite_domain(self, name, certificate):
-        """Damages a task, and a certificate for it."""
+        """Tries damages of a task, and of a certificate for it."""
         sas, cert = example(name, "task.sas").encode(), example(name, certificate).encode()
         for given in [(it, cert) for it in self.damages(sas)] + [(sas, it) for it in self.damages(cert)]:
             outcome = checked_sas(*given)
@@ -49,7 +50,7 @@ class Sweep:
         return self
 
     def damage_planning_certificate(self, name, certificate):
-        """Damages a certificate for a planning task."""
+        """Tries damages of a certificate for a planning task."""
         domain, problem = example(name, "domain.pddl"), example(name, "problem.pddl")
         for cert in self.damages(example(name, certificate).encode()):
             outcome, fault = checked(domain, problem, cert), certificate_fault(cert)
@@ -61,7 +62,7 @@ class Sweep:
         return self
 
     def damage_planning(self, name):
-        """Damages a domain, a problem and a plan."""
+        """Tries damages of a domain, a problem and a plan."""
         texts = [example(name, it).encode() for it in ("domain.pddl", "problem.pddl", "plan.txt")]
         first = validated(*texts)
         for place, text in enumerate(texts):
@@ -74,7 +75,7 @@ class Sweep:
 
 
 def is_answer(outcome, texts):
-    """Whether an outcome is a verdict, or a fault with its place in one of a domain, a problem and a plan."""
+    """Returns whether an outcome is a verdict, or a fault at a place in a domain, a problem or a plan."""
     if outcome.status in (0, 3):
         return bool(VERDICT.fullmatch(outcome.out)) and outcome.err == b"" and outcome.out.startswith(b"valid") == (outcome.status == 0)
     found = FAULT.fullmatch(outcome.err)

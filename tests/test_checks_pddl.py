@@ -1,12 +1,13 @@
-"""Checks of certificates for planning tasks, and translations, worked out by hand. In the texts of certificates and translations a `|`
-stands for a line feed."""
+"""Checks of certificates for planning tasks, and translations, worked out by hand. In the texts of certificates and
+translations here, `|` is a line feed.
+"""
 
 from program import Outcome, ProgramTest, checked, example, translated, validated
 from texts import DOOR_DOMAIN, DRIVE_DOMAIN, DRIVE_PROBLEM, GRIP_DOMAIN, GRIP_PROBLEM, ROAD_DOMAIN, ROAD_PROBLEM, ROAD_PROBLEM_AT_ITS_GOAL
 
 
 def with_line_feeds(text):
-    """A text with a line feed in place of each `|`, and one at its end."""
+    """Returns a text with a line feed in place of each `|`, and one at its end."""
     return text.replace("|", "\n") + "\n"
 
 
@@ -14,37 +15,37 @@ class PlanningTest(ProgramTest):
     """Tests over the texts of a domain, a problem, and a certificate or a translation."""
 
     def answers(self, domain, problem, certificate, answer):
-        """Fails, with the texts, unless the certificate's check has this answer."""
+        """Fails, and shows the texts, unless the certificate's check has this answer."""
         self.is_answered(checked(domain, problem, with_line_feeds(certificate)), answer, problem=problem, certificate=certificate)
 
     def translates(self, domain, problem, text):
-        """Fails, with the problem, unless this is the task's translation."""
+        """Fails, and shows the problem, unless this is the task's translation."""
         with self.subTest(problem=problem):
             self.assertEqual(translated(domain, problem), Outcome(out=with_line_feeds(text).encode()))
 
 
 class Lamp(PlanningTest):
-    """Somebody at a, where a lamp is lit, with a road to b: at b without that lamp lit takes two steps. The places are a group, the road is a
-    constant atom, and the lamp a negative goal."""
+    """Somebody is at a, a lamp is lit there, and a road goes to b: it takes two steps to be at b with the lamp off. The
+    places are a group, the road is a constant atom, and the lamp a negative goal."""
 
     HEAD = "optplan-cert 1|pddl|bound {}|atoms 4|at a|at b|lit a|road a b"
     VARIABLES = "vars 2|0 2 0 1|1 1 2"
     CLOSED = "columns 0|closed 3|0 0 0|1 0 1|1 1 0|end"
     TABLES = "columns 1|column 2|table 1 0|shares 1 0 1|values 2 1 0|table 1 1|shares 1 1 1|values 2 1 0|closed 0|end"
 
-    # The bound, what stands behind the atoms, and the answer.
+    # The bound, the text after the atoms, and the answer.
     ROWS = [
         (2, f"{VARIABLES}|{CLOSED}", "accepted 2"),
         (3, f"{VARIABLES}|{CLOSED}", "rejected C8 state 1 op 0"),
         (2, f"{VARIABLES}|{TABLES}", "accepted 2"),
         (3, f"{VARIABLES}|{TABLES}", "rejected C6"),
-        # The lamp has no value for none; the places have one, which does no harm; the lamp is with them, and is a negative goal; the
-        # road is in a variable.
+        # The lamp has no value for `none`; the places have one, which is allowed; the lamp shares their variable, and
+        # is a negative goal; the road is in a variable.
         (2, f"vars 2|0 2 0 1|0 1 2|{CLOSED}", "rejected C2 var 1"),
         (2, f"vars 2|1 2 0 1|1 1 2|{CLOSED}", "accepted 2"),
         (2, "vars 1|1 3 0 1 2|columns 0|closed 1|0 0|end", "rejected C2 var 0"),
         (2, f"vars 3|0 2 0 1|1 1 2|1 1 3|{CLOSED}", "rejected C2 var 2"),
-        # Without the state after the first step by road.
+        # Without the state after the step along the road.
         (2, f"{VARIABLES}|columns 0|closed 2|0 0 0|1 0 1|end", "rejected C8 state 0 op 0"),
     ]
 
@@ -91,18 +92,18 @@ class Road(PlanningTest):
  (:goal (at c)))
 """
 
-    # What most of the certificates share: the atoms, the variable of the three places, and the closed states before the goal.
+    # Parts of most certificates: the atoms, the variable of the three places, and the closed states before the goal.
     ATOMS = "atoms 5|at a|at b|at c|road a b|road b c"
     PLACES = "vars 1|0 3 0 1 2"
     CLOSED = "columns 0|closed 2|0 0|1 1|end"
 
-    # The closed states, where there are two variables.
+    # The closed states if there are two variables.
     CLOSED_OF_TWO = "columns 0|closed 2|0 0 1|1 1 1|end"
 
     ROWS = [
         (f"optplan-cert 1|pddl|bound 2|{ATOMS}|{PLACES}|{CLOSED}", "accepted 2"),
         (f"optplan-cert 1|pddl|bound 3|{ATOMS}|{PLACES}|{CLOSED}", "rejected C8 state 1 op 1"),
-        # A table in the place of the closed list.
+        # A table in place of the closed list.
         (f"optplan-cert 1|pddl|bound 2|{ATOMS}|{PLACES}|columns 1|column 1|table 1 0|shares 2 0 1 1 1|values 3 2 1 0|closed 0|end",
          "accepted 2"),
         (f"optplan-cert 1|pddl|bound 3|{ATOMS}|{PLACES}|columns 1|column 1|table 1 0|shares 2 0 1 1 1|values 3 2 1 0|closed 0|end",
@@ -115,7 +116,7 @@ class Road(PlanningTest):
          "column 1|table 1 0|shares 0|values 3 0 0 0|closed 0|end", "accepted 2"),
         (f"optplan-cert 1|pddl|bound 2|{ATOMS}|{PLACES}|columns 1|column 1|table 1 1|shares 2 0 1 1 1|values 3 2 1 0|closed 0|end",
          "rejected C4 column 0 table 0"),
-        # Atoms: one is missing, one stands twice, one is none of the task, one has its letters in upper case.
+        # Atoms: one is missing, one is listed twice, one is not of the task, one is in upper case.
         (f"optplan-cert 1|pddl|bound 2|atoms 4|at a|at b|road a b|road b c|vars 1|0 2 0 1|{CLOSED}", "rejected C1 atom (at c)"),
         (f"optplan-cert 1|pddl|bound 2|atoms 4|at a|at c|road a b|road b c|vars 1|0 2 0 1|{CLOSED}", "rejected C1 atom (at b)"),
         (f"optplan-cert 1|pddl|bound 2|atoms 4|at a|at b|at c|road a b|{PLACES}|{CLOSED}", "rejected C1 atom (road b c)"),
@@ -123,8 +124,8 @@ class Road(PlanningTest):
         (f"optplan-cert 1|pddl|bound 2|atoms 5|at a|at b|at c|road a b|road b|{PLACES}|{CLOSED}", "rejected C1 atom (road b)"),
         (f"optplan-cert 1|pddl|bound 2|atoms 5|AT a|at b|at c|road a b|road b c|{PLACES}|{CLOSED}", "rejected C1 atom (AT a)"),
         (f"optplan-cert 1|pddl|bound 2|atoms 5|at a|at b|at x|road a b|road b c|{PLACES}|{CLOSED}", "rejected C1 atom (at x)"),
-        # Variables: two of which the second has a single atom; without the none value the first can be left; one atom is in none; one is
-        # in two; a constant one is in one.
+        # Variables: two of which the second has a single atom; without the none value the first can be left; one atom
+        # is in none; one is in two; a constant one is in one.
         (f"optplan-cert 1|pddl|bound 2|{ATOMS}|vars 2|1 2 0 1|1 1 2|{CLOSED_OF_TWO}", "accepted 2"),
         (f"optplan-cert 1|pddl|bound 2|{ATOMS}|vars 2|0 2 0 1|1 1 2|{CLOSED_OF_TWO}", "rejected C2 var 0"),
         (f"optplan-cert 1|pddl|bound 2|{ATOMS}|vars 2|1 2 0 1|0 1 2|{CLOSED_OF_TWO}", "rejected C2 var 1"),
@@ -154,7 +155,7 @@ class Road(PlanningTest):
             "begin_version|3|end_version|begin_metric|0|end_metric|1|begin_variable|var0|-1|3|Atom at(a)|Atom at(b)|Atom at(c)|"
             "end_variable|1|begin_mutex_group|3|0 0|0 1|0 2|end_mutex_group|begin_state|0|end_state|begin_goal|1|0 2|end_goal|2|"
             "begin_operator|go a b|0|1|0 0 0 1|1|end_operator|begin_operator|go b c|0|1|0 0 1 2|1|end_operator|0")
-        # The goal is no atom that an action adds, so a third road leads on from c.
+        # The goal is an atom that no action adds; a third road goes from c to a.
         self.translates(
             ROAD_DOMAIN, self.BACKWARDS,
             "begin_version|3|end_version|begin_metric|0|end_metric|2|begin_variable|var0|-1|3|Atom at(a)|Atom at(b)|Atom at(c)|"
@@ -169,7 +170,7 @@ class Road(PlanningTest):
             "end_variable|begin_variable|var1|-1|2|Atom at(b)|NegatedAtom at(b)|end_variable|begin_variable|var2|-1|2|Atom at(c)|"
             "NegatedAtom at(c)|end_variable|0|begin_state|0|0|1|end_state|begin_goal|1|2 0|end_goal|2|"
             "begin_operator|go a b|0|2|0 0 0 1|0 1 -1 0|1|end_operator|begin_operator|go b c|0|2|0 1 0 1|0 2 -1 0|1|end_operator|0")
-        # The only atom that is not constant stays where it is.
+        # The only atom that is not constant always holds.
         self.translates(
             ROAD_DOMAIN, self.STANDING,
             "begin_version|3|end_version|begin_metric|0|end_metric|0|0|begin_state|end_state|begin_goal|0|end_goal|1|"
@@ -241,7 +242,7 @@ class SmallTasks(PlanningTest):
             "columns 0|closed 2|0 0|3 1|end", "rejected C8 state 1 op 2")
 
     def test_lamps(self):
-        # `on` is used negatively by the action that contradicts itself, so it stands alone.
+        # `on` is used negatively by the action that contradicts itself, so it has a variable of its own.
         self.translates(
             self.LAMP_DOMAIN, self.LAMP_PROBLEM,
             "begin_version|3|end_version|begin_metric|1|end_metric|3|begin_variable|var0|-1|2|Atom on()|NegatedAtom on()|"
@@ -252,7 +253,7 @@ class SmallTasks(PlanningTest):
         self.answers(
             self.LAMP_DOMAIN, self.LAMP_PROBLEM,
             "optplan-cert 1|pddl|bound 2|atoms 3|on|off|dark|vars 3|1 1 0|1 1 1|1 1 2|columns 0|closed 1|0 1 0 1|end", "accepted 2")
-        # It is added by a listed action, whether or not that can ever apply.
+        # `dark` is added by a listed action, although that never applies.
         self.answers(
             self.LAMP_DOMAIN, self.LAMP_PROBLEM,
             "optplan-cert 1|pddl|bound 2|atoms 2|on|off|vars 2|1 1 0|1 1 1|columns 0|closed 1|0 1 0|end", "rejected C1 atom (dark)")
@@ -283,14 +284,15 @@ class Gripper(PlanningTest):
 
 
 class Proposals(PlanningTest):
-    """Only the first 4,096 candidates of mutex groups are tried. With thirty predicates of one object there are 30 candidates of one part,
-    then 435 of two, then those of three, in order: candidate 4,096 is that of predicates 16, 19 and 20, and the next one is that of 16, 19
-    and 21."""
+    """Only the first 4,096 candidates of mutex groups are tried. With thirty predicates of one object there are 30
+    candidates of one part, then 435 of two, then those of three, in order: candidate 4,096 is that of predicates 16, 19
+    and 20, and the next one is that of 16, 19 and 21."""
 
     PREDICATES = range(1, 31)
 
     def action(self, turns, predicate):
-        """An action that makes the predicate false, and the one after it true if it is one of those that take turns."""
+        """Returns an action that makes the predicate false, and the next one true if it is one of those that take
+        turns."""
         effect = f"(not (p{predicate} ?x))"
         if predicate in turns:
             following = turns[(turns.index(predicate) + 1) % len(turns)]
@@ -298,24 +300,24 @@ class Proposals(PlanningTest):
         return f" (:action a{predicate} :parameters (?x) :precondition (p{predicate} ?x) :effect {effect})"
 
     def domain(self, turns):
-        """The domain of thirty predicates: three take turns, and each of the others is only made false."""
+        """Returns the domain of thirty predicates: three take turns, and each of the others is only made false."""
         predicates = "".join(f" (p{predicate} ?x)" for predicate in self.PREDICATES)
         actions = "".join(self.action(turns, predicate) for predicate in self.PREDICATES)
         return f"(define (domain turns) (:predicates{predicates}){actions})"
 
     def problem(self, turns):
-        """All predicates hold at first except the second and the third of those that take turns."""
+        """Returns the problem: at first all predicates hold but the second and the third of those that take turns."""
         _, second, third = turns
         initial = "".join(f" (p{predicate} o)" for predicate in self.PREDICATES if predicate not in (second, third))
         return f"(define (problem turns) (:domain turns) (:objects o) (:init{initial}) (:goal (p{third} o)))"
 
     def has_variables(self, turns, count):
-        """Fails, with the turns, unless the translation has `count` variables."""
+        """Fails, and shows the turns, unless the translation has `count` variables."""
         head = f"begin_version\n3\nend_version\nbegin_metric\n0\nend_metric\n{count}\nbegin_variable\n".encode()
         with self.subTest(turns=turns):
             self.assertEqual(translated(self.domain(turns), self.problem(turns)).out[:len(head)], head)
 
     def test_first_four_thousand_and_ninety_six_candidates(self):
-        # The three atoms share a variable, and each of the others has one of its own.
+        # The three atoms share a variable, and each other atom has one of its own.
         self.has_variables((16, 19, 20), 28)
         self.has_variables((16, 19, 21), 30)

@@ -1,11 +1,13 @@
-"""Checks of certificates for finite-domain tasks, worked out by hand from the rules of the texts and of the certificates' clauses."""
+"""Checks of certificates for finite-domain tasks, worked out by hand from the rules of the texts and the clauses of
+certificates.
+"""
 
 from program import ProgramTest, checked_sas
 from texts import ROAD_CERTIFICATE, ROAD_SAS
 
 
 def replaced_lines(edits):
-    """The lines in the place of each edited line, by the line's number as a word."""
+    """Returns the lines that replace each edited line, by its number as a word."""
     replaced = {}
     for edit in edits.split(";") if edits else []:
         number, lines = edit.split("=")
@@ -14,8 +16,8 @@ def replaced_lines(edits):
 
 
 def edited(text, edits):
-    """The text after these edits, which are separated by `;`: each is a line's number, counted from 1, `=`, and the lines in its place,
-    separated by `|`, or nothing to remove the line."""
+    """Returns the text after these edits, which are separated by `;`: each is a line's number, counted from 1, `=`, and
+    the lines in its place, separated by `|`, or nothing to remove the line."""
     replaced = replaced_lines(edits)
     lines = []
     for number, line in enumerate(text.splitlines(), 1):
@@ -27,17 +29,18 @@ class FiniteDomainTest(ProgramTest):
     """Tests over a task's text, a certificate's text, and edits of both."""
 
     def gives(self, sas, cert, answer, **row):
-        """Fails, with the row, unless the certificate's check has this answer."""
+        """Fails, and shows the row, unless the certificate's check has this answer."""
         self.is_answered(checked_sas(sas, cert), answer, **row)
 
     def hold(self, sas, cert, rows):
-        """Fails for each row whose texts have another answer: edits of the task's text, edits of the certificate's text, and the answer."""
+        """Fails for each row with another answer. A row has edits of the task's text, edits of the certificate's text,
+        and the answer."""
         for sas_edits, cert_edits, answer in rows:
             self.gives(edited(sas, sas_edits), edited(cert, cert_edits), answer, sas_edits=sas_edits, cert_edits=cert_edits)
 
 
 class CertificateTexts(FiniteDomainTest):
-    """Texts of certificates: which are refused, and where."""
+    """Texts of certificates: which are refused, and at which line."""
 
     # A certificate for a planning task.
     PLANNING = (
@@ -66,7 +69,7 @@ class CertificateTexts(FiniteDomainTest):
 
     def test_certificates_for_planning_tasks(self):
         self.hold(ROAD_SAS, self.PLANNING, [
-            # It is for the other kind of task, which is the fault only if its text has none.
+            # It is for the other kind of task, which is a fault only if its text has none.
             ("", "", "F51 Expected cert 2"),
             ("", "3=bound 3", "F51 Expected cert 2"),
             ("", "3=bound 01", "F52 Number cert 3"),
@@ -85,9 +88,9 @@ class CertificateTexts(FiniteDomainTest):
 
 
 class TaskTexts(FiniteDomainTest):
-    """Texts of finite-domain tasks: which are refused, and where."""
+    """Texts of finite-domain tasks: which are refused, and at which line."""
 
-    # The lines that hold a name or a value's text: every prefix of such a text is one too.
+    # The lines with a name or a value's text: every prefix of such a text is one too.
     TEXT_LINES = (9, 12, 13, 14, 32, 39)
 
     LAST_LINE = 45
@@ -105,16 +108,16 @@ class TaskTexts(FiniteDomainTest):
             ("28=2", "", "F41 Expected sas 28"),
             ("29=end_goals", "", "F41 Expected sas 29"),
             ("35=1 0 0 0 0 1", "", "F44 ConditionalEffect sas 35"),
-            # One variable stands in a prevail condition and in an effect.
+            # One variable is in a prevail condition and in an effect.
             ("40=1;41=0 1|1", "", "F42 Range sas 43"),
             ("45=1", "", "F43 Axioms sas 45"),
             ("45=0|x", "", "F46 Trailing sas 46"),
             ("45=0|| ", "", "accepted 2"),
-            # The task's fault goes before the certificate's.
+            # The task's fault is reported before the certificate's.
             ("2=4", "1=x", "F40 Version sas 2"),
             ("45=1", "1=x", "F43 Axioms sas 45"),
             ("7=65537", "3=bound 01", "F18 Limit variables"),
-            # A refused task goes before a certificate that is rejected.
+            # The fault of a task is reported before the certificate is judged.
             ("24=3", "3=bound 3", "F42 Range sas 24"),
         ])
 
@@ -123,8 +126,9 @@ class TaskTexts(FiniteDomainTest):
         self.gives(ROAD_SAS + "x", ROAD_CERTIFICATE, "F46 Trailing sas 46", text="with a line more")
 
     def answer_for_front(self, number, line, part):
-        """The answer for the prefix of the text that ends with the first `part` letters of this line. A prefix that ends with a whole line,
-        or with a part that could be one, is too short; for another prefix, the part is a line of another form than expected."""
+        """Returns the answer for the prefix of the text that ends with the first `part` letters of this line. A prefix
+        that ends with a whole line, or with a part that could be one, is too short; for another prefix, the part is a
+        line of another form than expected."""
         is_whole = part in (0, len(line))
         if number == self.LAST_LINE and part == len(line):
             return "accepted 2"
@@ -142,7 +146,7 @@ class TaskTexts(FiniteDomainTest):
 
 
 class Road(FiniteDomainTest):
-    """A way from a over b to c: certificates with closed states only, and with tables."""
+    """A road from a over b to c: certificates with closed states only, and with tables."""
 
     # One column of one table, whose values are the distances.
     TABLE = "optplan-cert 1\nsas\nbound 2\ncolumns 1\ncolumn 1\ntable 1 0\nshares 2 0 1 1 1\nvalues 3 2 1 0\nclosed 0\nend\n"
@@ -161,7 +165,7 @@ class Road(FiniteDomainTest):
             ("", "5=closed 0;6=;7=", "rejected C6"),
             ("", "3=bound 0;5=closed 0;6=;7=", "accepted 0"),
             ("", "7=1 1 1", "F51 Expected cert 7"),
-            # From b the second step leads nowhere, and c is not reached.
+            # The second step goes from c to b, so c is not reached.
             ("42=0 0 2 1", "3=bound inf", "accepted unsolvable"),
             ("42=0 0 2 1", "3=bound 4611686018427387904", "accepted 4611686018427387904"),
         ])
@@ -172,7 +176,7 @@ class Road(FiniteDomainTest):
             ("", "3=bound 3", "rejected C6"),
             ("", "7=shares 2 0 1 1 2", "rejected C3 column 0 op 1"),
             ("", "8=values 3 3 1 0", "rejected C4 column 0 table 0 state 0 op 0"),
-            # The greater of two columns counts.
+            # The heuristic is the maximum of two columns.
             ("", "4=columns 2;8=values 3 2 1 0|column 1|table 1 0|shares 0|values 3 0 0 0", "accepted 2"),
             # The same costs twice in one column.
             ("", "5=column 2;8=values 3 2 1 0|table 1 0|shares 2 0 1 1 1|values 3 2 1 0", "rejected C3 column 0 op 0"),
@@ -214,7 +218,7 @@ class SmallTasks(FiniteDomainTest):
             ("", "5=closed 3;6=0 0|9 1", "accepted 3"),
             ("", "3=bound 4", "rejected C8 state 0 op 3"),
             ("", "7=3 2", "rejected C8 state 0 op 1"),
-            # Where the metric does not count, each step costs 1.
+            # Without the metric, each step costs 1.
             ("5=0", "", "rejected C8 state 0 op 0"),
             ("5=0", "3=bound 1;5=closed 1;7=", "accepted 1"),
         ])
@@ -243,9 +247,10 @@ class SmallTasks(FiniteDomainTest):
 
 
 class Clauses(FiniteDomainTest):
-    """Each clause in turn. The task has two variables, x of range 3 and y of range 2, both 0 at first, and the goal x = 2. The operators:
-    0 changes x from 0 to 1 at cost 2; 1 changes x from 1 to 2 at cost 3 if y is 1; 2 sets y to 1 at cost 1; 3 changes x from 1 to 0 at
-    cost 0. The least cost to the goal is 6 from (x, y) = (0, 0), 5 from (0, 1), 4 from (1, 0) and 3 from (1, 1)."""
+    """Each clause in turn. The task has two variables, x of range 3 and y of range 2, both 0 at first, and the goal x =
+    2. The operators: 0 changes x from 0 to 1 at cost 2; 1 changes x from 1 to 2 at cost 3 if y is 1; 2 sets y to 1 at
+    cost 1; 3 changes x from 1 to 0 at cost 0. The least cost to the goal is 6 from (x, y) = (0, 0), 5 from (0, 1), 4
+    from (1, 0) and 3 from (1, 1)."""
 
     TASK = (
         "begin_version\n3\nend_version\nbegin_metric\n1\nend_metric\n2\n"
@@ -264,7 +269,8 @@ class Clauses(FiniteDomainTest):
         "values 6 6 4 0 5 3 0\nclosed 0\nend\n"
     )
 
-    # The certificate of a search with a table over x alone: its closed states are those whose cost plus value is below the bound.
+    # The certificate of a search with a table over x alone: the closed states are those with an f-value below the
+    # bound.
     SEARCHED = (
         "optplan-cert 1\nsas\nbound 6\ncolumns 1\ncolumn 1\ntable 1 0\nshares 2 0 2 1 3\n"
         "values 3 5 3 0\nclosed 2\n0 0 0\n2 1 0\nend\n"
@@ -275,7 +281,7 @@ class Clauses(FiniteDomainTest):
             ("", "", "accepted 6"),
             ("", "6=0 0 2", "rejected C5 state 0"),
             ("", "9=3 3 1", "rejected C5 state 3"),
-            # A state twice, and two that are not in order by their first value.
+            # A state that is listed twice, and two that are not in order by their first value.
             ("", "8=1 0 1", "rejected C5 state 2"),
             ("", "7=2 1 0;8=1 0 1", "rejected C5 state 2"),
             # A value more, and one less, than there are variables.
@@ -288,7 +294,7 @@ class Clauses(FiniteDomainTest):
             ("", "6=1 0 0", "rejected C6"),
             ("", "5=closed 3;6=", "rejected C6"),
             ("", "5=closed 0;6=;7=;8=;9=", "rejected C6"),
-            # The start goes before a goal that is too cheap.
+            # C6 is reported before C7.
             ("", "6=1 0 0;9=3 1 1|5 2 1;5=closed 5", "rejected C6"),
         ])
 
@@ -298,7 +304,7 @@ class Clauses(FiniteDomainTest):
             ("", "5=closed 5;9=3 1 1|5 2 1", "rejected C7 state 4"),
             ("", "5=closed 6;9=3 1 1|6 2 0|5 2 1", "rejected C7 state 5"),
             ("", "3=bound inf;5=closed 5;9=3 1 1|6 2 1", "rejected C7 state 4"),
-            # A goal that is too cheap goes before a successor that is missing.
+            # C7 is reported before C8.
             ("", "3=bound 7;7=6 2 0;8=;9=;5=closed 2", "rejected C7 state 1"),
         ])
 
@@ -310,7 +316,7 @@ class Clauses(FiniteDomainTest):
             ("", "5=closed 3;9=", "rejected C8 state 1 op 0"),
             # (1, 1) is listed for less than it costs.
             ("", "9=2 1 1", "rejected C8 state 3 op 1"),
-            # Where the second step wants x = 2 the goal is out of reach.
+            # If the second step requires x = 2, the goal is out of reach.
             ("45=0 0 2 2", "3=bound inf", "accepted unsolvable"),
             ("45=0 0 2 2", "3=bound inf;5=closed 3;8=", "rejected C8 state 0 op 0"),
         ])
@@ -321,12 +327,12 @@ class Clauses(FiniteDomainTest):
             ("", "7=shares 3 0 3 1 3 2 1", "rejected C3 column 0 op 0"),
             ("", "7=shares 4 0 2 1 3 2 1 3 1", "rejected C3 column 0 op 3"),
             ("", "7=shares 4 0 2 1 3 2 1 4 1", "rejected C3 column 0 op 4"),
-            # The first column's costs are free again in the second, but there they are spent in the first table.
+            # Each column divides the full costs; in the second column the first table uses them up.
             ("", "4=columns 2;8=values 6 6 4 0 5 3 0|column 2|table 1 0|shares 2 0 2 1 3|values 3 5 3 0|"
              "table 1 0|shares 1 0 1|values 3 0 0 0", "rejected C3 column 1 op 0"),
             ("", "5=column 3;6=table 1 1;7=shares 1 2 1;8=values 2 0 0|table 1 1|shares 0|values 2 0 0|"
              "table 1 1|shares 1 2 1|values 2 0 0", "rejected C3 column 0 op 2"),
-            # Shares go before tables.
+            # C3 is reported before C4.
             ("", "6=table 2 0 2;7=shares 1 2 2", "rejected C3 column 0 op 2"),
             # The costs of the second step are divided between two tables.
             ("", "5=column 2;6=table 1 0;7=shares 2 0 2 1 2;8=values 3 4 2 0|table 2 0 1|shares 2 1 1 2 1|values 6 2 2 0 1 1 0",
@@ -341,16 +347,16 @@ class Clauses(FiniteDomainTest):
             ("", "8=values 7 6 4 0 5 3 0 0", "rejected C4 column 0 table 0"),
             ("", "8=values 6 6 4 0 5 3 1", "rejected C4 column 0 table 0 state 5"),
             ("", "8=values 6 6 4 inf 5 3 0", "rejected C4 column 0 table 0 state 2"),
-            # Goals go before steps.
+            # Abstract goals are tested before transitions.
             ("", "8=values 6 7 4 1 5 3 0", "rejected C4 column 0 table 0 state 2"),
             ("", "8=values 6 6 4 0 5 4 0", "rejected C4 column 0 table 0 state 4 op 1"),
             ("", "8=values 6 6 4 0 inf 3 0", "rejected C4 column 0 table 0 state 3 op 0"),
-            # Without a share the third step, which has no precondition, may not bring the value down.
+            # The third step has no precondition; without a share the value may not decrease along it.
             ("", "7=shares 2 0 2 1 3", "rejected C4 column 0 table 0 state 0 op 2"),
             # Every abstract state of y is a goal.
             ("", "4=columns 2;8=values 6 6 4 0 5 3 0|column 3|table 1 1|shares 0|values 2 0 0|table 1 1|shares 0|values 2 0 0|"
              "table 1 1|shares 0|values 2 0 1", "rejected C4 column 1 table 2 state 1"),
-            # Infinite before the goal: not where the second step leads there, but where it wants x = 2.
+            # Infinite before the goal: refused if the second step reaches it, accepted if that requires x = 2.
             ("", "3=bound inf;6=table 1 0;7=shares 0;8=values 3 inf inf 0", "rejected C4 column 0 table 0 state 1 op 1"),
             ("45=0 0 2 2", "3=bound inf;6=table 1 0;7=shares 0;8=values 3 inf inf 0", "accepted unsolvable"),
         ])
@@ -359,7 +365,7 @@ class Clauses(FiniteDomainTest):
         self.hold(self.TASK, self.SEARCHED, [
             ("", "", "accepted 6"),
             ("", "3=bound 5", "accepted 5"),
-            # (0, 1) is reached at 1, and 5 more are sure to be spent.
+            # (0, 1) is reached at cost 1 and has the value 5.
             ("", "3=bound 7", "rejected C8 state 0 op 2"),
             ("", "9=closed 1;11=", "rejected C8 state 0 op 0"),
             ("", "3=bound 5;9=closed 0;10=;11=", "accepted 5"),
@@ -379,7 +385,7 @@ class Chain(FiniteDomainTest):
     HEAD = "optplan-cert 1\nsas\nbound 4999\ncolumns 0\nclosed 4999\n"
 
     def task(self):
-        """The text of the task."""
+        """Returns the text of the task."""
         head = "begin_version\n3\nend_version\nbegin_metric\n0\nend_metric\n1\nbegin_variable\nvar0\n-1\n5000\n"
         values = "at\n" * self.STATES
         ends = "end_variable\n0\nbegin_state\n0\nend_state\nbegin_goal\n1\n0 4999\nend_goal\n4999\n"
@@ -387,13 +393,14 @@ class Chain(FiniteDomainTest):
         return head + values + ends + "".join(operators) + "0\n"
 
     def closed_certificate(self, head, left_out=None, raised=()):
-        """The text of a certificate with the state of each value before the goal at its cost, except one state if it is left out, and with
-        some at one more."""
+        """Returns the text of a certificate with the state of each value before the goal at its cost, except for one
+        state that is left out if given, and some whose cost is raised by one."""
         costs = {value: value + 1 if value in raised else value for value in range(self.LAST) if value != left_out}
         return head + "".join(f"{cost} {value}\n" for value, cost in costs.items()) + "end\n"
 
     def table_certificate(self, raised=()):
-        """The text of a certificate with one table of each value's distance, with one added to some."""
+        """Returns the text of a certificate with one table of each value's distance; some distances are raised by
+        one."""
         shares = "".join(f" {operator} 1" for operator in range(self.LAST))
         distances = [self.LAST - value + 1 if value in raised else self.LAST - value for value in range(self.STATES)]
         values = "".join(f" {distance}" for distance in distances)

@@ -1,15 +1,17 @@
-"""Certificates with long closed lists, which the checker tests in pieces side by side: the first violation is told, in whatever piece it is."""
+"""Certificates with long closed lists, which the checker tests in pieces with several threads: the first violation is
+reported, whichever piece it is in.
+"""
 
 from program import ProgramTest, checked_sas
 
-# So many states in a row, enough for several pieces, and one in the first piece, in the middle and in the last.
+# The number of states, enough for several pieces; and a position in the first piece, in the middle and in the last.
 STATES = 20_000
 PLACES = (3, STATES // 2, STATES - 5)
 
 
 def chain(states=STATES, goal=None):
-    """The text of a task over one variable with this many values. At first it is 0, each operator adds 1 to one of them at cost 1, and the goal
-    is the last value, or the one that is named."""
+    """Returns the text of a task over one variable with this many values. At first it is 0, each operator adds 1 to one
+    of them at cost 1, and the goal is the last value, or `goal`."""
     atoms = "".join(f"Atom at({value})\n" for value in range(states))
     operators = "".join(f"begin_operator\nstep {value}\n0\n1\n0 0 {value} {value + 1}\n1\nend_operator\n" for value in range(states - 1))
     return (f"begin_version\n3\nend_version\nbegin_metric\n1\nend_metric\n1\nbegin_variable\nvar0\n-1\n{states}\n{atoms}end_variable\n0\n"
@@ -17,7 +19,7 @@ def chain(states=STATES, goal=None):
 
 
 def certificate(closed, bound):
-    """A certificate without tables of this bound, over these closed states: pairs of a cost and a value."""
+    """Returns a certificate without tables of this bound, with these closed states: pairs of a cost and a value."""
     lines = "".join(f"{cost} {value}\n" for cost, value in closed)
     return f"optplan-cert 1\nsas\nbound {bound}\ncolumns 0\nclosed {len(closed)}\n{lines}end\n"
 
@@ -27,7 +29,7 @@ CLOSED = [(value, value) for value in range(STATES - 1)]
 
 
 def with_state(place, cost, value):
-    """These closed states with another one at a place."""
+    """Returns the closed states with another one at a position."""
     return CLOSED[:place] + [(cost, value)] + CLOSED[place + 1:]
 
 
@@ -70,7 +72,7 @@ class ClosedLists(ProgramTest):
         self.answers(closed, f"rejected C8 state {first - 1} op {first - 1}")
 
     def test_earlier_clause_first(self):
-        # a state that is left out early, which is C8, and one that stands twice late, which is C5
+        # C8 for a state left out early, and C5 for one listed twice late
         first, _, last = PLACES
         closed = with_state(last, last, last - 1)
         self.answers(closed[:first] + closed[first + 1:], f"rejected C5 state {last - 1}")

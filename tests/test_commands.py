@@ -1,4 +1,5 @@
-"""The command line, files that are not there, lines of faults, and what the solver prints and writes for tasks worked out by hand."""
+"""The command line, missing files, lines of faults, and what the solver prints and writes for tasks worked out by
+hand."""
 
 import dataclasses
 
@@ -6,7 +7,7 @@ from program import Outcome, ProgramTest, checked, checked_sas, run, wanted
 from texts import (DOOR_DOMAIN, DRIVE_DOMAIN, DRIVE_PROBLEM, GRIP_DOMAIN, GRIP_PROBLEM, ROAD_CERTIFICATE, ROAD_DOMAIN, ROAD_PROBLEM,
                    ROAD_PROBLEM_AT_ITS_GOAL, ROAD_SAS)
 
-# A road from each of two places to the third, with a goal that no road leads to.
+# A road from each of two places to the third; no road ends at the goal.
 ROAD_PROBLEM_WITHOUT_WAY = """(define (problem r1) (:domain road)
  (:objects a b c - loc)
  (:init (at a) (road a b) (road c b))
@@ -23,16 +24,16 @@ ROAD_SAS_FILES = {"s": ROAD_SAS}
 
 
 class CommandLine(ProgramTest):
-    """Help, the version, words that are no command, files with unusual names, and options that are refused."""
+    """Help, the version, unknown commands, files with unusual names, and options that are refused."""
 
-    # The words after the program's name, and texts that their help has.
+    # The arguments, and texts that their help contains.
     HELP_ROWS = [
         (["--help"], ["Validates PDDL plans", "Usage: optplan", "validate", "check-sas"]),
         (["-h"], ["Usage: optplan", "validate", "check-sas"]),
         (["check-sas", "--help"], ["Usage: optplan check-sas <SAS> <CERT>", "accepted unsolvable"]),
         (["check-sas", "s", "--help"], ["Usage: optplan check-sas <SAS> <CERT>"]),
-        (["solve", "--help"], ["Usage: optplan solve", "--ties <ORDER>", "shallow", "deep", "f-value of the cheapest plan"]),
-        (["solve-sas", "--help"], ["Usage: optplan solve-sas", "--ties <ORDER>", "shallow", "deep", "f-value of the cheapest plan"]),
+        (["solve", "--help"], ["Usage: optplan solve", "--ties <ORDER>", "shallow", "deep", "f-value of a cheapest plan"]),
+        (["solve-sas", "--help"], ["Usage: optplan solve-sas", "--ties <ORDER>", "shallow", "deep", "f-value of a cheapest plan"]),
         (["validate", "--help"], ["Usage: optplan validate <DOMAIN> <PROBLEM> <PLAN>", "goal open LITERAL"]),
         (["validate", "d", "--help"], ["Usage: optplan validate <DOMAIN> <PROBLEM> <PLAN>"]),
     ]
@@ -79,7 +80,7 @@ class CommandLine(ProgramTest):
         ["check-sas", "./-x", "c"],
     ]
 
-    # Words whose files have unusual names.
+    # Arguments whose files have unusual names.
     NAME_ROWS = [
         ["validate", "--", "-x", "p", "l"],
         ["validate", "d", "p", "--", "--help"],
@@ -89,7 +90,7 @@ class CommandLine(ProgramTest):
         ["validate", "./-x", "p", "l"],
     ]
 
-    # Options after `solve d p`, and a text that the report of them has.
+    # Options after `solve d p`, and a text that the error contains.
     REFUSED_ROWS = [
         (["--simulate"], "--simulate <SEED>"),
         (["--simulate", "x"], "invalid value 'x' for '--simulate'"),
@@ -159,19 +160,19 @@ class CommandLine(ProgramTest):
 
 
 def unread(file):
-    """The outcome where this file cannot be read."""
+    """Returns the outcome if this file cannot be read."""
     return Outcome(err=f"optplan: F70 CannotRead {file}\n".encode(), status=7)
 
 
 def unwritten(file):
-    """The outcome where this file cannot be written."""
+    """Returns the outcome if this file cannot be written."""
     return Outcome(err=f"optplan: F71 CannotWrite {file}\n".encode(), status=7)
 
 
 class Files(ProgramTest):
-    """Files that are not there, and files in a folder that is not there."""
+    """Missing files, and files in a missing folder."""
 
-    # A word for each of the three files, and the expected outcome.
+    # The names of the three files, and the expected outcome.
     MISSING_ROWS = [
         (["domain", "problem", "plan"], wanted("valid 2")),
         (["gone", "problem", "plan"], unread("domain")),
@@ -179,30 +180,30 @@ class Files(ProgramTest):
         (["domain", "problem", "gone"], unread("plan")),
         (["gone", "gone", "gone"], unread("domain")),
         (["", "problem", "plan"], unread("domain")),
-        # All files are read before any text is looked at.
+        # All files are read before any text is parsed.
         (["plan", "problem", "gone"], unread("plan")),
-        # Which text is which is determined by its place among the words.
+        # The position of an argument determines which text its file has.
         (["domain", "domain", "domain"], wanted("F10 Shape problem 0")),
         (["plan", "problem", "plan"], wanted("F7 Trailing domain 8")),
         (["domain", "problem", "problem"], wanted("F25 PlanShape plan 8")),
     ]
 
-    # A word for each of the two files, and the expected outcome.
+    # The names of the two files, and the expected outcome.
     MISSING_CHECK_ROWS = [
         (["sas", "cert"], wanted("accepted 2")),
         (["gone", "cert"], unread("sas")),
         (["sas", "gone"], unread("cert")),
         (["gone", "gone"], unread("sas")),
         (["", "cert"], unread("sas")),
-        # Both files are read before any text is looked at.
+        # Both files are read before any text is parsed.
         (["cert", "gone"], unread("cert")),
-        # Which text is which is determined by its place among the words, and the fault of the task comes first.
+        # The position of an argument determines which text its file has, and the fault of the task is reported first.
         (["sas", "sas"], wanted("F50 Header cert")),
         (["cert", "cert"], wanted("F41 Expected sas 1")),
         (["cert", "sas"], wanted("F41 Expected sas 1")),
     ]
 
-    # Words after the program's name, and the outcome.
+    # The arguments, and the outcome.
     FILE_WORD_ROWS = [
         (["solve", "gone", "p", "--simulate", "1"], unread("domain")),
         (["solve", "d", "gone", "--simulate", "1"], unread("problem")),
@@ -238,7 +239,7 @@ class Files(ProgramTest):
 
 
 def with_line(text, number, line):
-    """A text with another line in place of the one of this number, counted from 1."""
+    """Returns a text with another line in place of the one of this number, counted from 1."""
     lines = text.split("\n")
     lines[number - 1] = line
     return "\n".join(lines)
@@ -294,7 +295,7 @@ class Answer:
     written: tuple = ()
 
 
-# Tables of the whole road tell its length, so what is known from the beginning on is that no plan costs less than 2.
+# Tables of the whole road have its length as the initial value, so the bound is 2 from the beginning.
 LIMIT = Answer("limit 2\n", 5)
 UNSOLVABLE = Answer("unsolvable\n", 4)
 
@@ -303,7 +304,7 @@ class SolverTest(ProgramTest):
     """Tests of what the solver prints and writes."""
 
     def puts(self, words, files, answer):
-        """Fails unless the words give this answer, and no report."""
+        """Fails unless these arguments have this answer, and nothing on standard error."""
         with self.subTest(words=words):
             outcome = run(*words, files=files)
             self.assertEqual(outcome.err, b"")
@@ -360,7 +361,7 @@ class SmallTasks(SolverTest):
  (:goal (at c)))
 """
 
-    # The road with a goal that is a road, which no action makes.
+    # The road with a goal that is another road, which no action adds.
     A_ROAD_TO_BE_MADE = """(define (problem r1) (:domain road)
  (:objects a b c - loc)
  (:init (at a) (road a b) (road b c))
@@ -391,7 +392,7 @@ class SmallTasks(SolverTest):
         "64": [(DOOR_DOMAIN, LOCKED_DOOR, UNSOLVABLE)],
     }
 
-    # A text of the road's lines, another in its place, and the outcome.
+    # A text of the task, another in its place, and the outcome.
     CHANGED_ROADS = [
         # Without the metric each operator costs 1.
         ("1\nend_operator", "5\nend_operator", Outcome(out=b"(go a b)\n(go b c)\n; cost = 2 (unit cost)\n")),
@@ -406,7 +407,7 @@ class SmallTasks(SolverTest):
                     self.puts(["solve", "d", "p", "--simulate", "1", "--workers", workers], {"d": domain, "p": problem}, answer)
 
     def test_two_balls_and_one_hand(self):
-        # To take a ball, to move, to drop it, to move back, and the other ball likewise.
+        # Pick a ball, move, drop it, move back, and the same for the other ball without the move back.
         for table in ["1", "3", "100000"]:
             with self.subTest(table=table):
                 outcome = run("solve", "d", "p", "--simulate", "1", "--table", table, files={"d": GRIP_DOMAIN, "p": GRIP_PROBLEM})
@@ -420,10 +421,11 @@ class SmallTasks(SolverTest):
 
 
 class Seeds(SolverTest):
-    """Seeds: the steps that each draws determine the plan that is found, and the number of steps.
+    """Seeds: the random steps of each determine the plan that is found, and the number of steps.
 
-    The rows come from a model of the machine of owners in another language, with its own generator, and with an owner for each place by the
-    published words of SplitMix64."""
+    The rows come from a model of the owners in another language, with its own generator, in which the owner of a state
+    is computed from published outputs of SplitMix64.
+    """
 
     # Four places: from a to b and to c, and from each of these to d, the goal; each step costs 1.
     SQUARE_SAS = (
@@ -436,7 +438,8 @@ class Seeds(SolverTest):
         "begin_operator\ngo c d\n0\n1\n0 0 2 3\n1\nend_operator\n0\n"
     )
 
-    # By the number of owners: the seed, the place that the plan goes through, and the number of steps until no work is left.
+    # By the number of owners: the seed, the place through which the plan goes, and the number of steps until no work is
+    # left.
     ROWS = {
         3: [
             (0, "b", 23),
@@ -461,7 +464,7 @@ class Seeds(SolverTest):
     }
 
     def stopped(self, workers, seed, steps):
-        """The outcome for a seed whose simulation may take this many steps."""
+        """Returns the outcome for a seed if the simulation may take this many steps."""
         words = ["solve-sas", "s", "--table", "1", "--workers", str(workers), "--simulate", str(seed), "--steps", str(steps)]
         return run(*words, files={"s": self.SQUARE_SAS})
 
@@ -471,7 +474,7 @@ class Seeds(SolverTest):
                 plan = f"(go a {place})\n(go {place} d)\n; cost = 2 (unit cost)\n".encode()
                 with self.subTest(workers=workers, seed=seed):
                     self.assertEqual(self.stopped(workers, seed, steps), Outcome(out=plan))
-                    # Without the last step the search may be settled all the same: that step may change no more than what an owner knows.
+                    # Without the last step the search may be settled too: that step may only inform an owner.
                     self.assertIn(self.stopped(workers, seed, steps - 1), [Outcome(out=plan), Outcome(out=b"limit 2\n", status=5)])
-                    # The goal is two expansions away, and what is open costs nothing at first.
+                    # The goal is two expansions away, and the only open state has the f-value 0 at first.
                     self.assertEqual(self.stopped(workers, seed, 0), Outcome(out=b"limit 0\n", status=5))

@@ -1,10 +1,12 @@
-"""Counts that promise far more lines than there are: nothing grows by a count that was read, so each is a fault where the lines end."""
+"""Counts that announce far more lines than there are: no allocation depends on a count that was read, so each is a
+fault at the end of the lines.
+"""
 
 from program import ProgramTest, example, run, wanted
 from second_reading import certificate_fault, check_sas
 
 MOST = b"4294967295"
-# The bytes of addresses that a run may take: far less than a word for each of that many lines.
+# The address space of a run in bytes: far less than 8 bytes for each of that many lines.
 MEMORY = 2**30
 
 SAS = example("road", "task.sas").encode()
@@ -13,16 +15,17 @@ PLANNING = example("road", "planning.cert").encode()
 
 
 def with_count(text, line, count):
-    """The text with another number at the end of a line, which is counted from 1."""
+    """Returns the text with another number at the end of a line, which is counted from 1."""
     lines = text.split(b"\n")
     lines[line - 1] = b" ".join([*lines[line - 1].split(b" ")[:-1], count])
     return b"\n".join(lines)
 
 
 class CountsTest(ProgramTest):
-    """Runs in little memory."""
+    """Runs with little memory."""
 
-    # Lines of the task with the counts of mutex groups, of the values of one, of goals, of operators, of prevail conditions and of effects.
+    # Lines of the task with the counts of mutex groups, of the values of one, of goals, of operators, of prevail
+    # conditions and of effects.
     SAS_LINES = (16, 18, 27, 30, 33, 34)
 
     def test_finite_domain_tasks(self):

@@ -1,15 +1,17 @@
-"""Damaged texts: each is refused by a named fault with its place, or judged as it then reads. A share of all damages; `sweep.py` tries all."""
+"""Damaged texts: each is refused by a named fault with its place, or judged as what it spells then. These are a part of
+all damages; `sweep.py` tries all.
+"""
 
 import unittest
 
 from sweep import FINITE_DOMAIN, PLANNING, PLANNING_CERTIFICATES, Sweep
 
-# One of this many damages.
+# One of this many damages is tried.
 SHARE = 41
 
 
 class DamagedTest(unittest.TestCase):
-    """The program's answers for damaged texts are those of the second reading."""
+    """The program's answers for damaged texts are those of `second_reading.py`."""
 
     def is_clean(self, sweep):
         self.assertEqual(sweep.wrong, [])

@@ -1,4 +1,6 @@
-"""Tables of domain abstractions, and certificates of version 2: worked out by hand from the rules of the texts and of the clauses."""
+"""Tables of domain abstractions, and certificates of version 2, worked out by hand from the rules of the texts and the
+clauses.
+"""
 
 import itertools
 
@@ -6,12 +8,12 @@ from program import Outcome, ProgramTest, checked, example, run
 from second_reading import check_sas, certificate_fault
 from test_checks_sas import FiniteDomainTest, edited
 
-DRIVE, D1 = example("drive", "domain.pddl"), example("drive", "problem.pddl")
+DRIVE, DRIVE_PROBLEM = example("drive", "domain.pddl"), example("drive", "problem.pddl")
 DRIVE_BY_CLASSES = example("drive", "classes.cert")
 
 
 def migrated(cert):
-    """The outcome of a certificate's migration."""
+    """Returns the outcome of a certificate's migration."""
     return run("migrate-cert", "c", files={"c": cert})
 
 
@@ -22,19 +24,19 @@ class Classes(ProgramTest):
     ROWS = [
         ("", "accepted 4"),
         ("3=bound 5", "rejected C6"),
-        # The goal's value shares the class of a.
+        # The goal's value has the class of a.
         ("16=0 3 0 1 0", "rejected C4 column 0 table 0 state 0"),
-        # As many classes as a variable with four values has; a variable that there is not; three classes, and values for two.
+        # A row for a variable with four values; a variable that does not exist; three classes, and values for two.
         ("16=0 4 0 0 1 1", "rejected C4 column 0 table 0"),
         ("16=1 3 0 0 1", "rejected C4 column 0 table 0"),
         ("16=0 3 0 1 2", "rejected C4 column 0 table 0"),
-        # Each value in a class of its own, with the distances under all of the costs.
+        # Each value has a class of its own, and the distances are those under the full costs.
         ("3=bound 7;16=0 3 0 1 2;17=shares 3 0 3 1 7 2 4;18=values 3 7 4 0", "accepted 7"),
-        # The operator from b leads on from the class of a and b, though a is not where it applies.
+        # The operator from b is a transition of the class of a and b, although it does not apply at a.
         ("17=shares 1 1 4", "rejected C4 column 0 table 0 state 0 op 2"),
         ("17=shares 1 2 4", "rejected C4 column 0 table 0 state 0 op 1"),
         ("17=shares 2 1 4 2 5", "rejected C3 column 0 op 2"),
-        # Texts.
+        # Faults of the text.
         ("16=0 3 1 0 0", "F57 Classes cert 16"),
         ("16=0 3 0 0 2", "F57 Classes cert 16"),
         ("1=optplan-cert 1", "F51 Expected cert 15"),
@@ -47,7 +49,7 @@ class Classes(ProgramTest):
         ("16=0 0 0", "F51 Expected cert 16"),
         ("16=0 3 0 0", "F51 Expected cert 16"),
         ("16=0 3 0 0 4294967296", "F52 Number cert 16"),
-        # A row too few: the line of the shares is read as one.
+        # One row is missing: the line of the shares is read as a row.
         ("15=domain 2", "F51 Expected cert 17"),
         ("15=domain 2;17=shares 0", "F52 Number cert 17"),
         ("15=domain 2;16=0 3 0 0 1|0 3 0 0 1", "F55 Order cert 17"),
@@ -57,7 +59,7 @@ class Classes(ProgramTest):
 
     def test_certificates(self):
         for edits, answer in self.ROWS:
-            self.is_answered(checked(DRIVE, D1, edited(DRIVE_BY_CLASSES, edits)), answer, edits=edits)
+            self.is_answered(checked(DRIVE, DRIVE_PROBLEM, edited(DRIVE_BY_CLASSES, edits)), answer, edits=edits)
 
     def test_fronts(self):
         for end in range(len(DRIVE_BY_CLASSES)):
@@ -68,12 +70,12 @@ class Classes(ProgramTest):
                 self.is_answered(migrated(front), fault)
 
     def test_solve_writes_it(self):
-        outcome = run("solve", "d", "p", "--table", "2", "--workers", "1", "--limit", "0", "--cert", "c", files={"d": DRIVE, "p": D1})
+        outcome = run("solve", "d", "p", "--table", "2", "--workers", "1", "--limit", "0", "--cert", "c", files={"d": DRIVE, "p": DRIVE_PROBLEM})
         self.assertEqual(outcome, Outcome(out=b"limit 4\n", status=5, files={"c": DRIVE_BY_CLASSES.encode()}))
 
 
 class Migration(ProgramTest):
-    """Certificates as version 2."""
+    """Certificates that are rewritten as version 2."""
 
     def test_examples(self):
         for task, name in (("road", "planning.cert"), ("road", "closed.cert"), ("road", "table.cert"), ("lamp", "closed.cert"), ("lamp", "tables.cert")):
@@ -101,7 +103,8 @@ class Migration(ProgramTest):
 
 
 def counter(values, costs):
-    """A variable with this many values, an operator from each to the next, at these costs in turn, and the last value as the goal."""
+    """Returns the text of a task: a variable with this many values, an operator from each to the next, at these costs
+    in turn, and the last value as the goal."""
     operators = "".join(f"begin_operator\nstep {it}\n0\n1\n0 0 {it} {it + 1}\n{costs[it % len(costs)]}\nend_operator\n" for it in range(values - 1))
     names = "".join(f"value {it}\n" for it in range(values))
     return (f"begin_version\n3\nend_version\nbegin_metric\n1\nend_metric\n1\nbegin_variable\ncount\n-1\n{values}\n{names}end_variable\n0\n"
@@ -109,7 +112,8 @@ def counter(values, costs):
 
 
 class LargeVariables(FiniteDomainTest):
-    """A goal variable with more values than a table may have: its first values have classes of their own, the rest share one."""
+    """A goal variable with more values than a table may have: its first values have classes of their own, the rest
+    share one."""
 
     def test_counters(self):
         for values, table in itertools.product((3, 4, 5, 50), (2, 3, 4, 10)):

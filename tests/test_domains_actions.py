@@ -32,13 +32,13 @@ PARAMETER_ROWS = [
     ("(define (domain x) (:action a :parameters (?x - no)))", "F12 UnknownName domain 48"),
     ("(define (domain x) (:action a :parameters (?x ?y ?X)))", "F14 TwiceDeclared domain 49"),
     ("(define (domain x) (:action a :parameters (?x -)))", "F10 Shape domain 42"),
-    # A parameter that no good list declares is unknown.
+    # A parameter that no valid list declares is unknown.
     ("(define (domain x) (:predicates (p ?x)) (:action b :precondition (p ?x) :parameters foo))", "F12 UnknownName domain 68"),
-    # Of two lists the first counts.
+    # The first of two lists counts.
     ("(define (domain x) (:predicates (p ?x)) (:action b :effect (p ?y) :parameters (?x) :parameters (?y)))", "F12 UnknownName domain 62"),
-    # What is no part's name is passed over alone.
+    # A word that is no keyword is skipped alone.
     ("(define (domain x) (:predicates (p ?x)) (:action b :effect (p ?x) :duration :parameters (?x)))", "F10 Shape domain 66"),
-    # The name of a part is itself the condition, where one is wanted.
+    # If a condition is expected, a keyword is read as the condition.
     ("(define (domain x) (:predicates (p ?x)) (:action b :effect (p ?x) :precondition :parameters (?x)))", "F12 UnknownName domain 62"),
 ]
 
@@ -74,7 +74,7 @@ EQUALITY_ROWS = [
     ("(define (domain x) (:action a :parameters (?x) :precondition (not (= ?x))))", "F10 Shape domain 66"),
     ("(define (domain x) (:functions (f)) (:action b :precondition (= (f) 3)))", "F10 Shape domain 64"),
     ("(define (domain x) (:action a :parameters (?x) :precondition (and (= ?x ?x) (not (= ?x ?x)))))", "valid 0"),
-    # An effect has no equality: it is an atom there, of a predicate that cannot be declared.
+    # In an effect `=` is not equality, but a predicate that cannot be declared.
     ("(define (domain x) (:constants a) (:action b :effect (= a a)))", "F12 UnknownName domain 54"),
     ("(define (domain x) (:constants a) (:action b :effect (not (= a a))))", "F12 UnknownName domain 59"),
 ]

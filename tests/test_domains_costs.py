@@ -14,7 +14,7 @@ INCREASE_ROWS = [
     ("(define (domain x) (:constants a) (:action b :effect (increase (total-cost a) 1)))", "F13 Arity domain 63"),
     ("(define (domain x) (:action b :effect (and (increase total-cost 1) (increase (TOTAL-COST) 2))))", "valid 0"),
     ("(define (domain x) (:functions (total-cost ?x)) (:action b :effect (increase (total-cost) 1)))", "valid 0"),
-    # No condition has an increase: it is an atom there.
+    # In a condition an increase is read as an atom.
     ("(define (domain x) (:action b :precondition (increase (total-cost) 1)))", "F12 UnknownName domain 45"),
 ]
 
@@ -59,10 +59,10 @@ TWO_INCREASES = (
 )
 
 SUM_ROWS = [
-    # A function that has no value adds nothing.
+    # A function without a value adds nothing.
     (TWO_INCREASES, "(define (problem x) (:goal ()) (:metric minimize (total-cost)))", "valid 0"),
     (TWO_INCREASES, "(define (problem x) (:init (= (f c) 0)) (:goal ()) (:metric minimize (total-cost)))", "valid 0"),
-    # The greatest value counts, whether an action has it or not.
+    # The greatest value counts, whether or not an action increases by it.
     (TWO_INCREASES,
      "(define (problem x) (:objects d) (:init (= (f c) 0) (= (f d) 1))\n"
      " (:goal ()) (:metric minimize (total-cost)))",

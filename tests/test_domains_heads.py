@@ -79,7 +79,7 @@ NO_GOAL_ROWS = [
     (DOMAIN, "(define (problem p) (:foo))", "F10 Shape problem 0"),
     (DOMAIN, "(define (problem p) (:objects a - no))", "F10 Shape problem 0"),
     (DOMAIN, "(defin (problem p))", "F10 Shape problem 0"),
-    # The second part is no section, but the name's place.
+    # The second part is expected to be the name, and no section.
     (DOMAIN, "(define (:goal ()))", "F10 Shape problem 0"),
     (DOMAIN,
      "; a problem\n"
@@ -95,7 +95,7 @@ PROBLEM_TWICE_ROWS = [
     (DOMAIN, "(define (problem x) (:length) (:goal ()) (:length))", "F14 TwiceDeclared problem 42"),
     (DOMAIN, "(define (problem x) (:requirements) (:requirements) (:goal ()))", "F14 TwiceDeclared problem 37"),
     (DOMAIN, "(define (problem x) (:goal ()) (:metric minimize total-cost) (:metric minimize total-cost))", "F14 TwiceDeclared problem 62"),
-    # What is read over is not tested.
+    # Ignored parts are not tested.
     ("(define (domain x) (:predicates (= x (y))))", "(define (problem x) (:domain) (:requirements (x)) (:length) (:goal ()))", "valid 0"),
 ]
 

@@ -43,10 +43,10 @@ FUNCTION_TYPE_ROWS = [
 ]
 
 NAME_ROWS = [
-    # A predicate named `=` is read over, a function of that name is not.
+    # A predicate named `=` is ignored, a function of that name is not.
     ("(define (domain x) (:predicates (= ?x) (= ?x)))", "valid 0"),
     ("(define (domain x) (:functions (=) (=)))", "F14 TwiceDeclared domain 36"),
-    # Names that are words of the language elsewhere, and names for several things.
+    # Names that are keywords elsewhere, and names for several things.
     ("(define (domain x) (:predicates (or) (and) (not) (5)) (:functions (5)) (:constants 5))", "valid 0"),
     ("(define (domain x) (:types a) (:constants a) (:predicates (a)) (:functions (a)) (:action a))", "valid 0"),
     ("(define (domain x) (:predicates (increase)) (:action b :precondition (increase)))", "valid 0"),

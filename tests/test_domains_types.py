@@ -22,16 +22,16 @@ EITHER_ROWS = [
     ("(define (domain x) (:types either a - either))", "F11 Unsupported either domain 38"),
     ("(define (domain x) (:constants a - (either b c)))", "F11 Unsupported either domain 36"),
     ("(define (domain x) (:predicates (p ?x - (either b c))))", "F11 Unsupported either domain 41"),
-    # The run is no second type of a.
+    # A list with `either` declares no second type of a.
     ("(define (domain x) (:types a - t a - (either u v)))", "F11 Unsupported either domain 38"),
-    # Nothing is amiss with a type of that name that is not used.
+    # An unused type of that name is no fault.
     ("(define (domain x) (:types either))", "valid 0"),
 ]
 
 CYCLE_ROWS = [
     ("(define (domain x) (:types a - a))", "F15 TypeCycle domain 27"),
     ("(define (domain x) (:types a - b b - a))", "F15 TypeCycle domain 27"),
-    # A type that only leads into a cycle is not at fault.
+    # A type below a cycle, but not on it, is no fault.
     ("(define (domain x) (:types c - a a - b b - a))", "F15 TypeCycle domain 33"),
     ("(define (domain x) (:types object - a))", "F15 TypeCycle domain 27"),
     ("(define (domain x) (:types a - object object - a))", "F15 TypeCycle domain 27"),
@@ -44,7 +44,7 @@ TYPE_TWICE_ROWS = [
     ("(define (domain x) (:types a - b a))", "F14 TwiceDeclared domain 33"),
     ("(define (domain x) (:types a - b a - b))", "valid 0"),
     ("(define (domain x) (:types a a - object))", "valid 0"),
-    # The supertype is that of the first mention, so that no cycle comes of the second.
+    # The first mention determines the supertype, so the second makes no cycle.
     ("(define (domain x) (:types a - b a - c c - a))", "F14 TwiceDeclared domain 33"),
 ]
 

@@ -1,21 +1,22 @@
-"""Searches that are stopped by `--limit`, `--steps` or `--memory`: the bound, the best plan so far, and the certificate of the bound."""
+"""Searches that `--limit`, `--steps` or `--memory` stops: the bound, the best plan so far, and the certificate of the
+bound."""
 
 from program import Outcome, ProgramTest, checked, checked_sas, example, run
 from test_threads import HANOI, tower
 
-# Examples that are solved, or shown to have no plan, after few states.
+# Examples that are solved, or found unsolvable, after few states.
 SMALL_TASKS = ("blocks", "door", "drive", "grip", "gripper", "lamp", "noop", "road")
 
 STOPPED = 5
 
-ROAD, R1 = example("road", "domain.pddl"), example("road", "problem.pddl")
-DRIVE, D1 = example("drive", "domain.pddl"), example("drive", "problem.pddl")
+ROAD, ROAD_PROBLEM = example("road", "domain.pddl"), example("road", "problem.pddl")
+DRIVE, DRIVE_PROBLEM = example("drive", "domain.pddl"), example("drive", "problem.pddl")
 
-# R1 with a goal that holds at first.
-R1_AT_A = R1.replace("(:goal (at c))", "(:goal (at a))")
+# The road with the start as the goal.
+ROAD_PROBLEM_AT_A = ROAD_PROBLEM.replace("(:goal (at c))", "(:goal (at a))")
 
-# Tables of one state say nothing, so f is the cost so far. The states are a, b and c: the first expansion reaches b at 3 and the goal c
-# at 8.
+# The tables have one abstract state and the value 0, so f is the cost so far. The states are a, b and c: the first
+# expansion reaches b at 3 and the goal c at 8.
 DRIVE_WITHOUT_TABLES = ("--table", "1", "--workers", "1")
 
 DRIVE_CERTIFICATE = """optplan-cert 2
@@ -38,14 +39,15 @@ end
 
 
 def solved(domain, problem, *words, seed=1):
-    """The outcome of a solution with these words, by the schedule of the seed, or by threads if there is none: the plan goes to the file
-    `plan`, the certificate to the file `cert`."""
+    """Returns the outcome of solving a task with these options, by the random steps of a seed, or with threads if that
+    is None. The plan goes to the file `plan`, the certificate to the file `cert`."""
     schedule = () if seed is None else ("--simulate", str(seed))
     return run("solve", "d", "p", *schedule, "--plan", "plan", "--cert", "cert", *words, files={"d": domain, "p": problem})
 
 
 def bound_of(outcome):
-    """What a certificate of this answer is accepted for: the bound, the cost of a cheapest plan, or that there is no plan."""
+    """Returns what the certificate of this answer must prove: the bound, the cost of a cheapest plan, or that there is
+    no plan."""
     if outcome.out == b"unsolvable\n":
         return "unsolvable"
     if outcome.status == STOPPED:
@@ -55,54 +57,55 @@ def bound_of(outcome):
 
 class StoppedTest(ProgramTest):
     def is_solved(self, outcome, out, status, plan=None, **row):
-        """Fails, with the row, unless this was printed, with this status, and the plan's file is this, if one is expected."""
+        """Fails, and shows the row, unless this was printed, with this status, and the plan's file has this text, if
+        one is expected."""
         with self.subTest(**row):
             files = {"cert": outcome.files.get("cert")} | ({} if plan is None else {"plan": plan})
             self.assertIsNotNone(files["cert"])
             self.assertEqual(outcome, Outcome(out=out, status=status, files=files))
 
     def is_certified(self, domain, problem, outcome, **row):
-        """Fails, with the row, unless the certificate is accepted for exactly what was answered."""
+        """Fails, and shows the row, unless the certificate is accepted for exactly what was answered."""
         self.is_answered(checked(domain, problem, outcome.files["cert"]), f"accepted {bound_of(outcome)}", **row)
 
 
 class LimitTest(StoppedTest):
     def test_bound_before_a_plan_is_found(self):
-        # the tables of ROAD are exact, so the least open f is 2 from the first state on, and after one step of any owner too
+        # the tables are exact, so the least open f is 2 from the first state on, and after one step of any owner too
         for words in (("--workers", "1", "--limit", "1"), ("--workers", "1", "--limit", "0"), ("--steps", "1"), ("--steps", "0")):
-            outcome = solved(ROAD, R1, *words)
+            outcome = solved(ROAD, ROAD_PROBLEM, *words)
             self.is_solved(outcome, b"limit 2\n", STOPPED, words=words)
-            self.is_certified(ROAD, R1, outcome, words=words)
+            self.is_certified(ROAD, ROAD_PROBLEM, outcome, words=words)
 
     def test_what_is_settled_is_solved_all_the_same(self):
         plan = b"; cost = 0 (unit cost)\n"
         for words in (("--workers", "1", "--limit", "0"), ("--workers", "1", "--steps", "0")):
-            outcome = solved(ROAD, R1_AT_A, *words)
+            outcome = solved(ROAD, ROAD_PROBLEM_AT_A, *words)
             self.is_solved(outcome, plan, 0, plan, words=words)
-            self.is_certified(ROAD, R1_AT_A, outcome, words=words)
+            self.is_certified(ROAD, ROAD_PROBLEM_AT_A, outcome, words=words)
 
     def test_best_plan_so_far(self):
         plan = b"(go a c)\n; cost = 8 (general cost)\n"
         for seed in [*range(20), None]:
-            outcome = solved(DRIVE, D1, *DRIVE_WITHOUT_TABLES, "--limit", "1", seed=seed)
+            outcome = solved(DRIVE, DRIVE_PROBLEM, *DRIVE_WITHOUT_TABLES, "--limit", "1", seed=seed)
             self.is_solved(outcome, b"limit 3\n" + plan, STOPPED, plan, seed=seed)
             self.assertEqual(outcome.files["cert"].decode(), DRIVE_CERTIFICATE)
-        self.is_answered(checked(DRIVE, D1, DRIVE_CERTIFICATE), "accepted 3")
+        self.is_answered(checked(DRIVE, DRIVE_PROBLEM, DRIVE_CERTIFICATE), "accepted 3")
 
     def test_next_bound_is_no_bound(self):
-        self.is_answered(checked(DRIVE, D1, DRIVE_CERTIFICATE.replace("bound 3", "bound 4")), "rejected C8 state 0 op 0")
+        self.is_answered(checked(DRIVE, DRIVE_PROBLEM, DRIVE_CERTIFICATE.replace("bound 3", "bound 4")), "rejected C8 state 0 op 0")
 
     def test_no_state_expanded(self):
-        outcome = solved(DRIVE, D1, *DRIVE_WITHOUT_TABLES, "--limit", "0")
+        outcome = solved(DRIVE, DRIVE_PROBLEM, *DRIVE_WITHOUT_TABLES, "--limit", "0")
         self.is_solved(outcome, b"limit 0\n", STOPPED)
-        self.is_certified(DRIVE, D1, outcome)
+        self.is_certified(DRIVE, DRIVE_PROBLEM, outcome)
 
     def test_limit_that_is_never_met(self):
         # the second expansion, of b, reaches c at 7, and nothing is open below that
         plan = b"(go a b)\n(go b c)\n; cost = 7 (general cost)\n"
-        outcome = solved(DRIVE, D1, *DRIVE_WITHOUT_TABLES, "--limit", "2")
+        outcome = solved(DRIVE, DRIVE_PROBLEM, *DRIVE_WITHOUT_TABLES, "--limit", "2")
         self.is_solved(outcome, plan, 0, plan)
-        self.is_certified(DRIVE, D1, outcome)
+        self.is_certified(DRIVE, DRIVE_PROBLEM, outcome)
 
     def test_finite_domain_task(self):
         sas = example("road", "task.sas")
@@ -122,7 +125,7 @@ class LimitTest(StoppedTest):
                         self.is_certified(domain, problem, outcome, **row)
 
     def test_bound_never_falls_as_the_limit_rises(self):
-        # in one thread, with one seed, the steps of a lesser limit are the first of those of a greater one
+        # with one seed, the steps of a lesser limit are a prefix of those of a greater one
         for name in SMALL_TASKS:
             domain, problem = example(name, "domain.pddl"), example(name, "problem.pddl")
             least = 0
@@ -137,22 +140,22 @@ class LimitTest(StoppedTest):
 
 
 class WatchTest(StoppedTest):
-    """Searches by threads that memory ends."""
+    """Multi-threaded searches that memory ends."""
 
     def test_no_memory(self):
         # the initial state takes memory, so the first turn is not taken
-        outcome = solved(DRIVE, D1, *DRIVE_WITHOUT_TABLES, "--memory", "0", seed=None)
+        outcome = solved(DRIVE, DRIVE_PROBLEM, *DRIVE_WITHOUT_TABLES, "--memory", "0", seed=None)
         self.is_solved(outcome, b"limit 0\n", STOPPED)
-        self.is_certified(DRIVE, D1, outcome)
+        self.is_certified(DRIVE, DRIVE_PROBLEM, outcome)
 
     def test_memory_enough(self):
         plan = b"(go a b)\n(go b c)\n; cost = 7 (general cost)\n"
         for words in (("--memory", "1"), ("--memory", "9223372036854775807")):
-            outcome = solved(DRIVE, D1, *words, seed=None)
+            outcome = solved(DRIVE, DRIVE_PROBLEM, *words, seed=None)
             self.is_solved(outcome, plan, 0, plan, words=words)
 
     def test_memory_for_some_states(self):
-        # of 3^10 states, 1 MiB holds some 13,000 of 80 bytes, so neither few nor all are kept
+        # 1 MiB holds about 13,000 of the 3^10 states, at 80 bytes each, so neither few nor all are closed
         for workers in ("1", "4"):
             outcome = solved(HANOI, tower(10), "--table", "1", "--workers", workers, "--memory", "1", seed=None)
             self.assertEqual(outcome.status, STOPPED)
@@ -164,4 +167,4 @@ class WatchTest(StoppedTest):
 
     def test_memory_of_a_simulation_is_not_limited(self):
         plan = b"(go a b)\n(go b c)\n; cost = 7 (general cost)\n"
-        self.is_solved(solved(DRIVE, D1, "--memory", "0"), plan, 0, plan)
+        self.is_solved(solved(DRIVE, DRIVE_PROBLEM, "--memory", "0"), plan, 0, plan)

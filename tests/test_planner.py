@@ -1,15 +1,18 @@
-"""Small planning tasks whose optimal costs are known: blocks, lamps and locks, and tiles. Each is solved by the schedules of many
-seeds and by threads, and each answer is judged by the commands that validate plans and check certificates, which read only the texts."""
+"""Small planning tasks with known optimal costs: blocks, lamps and locks, and tiles. Each is solved with many seeds and
+with threads, and each answer is judged by the commands that validate plans and check certificates, which read only the
+texts.
+"""
 
 from program import Outcome, ProgramTest, checked, run, validated, wanted
 
-# The seeds of schedules.
+# The seeds of simulations.
 SEEDS = range(20)
 
-# The numbers of workers with which a task is solved.
+# The numbers of workers of simulations.
 WORKERS = (1, 2, 5)
 
-# The numbers of threads by which a task is solved, how often by each, and the room of a link in turn: one of one message is often full.
+# The numbers of threads, the number of searches with each, and the capacities of a link, which alternate: one for a
+# single message is often full.
 THREADS = range(1, 9)
 SEARCHES = 20
 ROOMS = (1, 64)
@@ -19,36 +22,37 @@ TABLE = 100
 
 
 def solved(domain, problem, **options):
-    """The outcome of the solver for a task, by threads, or by the schedule of a seed with `simulate`: it writes the plan to the file `l`,
-    the certificate to `c`."""
+    """Returns the outcome of solving a task, with threads, or with the random steps of the seed `simulate`. The plan
+    goes to the file `l`, the certificate to `c`."""
     words = [word for name, value in options.items() for word in (f"--{name}", str(value))]
     return run("solve", "d", "p", *words, "--plan", "l", "--cert", "c", files={"d": domain, "p": problem})
 
 
 def by_seeds(*numbers):
-    """The options of a search for each of these numbers of workers and each seed."""
+    """Returns the options of a search for each of these numbers of workers and each seed."""
     return [{"workers": workers, "simulate": seed} for workers in numbers for seed in SEEDS]
 
 
 def by_threads(*numbers):
-    """The options of some searches for each of these numbers of threads."""
+    """Returns the options of SEARCHES searches for each of these numbers of threads."""
     return [{"workers": workers, "ring": ROOMS[search % len(ROOMS)]} for workers in numbers for search in range(SEARCHES)]
 
 
 def deep_by(*numbers):
-    """The options of some searches for each of these numbers of workers that go deep first among states of the same f-value."""
+    """Returns the options of four searches with `--ties deep` for each of these numbers of workers."""
     return [{"workers": workers, "ties": "deep", **schedule} for workers in numbers for schedule in [{"simulate": seed} for seed in SEEDS[:3]] + [{}]]
 
 
 class PlannerTest(ProgramTest):
-    """Tests that solve tasks, and check each answer."""
+    """Tests that solve tasks and check each answer."""
 
     def certifies(self, domain, problem, cert, bound):
         """Fails unless the checker accepts the certificate for this bound."""
         self.assertEqual(checked(domain, problem, cert), wanted(f"accepted {bound}"))
 
     def is_cheapest(self, domain, problem, outcome, cost):
-        """Fails unless the outcome is a plan that is valid at this cost, and a certificate that the checker accepts for it."""
+        """Fails unless the outcome is a plan that is valid at this cost, with a certificate that the checker accepts
+        for it."""
         self.assertEqual((outcome.err, outcome.status, sorted(outcome.files)), (b"", 0, ["c", "l"]), outcome)
         kind = "general" if "(:metric" in problem else "unit"
         self.assertEqual(outcome.out.decode().splitlines()[-1], f"; cost = {cost} ({kind} cost)")
@@ -63,13 +67,13 @@ class PlannerTest(ProgramTest):
                 self.is_cheapest(domain, problem, solved(domain, problem, table=table, **options), cost)
 
     def costs(self, domain, problem, cost, table=TABLE):
-        """Fails unless owners in one thread and threads solve the task at this cost, with tables of that size."""
+        """Fails unless simulations and threads solve the task at this cost, with tables of that size."""
         self.costs_by(by_seeds(*WORKERS), domain, problem, cost, table)
         self.costs_by(by_threads(*THREADS), domain, problem, cost, table)
         self.costs_by(deep_by(*WORKERS), domain, problem, cost, table)
 
     def unsolvable(self, domain, problem):
-        """Fails unless owners in one thread and threads find that the task has no plan, with a certificate of that."""
+        """Fails unless simulations and threads find that the task has no plan, with a certificate of that."""
         for options in by_seeds(*WORKERS) + by_threads(*THREADS) + deep_by(*WORKERS):
             with self.subTest(problem=problem, **options):
                 outcome = solved(domain, problem, table=TABLE, **options)
@@ -103,7 +107,7 @@ ANOMALY = """(define (problem anomaly) (:domain blocks)
  (:goal (and (on a b) (on b c))))
 """
 
-# A tower that is to stand the other way round.
+# A tower that is to be reversed.
 REVERSAL = """(define (problem reversal) (:domain blocks)
  (:objects a b c)
  (:init (on a b) (on b c) (on-table c) (clear a) (empty))
@@ -112,18 +116,18 @@ REVERSAL = """(define (problem reversal) (:domain blocks)
 
 
 class Blocks(PlannerTest):
-    """Three blocks, which are to form another tower."""
+    """Three blocks to be stacked in another order."""
 
     def test_anomaly(self):
-        # c must be off a before a goes on b, and b on c before that: three blocks move, and each is taken and laid down.
+        # c must be off a before a goes on b, and b on c before that: three moves of a block, each of two steps.
         self.costs(BLOCKS, ANOMALY, 6)
 
     def test_reversal(self):
-        # a must go to the table, b onto a, and c, which stands on the table, onto b: three moves of a block, each of two steps.
+        # a must go to the table, b onto a, and c from the table onto b: three moves of a block, each of two steps.
         self.costs(BLOCKS, REVERSAL, 6)
 
 
-# Nobody leaves before it is dark in the hall, and a lamp is switched off where it is.
+# One leaves only if the lamp of the hall is off. A lamp is switched off from its room.
 LAMPS = """(define (domain lamps)
  (:requirements :typing :negative-preconditions)
  (:types room)
@@ -203,7 +207,7 @@ SIX_MOVES = """(define (problem far) (:domain tiles)
  (:goal (and (at one a) (at two b) (at three d))))
 """
 
-# The goal with tiles one and two exchanged.
+# The goal with tiles one and two swapped.
 SWAPPED = """(define (problem swapped) (:domain tiles)
  (:init (next a b) (next b c) (next c d) (next d a) (next b a) (next c b) (next d c) (next a d)
   (at two a) (at one b) (blank c) (at three d))
@@ -212,15 +216,15 @@ SWAPPED = """(define (problem swapped) (:domain tiles)
 
 
 class Tiles(PlannerTest):
-    """Three tiles on four cells in a square, a and b above d and c. Around the square the tiles keep their cyclic order, so 12 of the 24
-    placements can be reached, and the blank leads through them in a cycle."""
+    """Three tiles on four cells in a square, a and b above d and c. Around the square the tiles keep their cyclic
+    order, so 12 of the 24 placements can be reached; moving the blank around the square visits them in a cycle."""
 
     def test_moves(self):
-        # The tile one goes up, and three to the left: the blank goes half round the square.
+        # The tile one moves up, and three to the left: the blank moves halfway around the square.
         self.costs(TILES, TWO_MOVES, 2)
-        # The blank goes once and a half round the square, one way or the other: half of the cycle.
+        # The blank moves one and a half times around the square, in either direction: half of the cycle.
         self.costs(TILES, SIX_MOVES, 6)
 
     def test_swapped_tiles(self):
-        # Round the square the order is two, one, three, and the goal's is one, two, three.
+        # Around the square the order is two, one, three, and the goal's is one, two, three.
         self.unsolvable(TILES, SWAPPED)

@@ -1,8 +1,8 @@
-"""Ways over a river and over a bridge."""
+"""Crossings of a river and of a bridge."""
 
 from test_planner import PlannerTest
 
-# A man with a boat for himself and one thing more. Without him the wolf eats the goat, and the goat the cabbage.
+# A man has a boat for himself and one thing more. Without him the wolf eats the goat, and the goat the cabbage.
 RIVER = """(define (domain river)
  (:requirements :typing :negative-preconditions :equality)
  (:types thing bank)
@@ -72,20 +72,21 @@ FOUR_PERSONS = """(define (problem four) (:domain bridge)
 
 
 class River(PlannerTest):
-    """A wolf, a goat and a cabbage, which are to be taken to the other bank."""
+    """A wolf, a goat and a cabbage, to be taken to the other bank."""
 
     def test_river(self):
-        # The goat goes over first, and back again when the second thing is there, so it goes over twice: four ways there, three back.
+        # The goat crosses first, goes back when the second thing is there, and crosses again: four crossings there,
+        # three back.
         self.costs(RIVER, WOLF_GOAT_CABBAGE, 7)
 
 
 class Bridge(PlannerTest):
-    """Persons with one torch, who are to cross a bridge."""
+    """Persons with one torch, who cross a bridge."""
 
     def test_two_or_three_persons(self):
         # Both together.
         self.costs(BRIDGE, TWO_PERSONS, 2)
-        # 1 leads the others over one after the other: 2 + 1 + 5.
+        # 1 crosses with each of the others in turn: 2 + 1 + 5.
         self.costs(BRIDGE, THREE_PERSONS, 8)
 
     def test_four_persons(self):

@@ -18,7 +18,7 @@ FOUR_CELLS = """(define (problem four) (:domain visit-all)
  (:goal (and (visited a1) (visited a2) (visited b1) (visited b2))))
 """
 
-# From the corner row by row, through each other cell once: 8 moves.
+# From the corner row by row, to each other cell once: 8 moves.
 NINE_CELLS = """(define (problem nine) (:domain visit-all)
  (:objects a1 a2 a3 b1 b2 b3 c1 c2 c3 - cell)
  (:init (here a1) (visited a1)
@@ -32,7 +32,7 @@ NINE_CELLS = """(define (problem nine) (:domain visit-all)
   (visited c1) (visited c2) (visited c3))))
 """
 
-# Passages lead in one direction only.
+# Passages have one direction.
 MAZE = """(define (domain maze)
  (:requirements :typing :action-costs)
  (:types gate hall - place)
@@ -52,7 +52,7 @@ FIVE_WAYS = """(define (problem five) (:domain maze)
 """
 
 
-# The greatest number of abstract states of a table where the command line says none.
+# The default greatest number of abstract states of a table.
 DEFAULT_TABLE = 100_000
 
 
@@ -60,7 +60,7 @@ class VisitAll(PlannerTest):
     """Each cell of a grid is to be visited."""
 
     def test_four_cells(self):
-        # Round the square, each other cell once.
+        # Around the square, each other cell once.
         self.costs(VISIT_ALL, FOUR_CELLS, 3)
 
     def test_nine_cells_with_one_worker(self):

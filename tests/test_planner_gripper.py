@@ -35,8 +35,8 @@ THREE_BALLS = """(define (problem three) (:domain gripper)
  (:goal (and (at x q) (at y q) (at z q))))
 """
 
-# For each seed from 0 on the checksum of the plan and the certificate that three workers give for three balls. The order of a search is
-# part of what a seed stands for: a change of how states are kept or looked up changes none of these.
+# For each seed from 0 on, the checksum of the plan and the certificate of three workers for three balls. A seed
+# determines the order of the search: a change in how states are stored or looked up changes none of these.
 CHECKSUMS = [
     0xef81f7e9179daee9, 0x21f6d9fc20ab3554, 0x2f346492018b7500, 0xb94a06c2e0f6d156, 0xb9f22fcbf16bcb10,
     0x2eb4bca01be6aaf6, 0x3d5053886fd2b32b, 0x5594e97a7f935091, 0x8b1628873f30f394, 0xc8394438c367439f,
@@ -60,12 +60,12 @@ CHECKSUMS = [
     0xbd618ebcf5bf8e4d, 0xed18858952717180, 0x9f4cfddcfd1028eb, 0x25c352ff0c5ab0f2, 0x3fb0a6d77e8a7396,
 ]
 
-# The tables' size with which the program solves where no other is asked for.
+# The default greatest number of abstract states of a table.
 TABLE = 100_000
 
 
 def checksum(text):
-    """The checksum of a text (FNV-1a: Fowler, Noll and Vo 1991)."""
+    """Returns the checksum of a text (FNV-1a: Fowler, Noll and Vo 1991)."""
     total = 0xCBF29CE484222325
     for byte in text:
         total = (total ^ byte) * 0x100000001B3 % 2**64
@@ -82,7 +82,7 @@ class Gripper(PlannerTest):
         self.costs(DOMAIN, TWO_BALLS, 5)
 
     def test_three_balls(self):
-        # A pick and a drop each; with two hands two ways there, and one back.
+        # A pick and a drop each; with two hands two moves there, and one back.
         self.costs(DOMAIN, THREE_BALLS, 9)
 
     def test_a_seed_gives_the_same_answer_as_ever(self):
@@ -90,8 +90,8 @@ class Gripper(PlannerTest):
             with self.subTest(seed=seed):
                 outcome = solved(DOMAIN, THREE_BALLS, simulate=seed, workers=3, table=TABLE)
                 self.assertEqual((outcome.err, outcome.status, outcome.files["l"]), (b"", 0, outcome.out))
-                # The certificate's checksum goes on from that of the plan. It is of version 1, from which a certificate without domain
-                # abstractions differs in its first line alone.
+                # The checksum is of the plan followed by the certificate as version 1, from which a certificate without
+                # domain abstractions differs only in its first line.
                 version, rest = outcome.files["c"].split(b"\n", 1)
                 self.assertEqual(version, b"optplan-cert 2")
                 self.assertEqual(checksum(outcome.out + b"optplan-cert 1\n" + rest), wanted_checksum)

@@ -1,5 +1,6 @@
-"""The towers of Hanoi. Before the largest disc moves, all others must be on the third peg, so n discs take twice as many moves as n - 1
-discs, and one more: 2^n - 1."""
+"""The towers of Hanoi. Before the largest disc moves, all others must be on the third peg, so n discs take twice the
+moves of n - 1 discs, and one more: 2^n - 1.
+"""
 
 from test_planner import PlannerTest
 
@@ -42,7 +43,7 @@ FOUR_DISCS = """(define (problem four) (:domain hanoi)
  (:goal (and (on one two) (on two three) (on three four) (on four c))))
 """
 
-# The greatest number of abstract states of a table for the higher towers, chosen so that a test takes seconds.
+# The greatest number of abstract states of a table for the higher towers, small so that a test takes seconds.
 SMALL_TABLE = 7
 
 

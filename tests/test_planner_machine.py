@@ -1,4 +1,4 @@
-"""The machine of owners: by many seeds, with nothing to do, within limits and with small tables."""
+"""Simulations: with many seeds, with nothing to do, with limits and with small tables."""
 
 from program import Outcome, ProgramTest, checked, wanted
 from test_planner import PlannerTest, solved
@@ -7,7 +7,7 @@ from texts import DRIVE_DOMAIN, DRIVE_PROBLEM, GRIP_DOMAIN, GRIP_PROBLEM, ROAD_D
 # The plan over b, which is cheaper by 1 than the direct one.
 DRIVE_PLAN = b"(go a b)\n(go b c)\n; cost = 7 (general cost)\n"
 
-# The goal holds at the beginning, and the one road leads from a to a.
+# The goal holds at the beginning, and the only road goes from a to a.
 ROAD_NOWHERE = """(define (problem nowhere) (:domain road)
  (:objects a - loc)
  (:init (at a) (road a a))
@@ -29,12 +29,13 @@ end
 
 
 class ManySeedsTest(ProgramTest):
-    """Tests of one answer for many seeds."""
+    """Tests of one answer with many seeds."""
 
     SEEDS = range(1000)
 
     def drives(self, workers):
-        """Fails for each seed by which the plan is another. A certificate that equals the previous seed's is not checked again."""
+        """Fails for each seed with another plan. A certificate that equals that of the previous seed is not checked
+        again."""
         previous = None
         for seed in self.SEEDS:
             with self.subTest(seed=seed):
@@ -57,7 +58,7 @@ class Seeds(ManySeedsTest):
 
 
 class Machine(PlannerTest):
-    """Searches at their ends."""
+    """Simulations without steps, with limits and with small tables."""
 
     def test_nothing_to_do(self):
         outcome = solved(ROAD_DOMAIN, ROAD_NOWHERE, simulate=1)
@@ -66,7 +67,8 @@ class Machine(PlannerTest):
         self.certifies(ROAD_DOMAIN, ROAD_NOWHERE, NOWHERE_CERTIFICATE, 0)
 
     def test_limits(self):
-        # No plan from a to c is found within one step, or where the owner may expand one state. Tables of the whole road tell its length.
+        # One step, or one expansion, finds no plan from a to c. Tables of the whole road have its length as the initial
+        # value.
         for option in ({"steps": 1}, {"limit": 1}):
             outcome = solved(ROAD_DOMAIN, ROAD_PROBLEM, simulate=1, workers=1, **option)
             cert = outcome.files.get("c", b"")
@@ -74,8 +76,8 @@ class Machine(PlannerTest):
             self.certifies(ROAD_DOMAIN, ROAD_PROBLEM, cert, 2)
 
     def test_small_tables(self):
-        # Each ball is picked up and dropped, and with one hand there are two ways there and one back: 7. A table of 3 abstract states holds
-        # the places of one ball, so there are two tables, and a column begins with each.
+        # Each ball is picked up and dropped, and with one hand there are two moves there and one back: 7. A table of 3
+        # abstract states is over one ball, so there are two tables, and a column begins with each.
         outcome = solved(GRIP_DOMAIN, GRIP_PROBLEM, simulate=1, table=3)
         self.is_cheapest(GRIP_DOMAIN, GRIP_PROBLEM, outcome, 7)
         lines = outcome.files["c"].decode().splitlines()

@@ -1,4 +1,5 @@
-"""Many seeds of schedules with three and four workers."""
+"""Many seeds with three and four workers: apart from `test_planner_machine.py`, so that both modules run at the same
+time."""
 
 from test_planner_machine import ManySeedsTest
 

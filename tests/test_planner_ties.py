@@ -6,11 +6,11 @@ from texts import DRIVE_DOMAIN, DRIVE_PROBLEM
 
 
 def operator(name, old, new):
-    """An operator of a finite-domain task of one variable."""
+    """Returns an operator of a finite-domain task of one variable."""
     return f"begin_operator\n{name}\n0\n1\n0 0 {old} {new}\n1\nend_operator\n"
 
 
-# From 0 there are ways to 1, 2, 3, 4 and 5, and from 5 one to 6, the goal: each costs 1.
+# Operators from 0 to 1, 2, 3, 4 and 5, and from 5 to 6, the goal: each costs 1.
 FIVE_WAYS = (
     "begin_version\n3\nend_version\nbegin_metric\n0\nend_metric\n1\nbegin_variable\nvar0\n-1\n7\n"
     + "".join(f"Atom at({place})\n" for place in range(7))
@@ -25,17 +25,18 @@ class Ties(ProgramTest):
     SCHEDULES = [["--simulate", "1"], ["--simulate", "2"], []]
 
     def limited(self, *words):
-        """The outcome of one worker that expands two states, without tables, so that an f-value is a cost."""
+        """Returns the outcome of one worker that may expand two states, without tables, so that an f-value is a
+        cost."""
         return run("solve-sas", "s", "--workers", "1", "--table", "1", "--limit", "2", *words, files={"s": FIVE_WAYS})
 
     def test_shallow(self):
-        # The states 1 to 5 are reached at cost 1, and 1, from which no way leads, is the first of them.
+        # The states 1 to 5 are reached at cost 1, and the first of them, 1, has no successor.
         for words in self.SCHEDULES + [[*words, "--ties", "shallow"] for words in self.SCHEDULES]:
             with self.subTest(words=words):
                 self.assertEqual(self.limited(*words), Outcome(out=b"limit 1\n", status=5))
 
     def test_deep(self):
-        # The last of them, 5, leads to the goal.
+        # The goal is a successor of the last of them, 5.
         for words in self.SCHEDULES:
             with self.subTest(words=words):
                 plan = b"(to 5)\n(out)\n; cost = 2 (unit cost)\n"

@@ -104,10 +104,10 @@ TWO_CITIES = """(define (problem far) (:domain logistics)
 
 
 class Transport(PlannerTest):
-    """What is to be carried is taken up, carried and let off."""
+    """Cars, passengers and parcels are loaded, carried and unloaded."""
 
     def test_ferries(self):
-        # Each car boards, is carried and debarks, and between two cars the ferry comes back: 4 n - 1.
+        # Each car boards, is carried and debarks, and between two cars the ferry sails back: 4 n - 1.
         self.costs(FERRY, ONE_CAR, 3)
         self.costs(FERRY, TWO_CARS, 7)
         self.costs(FERRY, THREE_CARS, 11)
@@ -121,5 +121,5 @@ class Transport(PlannerTest):
     def test_parcels(self):
         # The parcel is loaded, carried and unloaded.
         self.costs(LOGISTICS, ONE_CITY, 3)
-        # By truck, plane and truck, each of which is where the parcel comes to: three times three.
+        # By truck, plane and truck, each of which is at the parcel's next place: three times three.
         self.costs(LOGISTICS, TWO_CITIES, 9)

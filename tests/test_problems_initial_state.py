@@ -29,7 +29,7 @@ HEAD_ROWS = [
     (PREDICATE, "(define (problem x) (:init (forall (?x) (p))) (:goal ()))", "F11 Unsupported forall problem 28"),
     (PREDICATE, "(define (problem x) (:init (not p)) (:goal ()))", "F11 Unsupported not problem 28"),
     (PREDICATE, "(define (problem x) (:init (not (zap))) (:goal ()))", "F12 UnknownName problem 33"),
-    # What is denied is not taken away again.
+    # A negated atom does not remove one that is stated.
     (PREDICATE, "(define (problem x) (:init (not (p)) (p)) (:goal (p)))", "valid 0"),
     (PREDICATE, "(define (problem x) (:init (p) (not (p))) (:goal (p)))", "valid 0"),
 ]

@@ -1,4 +1,4 @@
-"""The greatest texts and tables, and those with one item more."""
+"""Texts and tables at their limits, and with one item more."""
 
 from program import ProgramTest, validated
 from texts import ROAD_DOMAIN, ROAD_PROBLEM
@@ -12,7 +12,7 @@ MAX_BYTES = 16_777_216
 
 
 def numbered(before, count, after):
-    """`count` items, each its number, counted from 0, between two texts."""
+    """Returns `count` items, each with its number, counted from 0, between two texts."""
     return "".join(f"{before}{number}{after}" for number in range(count))
 
 
@@ -20,16 +20,16 @@ class Limits(ProgramTest):
     """Tables and texts at their limits."""
 
     def one_more(self, domain, closing, rows):
-        """Fails unless a domain is accepted as it is, and has the answers of rows with one more item at its end."""
+        """Fails unless a domain is accepted as it is, and has the answers of the rows with one more item at its end."""
         self.is_answered(validated(domain + closing, PROBLEM), "valid 0")
         for item, answer in rows:
             self.is_answered(validated(domain + item + closing, PROBLEM), answer, item=item)
 
     def test_five_hundred_and_twelve_predicates(self):
         predicates = numbered("(p", 512, ") ")
-        # What is named `=` is read over.
+        # A predicate named `=` is ignored.
         self.one_more(f"(define (domain x) (:predicates (= ?x) {predicates}", "))", [("(q)", "F18 Limit predicates domain 3513")])
-        # What is no predicate is counted too, and goes first at its place.
+        # A list that is no predicate is counted too, and its own fault is reported first.
         self.one_more(f"(define (domain x) (:predicates {predicates}", "))", [
             ("(q)", "F18 Limit predicates domain 3506"),
             ("(p0)", "F18 Limit predicates domain 3506"),
@@ -43,7 +43,7 @@ class Limits(ProgramTest):
     def test_five_hundred_and_twelve_actions(self):
         actions = numbered("(:action a", 512, ") ")
         self.one_more(f"(define (domain x) {actions}", ")", [("(:action b)", "F18 Limit schemas domain 7589")])
-        # They are counted where the actions are read, behind the types.
+        # They are counted when the actions are read, after the types.
         self.domains_are_answered([(f"(define (domain x) (:types - a) {actions}(:action b))", "F10 Shape domain 27")])
 
     def test_sixteen_parameters(self):
@@ -71,7 +71,7 @@ class Limits(ProgramTest):
 
     def test_four_thousand_and_ninety_six_constants(self):
         names = numbered("o", 4096, " ")
-        # A name that comes again is counted once.
+        # A repeated name is counted once.
         self.one_more(f"(define (domain x) (:constants {names}", "))", [("o0 q", "F18 Limit objects domain 23500")])
 
     def test_constants_and_objects_together(self):
@@ -94,7 +94,7 @@ class Limits(ProgramTest):
         longest = DOMAIN + " " * (MAX_BYTES - len(DOMAIN))
         self.is_answered(validated(longest, PROBLEM), "valid 0")
         self.is_answered(validated(longest + " ", PROBLEM), "F5 TooLong domain")
-        # The length is tested before anything else.
+        # The length is tested first.
         self.is_answered(validated(")" * (MAX_BYTES + 1), ""), "F5 TooLong domain")
 
     def test_problems_of_sixteen_mebibytes(self):
@@ -110,5 +110,5 @@ class Limits(ProgramTest):
         full, over = "(a)" * 1_048_576, "(a)" * 1_048_577
         self.is_answered(validated(ROAD_DOMAIN, ROAD_PROBLEM, full), "no such action 1")
         self.is_answered(validated(ROAD_DOMAIN, ROAD_PROBLEM, over), "F26 PlanLimit plan")
-        # A list that is no step goes first, wherever it stands.
+        # A list that is no step is reported first, wherever it is.
         self.is_answered(validated(ROAD_DOMAIN, ROAD_PROBLEM, over + "()"), "F25 PlanShape plan 3145731")

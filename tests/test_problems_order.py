@@ -3,16 +3,16 @@
 from program import ProgramTest, validated
 
 SECTION_ROWS = [
-    # The heads of all sections go before what stands in them.
+    # Faults of the heads of all sections are reported before those of their contents.
     ("(define (domain x) (:types - a) (:foo))", "F11 Unsupported :foo domain 33"),
-    # Each section has its turn, wherever it stands.
+    # The order of sections is fixed, whatever their order in the text.
     ("(define (domain x) (:types - a) (:requirements x))", "F10 Shape domain 47"),
     ("(define (domain x) (:constants a - no) (:types - a))", "F10 Shape domain 47"),
     ("(define (domain x) (:predicates ()) (:constants a - no))", "F12 UnknownName domain 52"),
     ("(define (domain x) (:functions ()) (:predicates ()))", "F10 Shape domain 48"),
     ("(define (domain x) (:action) (:functions ()))", "F10 Shape domain 41"),
     ("(define (domain x) (:predicates (p ?x - no)) (:types a - a))", "F15 TypeCycle domain 53"),
-    # In one turn the least place decides, and not the number.
+    # Within a section the first place is reported, not the least number of a fault.
     ("(define (domain x) (:types a - a - b))", "F15 TypeCycle domain 27"),
     ("(define (domain x) (:types b - ?c a - a))", "F10 Shape domain 31"),
     ("(define (domain x) (:action a :effect (p)) (:action))", "F12 UnknownName domain 39"),
@@ -21,7 +21,7 @@ SECTION_ROWS = [
 ]
 
 PROBLEM_ROWS = [
-    # The whole domain goes before the problem.
+    # Any fault of the domain is reported before those of the problem.
     ("(define (domain x) (:action))", "(", "F10 Shape domain 19"),
     ("(", "", "F2 Unclosed domain 0"),
     ("(define (domain x))", "(define (problem x) (:goal (q)) (:objects ?x)", "F2 Unclosed problem 0"),
@@ -30,7 +30,7 @@ PROBLEM_ROWS = [
     ("(define (domain x))", "(define (problem x) (:init (q)) (:objects a - no) (:goal ()))", "F12 UnknownName problem 46"),
     ("(define (domain x))", "(define (problem x) (:goal (q)) (:init (r)))", "F12 UnknownName problem 40"),
     ("(define (domain x))", "(define (problem x) (:metric) (:goal (q)))", "F12 UnknownName problem 38"),
-    # Sums of costs come last, and only with the metric.
+    # Sums of costs are tested last, and only with the metric.
     ("(define (domain x)\n"
      " (:action b :effect (and (increase (total-cost) 2147483647) (increase (total-cost) 1))))",
      "(define (problem x) (:metric maximize (total-cost)) (:goal ()))",

@@ -16,7 +16,7 @@ ROWS = [
     (ROAD_PROBLEM, "(-)", "no such action 1"),
     (ROAD_PROBLEM, "(:go a b)", "no such action 1"),
     (ROAD_PROBLEM, "(go a ?y)", "no such action 1"),
-    # Comments, blanks and case are free.
+    # Comments, blanks and case do not matter.
     (ROAD_PROBLEM,
      "; two steps\n"
      "\t( go\r\n"

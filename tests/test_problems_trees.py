@@ -32,7 +32,7 @@ BYTE_ROWS = [
     ("(define (domain x)\0)", "F1 NotAscii domain 18"),
     ("(define (domain é))", "F1 NotAscii domain 16"),
     ("(define (domain x)) \x7f", "F1 NotAscii domain 20"),
-    # A comment holds any bytes, and only a line feed ends it.
+    # A comment may have any bytes, and only a line feed ends it.
     ("(define (domain x)) ; é\0\x7f", "valid 0"),
     ("(define (domain x) ; )\n"
      " )",
@@ -46,7 +46,7 @@ ORDER_ROWS = [
     # An open list is the fault only if nothing else is wrong.
     ("(define (domain x\x01", "F1 NotAscii domain 17"),
     ("(define (domain x)) ) (", "F3 StrayClose domain 20"),
-    # The least place goes first.
+    # The first place is reported.
     ("(define \x01) )", "F1 NotAscii domain 8"),
     (") \x01", "F3 StrayClose domain 0"),
     ("(define) ) x \x01", "F3 StrayClose domain 9"),

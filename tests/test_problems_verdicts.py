@@ -15,18 +15,18 @@ ROAD_PLANS = [
     (ROAD_PROBLEM, "(go a)", "no such action 1"),
     (ROAD_PROBLEM, "(go a b c)", "no such action 1"),
     (ROAD_PROBLEM, "(go a b)(fly b c)", "no such action 2"),
-    # The first step at fault decides.
+    # The first step at fault is reported.
     (ROAD_PROBLEM, "(go a b)(go a b)(fly b c)", "not applicable 2 (at a)"),
     (ROAD_PROBLEM, "(fly b c)(go b c)", "no such action 1"),
     (ROAD_PROBLEM_AT_ITS_GOAL, "", "valid 0"),
-    # What a step deletes and adds holds.
+    # An atom that a step both deletes and adds holds.
     ("(define (problem r6) (:objects a - loc) (:init (at a) (road a a)) (:goal (at a)))", "(go a a)", "valid 1"),
 ]
 
 DRIVE_PLANS = [
     (DRIVE_PROBLEM, "(go a b)(go b c)", "valid 7"),
     (DRIVE_PROBLEM, "(go a c)", "valid 8"),
-    # A cost without a value is the step's fault only under the metric.
+    # A cost without a value is a fault of the step only with the metric.
     (DRIVE_PROBLEM_WITHOUT_A_LENGTH, "(go a b)(go b c)", "no such action 2"),
     ("(define (problem d1) (:objects a b - loc) (:init (at a) (road a b)) (:goal (at b)))", "(go a b)", "valid 1"),
 ]
@@ -82,14 +82,14 @@ VEHICLE_PROBLEM = (
 )
 
 VEHICLE_PLANS = [
-    # A type takes what lies under it, and nothing else; `object` takes everything.
+    # A parameter takes objects of its type and of subtypes; `object` takes all.
     (VEHICLE_PROBLEM, "(go c)", "valid 1"),
     (VEHICLE_PROBLEM, "(go v)", "not applicable 1 (near v depot)"),
     (VEHICLE_PROBLEM, "(go p)", "no such action 1"),
     (VEHICLE_PROBLEM, "(go o)", "no such action 1"),
     (VEHICLE_PROBLEM, "(go depot)", "no such action 1"),
     (VEHICLE_PROBLEM, "(meet depot depot)(meet c c)(go c)", "valid 3"),
-    # Terms that are to be equal are the action's own, and no condition on the state.
+    # An equality determines which ground actions exist, and is no condition on the state.
     (VEHICLE_PROBLEM, "(meet c v)", "no such action 1"),
     # The first literal in the text that does not hold.
     (VEHICLE_PROBLEM, "(go c)(go c)", "not applicable 2 (not (gone c))"),

@@ -1,17 +1,17 @@
-"""`--progress`: lines on standard error that tell how far a search is, and nothing else that differs."""
+"""`--progress`: lines on standard error that report how far a search is, and that nothing else differs."""
 
 import re
 
 from program import ProgramTest, example, run
 from test_threads import HANOI, tower
 
-# So many steps of a search by drawn steps lie between two lines.
+# The number of steps of a simulation between two lines.
 STEPS = 100_000
 
 LINE = re.compile(
     rb"optplan: (\d+) (s|steps), (\d+) expanded, (\d+) kept, least open f (\d+|inf), best cost (\d+|inf)")
 
-# Each of the 3^n states of a tower of n discs can be reached, and without tables a search expands nearly all before the last.
+# All 3^n states of a tower of n discs are reachable, and without tables a search expands nearly all of them.
 DISCS = 10
 
 
@@ -21,7 +21,7 @@ def searched(*words, discs=DISCS):
 
 class ProgressTest(ProgramTest):
     def lines_of(self, outcome, unit):
-        """The numbers of each line of standard error, all of which are reports in this unit."""
+        """Returns the numbers of each line of standard error, all of which are reports in this unit."""
         found = [LINE.fullmatch(it) for it in outcome.err.splitlines()]
         self.assertTrue(all(found), outcome.err)
         self.assertTrue(all(it[2] == unit for it in found), outcome.err)
@@ -41,7 +41,7 @@ class ProgressTest(ProgramTest):
         for steps, expanded, kept, least_open, best in lines:
             self.assertTrue(0 < expanded < steps and 0 < kept <= 3**DISCS)
             self.assertEqual(best, b"inf")
-        # From line to line more is expanded, and nothing that was kept is dropped.
+        # From line to line more nodes are expanded, and no stored state is removed.
         self.assertEqual([it[1] for it in lines], sorted({it[1] for it in lines}))
         self.assertEqual([it[2] for it in lines], sorted(it[2] for it in lines))
 
@@ -52,7 +52,7 @@ class ProgressTest(ProgramTest):
                 self.assertEqual((told.status, len(self.lines_of(told, b"steps"))), (5, count))
 
     def test_the_least_f_value_of_one_owner_never_falls(self):
-        # Without tables the f-value of a state is what the path to it costs.
+        # Without tables the f-value of a state is the cost of the path to it.
         told = searched("--progress", "--workers", "1", "--simulate", "1", discs=11)
         lines = self.lines_of(told, b"steps")
         self.assertTrue(lines)
@@ -67,7 +67,8 @@ class ProgressTest(ProgramTest):
         self.assertTrue(2 <= len(lines) <= 5, told.err)
         self.assertEqual(seconds, sorted(set(seconds)))
         self.assertTrue(1 <= seconds[0] and seconds[-1] <= 5, told.err)
-        # No state of a tower of n discs is more than 2^n - 1 moves from another; and for a moment all that is left may be underway between the two.
+        # No state of a tower of n discs is more than 2^n - 1 moves from another; the least open f is infinite while all
+        # open work is in messages.
         for _, expanded, kept, least_open, best in lines:
             self.assertTrue(0 < expanded and 0 < kept <= 3**14 and (least_open == b"inf" or int(least_open) < 2**14))
             self.assertEqual(best, b"inf")

@@ -1,4 +1,5 @@
-"""The system refuses one call of a run. A share of all growths of memory, and each other call; `refusals.py` refuses all."""
+"""The system refuses one call of a run: one of every 97 growths of memory, and each other call. `refusals.py` refuses
+all."""
 
 import shutil
 import unittest
@@ -6,7 +7,7 @@ import unittest
 from program import ProgramTest, run
 from refusals import KINDS, commands, is_right, refused_in_turn
 
-# Every so-manieth growth is refused.
+# One growth of this many is refused, each in a run of its own.
 STEP = 97
 
 

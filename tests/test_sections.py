@@ -1,4 +1,5 @@
-"""The sections of a domain and of a problem one at a time: the first fault of each, and what a plan costs where there is none."""
+"""The sections of a domain and of a problem one at a time: the first fault of each, and the cost of a plan if there is
+none."""
 
 import re
 
@@ -10,7 +11,7 @@ NAMES = {"Shape": "F10", "Unsupported": "F11", "UnknownName": "F12", "Arity": "F
 
 
 def fault_answer(kind, text, place, file):
-    """The answer for a fault at a place of a file's text: F11 names the word there, F18 the table."""
+    """Returns the answer for a fault at a place of a file's text: F11 names the word there, F18 the table."""
     name, _, table = kind.partition(" ")
     words = [NAMES[name], name]
     if name == "Unsupported":
@@ -21,17 +22,18 @@ def fault_answer(kind, text, place, file):
 
 
 class SectionTest(ProgramTest):
-    """Rows of a section's text, the kind of its first fault or None, and the fault's place, a byte of the section counted from 0."""
+    """Rows of a section's text, the kind of its first fault or None, and the fault's place, a byte of the section
+    counted from 0."""
 
     def domain_sections(self, rows, before="(define (domain x) ", after=")"):
-        """Fails for each row with another answer. The section stands in a domain, between these texts."""
+        """Fails for each row with another answer. The section is in a domain, between these texts."""
         for section, *fault in rows:
             domain = before + section + after
             answer = fault_answer(fault[0], domain, fault[1] + len(before), "domain") if fault[0] else "valid 0"
             self.is_answered(validated(domain, NO_PROBLEM), answer, section=section)
 
     def problem_sections(self, domain, rows, before="(define (problem x) ", after=")"):
-        """Fails for each row with another answer. The section stands in a problem, between these texts."""
+        """Fails for each row with another answer. The section is in a problem, between these texts."""
         for section, *fault in rows:
             problem = before + section + after
             answer = fault_answer(fault[0], problem, fault[1] + len(before), "problem") if fault[0] else "valid 0"
@@ -96,7 +98,7 @@ class DomainSections(SectionTest):
         def objects(count):
             return "(:objects" + "".join(f" o{number} a" for number in range(count)) + ")"
 
-        # The word `a` is a second object, so 4,096 objects stand there, and the 4,097th is o4095.
+        # The word `a` is one object, so there are 4,096 objects, and the 4,097th is o4095.
         self.problem_sections("(define (domain x))", [
             (objects(4095), None),
             (objects(4098), "Limit objects", 31660),
@@ -141,7 +143,8 @@ class DomainSections(SectionTest):
         ])
 
 
-# Behind these an action stands: predicates without and with two parameters, functions without and with one, and a constant.
+# Declarations before an action: predicates with no and two parameters, functions with no and one parameter, and a
+# constant.
 DECLARED = "(define (domain x) (:types t) (:constants c) (:predicates (p) (q ?x ?y)) (:functions (total-cost) (f ?x)) "
 
 
@@ -162,7 +165,7 @@ class Actions(SectionTest):
         ], before=DECLARED)
 
     def test_order_of_keywords(self):
-        # The first of two lists after one keyword counts, and the parameters are known before each other part.
+        # The first of two lists after one keyword counts, and the parameters are read before the other parts.
         self.domain_sections([
             ("(:action b :parameters (?x) :parameters (?y) :effect (q ?x ?y))", "TwiceDeclared", 28),
             ("(:action b :effect (q ?x ?y) :parameters (?x) :parameters (?y))", "UnknownName", 25),
@@ -225,7 +228,7 @@ class Actions(SectionTest):
             ("99999999999.5", "NotWhole", 0),
             ("-0", "CostRange", 0),
             ("-1.0", "CostRange", 0),
-            # What is no number is the name of a function.
+            # A word that is no number is the name of a function.
             ("-5.5", "UnknownName", 0),
             ("1.", "UnknownName", 0),
             (".5", "UnknownName", 0),

@@ -1,5 +1,6 @@
-"""Searches by threads: the worked tasks by few and many workers, links that are full all the time, a search of many states, and searches that
-a limit or their time ends."""
+"""Multi-threaded searches: the worked tasks with few and many workers, links that are always full, a search of many
+states, and searches that a limit or their time ends.
+"""
 
 from program import run
 from test_planner import PlannerTest, solved
@@ -8,15 +9,15 @@ from texts import DRIVE_DOMAIN, DRIVE_PROBLEM, GRIP_DOMAIN, GRIP_PROBLEM, ROAD_D
 
 WORKERS = (1, 2, 4, 64)
 
-# Tasks with the costs of their cheapest plans: two roads; a way around that is shorter; and with one hand two ways there with a ball and one
-# back, and each ball picked up and dropped.
+# Tasks with the costs of their cheapest plans: two roads; a detour that is cheaper; and, with one hand, two moves there
+# and one back, and each ball picked up and dropped.
 TASKS = ((ROAD_DOMAIN, ROAD_PROBLEM, 2), (DRIVE_DOMAIN, DRIVE_PROBLEM, 7), (GRIP_DOMAIN, GRIP_PROBLEM, 7))
 
 SEARCHES = 50
 
 
 def tower(discs):
-    """A tower of this many discs, which is to go from peg a to peg c. The discs are numbered from the smallest on."""
+    """Returns the problem of moving a tower of this many discs from peg a to peg c. Disc 0 is the smallest."""
     names = [f"d{number}" for number in range(discs)]
     places = [(name, below) for number, name in enumerate(names) for below in [*"abc", *names[number + 1:]]]
     fits = " ".join(f"(fits {name} {below})" for name, below in places)
@@ -29,7 +30,7 @@ def tower(discs):
 
 
 class Threads(PlannerTest):
-    """Searches by threads."""
+    """Multi-threaded searches."""
 
     def test_worked_tasks(self):
         for domain, problem, cost in TASKS:
@@ -51,20 +52,22 @@ class Threads(PlannerTest):
         self.is_cheapest(GRIP_DOMAIN, GRIP_PROBLEM, outcome, 7)
 
     def test_many_states(self):
-        # Nine discs stand in 3^9 = 19,683 ways, and without tables nearly all of them cost less than the 2^9 - 1 moves to the goal.
+        # Nine discs have 3^9 = 19,683 states, and without tables nearly all of them cost less than the 2^9 - 1 moves to
+        # the goal.
         problem = tower(9)
         searches = [{"workers": 4, "ring": 1} for _ in range(SEARCHES)]
         self.costs_by(searches, HANOI, problem, 511, table=1)
 
     def is_bounded(self, problem, outcome, cost):
-        """Fails unless the outcome is a bound of at most this cost with no plan, and a certificate that the checker accepts for it."""
+        """Fails unless the outcome is a bound of at most this cost, no plan, and a certificate that the checker accepts
+        for it."""
         self.assertEqual((outcome.err, outcome.status, sorted(outcome.files)), (b"", 5, ["c"]))
         bound = outcome.out.decode().removeprefix("limit ").strip()
         self.assertTrue(0 <= int(bound) <= cost)
         self.certifies(HANOI, problem, outcome.files["c"], bound)
 
     def test_more_states_than_the_limit(self):
-        # Each of four owners has some 5,000 of the states.
+        # Each of four owners has about 5,000 of the states.
         problem = tower(9)
         self.is_bounded(problem, solved(HANOI, problem, workers=4, table=1, limit=100), 511)
 

@@ -1,4 +1,4 @@
-"""The worked laws speak of the texts of examples: `crates/pddl_worked/specs` has them to the byte."""
+"""The laws of `crates/pddl_worked` are about the texts of examples: its definitions have the same bytes."""
 
 import os
 import re
@@ -10,7 +10,8 @@ SPECS = os.path.join(os.path.dirname(EXAMPLES), "crates", "pddl_worked", "specs"
 
 
 def text_of(task, name):
-    """The text that a definition spells: its pieces, with line feeds for `\\n`. The piece `number` is what the definition is given."""
+    """Returns the text that a definition spells: its pieces, with line feeds for `\\n`. The piece `number` is the
+    definition's argument."""
     with open(os.path.join(SPECS, f"{task.capitalize()}.antt"), encoding="utf-8") as file:
         specs = file.read()
     body = re.search(rf"^{name}(?: number)? =(.*?)(?:\n\n|\Z)", specs, re.M | re.S).group(1)

@@ -1,4 +1,4 @@
-"""Texts that the tests of several modules share: planning tasks, finite-domain tasks and certificates."""
+"""Texts that several test modules share: planning tasks, finite-domain tasks and certificates."""
 
 # A step goes along a road, at cost 1.
 ROAD_DOMAIN = """(define (domain road)
@@ -17,7 +17,7 @@ ROAD_PROBLEM = """(define (problem r1) (:domain road)
  (:goal (at c)))
 """
 
-# The roads of `ROAD_PROBLEM`, of which none leads to the goal d.
+# The roads of `ROAD_PROBLEM`, none of which ends at the goal d.
 ROAD_TO_NOWHERE = ROAD_PROBLEM.replace("a b c", "a b c d").replace("(:goal (at c))", "(:goal (at d))")
 
 # The roads of `ROAD_PROBLEM`, with the start as the goal.
@@ -67,7 +67,7 @@ GRIP_DOMAIN = """(define (domain grip)
   :effect (and (in ?b ?r) (free) (not (held ?b)))))
 """
 
-# Two balls that are to go from p to q.
+# Two balls to be carried from p to q.
 GRIP_PROBLEM = """(define (problem g1) (:domain grip) (:objects p q x y)
  (:init (room p) (room q) (ball x) (ball y) (here p) (in x p) (in y p) (free))
  (:goal (and (in x q) (in y q))))
@@ -95,8 +95,8 @@ DRIVE_PROBLEM_WITHOUT_A_LENGTH = """(define (problem d1) (:domain drive)
 
 
 def noop_domain(increases):
-    """A domain in upper case, whose one action adds (p) and has these increases. Its name is at byte 72, and the first number at byte 132,
-    counted from 0."""
+    """Returns a domain in upper case, whose one action adds (p) and has these increases. Its name is at byte 72, and
+    the first number at byte 132, counted from 0."""
     return ("(DEFINE (DOMAIN N) (:PREDICATES (P)) (:FUNCTIONS (TOTAL-COST)) "
             f"(:ACTION NOOP :PARAMETERS () :EFFECT (AND (P) {increases})))\n")
 

@@ -1,11 +1,11 @@
 #!/usr/bin/env python3
-"""Searches by each number of workers: each of some small tasks is solved by 1 to 64 workers, each in a thread of its own, a number of times.
+"""Solves some small tasks by every number of workers from 1 to 64, each in a thread of its own, several times.
 
     workers.py OPTPLAN [TIMES]
 
-Each answer is judged: the cost of its plan is the one worked out by hand, the plan is valid, and the checker accepts the certificate. TIMES is 20 if it
-is not given. The last line says how many searches there were, and how many were wrong; each of these is printed, and the status is then 1. Takes some
-minutes.
+The plan must be valid and have the cost worked out by hand, and the checker must accept the certificate. TIMES is 20 if
+it is not given. Wrong answers are printed, and the last line is the number of searches and of wrong ones. The status is
+1 if there is one. Takes some minutes.
 """
 
 import concurrent.futures
@@ -21,7 +21,7 @@ WORKERS = range(1, 65)
 
 
 def wrong_plan(domain, problem, outcome, cost):
-    """What is wrong with the answer for a task whose cheapest plans have this cost, or None."""
+    """Returns what is wrong with the answer for a task whose cheapest plans have this cost, or None."""
     if (outcome.err, outcome.status, sorted(outcome.files)) != (b"", 0, ["c", "l"]) or outcome.files["l"] != outcome.out:
         return outcome
     if validated(domain, problem, outcome.out) != wanted(f"valid {cost}"):
@@ -30,13 +30,13 @@ def wrong_plan(domain, problem, outcome, cost):
 
 
 def wrong_bound(domain, problem, outcome, bound):
-    """What is wrong with the certificate of an answer for this bound, or None."""
+    """Returns what is wrong with the certificate of an answer for this bound, or None."""
     verdict = checked(domain, problem, outcome.files.get("c", b""))
     return None if verdict == wanted(f"accepted {bound}") else verdict
 
 
 def wrong_answer(search):
-    """What is wrong with the answer of a search, or None."""
+    """Returns what is wrong with the answer of a search, or None."""
     (domain, problem, cost), workers, ring = search
     outcome = solved(domain, problem, workers=workers, ring=ring)
     if cost is not None:
@@ -47,7 +47,8 @@ def wrong_answer(search):
 
 
 def searches(times):
-    """Each task with each number of workers, this many times, with links that have room for one message and for many in turn."""
+    """Yields each task with each number of workers, `times` times, alternately with links for one message and for
+    64."""
     for task in (*TASKS, (ROAD_DOMAIN, ROAD_TO_NOWHERE, None)):
         for workers in WORKERS:
             for number in range(times):

@@ -47,6 +47,8 @@ impl<'a, S: Spread + Drop, F: StateForm + Drop> Model for RoundEnd<'a, S, F> {
 /// that any of them has offered so far. If a thread cannot be made, its worker takes one turn in the caller's thread
 /// and the round ends.
 ///
+/// The contract states neither that the gate is asked before each turn nor when the turns end.
+///
 /// Fails if allocation fails, also in a worker; then the workers are lost. Any other fault of a worker is in the
 /// result.
 pub fn round<

@@ -261,7 +261,8 @@ impl<'a, S: Spread + Drop, F: StateForm + Drop> World<'a, S, F> {
 
     /// Returns the world after these steps, from the start. If one of them asks an owner for more nodes than its limit
     /// allows, it returns the world before that step, and no later step is done. Fails with `TotalTooLarge` if a step
-    /// does, or if allocation fails.
+    /// does (the contract states this of some world after the steps before it, not of this one), or if allocation
+    /// fails.
     pub fn run(
         alloc: Global,
         space: &'a Space<'a, S>,

@@ -17,7 +17,7 @@ pub enum Status {
     Rejected,
     /// There is no plan.
     Unsolvable,
-    /// A search reached a limit.
+    /// A search was stopped before it found a cheapest plan or that there is none.
     Limited,
     /// Memory ran out.
     OutOfMemory,

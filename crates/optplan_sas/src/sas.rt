@@ -127,11 +127,12 @@ fn answer_texts(alloc: Global, task: &FdrTask, found: Found) -> Result<SasAnswer
 
 /// Returns the answer for the task that the text spells, after these steps of a world of owners, with a certificate
 /// that the checker accepts if its text has at most 2^30 bytes: a cheapest plan, or that there is none; `Limit` with a
-/// bound and the best plan so far if the owners are not settled. Stops before the first step that asks an owner for
-/// more nodes than its limit allows.
+/// bound below which no plan costs, and possibly a plan, if the owners are not settled. Stops before the first step
+/// that asks an owner for more nodes than its limit allows.
 ///
 /// Fails with the first fault of the text, with `TotalTooLarge` if a path would have a cost or a number of operators
-/// above 2^62, or if allocation fails.
+/// above 2^62, or if allocation fails. The contract states neither that these steps were done nor the causes of `Limit`
+/// and `TotalTooLarge`.
 pub fn solve_sas_steps<R: AllocGlobal + Threads + Sync>(
     rt: &R,
     sas: &[u8],
@@ -149,8 +150,8 @@ pub fn solve_sas_steps<R: AllocGlobal + Threads + Sync>(
 
 /// Returns the answer for the task that the text spells, after random steps from the seed, at most as many as the
 /// options allow: each is the step whose number is the next output of Xoshiro256++ modulo the number of steps that
-/// would change something. The guarantees are those of `solve_sas_steps` for these steps. Reports progress to the
-/// observer.
+/// would change something. The contract states of the task what that of `solve_sas_steps` does, and not that these
+/// steps were done. Reports progress to the observer.
 pub fn simulate_sas<R: AllocGlobal + Threads + Sync, O: Observer>(
     rt: &R,
     sas: &[u8],
@@ -170,12 +171,13 @@ pub fn simulate_sas<R: AllocGlobal + Threads + Sync, O: Observer>(
 
 /// Returns the answer for the task that the text spells, by the chosen number of workers, each in a thread of its own,
 /// with a certificate that the checker accepts if its text has at most 2^30 bytes: a cheapest plan, or that there is
-/// none; `Limit` with a bound and the best plan so far if one of the owners reached its limit, or the gate ended the
-/// search, before they were settled.
+/// none; `Limit` with a bound below which no plan costs, and possibly a plan, if the search ended before the owners
+/// were settled, by an owner's limit or by the gate.
 ///
 /// Fails with the first fault of the text, with `TotalTooLarge` if a path would have a cost or a number of operators
-/// above 2^62, with `Gate` if the gate makes the search fail, or if allocation fails. Termination is not guaranteed: an
-/// unfair scheduler may keep every worker from making progress.
+/// above 2^62, with `Gate` if the gate makes the search fail, or if allocation fails. The contract does not state the
+/// causes of `Limit` and `TotalTooLarge`. Termination is not guaranteed: an unfair scheduler may keep every worker from
+/// making progress.
 pub fn solve_sas<R: Threads + Wait + Clock + Sync + AllocGlobal, G: Gate + Sync>(
     rt: &R,
     sas: &[u8],

@@ -65,6 +65,7 @@ impl<'a, S: Spread + Drop, F: StateForm + Drop> Worker<'a, S, F> {
     /// is known to be left); reads the bound; expands at most one node; adds the messages that this put into outboxes
     /// to the units and subtracts those that it has taken; offers its best goal; sends at most one message over each
     /// link; and stops counting among the units if it comes to rest. A message that is not for its owner ends the turn.
+    /// The contract fixes the worker and what its seat knows afterwards, not the order of these steps.
     ///
     /// A fault leaves the worker as it was after it read the bound; if memory ran out for a message, the worker holds
     /// it and it still counts as pending. A caller that continues after a fault calls `count_taken` first.
