@@ -10,19 +10,19 @@ use cost::Dist;
 use std::alloc::{AllocError, Global};
 use std::process::Abort;
 
-const K1: &[u8] =
+const CLOSED_STATES: &[u8] =
     b"optplan-cert 1\npddl\nbound 2\natoms 5\nat a\nat b\nat c\nroad a b\nroad b c\nvars 1\n0 3 0 1 2\ncolumns 0\nclosed 2\n0 0\n1 1\nend\n";
 
-const K2: &[u8] =
+const ONE_TABLE: &[u8] =
     b"optplan-cert 1\npddl\nbound 2\natoms 5\nat a\nat b\nat c\nroad a b\nroad b c\nvars 1\n0 3 0 1 2\ncolumns 1\ncolumn 1\ntable 1 0\nshares 2 0 1 1 1\nvalues 3 2 1 0\nclosed 0\nend\n";
 
-const K3: &[u8] = b"optplan-cert 1\nsas\nbound 2\ncolumns 0\nclosed 2\n0 0\n1 1\nend\n";
+const FINITE_DOMAIN: &[u8] = b"optplan-cert 1\nsas\nbound 2\ncolumns 0\nclosed 2\n0 0\n1 1\nend\n";
 
-const K4: &[u8] =
+const ONE_DOMAIN_TABLE: &[u8] =
     b"optplan-cert 2\npddl\nbound 4\natoms 6\nat a\nat b\nat c\nroad a b\nroad a c\nroad b c\nvars 1\n0 3 0 1 2\ncolumns 1\ncolumn 1\ndomain 1\n0 3 0 0 1\nshares 2 1 4 2 4\nvalues 2 4 0\nclosed 0\nend\n";
 
 /// A pattern database and a table of a domain abstraction in one column.
-const K5: &[u8] =
+const TWO_KINDS_OF_TABLE: &[u8] =
     b"optplan-cert 2\nsas\nbound 2\ncolumns 1\ncolumn 2\ntable 1 3\nshares 0\nvalues 1 0\ndomain 2\n3 2 0 0\n5 3 0 1 1\nshares 0\nvalues 2 0 inf\nclosed 0\nend\n";
 
 /// Returns the text with a line replaced by other bytes. Lines are counted from 1.
@@ -137,11 +137,11 @@ fn is_read(alloc: Global, text: &[u8], bound: u64, states: usize) -> bool {
 
 #[test]
 fn reads_and_writes_again(rt: HostRuntime) {
-    assert!(rt; is_read(rt.alloc(), K1, 2, 2));
-    assert!(rt; is_read(rt.alloc(), K2, 2, 0));
-    assert!(rt; is_read(rt.alloc(), K3, 2, 2));
-    assert!(rt; is_read(rt.alloc(), K4, 4, 0));
-    assert!(rt; is_read(rt.alloc(), K5, 2, 0));
+    assert!(rt; is_read(rt.alloc(), CLOSED_STATES, 2, 2));
+    assert!(rt; is_read(rt.alloc(), ONE_TABLE, 2, 0));
+    assert!(rt; is_read(rt.alloc(), FINITE_DOMAIN, 2, 2));
+    assert!(rt; is_read(rt.alloc(), ONE_DOMAIN_TABLE, 4, 0));
+    assert!(rt; is_read(rt.alloc(), TWO_KINDS_OF_TABLE, 2, 0));
 }
 
 /// Checks that each proper prefix of the text is truncated.
@@ -154,11 +154,11 @@ fn has_truncated_fronts(rt: &impl Abort, alloc: Global, text: &[u8]) {
 
 #[test]
 fn every_front_is_truncated(rt: HostRuntime) {
-    has_truncated_fronts(&rt, rt.alloc(), K1);
-    has_truncated_fronts(&rt, rt.alloc(), K2);
-    has_truncated_fronts(&rt, rt.alloc(), K3);
-    has_truncated_fronts(&rt, rt.alloc(), K4);
-    has_truncated_fronts(&rt, rt.alloc(), K5);
+    has_truncated_fronts(&rt, rt.alloc(), CLOSED_STATES);
+    has_truncated_fronts(&rt, rt.alloc(), ONE_TABLE);
+    has_truncated_fronts(&rt, rt.alloc(), FINITE_DOMAIN);
+    has_truncated_fronts(&rt, rt.alloc(), ONE_DOMAIN_TABLE);
+    has_truncated_fronts(&rt, rt.alloc(), TWO_KINDS_OF_TABLE);
 }
 
 /// Rows of the lines before the atoms.
@@ -174,7 +174,7 @@ const HEADS: &[&[u8]] = &[
 
 #[test]
 fn heads(rt: HostRuntime) {
-    have_faults(&rt, rt.alloc(), K1, HEADS);
+    have_faults(&rt, rt.alloc(), CLOSED_STATES, HEADS);
 }
 
 /// Rows of the lines of atoms and variables.
@@ -195,7 +195,7 @@ const ATOMS_AND_VARIABLES: &[&[u8]] = &[
 
 #[test]
 fn atoms_and_variables(rt: HostRuntime) {
-    have_faults(&rt, rt.alloc(), K1, ATOMS_AND_VARIABLES);
+    have_faults(&rt, rt.alloc(), CLOSED_STATES, ATOMS_AND_VARIABLES);
 }
 
 /// Rows of the lines of columns and tables.
@@ -221,7 +221,7 @@ const TABLES: &[&[u8]] = &[
 
 #[test]
 fn tables(rt: HostRuntime) {
-    have_faults(&rt, rt.alloc(), K2, TABLES);
+    have_faults(&rt, rt.alloc(), ONE_TABLE, TABLES);
 }
 
 /// Rows of the lines of a domain abstraction with one row.
@@ -252,8 +252,8 @@ const SECOND_ROWS: &[&[u8]] = &[
 
 #[test]
 fn domains(rt: HostRuntime) {
-    have_faults(&rt, rt.alloc(), K4, DOMAINS);
-    have_faults(&rt, rt.alloc(), K5, SECOND_ROWS);
+    have_faults(&rt, rt.alloc(), ONE_DOMAIN_TABLE, DOMAINS);
+    have_faults(&rt, rt.alloc(), TWO_KINDS_OF_TABLE, SECOND_ROWS);
 }
 
 /// Rows of the lines of states, and of the last line.
@@ -274,7 +274,7 @@ const STATES: &[&[u8]] = &[
 
 #[test]
 fn states(rt: HostRuntime) {
-    have_faults(&rt, rt.alloc(), K1, STATES);
+    have_faults(&rt, rt.alloc(), CLOSED_STATES, STATES);
 }
 
 /// Returns the fault of a text with another appended.
@@ -286,11 +286,11 @@ fn fault_behind(rt: &impl Abort, alloc: Global, text: &[u8], more: &[u8]) -> Opt
 
 /// Texts, others that are appended to them, and the line at which each is trailing.
 const BEHIND: &[(&[u8], &[u8], usize)] = &[
-    (K1, b"x", 17),
-    (K1, b"\n", 17),
-    (K1, b"x\ny\n", 17),
-    (K3, b" ", 9),
-    (K4, b"x", 21),
+    (CLOSED_STATES, b"x", 17),
+    (CLOSED_STATES, b"\n", 17),
+    (CLOSED_STATES, b"x\ny\n", 17),
+    (FINITE_DOMAIN, b" ", 9),
+    (ONE_DOMAIN_TABLE, b"x", 21),
 ];
 
 #[test]
