@@ -24,7 +24,7 @@ value_of d i = i / d.weight % d.range
 abbrev pub with_value : Digit → ℕ → ℕ → ℕ
 with_value d i x = i - value_of d i * d.weight + x * d.weight
 
--- the abstract state with the value of the fact, if the pattern has its variable, and else the same
+-- the abstract state with the value of the fact, if the pattern has its variable, otherwise the same
 abbrev pub with_fact : List ℕ → List ℕ → ℕ → Fact → ℕ
 with_fact ranges pattern i f = option_map_or (λ d. with_value d i f.value) (digit_of ranges pattern f.variable) i
 

@@ -76,7 +76,7 @@ pub record Projection : Type 0 where
   pub exist : AllExist (ranges task) pattern
   pub small : size_of (ranges task) pattern ≤ 2 ^ 24
 
--- the first index in the pattern whose variable does not exist; else too many abstract states
+-- the first index in the pattern whose variable does not exist; otherwise too many abstract states
 abbrev pub IsFaultOf : FiniteDomainTask → List ℕ → ProjectionFault → Type 0
 IsFaultOf task pattern OutOfMemory = Unit {0}
 IsFaultOf task pattern (UnknownVariable k) =

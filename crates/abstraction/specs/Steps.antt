@@ -7,13 +7,13 @@ use Rattle.std.proofs.lemmas.Bool.{cases_eq}
 use Rattle.fdr.specs.declared.fact.Fact.{Fact}
 use Rattle.fdr.specs.Tasks.{FiniteDomainTask, Operator, ranges, IsTask, IsState, IsOperator, IsInRange, applies, successor, with_values, step, state_after, LeadsToGoal, is_goal_state}
 
--- what holds of each element holds of the element at an index
+-- a property of all elements is one of the element at each index
 pub found : {X : Type 0} (P : X → Type 0) (xs : List X) (i : ℕ) → All P xs → IfSome (slice_get xs i) P
 found P [] i all = tt
 found P (x ∷ xs) zero all = All-head P x xs all
 found P (x ∷ xs) (suc i) all = found P xs i (All-tail P x xs all)
 
--- what holds of the value of an option, if there is one, holds of this value
+-- a property of the value of an option, if there is one, is a property of this value
 pub at_some : {X : Type 0} (P : X → Type 0) (r : Option X) (x : X) → r ≡ Some x → IfSome r P → P x
 at_some P r x e h = rw e at h
 

@@ -2,13 +2,12 @@
 
 use std::alloc::AllocError;
 
-/// Why a pattern has no projection.
+/// The reason why a pattern has no projection.
 #[derive(Clone, Copy, Debug, PartialEq, Eq)]
 pub enum ProjectionFault {
-    /// Memory ran out.
+    /// Allocation failed.
     OutOfMemory,
-    /// The pattern names a variable that the task does not have. The number is the first such index in the pattern,
-    /// counted from 0.
+    /// The task lacks the variable at this index of the pattern, and none at an index before it.
     UnknownVariable(usize),
     /// The projection has more than 2^24 abstract states.
     TableTooLarge,

@@ -55,7 +55,7 @@ impl<'a> Model for Projection<'a> {
         (p.size ≡ spec.size_of (ranges p.task.now) p.pattern.items) };
 }
 
-/// Returns the first index in the pattern whose variable the task does not have, counted from 0.
+/// Returns the first index in the pattern whose variable the task does not have.
 fn first_unknown(task: &FdrTask, pattern: &[usize]) -> Option<usize>
     ensures unknown { IfSome result (λ k. IsFaultOf task.now pattern.now (ProjectionFault.UnknownVariable k)) }
     ensures exist { IfNone result (AllExist (ranges task.now) pattern.now) }
@@ -148,9 +148,9 @@ pub fn projected_index(task: &FdrTask, pattern: &[usize], digits: &[Digit], stat
 }
 
 impl<'a> Projection<'a> {
-    /// Makes the projection of the task to the pattern, whose variables must be strictly increasing.
+    /// Returns the projection of the task to the pattern, whose variables must be strictly increasing.
     ///
-    /// Fails with the first index in the pattern whose variable does not exist; else if there are more than 2^24
+    /// Fails with the first index in the pattern whose variable does not exist; otherwise if there are more than 2^24
     /// abstract states; or if allocation fails.
     pub fn new(
         alloc: Global,
@@ -228,7 +228,7 @@ impl<'a> Projection<'a> {
         facts.iter().all(|fact| self.agrees(abstract_state, *fact))
     }
 
-    /// Returns the abstract state with the value of the fact, if the pattern has its variable, and else the same.
+    /// Returns the abstract state with the value of the fact, if the pattern has its variable, otherwise the same.
     fn with_fact(&self, abstract_state: usize, fact: Fact) -> usize
         requires state { abstract_state < size_of (ranges self.now.task) self.now.pattern }
         requires fact { IsInRange (ranges self.now.task) fact }

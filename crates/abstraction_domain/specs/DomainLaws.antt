@@ -117,7 +117,7 @@ module _ (ranges : List ℕ) where
     class_is_operator op ok =
         record { precondition = class_assignment op.precondition ok.precondition; effect = class_assignment op.effect ok.effect }
 
-    -- what holds of values holds of their classes
+    -- facts that hold for values hold for their classes
     classes_hold : (s : List ℕ) → length s ≡ length ranges → (fs : List Fact) → list_all (holds s) fs ≡ true → list_all (holds (class_state rows s)) (class_facts rows fs) ≡ true
     classes_hold s long [] h = refl
     classes_hold s long (f ∷ fs) h =

@@ -81,8 +81,8 @@ counts_in d = class_counts d.rows (ranges d.task)
 abbrev pub no_row : Row
 no_row = record { variable = 0; classes = [] }
 
--- the first row that does not fit: the task does not have its variable, or that has another number of values; else too
--- many abstract states
+-- the first row that does not fit: the task does not have its variable, or that has another number of values; otherwise
+-- too many abstract states
 abbrev pub IsFaultOf : FiniteDomainTask → List Row → DomainFault → Type 0
 IsFaultOf task rows OutOfMemory = Unit {0}
 IsFaultOf task rows (UnknownVariable k) =

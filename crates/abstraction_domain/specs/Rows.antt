@@ -25,7 +25,8 @@ IsNumberedAt classes k =
 abbrev pub AreNumbered : List ℕ → Type 0
 AreNumbered classes = (k : ℕ) → k < length classes → IsNumberedAt classes k
 
--- the same as a test: each class is at most the number of classes before it, of which there are n
+-- the corresponding test, if `n` classes occur before these: each class is at most the number of classes that occur
+-- before it
 abbrev pub numbered_from : ℕ → List ℕ → Bool
 numbered_from n [] = true
 numbered_from n (c ∷ cs) = nat_le c n && numbered_from (max n (c + 1)) cs
@@ -33,7 +34,7 @@ numbered_from n (c ∷ cs) = nat_le c n && numbered_from (max n (c + 1)) cs
 abbrev pub are_numbered : List ℕ → Bool
 are_numbered classes = numbered_from 0 classes
 
--- the first index whose class is not numbered so
+-- the first index at which the classes are not numbered in this order
 pub record IsFirstMisnumbered (classes : List ℕ) (k : ℕ) : Type 0 where
   pub within : k < length classes
   pub before : (j : ℕ) → j < k → IsNumberedAt classes j

@@ -191,11 +191,11 @@ pub struct ClassDigit {
 }
 
 impl<'a> DomainAbstraction<'a> {
-    /// Makes the domain abstraction of the task by the rows, whose variables must be strictly increasing. It stores a
+    /// Returns the domain abstraction of the task by the rows, whose variables must be strictly increasing. It stores a
     /// copy of the rows.
     ///
-    /// Fails with the index of the first row that does not fit the task: its variable does not exist, or else it does
-    /// not have exactly one class for each of the variable's values; else if there are more than 2^24 abstract states;
+    /// Fails with the index of the first row that does not fit the task: its variable does not exist, or it does not
+    /// have exactly one class for each of the variable's values; otherwise if there are more than 2^24 abstract states;
     /// or if allocation fails.
     pub fn new(
         alloc: Global,
@@ -308,7 +308,7 @@ impl<'a> DomainAbstraction<'a> {
         true
     }
 
-    /// Returns the abstract state with the class of the fact, if its variable has a row, and else the same.
+    /// Returns the abstract state with the class of the fact, if its variable has a row, otherwise the same.
     fn with_fact(&self, abstract_state: usize, fact: Fact) -> usize
         requires state { abstract_state < size_of (counts_in self.now) (variables self.now.rows) }
         requires fact { IsInRange (ranges self.now.task) fact }

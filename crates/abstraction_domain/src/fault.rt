@@ -2,10 +2,10 @@
 
 use std::alloc::AllocError;
 
-/// Why rows of classes have no domain abstraction. Indices are counted from 0.
+/// The reason why rows of classes have no domain abstraction.
 #[derive(Clone, Copy, Debug, PartialEq, Eq)]
 pub enum DomainFault {
-    /// Memory ran out.
+    /// Allocation failed.
     OutOfMemory,
     /// The row at this index is on a variable that the task does not have. Each row before it fits the task.
     UnknownVariable(usize),

@@ -30,7 +30,7 @@ impl Model for ClassRow {
 /// Classes that are not numbered in the order of their first occurrences in their row.
 #[derive(Debug, Drop)]
 pub struct ClassFault {
-    /// The first index whose class neither occurs earlier nor is the least number that does not, counted from 0.
+    /// The first index whose class neither occurs earlier nor is the least number that does not.
     pub place: usize,
     /// The classes that were refused.
     pub classes: Vec<u32>,
@@ -57,7 +57,7 @@ fn counted(classes: &[u32]) -> Result<usize, usize>
 }
 
 impl ClassRow {
-    /// Makes a row of the classes of the values of a variable. It may be empty.
+    /// Returns the row with the classes of the values of a variable. It may be empty.
     ///
     /// Fails with the first index whose class neither occurs earlier in the row nor is the least number that does not,
     /// and returns the classes.

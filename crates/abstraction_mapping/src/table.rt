@@ -93,9 +93,9 @@ fn domain_by<'a>(
 }
 
 impl<'a> TableAbstraction<'a> {
-    /// Makes the abstraction of the task by the mapping. Returns `None` if the task has no such abstraction: the
-    /// variables are not strictly increasing, one of them does not exist, a row does not have exactly one class for
-    /// each value of its variable, or there are more than 2^24 abstract states.
+    /// Returns the abstraction of the task by the mapping, or `None` if the task has no such abstraction: the variables
+    /// are not strictly increasing, one of them does not exist, a row does not have exactly one class for each value of
+    /// its variable, or there are more than 2^24 abstract states.
     pub fn new(
         alloc: Global,
         task: &'a FdrTask,

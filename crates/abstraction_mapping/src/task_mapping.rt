@@ -51,7 +51,7 @@ impl<'a> Model for TaskMapping<'a> {
 }
 
 impl<'a> TaskMapping<'a> {
-    /// Joins a task and a copy of the mapping.
+    /// Returns the mapping as one of the task. The mapping is copied.
     pub fn new(
         alloc: Global,
         task: &'a FdrTask,

@@ -4,7 +4,7 @@ use owner::Owner;
 use packed::StateForm;
 use packed_spread::Spread;
 
-/// Returns the number of nodes that all owners have expanded, at most the greatest `u64`.
+/// Returns the number of nodes that all owners have expanded, capped at `u64::MAX`.
 pub(crate) fn expanded_by<S: Spread + Drop, F: StateForm + Drop>(
     owners: &[Owner<'_, S, F>],
 ) -> u64 {
@@ -15,7 +15,7 @@ pub(crate) fn expanded_by<S: Spread + Drop, F: StateForm + Drop>(
     expansions
 }
 
-/// Returns the number of states that all owners store, at most the greatest `usize`.
+/// Returns the number of states that all owners store, capped at `usize::MAX`.
 pub(crate) fn kept_by<S: Spread + Drop, F: StateForm + Drop>(owners: &[Owner<'_, S, F>]) -> usize {
     let mut kept: usize = 0;
     for owner in owners {

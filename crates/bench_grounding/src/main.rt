@@ -1,5 +1,5 @@
 //! Counts the relaxed reachable atoms and the ground actions of a task, for the benchmark of grounding:
-//! `count_groundings DOMAIN PROBLEM`.
+//! `bench_grounding DOMAIN PROBLEM`.
 #![tactic(auto)]
 
 use bench_input::{status_of, words_of_call};

@@ -16,13 +16,13 @@ use std::thread::Threads;
 /// The greatest number of abstract states of a table.
 pub const MAX_TABLE: usize = 16_777_216;
 
-/// Returns the arguments of the call, the program's own name first. `None` if one of them is not UTF-8, or if
+/// Returns the arguments of the call, the program's own name first, or `None` if one of them is not UTF-8, or if
 /// allocation fails.
 pub fn words_of_call<R: Env + Alloc<A = Global>>(rt: &R) -> Option<Vec<String>> {
     std::env::args(rt).ok()?.collect(rt.alloc()).ok()
 }
 
-/// Returns the task that a file in the form of `output.sas` spells. `None` if the file cannot be read or spells no
+/// Returns the task that a file in the form of `output.sas` spells, or `None` if the file cannot be read or spells no
 /// task, or if allocation fails.
 pub fn task_in<D: Device>(alloc: Global, device: &mut D, path: &str) -> Option<FdrTask> {
     let text = device.read(alloc, path).ok()?;
@@ -45,7 +45,7 @@ pub fn columns_within<'a, R: Threads + Sync>(
     choose_columns(rt, alloc, task, table)
 }
 
-/// Returns the status of a program: 0 if it completed its request, and else 1.
+/// Returns the status of a program: 0 if it completed its request, otherwise 1.
 pub fn status_of(did: bool) -> ExitCode {
     if did {
         ExitCode::from(0)

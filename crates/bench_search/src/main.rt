@@ -1,5 +1,4 @@
-//! Searches a task for a given number of steps, for the benchmark of searches:
-//! `measure_search TASK OWNERS STEPS COLUMNS`.
+//! Searches a task for a given number of steps, for the benchmark of searches: `bench_search TASK OWNERS STEPS TABLE`.
 #![tactic(auto)]
 
 mod alone;

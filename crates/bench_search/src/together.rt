@@ -46,7 +46,7 @@ fn step_times<S: Spread + Drop, F: StateForm + Drop>(
     Ok(times)
 }
 
-/// Returns the number of states that all owners store, at most the greatest `usize`.
+/// Returns the number of states that all owners store, capped at `usize::MAX`.
 fn kept_by<S: Spread + Drop, F: StateForm + Drop>(owners: &[Owner<'_, S, F>]) -> usize {
     let mut kept: usize = 0;
     for owner in owners {

@@ -1,5 +1,5 @@
-//! Makes the pattern databases of a task and evaluates lower bounds, for the benchmark of tables:
-//! `measure_tables TASK LIMIT TIMES`.
+//! Computes the tables of a task and evaluates lower bounds, for the benchmark of tables:
+//! `bench_tables TASK LIMIT TIMES`.
 #![tactic(auto)]
 
 mod states;
@@ -29,7 +29,7 @@ fn greatest_bound(columns: &Columns<'_>, states: &[Vec<u32>], times: usize) -> D
     greatest
 }
 
-/// Returns the number of tables in all columns, at most the greatest `usize`.
+/// Returns the number of tables in all columns, capped at `usize::MAX`.
 fn table_count(columns: &Columns<'_>) -> usize {
     let mut count: usize = 0;
     for column in columns.tables() {

@@ -101,7 +101,7 @@ impl Board {
     }
 
     /// Splits off a seat for another thread, which has seen the same bound, and has offered and added nothing. Each of
-    /// the two seats gets half of the parts, of which there must be at least two.
+    /// the two seats gets half of the parts; there must be at least two.
     pub fn split_seat(&self, seat: &mut Seat) -> Seat
         requires { IsSeatOf self.now seat.old × (2 ≤ (view seat.old).parts) }
         ensures seat { IsSeatOf self.now seat.new × (view seat.new ≡ kept_part (view seat.old)) }

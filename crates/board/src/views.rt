@@ -3,7 +3,7 @@
 use atomic_table::TableRule;
 use cost::Dist;
 
-/// What a seat knows of its board. It is only for proofs: no value of it is made.
+/// What a seat knows of its board. Only for the proof: no value of it is made.
 pub struct View {
     /// The bound that it last read.
     pub seen: Dist,

@@ -1,6 +1,6 @@
-//! The words of a board, of which three are used. All workers read the bound and the flag in each turn, and these
-//! rarely change; the units change in almost every turn. So the units are 128 bytes away from the others, in another
-//! cache line, and reading the bound does not wait for other workers.
+//! The words of a board; three of them are used. All workers read the bound and the flag in each turn, and these rarely
+//! change; the units change in almost every turn. So the units are 128 bytes away from the others, in another cache
+//! line, and reading the bound does not wait for other workers.
 
 ghost use Rattle.std.specs.Prelude.{◌≡◌};
 

@@ -24,7 +24,7 @@ use std::alloc::{AllocError, Global};
 /// is the best cost if the search is settled; its columns are those of the heuristic; its closed list has the states
 /// that the owners expanded at their present ranks, in the lexicographic order of their values.
 ///
-/// It fails no clause, so every plan costs at least its bound. It has a text if its kind has one and there are fewer
+/// It has no violation, so every plan costs at least its bound. It has a text if its kind has one and there are fewer
 /// than 2^32 closed states.
 pub fn cert_of<'a, S: Spread + Drop, F: StateForm + Drop>(
     alloc: Global,

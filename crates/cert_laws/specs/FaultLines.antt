@@ -19,7 +19,7 @@ line_count_of (l ∷ m ∷ ms) = 1 + line_count_of (m ∷ ms)
 abbrev pub line_count : List ℕ → ℕ
 line_count text = line_count_of (pieces 10 text)
 
--- the number of the line, counted from 1; a text that is too long, and one that ends too soon, have none
+-- the number of the line; a text that is too long, and one that ends too soon, have none
 abbrev pub line_of : CertFault → Option ℕ
 line_of fault.OutOfMemory = None
 line_of fault.Header = Some 1

@@ -1,6 +1,6 @@
 //! Laws of the texts of certificates.
 //!
-//! Lines end with line feeds, and are counted from 1; bytes after the last line feed are one more line.
+//! Lines end with line feeds; bytes after the last line feed are one more line.
 
 ghost use Rattle.std.specs.Prelude.{◌≡◌, ◌≢◌, ◌<◌, ◌≤◌, ◌^◌, ◌++◌, ◌∷◌, [], ℕ, List, length, Some, Ok, Err};
 ghost use Rattle.cert_value.specs.Certificates.{CertificateValue};

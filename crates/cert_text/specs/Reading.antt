@@ -33,8 +33,8 @@ abbrev pub ◌>>=◌ : {A B : Type 0} → Result A CertFault → (A → Result B
 
 -- ---- lines
 
--- The pieces between line feeds that remain to be read, and the number of the first of them, counted from 1. The last
--- piece has no line feed after it, so it is not a line.
+-- The pieces between line feeds that remain to be read, and the number of the first of them. The last piece has no line
+-- feed after it, so it is not a line.
 pub record Remaining : Type 0 where
   pub number : ℕ
   pub lines : List (List ℕ)

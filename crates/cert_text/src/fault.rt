@@ -6,14 +6,14 @@ ghost use Rattle.cert_text.specs.declared.fault.CertFault.TheVariants.{OutOfMemo
 use std::alloc::{AllocError, AllocFailed};
 use thiserror::Error;
 
-/// The first fault of a text, or a failed allocation. Lines are counted from 1.
+/// The first fault of a text, or a failed allocation.
 ///
 /// The first fault is the one on the earliest line. On the same line `Truncated` comes first, `Expected` before
 /// `Number`, `Number` before `Order`, and `Order` before `Classes`. `TooLong` comes before the faults of all lines. The
 /// codes are those of `docs/FAULTS.md`.
 #[derive(Clone, Copy, Debug, PartialEq, Eq, Error)]
 pub enum CertFault {
-    /// Memory ran out. This does not depend on the text.
+    /// Allocation failed. This says nothing about the text.
     #[error("out of memory")]
     OutOfMemory,
     /// F50: the first line is neither `optplan-cert 1` nor `optplan-cert 2`.

@@ -278,11 +278,11 @@ fn certificate(alloc: Global, lines: Lines<'_>) -> Result<Certificate, CertFault
 ///
 /// The text is read line by line. Time and memory are linear in the lines that exist, whatever their counts state.
 pub fn read_cert(alloc: Global, bytes: &[u8]) -> Result<Certificate, CertFault>
-    // The text spells the certificate that is returned.
+    // The result is what the text spells.
     ensures found { IfOk result (λ c. IsLawful c × (bytes.now ≡ spelling c)) }
-    // If the text spells a certificate, that certificate is returned, unless allocation fails.
+    // A text that spells a certificate is read, unless allocation fails.
     ensures only { (c : CertificateValue) → IsLawful c → bytes.now ≡ spelling c → length bytes.now ≤ 2 ^ 30 → Gives (λ x. x) result (Ok c) }
-    // The error is the first fault of the text.
+    // An error is the first fault of the text, or that allocation failed.
     ensures fault { Gives (λ x. x) result (certificate_of bytes.now) }
 {
     if bytes.len() > MAX_LENGTH {

@@ -12,8 +12,7 @@ use std::marker::Model;
 pub struct AtomVariable {
     /// Whether the variable has the none value, at which none of its atoms is true.
     pub has_none_value: bool,
-    /// The atoms, by their indices in the list of atoms, counted from 0. They are strictly increasing in a lawful
-    /// certificate.
+    /// The atoms, by their indices in the list of atoms. They are strictly increasing in a lawful certificate.
     pub atoms: Vec<u32>,
 }
 
@@ -69,7 +68,7 @@ impl Model for Certificate {
 impl Certificate {
     ghost use Rattle.cert_value.specs.Views.{kind_of, columns_of};
 
-    /// Makes a certificate from its parts.
+    /// Returns the certificate with these parts.
     pub fn new(
         version: Version,
         kind: CertificateKind,

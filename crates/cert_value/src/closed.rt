@@ -72,7 +72,7 @@ impl ClosedList {
         }
     }
 
-    /// Returns the cost of the state at `index`, counted from 0.
+    /// Returns the cost of the state at `index`.
     pub fn cost(&self, index: usize) -> u64
         requires { index < length self.now }
         ensures { option_map (λ e. e.cost) (slice_get self.now index) ≡ Some result }

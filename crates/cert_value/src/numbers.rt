@@ -6,14 +6,14 @@ ghost use Rattle.std.specs.Cmp.Lexicographic.{pointwise};
 use std::alloc::{AllocError, Global};
 use std::marker::Model;
 
-/// Numbers, of 2 bytes each as long as all are below 2^16, and else of 4.
+/// Numbers, of 2 bytes each as long as all are below 2^16, otherwise of 4.
 #[derive(Drop)]
 enum Kept {
     Short(Vec<u16>),
     Long(Vec<u32>),
 }
 
-/// The values of states, one state after another: 2 bytes each as long as all are below 2^16, and else 4. In contracts
+/// The values of states, one state after another: 2 bytes each as long as all are below 2^16, otherwise 4. In contracts
 /// its value is a list of numbers.
 #[derive(Drop)]
 pub(crate) struct Numbers {

@@ -10,7 +10,7 @@ use std::marker::Model;
 /// The share of an operator's cost that a table has.
 #[derive(Clone, Copy, Debug, PartialEq, Eq)]
 pub struct Share {
-    /// The number of the operator, counted from 0.
+    /// The number of the operator.
     pub operator: u32,
     /// The share, from 1 to 2147483647 in a lawful certificate. An operator that is not listed has the share 0.
     pub amount: u32,

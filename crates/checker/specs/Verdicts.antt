@@ -8,7 +8,7 @@ use Rattle.checker_clauses.specs.Violations.{IsMet, IsFirstViolation, IsHeld, vi
 use Rattle.checker.specs.declared.verdict.Verdict.{Verdict}
 use Rattle.checker.specs.declared.verdict.Verdict.TheVariants.{Accepted, Rejected}
 
--- it is accepted with its bound if it has no violation, and else rejected with its first violation
+-- it is accepted with its bound if it has no violation, otherwise rejected with its first violation
 abbrev pub IsVerdict : FiniteDomainTask → CertificateValue → Verdict → Type 0
 IsVerdict task c (Accepted bound) = (bound ≡ c.bound) × IsHeld task c
 IsVerdict task c (Rejected v) = IsFirstViolation task c v

@@ -10,7 +10,7 @@ use std::alloc::AllocError;
 /// The reason why there is no verdict on the texts of a task and of a certificate.
 #[derive(Clone, Copy, Debug, PartialEq, Eq)]
 pub enum CheckFault {
-    /// Memory ran out. This does not depend on the texts.
+    /// Allocation failed. This says nothing about the texts.
     OutOfMemory,
     /// The text of the task is refused.
     Sas(SasFault),

@@ -29,7 +29,7 @@ fn is_for_finite_domain(kind: &CertificateKind) -> bool
     }
 }
 
-/// The line that states the kind of a certificate, counted from 1.
+/// The line that states the kind of a certificate.
 const KIND_LINE: usize = 2;
 
 /// Reads the certificate for a finite-domain task that the text spells. Fails with the first fault of the text; a

@@ -4,7 +4,7 @@ use checker_clauses::Violation;
 use cost::Dist;
 use std::fmt;
 
-/// The verdict on a certificate for a finite-domain task. It prints as `accepted N`, as `accepted unsolvable`, or as
+/// The verdict on a certificate for a finite-domain task. Its text is `accepted N`, `accepted unsolvable`, or
 /// `rejected` with the clause and the first place at fault.
 #[derive(Clone, Copy, Debug, PartialEq, Eq)]
 pub enum Verdict {

@@ -22,7 +22,7 @@ pub fn one_first_violation()
     ensures none { (task : FiniteDomainTask) (c : CertificateValue) (v : Violation) → IsFirstViolation task c v → IsHeld task c → ⊥ }
 {}
 
-/// Proves the values of the clauses on an example, a road of three towns.
+/// Proves worked examples of the clauses, on a road of three towns.
 pub fn worked_road()
     ensures listed { (is_covered road (two_closed (Finite 2)) (0 ∷ []) 0 ≡ true) × (is_covered road (with_closed (Finite 2) []) (0 ∷ []) 0 ≡ false) ×
         (is_covered road (with_closed (Finite 0) []) (0 ∷ []) 0 ≡ true) }

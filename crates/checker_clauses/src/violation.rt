@@ -2,8 +2,8 @@
 
 use std::fmt;
 
-/// A violation of a clause by a certificate for a finite-domain task: the clause, and the place. All numbers count from
-/// 0. It prints as `C3 column I op O`, and so on.
+/// A violation of a clause by a certificate for a finite-domain task: the clause, and the place. Its text is
+/// `C3 column I op O` and so on.
 #[derive(Clone, Copy, Debug, PartialEq, Eq)]
 pub enum Violation {
     /// C3: in a column the shares of an operator sum to more than its cost, or a table lists an operator that does not

@@ -24,7 +24,7 @@ use pddl_task::Task;
 use std::alloc::{AllocError, Global};
 use std::thread::Threads;
 
-/// The line that states the kind of a certificate, counted from 1.
+/// The line that states the kind of a certificate.
 const KIND_LINE: usize = 2;
 
 /// Reads the task that the texts spell. Fails with the first fault of the texts.

@@ -11,7 +11,7 @@ use std::alloc::{AllocError, AllocFailed};
 /// The reason why there is no verdict on the texts of a planning task and of a certificate.
 #[derive(Debug, Drop)]
 pub enum PlanningCheckFault {
-    /// Memory ran out. This does not depend on the texts.
+    /// Allocation failed. This says nothing about the texts.
     OutOfMemory,
     /// The text of the domain or of the problem is refused.
     Task(PddlFault),

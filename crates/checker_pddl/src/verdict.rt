@@ -4,9 +4,9 @@ use checker_clauses::Violation;
 use cost::Dist;
 use std::fmt;
 
-/// A violation of a clause by a certificate for a planning task: the clause, and the first place at fault. Variables
-/// count from 0, and an atom is given by its names with blanks between them, in parentheses. It prints as `C1 atom (at
-/// a)`, `C2 var 0`, `C2 atom (at a)`, `C3 column 0 op 1`, and so on.
+/// A violation of a clause by a certificate for a planning task: the clause, and the first place at fault. An atom is
+/// given by its names with blanks between them, in parentheses. Its text is `C1 atom (at a)`, `C2 var 0`,
+/// `C2 atom (at a)`, `C3 column 0 op 1`, and so on.
 #[derive(Debug, Drop)]
 pub enum PlanningViolation {
     /// C1: the listed atom is not an atom of the task or is listed before; or the atom is missing from the list,
@@ -43,8 +43,8 @@ impl fmt::Display for PlanningViolation {
     }
 }
 
-/// The verdict on a certificate for a planning task. It prints as `accepted N`, as `accepted unsolvable`, or as
-/// `rejected` with the clause and the first place at fault.
+/// The verdict on a certificate for a planning task. Its text is `accepted N`, `accepted unsolvable`, or `rejected`
+/// with the clause and the first place at fault.
 #[derive(Debug, Drop)]
 pub enum PlanningVerdict {
     /// Every valid plan costs at least this much. If it is infinite, there is no valid plan.

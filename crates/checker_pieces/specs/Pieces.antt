@@ -9,7 +9,7 @@ IsFirstIn says start end None = (i : ℕ) → start ≤ i → i < end → says i
 IsFirstIn says start end (Some v) =
     (i : ℕ) × (start ≤ i) × (i < end) × says i (Some v) × ((j : ℕ) → start ≤ j → j < i → says j None)
 
--- the result of a piece: the first violation among its items, if memory did not run out
+-- the result of a piece: the first violation among its items, if allocation did not fail
 abbrev pub Piece : Type 0
 Piece = Result (Option Violation) AllocError
 

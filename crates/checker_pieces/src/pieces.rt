@@ -9,7 +9,7 @@ use std::alloc::{AllocError, Global};
 use std::thread;
 use std::thread::Threads;
 
-/// Returns the violation of the first of these pieces that has one. Fails if memory ran out in a piece before it.
+/// Returns the violation of the first of these pieces that has one. Fails if allocation failed in a piece before it.
 fn first_of(
     pieces: &[Result<Option<Violation>, AllocError>],
 ) -> Result<Option<Violation>, AllocError>

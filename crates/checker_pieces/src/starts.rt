@@ -49,7 +49,7 @@ pub(crate) fn equal_starts(
     Ok(starts)
 }
 
-/// Returns the sum of the weights, or the greatest number if it is out of range.
+/// Returns the sum of the weights, capped at `usize::MAX`.
 pub(crate) fn weight_of(weights: &[usize]) -> usize {
     let mut sum = 0_usize;
     for weight in weights {
@@ -58,8 +58,9 @@ pub(crate) fn weight_of(weights: &[usize]) -> usize {
     sum
 }
 
-/// Returns the starts of at most `pieces` pieces of about the same weight, of items with these weights. A piece ends
-/// before the first item of which half the weight would reach the end of its share.
+/// Returns the starts of at most `pieces` pieces of about the same weight, of items with these weights. A new piece
+/// begins at the first item for which the weight before it and half of its own reach the end of the share of the pieces
+/// so far.
 pub(crate) fn weighed_starts(
     alloc: Global,
     weights: &[usize],

@@ -16,7 +16,7 @@ hash_from hash (multiplier ∷ multipliers) (value ∷ values) = hash_from (mixe
 abbrev pub hash_of : List ℕ → List ℕ → ℕ
 hash_of multipliers state = hash_from 0 multipliers state
 
--- the part, of `parts`, of the index that holds the states with this hash
+-- the part of the index, of `parts` parts, that holds the states with this hash
 abbrev pub part_of : ℕ → ℕ → ℕ
 part_of hash parts = home_of (hash / 2 ^ 32) parts
 

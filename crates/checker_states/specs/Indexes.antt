@@ -15,7 +15,7 @@ note_of hash cost = record { tag = tag_of hash; cost = min cost 65535 }
 abbrev pub empty : Slot Note
 empty = record { link = 0; note = record { tag = 0; cost = 0 } }
 
--- the state at index `place` of the closed list is found in these slots of a part, of `parts`, by probing from the
+-- the state at index `place` of the closed list is found in these slots of one of `parts` parts by probing from the
 -- home slot of `hash`
 abbrev pub IsIn : List (Slot Note) → ℕ → ℕ → ℕ → Type 0
 IsIn slots parts hash place = (steps : ℕ) × IsFoundAfter (links_of slots) (home_of (number_of hash parts) (length slots)) place steps
@@ -25,7 +25,7 @@ abbrev pub IsNoted : List ℕ → List Entry → ℕ → Slot Note → Type 0
 IsNoted multipliers closed end slot =
     (e : Entry) × (slot.link ≤ end) × (slice_get closed (slot.link - 1) ≡ Some e) × (slot.note ≡ note_of (hash_of multipliers e.state) e.cost)
 
--- each state of the part with an index below `end` is found, and every slot that is taken points to such a state
+-- each state of the part with an index below `end` is found, and every slot that is taken points to one of these states
 pub record IndexesPart (parts part : ℕ) (multipliers : List ℕ) (closed : List Entry) (end : ℕ) (slots : List (Slot Note)) : Type 0 where
   pub found : (i : ℕ) (e : Entry) → i < end → slice_get closed i ≡ Some e → part_of (hash_of multipliers e.state) parts ≡ part →
       IsIn slots parts (hash_of multipliers e.state) i

@@ -28,7 +28,7 @@ PassesBelow test n = (i : ℕ) → i < n → test i ≡ true
 abbrev pub PassesAll : (ℕ → Bool) → Type 0
 PassesAll test = (i : ℕ) → test i ≡ true
 
--- the tests of each number below n pass for all numbers
+-- for each number below n, its test passes for all numbers
 abbrev pub PassesEach : (ℕ → ℕ → Bool) → ℕ → Type 0
 PassesEach test n = (i : ℕ) → i < n → PassesAll (test i)
 

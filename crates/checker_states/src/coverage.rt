@@ -22,7 +22,7 @@ use std::alloc::{AllocError, Global};
 use std::marker::Model;
 use std::thread::Threads;
 
-/// Proves that each cost is below 2^64, in time linear in the list (only for the proof).
+/// Proves that each cost is below 2^64, in time linear in the list. Only for the proof.
 fn recall_costs(closed: &ClosedList)
     ensures { All (λ e. e.cost < 2 ^ 64) closed.now }
 {
@@ -31,7 +31,7 @@ fn recall_costs(closed: &ClosedList)
     }
 }
 
-/// Proves the invariant of a distance (only for the proof).
+/// Proves the invariant of a distance. Only for the proof.
 fn recall_distance(distance: Dist)
     ensures { IsWithin (2 ^ 63) distance }
 {

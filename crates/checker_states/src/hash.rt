@@ -88,8 +88,8 @@ pub(crate) fn hash_of(multipliers: &[u64], state: &[u32]) -> u64
     hash
 }
 
-/// Returns the part, of `parts`, of the index that holds the states with this hash. The upper half of the hash selects
-/// the part as `home_of` selects a slot, so that adjacent home slots are mostly in one part.
+/// Returns the part of the index, of `parts` parts, that holds the states with this hash. The upper half of the hash
+/// selects the part as `home_of` selects a slot, so that adjacent home slots are mostly in one part.
 pub(crate) fn part_of(hash: u64, parts: usize) -> usize
     requires some { 0 < parts }
     requires few { parts < 2 ^ 32 }

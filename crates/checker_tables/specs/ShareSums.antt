@@ -37,6 +37,6 @@ foreign count s = if nat_le count s.operator then Finite s.operator else Infinit
 abbrev pub least_foreign : ℕ → List Share → Distance
 least_foreign count shares = least (map (foreign count) shares)
 
--- the same for several tables
+-- the least operator that these tables list among those numbered `count` or higher
 abbrev pub least_of_column : ℕ → List Table → Distance
 least_of_column count column = least (map (λ (t : Table). least_foreign count t.shares) column)

@@ -53,7 +53,7 @@ abbrev pub is_fall_within : List Distance → List Distance → ℕ → ℕ → 
 is_fall_within values nexts share a b =
     is_at_most (slice_index_or values a Infinite) (Finite share +ᵈ slice_index_or nexts b Infinite)
 
--- of the `count` operators from `o` on, those that affect the abstraction
+-- those of the `count` operators from `o` on that affect the abstraction
 abbrev pub touching_from : (ℕ → Bool) → ℕ → ℕ → List ℕ
 touching_from touches o zero = []
 touching_from touches o (suc count) =
@@ -78,8 +78,8 @@ IsFirstGoal abs values None = (a : ℕ) → a < abs.size → has_goal_value abs 
 IsFirstGoal abs values (Some state) =
     (state < abs.size) × (has_goal_value abs values state ≡ false) × ((a : ℕ) → a < state → has_goal_value abs values a ≡ true)
 
--- the first abstract state whose value some operator lowers by more than its share, with the first such operator, or
--- none
+-- the first abstract state whose value some operator lowers by more than its share, with the first operator that does,
+-- or none
 abbrev pub IsFirstFall : abstraction.Abstraction → List Distance → List Spender → Option (ℕ × ℕ) → Type 0
 IsFirstFall abs values spenders None = (a : ℕ) → a < abs.size → first_fall_at abs values spenders a ≡ None
 IsFirstFall abs values spenders (Some fall) =

@@ -2,7 +2,7 @@
 
 use checker_clauses::Violation;
 
-/// A fault of one table. All numbers count from 0.
+/// A fault of one table.
 #[derive(Clone, Copy)]
 pub(crate) enum TableFault {
     /// The table does not have the required form.

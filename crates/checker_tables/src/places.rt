@@ -8,7 +8,7 @@ ghost use Rattle.checker_tables.specs.TablePlaces.{IsListing, IsListingBefore};
 use cert_value::AbstractionTable;
 use std::alloc::{AllocError, Global};
 
-/// The position of a table: its column, and its index there. Both count from 0.
+/// The position of a table: its column, and its index there.
 #[derive(Clone, Copy)]
 pub(crate) struct TablePlace {
     pub(crate) column: usize,

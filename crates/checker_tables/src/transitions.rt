@@ -111,8 +111,8 @@ fn least_fall(
     Ok(test.least(&moves.free, moves.source, moves.target, limit))
 }
 
-/// Returns the first abstract state whose value some operator lowers by more than its share, with the first such
-/// operator.
+/// Returns the first abstract state whose value some operator lowers by more than its share, with the first operator
+/// that does.
 ///
 /// For each operator the sources of its transitions are enumerated, up to the least abstract state that has failed so
 /// far. Their number is at most the product of the numbers of operators and abstract states.

@@ -6,11 +6,11 @@ use packed::StateForm;
 /// The origin of a reached state.
 #[derive(Clone, Copy, Debug, PartialEq, Eq)]
 pub struct Parent {
-    /// The worker that owns the state from which it was reached, counted from 0.
+    /// The worker that owns the state from which it was reached.
     pub worker: usize,
     /// The index of that state in the worker's table.
     pub index: usize,
-    /// The number of the operator that was applied, counted from 0.
+    /// The number of the operator that was applied.
     pub operator: usize,
 }
 

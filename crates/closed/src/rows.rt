@@ -24,10 +24,9 @@ impl Lead {
     pub const NONE: Lead = Lead { link: 0 };
 }
 
-/// The forms of states, each stored beside its entry, with a hash index of the forms: open addressing, with 8 bytes for
-/// a slot, of which at most two thirds are taken. A look-up probes linearly from the home slot of the form's tag to an
-/// empty slot, mostly within one cache line. It reads a row only if the slot has the form's tag, hardly ever that of
-/// another form.
+/// The forms of states, each stored with its entry, with a hash index of the forms: open addressing, 8 bytes a slot, at
+/// most two thirds of the slots taken. A look-up probes linearly from the home slot of the form's tag to an empty slot,
+/// mostly within one cache line. It reads a row only if the slot has the form's tag, hardly ever that of another form.
 ///
 /// No two forms are equal, and there are at most 2,863,311,530. In contracts its value is the list of the rows.
 #[derive(Drop)]

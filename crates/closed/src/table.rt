@@ -144,7 +144,7 @@ impl<F: StateForm + Drop> ClosedTable<F> {
     }
 
     /// Proves, from the type's invariant, that every state in the table is a state of the task, and that states of the
-    /// task have the form (only for the proof).
+    /// task have the form. Only for the proof.
     pub fn recall(&self)
         ensures states { All (λ n. IsState self.now.ranges n.state) self.now.nodes }
         ensures fits { F.Fits self.now.ranges }

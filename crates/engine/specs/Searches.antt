@@ -52,8 +52,8 @@ pub record IsRefusedEnd {S : Type 0} (owner : S → List ℕ → ℕ → ℕ) (s
   pub family : ∥ ((family : Family) × IsEndOf owner end family) ∥₁
   pub refused : IsRefusedBy owner end fault
 
--- the reason why a search of `workers` workers fails: memory ran out; a successor's total is too large; or the gate may
--- make it fail before that turn
+-- the reason why a search of `workers` workers fails: allocation failed; a successor's total is too large; or the gate
+-- may make it fail before that turn
 abbrev pub IsSearchFault : {S : Type 0} → (S → List ℕ → ℕ → ℕ) → MayStop → SpaceOf S → ℕ → EngineFault → Type 0
 IsSearchFault owner may_stop space workers OutOfMemory = Unit {0}
 IsSearchFault owner may_stop space workers TotalTooLarge = IsRefusedEnd owner space workers owner_fault.TotalTooLarge

@@ -8,12 +8,11 @@ use std::alloc::AllocError;
 /// The reason why a multi-threaded search fails. What it has reached is lost.
 #[derive(Clone, Copy, Debug, PartialEq, Eq)]
 pub enum EngineFault {
-    /// Memory ran out. This says nothing about the task.
+    /// Allocation failed. This says nothing about the task.
     OutOfMemory,
     /// A path would have a cost, or a number of operators, above 2^62.
     TotalTooLarge,
-    /// The gate made the search fail before a turn: the worker's number, counted from 0, and the turn's, counted from 1
-    /// in its round.
+    /// The gate made the search fail before a turn: the worker's number, and the turn's, counted from 1 in its round.
     Gate(usize, u64),
 }
 

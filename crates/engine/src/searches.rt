@@ -124,9 +124,9 @@ fn step<
 /// for `capacity` messages (for 1 if that is 0): runs rounds of turns until the owners are settled, one of them has
 /// reached its limit, or the gate ends the search. States of the task have the form `F`.
 ///
-/// Fails with `TotalTooLarge` if a path would have a cost or a number of operators above 2^62 (the contract states less
-/// than this cause), with `Gate` if the gate makes it fail, or if allocation fails. Termination is not guaranteed: an
-/// unfair scheduler may keep every worker from making progress.
+/// Fails with `TotalTooLarge` if a path would have a cost or a number of operators above 2^62 (the contract states this
+/// of some end of a search, not of this one), with `Gate` if the gate makes it fail, or if allocation fails.
+/// Termination is not guaranteed: an unfair scheduler may keep every worker from making progress.
 pub fn search<
     'a,
     R: Threads + Wait + Clock + Sync,

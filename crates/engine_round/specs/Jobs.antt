@@ -59,7 +59,7 @@ pub record BegunOf (S F G : Type 0) : Type 0 where
 abbrev pub HasDone : {S F : Type 0} → (S → List ℕ → ℕ → ℕ) → (List ℕ → F → List ℕ) → MayStop → Board → JobOf S F → WorkedOf S F → Type 0
 HasDone owner values may_stop b j r = HasWorked owner values may_stop b j.seat j.worker r
 
--- memory did not run out in the worker
+-- allocation did not fail in the worker
 abbrev pub HasMemory : {S F : Type 0} → WorkedOf S F → Type 0
 HasMemory r = r.fault ≢ Some (Owner OutOfMemory)
 

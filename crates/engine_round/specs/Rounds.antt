@@ -22,7 +22,7 @@ pub record HasPlayed {S F : Type 0} (best : Distance) (old new : WorkerOf S F) :
   pub uncounted : new.uncounted ≡ 0
   pub told : new.misfits ≡ [] → new.bound ≤ᵈ best
 
--- the turns of the worker ended with this fault or with none, and not because memory ran out
+-- the turns of the worker ended with this fault or with none, and not because allocation failed
 abbrev pub IsEndedBy : {S F : Type 0} → (S → List ℕ → ℕ → ℕ) → (List ℕ → F → List ℕ) → MayStop → WorkerOf S F → Option TurnFault → Type 0
 IsEndedBy owner values may_stop w fault = HasEnded owner values may_stop w fault × (fault ≢ Some (Owner OutOfMemory))
 

@@ -25,7 +25,7 @@ pub record IsSameWorker {S F : Type 0} (old new : WorkerOf S F) : Type 0 where
   pub outs : AreSameOuts old.outs new.outs
   pub ins : AreSameIns old.ins new.ins
 
--- what the worker has read and offered in the meantime is what its seat has
+-- the bounds that the worker has read and the costs that it has offered in the meantime are those of its seat
 pub record IsSeated {S F : Type 0} (old new : WorkerOf S F) (before after : View) : Type 0 where
   pub seen_since : Distance
   pub offered_since : Distance
@@ -37,8 +37,8 @@ pub record IsSeated {S F : Type 0} (old new : WorkerOf S F) (before after : View
 
 -- ---- a worker between the turns of a round
 
--- it has a seat at the board; it is the same worker as before; what it has read and offered since is what its seat has;
--- and no message is left to be added to the units, or set aside
+-- it has a seat at the board; it is the same worker as before; the bounds that it has read and the costs that it has
+-- offered since are those of its seat; and no message is left to be added to the units, or set aside
 pub record IsRelaying {S F : Type 0} (b : Board) (s : BoardSeat) (old : WorkerOf S F) (t : BoardSeat) (w : WorkerOf S F) : Type 0 where
   pub seat : IsSeatOf b t
   pub same : IsSameWorker old w
@@ -46,7 +46,7 @@ pub record IsRelaying {S F : Type 0} (b : Board) (s : BoardSeat) (old : WorkerOf
   pub uncounted : w.uncounted ≡ 0
   pub misfits : w.misfits ≡ []
 
--- and no message that it has taken is left to be subtracted from the units
+-- the same, and no message that it has taken is left to be subtracted from the units
 pub record IsAtWork {S F : Type 0} (b : Board) (s : BoardSeat) (old : WorkerOf S F) (t : BoardSeat) (w : WorkerOf S F) : Type 0 where
   pub seat : IsSeatOf b t
   pub same : IsSameWorker old w
@@ -104,23 +104,23 @@ pub record WorkedOf (S F : Type 0) : Type 0 where
   pub seat : BoardSeat
   pub fault : Option TurnFault
 
--- it is the same worker; what it has read and offered is what its seat has; and unless it has set a message aside, the
--- bound that it read last is at most the one that its seat had seen before
+-- it is the same worker; the bounds that it has read and the costs that it has offered are those of its seat; and
+-- unless it has set a message aside, the bound that it read last is at most the one that its seat had seen before
 pub record HasKept {S F : Type 0} (old new : WorkerOf S F) (before after : View) : Type 0 where
   pub same : IsSameWorker old new
   pub seated : IsSeated old new before after
   pub told : new.misfits ≡ [] → new.bound ≤ᵈ before.seen
   pub uncounted : new.uncounted ≡ 0
 
--- the reason why a turn was not completed: the owner refused to expand the next node, or had no memory for a message,
--- and the worker is as such a turn leaves it; or the gate may end the search before that turn of this worker, which has
--- read the bound and done nothing else
+-- the reason why a turn was not completed: the owner refused to expand the next node, or failed to allocate memory for
+-- a message, and the worker is as such a turn leaves it; or the gate may end the search before that turn of this
+-- worker, which has read the bound and done nothing else
 abbrev pub IsTurnFault : {S F : Type 0} → (S → List ℕ → ℕ → ℕ) → (List ℕ → F → List ℕ) → MayStop → WorkerOf S F → WorkerOf S F → View → View → TurnFault → Type 0
 IsTurnFault owner values may_stop old new before after (Owner fault) = IsTurnRefusal owner values old new before after fault
 IsTurnFault owner values may_stop old new before after (Gate turn stop) = may_stop old.owner.worker turn stop × HasLooked old new before after
 
--- this fault is the worker's: its owner, in its present state, refuses to expand the next node, or memory ran out; or
--- the gate may end the search before that turn of this worker
+-- this fault is the worker's: its owner, in its present state, refuses to expand the next node, or allocation failed;
+-- or the gate may end the search before that turn of this worker
 abbrev pub IsFaultOf : {S F : Type 0} → (S → List ℕ → ℕ → ℕ) → MayStop → WorkerOf S F → TurnFault → Type 0
 IsFaultOf owner may_stop w (Owner OutOfMemory) = Unit {0}
 IsFaultOf owner may_stop w (Owner LimitReached) = IsRefusal owner w.bound w.owner w.owner LimitReached
@@ -136,7 +136,8 @@ abbrev pub HasEnded : {S F : Type 0} → (S → List ℕ → ℕ → ℕ) → (L
 HasEnded owner values may_stop w None = HasEndedTurn owner values w
 HasEnded owner values may_stop w (Some fault) = IsFaultOf owner may_stop w fault
 
--- the turns of a worker in a round, with that seat at the board: unless memory ran out, the invariants hold after them
+-- the turns of a worker in a round, with that seat at the board: unless allocation failed, the invariants hold after
+-- them
 pub record HasWorked {S F : Type 0} (owner : S → List ℕ → ℕ → ℕ) (values : List ℕ → F → List ℕ) (may_stop : MayStop) (b : Board) (s : BoardSeat) (old : WorkerOf S F) (r : WorkedOf S F)
     : Type 0 where
   pub seat : IsSeatOf b r.seat

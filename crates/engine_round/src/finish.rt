@@ -17,7 +17,7 @@ use packed_spread::Spread;
 use std::alloc::{AllocError, Global};
 use worker::Worker;
 
-/// Returns the fault, unless it is that memory ran out, which becomes `AllocError`.
+/// Returns the fault, unless it is a failed allocation, which becomes `AllocError`.
 fn unless_memory(fault: Option<TurnFault>) -> Result<Option<TurnFault>, AllocError>
     ensures { IfOk result (λ f. (f ≡ fault) × (fault ≢ Some (TurnFault.Owner OwnerFault.OutOfMemory))) }
 {
@@ -42,7 +42,7 @@ fn earlier(
 }
 
 /// Joins the seats of all workers into the caller's, and returns it with the workers and the first fault. Fails if
-/// memory ran out in a worker.
+/// allocation failed in a worker, or fails here.
 fn gather<'a, S: Spread + Drop, F: StateForm + Drop>(
     alloc: Global,
     board: &Board,
@@ -71,7 +71,7 @@ fn gather<'a, S: Spread + Drop, F: StateForm + Drop>(
     Ok((own, workers, first))
 }
 
-/// Ends a round, once all workers have taken their turns. Fails if memory ran out in a worker.
+/// Ends a round, once all workers have taken their turns. Fails if allocation failed in a worker, or fails here.
 pub(crate) fn finish<'a, S: Spread + Drop, F: StateForm + Drop>(
     alloc: Global,
     board: Board,

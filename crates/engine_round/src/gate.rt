@@ -19,8 +19,8 @@ pub trait Gate {
     /// Whether the gate may end a search in this way, before turn `turn` of worker `worker`.
     ghost may_stop: { Self → ℕ → ℕ → Stop → Type 0 };
 
-    /// Called before a turn of a worker, in the worker's thread, with the worker's progress. Workers are counted from
-    /// 0, and the turns of each from 1 in each round; the turn's number saturates at 2^64 - 1.
+    /// Called before a turn of a worker, in the worker's thread, with the worker's progress. The turns of each worker
+    /// are counted from 1 in each round; the number is capped at `u64::MAX`.
     fn turn(&self, worker: usize, turn: u64, progress: Progress) -> Result<(), Stop>
         ensures { IfErr result (may_stop self.now worker turn) };
 }

@@ -38,7 +38,7 @@ impl<'a, S: Spread + Drop, F: StateForm + Drop> Model for Job<'a, S, F> {
     ghost invariant = { λ j. j.number ≡ j.worker.owner.worker };
 }
 
-/// The promise of a thread: the worker of this job takes its turns at this board, with this gate. Only for proofs.
+/// The promise of a thread: the worker of this job takes its turns at this board, with this gate. Only for the proof.
 #[derive(Drop)]
 pub(crate) struct WorkOf<'a, S: Spread + Drop, F: StateForm + Drop, G: Gate> {
     board: Snapshot<Board>,

@@ -28,8 +28,8 @@ pub struct RoundEnd<'a, S: Spread + Drop, F: StateForm + Drop> {
     pub workers: Vec<Worker<'a, S, F>>,
     /// The least cost that any of them has ever offered.
     pub best: Dist,
-    /// The first fault that ended the turns of a worker, with the worker's index, if there was one. It is never that
-    /// memory ran out.
+    /// The first fault that ended the turns of a worker, with the worker's index, if there was one. It is never a
+    /// failed allocation.
     pub fault: Option<(usize, TurnFault)>,
 }
 

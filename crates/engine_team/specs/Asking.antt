@@ -36,7 +36,7 @@ pub record IsAsked {S F : Type 0} (owner : S → List ℕ → ℕ → ℕ) (numb
   pub worker : (a b : WorkerOf S F) → At old.workers number a → At r.0.workers number b → WasAsked old.best a b
   pub others : (v : ℕ) (a b : WorkerOf S F) → v ≢ number → At old.workers v a → At r.0.workers v b → b ≡ a
 
--- the same of a list of workers, and the cost that was offered
+-- the same for a list of workers, and the cost that was offered
 pub record AreAsked {S F : Type 0} (owner : S → List ℕ → ℕ → ℕ) (number : ℕ) (best : Distance) (old new : List (WorkerOf S F)) (refused : Option OwnerFault)
     : Type 0 where
   pub before : WorkerOf S F

@@ -15,7 +15,7 @@ use packed_spread::Spread;
 use std::alloc::AllocError;
 use worker::Worker;
 
-/// States the invariant of all workers as a contract. Only for proofs.
+/// Proves the invariant of all workers. Only for the proof.
 pub(crate) fn recall_each<S: Spread + Drop, F: StateForm + Drop>(workers: &Vec<Worker<'_, S, F>>)
     ensures { (v : ℕ) (w : WorkerOf S F) → At workers.now.items v w → IsKept S.owner F.values w }
 {

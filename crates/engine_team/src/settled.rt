@@ -48,9 +48,9 @@ fn least_pending<S: Spread + Drop, F: StateForm + Drop>(
 }
 
 impl<'a, S: Spread + Drop, F: StateForm + Drop> Team<'a, S, F> {
-    /// Returns the bound at which the owners are settled, apart from messages in rings: the least cost at which a goal
-    /// state was taken, infinite if none was, provided that no pending f-value is below it. `None` if they are not
-    /// settled.
+    /// Returns the bound at which the owners are settled, not counting messages in rings: the least cost at which a
+    /// goal state was taken, infinite if none was, provided that no pending f-value is below it. Returns `None` if they
+    /// are not settled.
     pub fn settled(&self, alloc: Global) -> Result<Option<Dist>, AllocError>
         ensures { IfOk result (IsSettledAnswer (searched S.owner self.now.space (length self.now.workers)) (map (λ w. w.owner) self.now.workers) []) }
     {

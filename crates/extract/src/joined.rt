@@ -101,16 +101,16 @@ impl<'a, S: Spread + Drop, F: StateForm + Drop> Joined<'a, S, F> {
         &self.owners
     }
 
-    /// Proves the type's invariant, which holds of every end (only for the proof): it is the end of a lawful family,
-    /// each owner has this space and its own number, the space is a search space, and the heuristic of a state is at
-    /// most the cost of any operators from it to a goal state.
+    /// Proves the type's invariant, which holds of every end: it is the end of a lawful family, each owner has this
+    /// space and its own number, the space is a search space, and the heuristic of a state is at most the cost of any
+    /// operators from it to a goal state. Only for the proof.
     pub fn recall(&self)
         ensures lawful { ∥ ((family : Family) × IsEndOf S.owner self.now family) ∥₁ }
         ensures form { IsForm self.now }
         ensures space { IsSearchSpace (space_at S.owner self.now) }
         ensures lower { IsLowerBound self.now.space.task (space_at S.owner self.now).heuristic }
     {
-        // reading a field makes the type's invariant available
+        // only for the proof: reading a field makes the type's invariant available
         self.owners[0].recall();
     }
 }

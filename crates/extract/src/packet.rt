@@ -8,7 +8,7 @@ use packed::StateForm;
 /// A message underway.
 #[derive(Drop)]
 pub struct Packet<F: StateForm + Drop> {
-    /// The worker that sent it, counted from 0.
+    /// The worker that sent it.
     pub sender: usize,
     /// The message.
     pub message: Message<F>,

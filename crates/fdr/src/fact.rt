@@ -7,9 +7,9 @@ ghost use Rattle.fdr.specs.Tasks as spec;
 /// A fact: a variable and one of its values, as conditions and effects name them.
 #[derive(Clone, Copy, Debug, PartialEq, Eq, Hash)]
 pub struct Fact {
-    /// The number of the variable, counted from 0.
+    /// The number of the variable.
     pub variable: usize,
-    /// The number of its value, counted from 0.
+    /// The number of its value.
     pub value: u32,
 }
 

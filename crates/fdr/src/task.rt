@@ -19,7 +19,7 @@ pub const MAX_VALUES: usize = 65_536;
 /// The greatest number of operators of a task.
 pub const MAX_OPERATORS: usize = 4_294_967_295;
 
-/// The limit that a task exceeds. It is displayed as the word that F18 prints.
+/// The limit that a task exceeds. Its text is the word that F18 prints.
 #[derive(Clone, Copy, Debug, PartialEq, Eq, Error)]
 pub enum TaskLimit {
     /// More than 65,536 variables.
@@ -69,9 +69,9 @@ fn has_long_range(value_names: &[Vec<String>]) -> bool
 }
 
 impl FdrTask {
-    /// Makes a task from its parts. A variable is given by the names of its values, and `initial` has one value for
-    /// each variable. All values must be in range, and the goal and each precondition and effect must name a variable
-    /// at most once.
+    /// Returns the task with these parts. A variable is given by the names of its values, and `initial` has one value
+    /// for each variable. All values must be in range, and the goal and each precondition and effect must name a
+    /// variable at most once.
     ///
     /// Fails with the first limit that is exceeded: variables before values, and values before operators.
     pub fn new(
@@ -104,13 +104,12 @@ impl FdrTask {
         })
     }
 
-    /// Proves the invariant of the type: the task is well-formed and within the limits. Only for proofs; does nothing
-    /// at run time.
+    /// Proves the type's invariant: the task is well-formed and within the limits. Only for the proof.
     pub fn recall(&self)
         ensures task { IsTask self.now }
         ensures limits { IsWithinLimits self.now }
     {
-        // only for the proof: reading a field brings the type's invariant into it
+        // only for the proof: reading a field makes the type's invariant available
         let _ = self.operators.len();
     }
 

@@ -113,8 +113,8 @@ fn add_from_node(
 }
 
 impl<'a> SuccessorGenerator<'a> {
-    /// Makes the successor generator of the task. Takes time and memory linear in the lengths of the preconditions, and
-    /// the time to sort the operators by them.
+    /// Returns the successor generator of the task. Takes time and memory linear in the lengths of the preconditions,
+    /// and the time to sort the operators by them.
     pub fn new(alloc: Global, task: &'a FdrTask) -> Result<SuccessorGenerator<'a>, AllocError>
         ensures { IfOk result (λ g. g ≡ task.now) }
     {
@@ -146,9 +146,9 @@ impl<'a> SuccessorGenerator<'a> {
         })
     }
 
-    /// Replaces the content of `found` by the numbers of the operators that apply in the state, counted from 0, in
-    /// increasing order. The state must have a value for each variable. A value that is not below the range of its
-    /// variable satisfies no condition.
+    /// Replaces the content of `found` by the numbers of the operators that apply in the state, in increasing order.
+    /// The state must have a value for each variable. A value that is not below the range of its variable satisfies no
+    /// condition.
     ///
     /// On failure `found` is empty.
     pub fn applicable(&self, state: &[u32], found: &mut Vec<usize>) -> Result<(), AllocError>

@@ -45,8 +45,8 @@ fn tests_next(
     }
 }
 
-/// Returns the index from which on the candidates of the part, as far as they are in the group, test its variable for
-/// `value` next.
+/// Returns the index, at or after the group's first, from which on the candidates of the part test the group's variable
+/// for `value` next.
 pub(crate) fn run_start(
     facts: &[Fact],
     candidates: &[Candidate],

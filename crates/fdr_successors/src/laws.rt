@@ -14,8 +14,8 @@ pub fn applicable_operators_are_those_that_apply()
     ensures complete { (task : FiniteDomainTask) (state : List ℕ) (o : ℕ) → applies_at task o state ≡ true → Contains (applicable_operators task state) o }
 {}
 
-/// Proves the applicable operators of examples: on a road from 0 by 1 to 2 the first operator applies at 0, the second
-/// at 1 and none at 2; one more operator, without precondition, applies everywhere.
+/// Proves worked examples: on a road from 0 by 1 to 2 the first operator applies at 0, the second at 1 and none at 2;
+/// one more operator, without precondition, applies everywhere.
 pub fn worked_example()
     ensures first { applicable_operators road (0 ∷ []) ≡ 0 ∷ [] }
     ensures second { applicable_operators road (1 ∷ []) ≡ 1 ∷ [] }

@@ -30,7 +30,7 @@ pub(crate) struct Tree {
 }
 
 impl Tree {
-    /// Makes the tree in which every visit ends at once, after `candidates` candidates.
+    /// Returns the tree in which every visit ends at once, after `candidates` candidates.
     pub(crate) fn new(alloc: Global, candidates: usize) -> Result<Tree, AllocError>
         ensures nodes { IfOk result (λ tree. tree.nodes.items ≡ end_after candidates ∷ []) }
         ensures children { IfOk result (λ tree. tree.children.items ≡ []) }

@@ -8,8 +8,7 @@ use crate::pair::link;
 use packed::StateForm;
 use std::alloc::{AllocError, Global};
 
-/// The ends of all links: `outs[w][v]` and `ins[v][w]` are the two ends of the link from worker w to worker v. Workers
-/// are numbered from 0.
+/// The ends of all links: `outs[w][v]` and `ins[v][w]` are the two ends of the link from worker w to worker v.
 #[derive(Drop)]
 pub struct LinkTable<F: StateForm + Drop> {
     /// The sending ends, by sender and then by receiver.

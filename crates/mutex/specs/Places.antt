@@ -18,7 +18,7 @@ atoms_at atoms places = filter_map (slice_get atoms) places
 abbrev pub has : List ℕ → ℕ → Bool
 has numbers k = list_any (λ n. n == k) numbers
 
--- the numbers are the same, but for their order and repeats
+-- the numbers are the same, but for their order and repetitions
 abbrev pub AreSameSet : List ℕ → List ℕ → Type 0
 AreSameSet numbers more = (k : ℕ) → has numbers k ≡ has more k
 
@@ -40,7 +40,7 @@ removed_places atoms adds deletes =
 abbrev pub adds_alone : List ℕ → ℕ → List ℕ → Bool
 adds_alone group place added = list_all (λ q. q == place || not (has group q)) added
 
--- one of the wanted numbers of the group is `place` or is removed
+-- one of the positive preconditions `wanted` in the group is `place` or is removed
 abbrev pub gives_way : List ℕ → ℕ → List ℕ → List ℕ → Bool
 gives_way group place wanted removed = list_any (λ r. has group r && (r == place || has removed r)) wanted
 

@@ -11,12 +11,12 @@ use pddl_task::{GroundAction, Task};
 use std::alloc::{AllocError, Global};
 use std::marker::Model;
 
-/// A task, a list of atoms and a list of ground actions, with lookup tables: for each action the indices of its
+/// A task, a list of atoms and a list of ground actions, with look-up tables: for each action the indices of its
 /// positive preconditions and of the atoms that it adds and removes, and for each atom the actions that add it and
 /// those that remove it. An action removes an atom if it deletes and does not add it. Atoms that are not in the list
 /// are ignored.
 ///
-/// A group is a list of atoms, represented by their indices in the list of atoms, counted from 0.
+/// A group is a list of atoms, represented by their indices in the list of atoms.
 #[derive(Drop)]
 pub struct ActionIndex<'a> {
     task: &'a Task,
@@ -85,7 +85,7 @@ impl<'a> ActionIndex<'a> {
         self.tables.is_usable(places)
     }
 
-    /// Returns the result of `is_usable` for indices in any order and with repeats.
+    /// Returns the result of `is_usable` for indices in any order and with repetitions.
     pub fn is_group(&self, alloc: Global, places: &[usize]) -> Result<bool, AllocError>
         requires within { All (λ p. p < length self.now.atoms) places.now }
         ensures { IfOk result (λ is. is ≡ is_usable self.now.task self.now.actions (atoms_at self.now.atoms places.now)) }
@@ -124,7 +124,7 @@ impl<'a> ActionIndex<'a> {
     }
 }
 
-/// Returns the numbers in increasing order, without repeats.
+/// Returns the numbers in increasing order, without repetitions.
 fn in_order(alloc: Global, numbers: &[usize]) -> Result<Vec<usize>, AllocError>
     ensures rising { IfOk result (λ sorted. IsStrictlyIncreasing sorted.items) }
     ensures same { IfOk result (λ sorted. AreSameSet sorted.items numbers.now) }

@@ -7,8 +7,8 @@ ghost use Rattle.pddl_task.specs.Planning.{PlanningTask, Action};
 ghost use Rattle.pddl_task.specs.Plans.{state_after};
 ghost use Rattle.mutex.specs.Groups.{is_usable, is_full, is_constant};
 
-/// In every state that a sequence of the actions reaches from the initial state, at most one atom of a usable group is
-/// true, and at least one atom of a full group.
+/// Proves that, in every state that a sequence of the actions reaches from the initial state, at most one atom of a
+/// usable group is true, and at least one atom of a full group.
 pub fn groups_are_exclusive()
     ensures one { (task : PlanningTask) (actions : List Action) (group : List Atom) → is_usable task actions group ≡ true →
         (plan : List Action) (state : State) → All (Contains actions) plan →
@@ -18,7 +18,8 @@ pub fn groups_are_exclusive()
         state_after (contains task.initial) plan ≡ Some state → list_any state group ≡ true }
 {}
 
-/// In every state that a sequence of the actions reaches from the initial state, each constant atom is true.
+/// Proves that, in every state that a sequence of the actions reaches from the initial state, each constant atom is
+/// true.
 pub fn constants_stay_true()
     ensures { (task : PlanningTask) (actions : List Action) (p : Atom) → is_constant task actions p ≡ true →
         (plan : List Action) (state : State) → All (Contains actions) plan →

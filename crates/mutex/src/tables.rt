@@ -225,7 +225,7 @@ fn adds_alone(group: &[usize], place: usize, added: &[usize]) -> bool
         .all(|other| *other == place || !is_one_of(group, *other))
 }
 
-/// Returns whether one of the wanted atoms of the group is the one at `place` or is removed.
+/// Returns whether one of the positive preconditions `wanted` in the group is the atom at `place` or is removed.
 fn gives_way(group: &[usize], place: usize, wanted: &[usize], removed: &[usize]) -> bool
     requires { IsStrictlyIncreasing group.now }
     ensures { result ≡ gives_way group.now place wanted.now removed.now }

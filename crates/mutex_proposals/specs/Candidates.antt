@@ -86,7 +86,7 @@ abbrev pub is_proposal : Indexed → List ℕ → Bool
 is_proposal index places =
     nat_le 2 (length places) && is_usable index.task index.actions (atoms_at index.atoms places)
 
--- the instances of the first 4,096 candidates that are proposals, in order and without repeats
+-- the instances of the first 4,096 candidates that are proposals, in order and without repetitions
 unfoldable pub proposed_groups : Indexed → List (List ℕ)
 proposed_groups index =
     fold with_group [] (filter (is_proposal index) (flat_map (instances index) (take 4096 (candidates index.task))))

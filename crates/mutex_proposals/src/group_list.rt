@@ -15,7 +15,7 @@ use std::alloc::{AllocError, Global};
 use std::hash::{Hash, Hasher};
 use std::marker::Model;
 
-/// A group of atoms, represented by their indices, counted from 0.
+/// A group of atoms, represented by their indices.
 #[derive(Debug, Drop)]
 pub struct Group {
     places: Vec<usize>,

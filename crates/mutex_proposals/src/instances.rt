@@ -58,7 +58,7 @@ impl Places {
         self.places.clear();
     }
 
-    /// Sorts the indices in increasing order, and removes repeats.
+    /// Sorts the indices in increasing order, and removes repetitions.
     fn sort(&mut self)
         ensures rising { IsStrictlyIncreasing self.new }
         ensures same { AreSameSet self.new self.old }

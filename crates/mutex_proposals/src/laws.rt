@@ -1,13 +1,13 @@
-//! Groups worked out by hand.
+//! Worked examples of groups.
 
 ghost use Rattle.std.specs.Prelude.{◌≡◌, [], ◌∷◌};
 ghost use Rattle.mutex_proposals.specs.Candidates.{bound_at, free_part, candidates, proposed_groups};
 ghost use Rattle.mutex_proposals.specs.Examples.{two_balls, with_two_balls};
 
-/// With two balls, two rooms and a gripper the candidates with a parameter are, by predicate: in with the ball bound,
-/// in with the room bound, held; then in and held in both ways. The candidates without one are held, free, and both.
-/// Three groups are proposed: for each ball that it is in a room or held, and that one ball is held or the gripper is
-/// free.
+/// Proves a worked example: with two balls, two rooms and a gripper the candidates with a parameter are, by predicate:
+/// in with the ball bound, in with the room bound, held; then in and held in both ways. The candidates without one are
+/// held, free, and both. Three groups are proposed: for each ball that it is in a room or held, and that one ball is
+/// held or the gripper is free.
 pub fn worked_balls()
     ensures candidates { candidates two_balls ≡ (bound_at 0 0 ∷ []) ∷ (bound_at 0 1 ∷ []) ∷ (bound_at 1 0 ∷ [])
         ∷ (bound_at 0 0 ∷ bound_at 1 0 ∷ []) ∷ (bound_at 0 1 ∷ bound_at 1 0 ∷ [])

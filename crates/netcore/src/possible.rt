@@ -37,7 +37,7 @@ impl OwnStep {
     }
 }
 
-/// Returns step number `number`, counted from 0, among those that deliver a message of these queues.
+/// Returns step number `number` among those that deliver a message of these queues.
 fn nth_delivery<F: StateForm + Drop>(
     queues: &[VecDeque<Packet<F>>],
     number: u128,
@@ -94,7 +94,7 @@ impl<'a, S: Spread + Drop, F: StateForm + Drop> World<'a, S, F> {
         self.owners[worker].outbox_len(to) > 0
     }
 
-    /// Returns whether message number `number`, counted from 0, is underway to the worker.
+    /// Returns whether message number `number` is underway to the worker.
     fn could_deliver(&self, worker: usize, number: usize) -> bool
         ensures { result ≡ would_change S.owner self.now (Deliver worker number) }
     {
@@ -153,7 +153,7 @@ impl<'a, S: Spread + Drop, F: StateForm + Drop> World<'a, S, F> {
             .count()
     }
 
-    /// Returns step number `number`, counted from 0, among those of this kind that would change something.
+    /// Returns step number `number` among those of this kind that would change something.
     fn nth_own(&self, kind: OwnStep, number: u128) -> Option<WorldStep>
         ensures { result ≡ slice_get (by_owner S.owner self.now (own_step kind)) number }
     {
@@ -179,7 +179,7 @@ impl<'a, S: Spread + Drop, F: StateForm + Drop> World<'a, S, F> {
         self.owners[worker].outboxes_in_use()
     }
 
-    /// Returns step number `number`, counted from 0, among those that send a message of this owner.
+    /// Returns step number `number` among those that send a message of this owner.
     fn nth_send_of(&self, worker: usize, number: usize) -> Option<WorldStep>
         ensures { result ≡ slice_get (sends_of S.owner self.now worker) number }
     {
@@ -227,7 +227,7 @@ impl<'a, S: Spread + Drop, F: StateForm + Drop> World<'a, S, F> {
             .saturating_add(self.own_count(OwnStep::Rest) as u128)
     }
 
-    /// Returns step number `number`, counted from 0, among those that send a message.
+    /// Returns step number `number` among those that send a message.
     fn nth_send(&self, number: u128) -> Option<WorldStep>
         ensures { result ≡ slice_get (flat_map (sends_of S.owner self.now) (below (length self.now.owners))) number }
     {
@@ -242,8 +242,8 @@ impl<'a, S: Spread + Drop, F: StateForm + Drop> World<'a, S, F> {
         None
     }
 
-    /// Returns step number `number`, counted from 0, among those by which an owner offers, reads or rests and that
-    /// would change something.
+    /// Returns step number `number` among those by which an owner offers, reads or rests and that would change
+    /// something.
     fn nth_later(&self, number: u128) -> Option<WorldStep>
         ensures { result ≡ slice_get (by_owner S.owner self.now Offer ++ by_owner S.owner self.now Look ++ by_owner S.owner self.now Rest) number }
     {
@@ -258,9 +258,9 @@ impl<'a, S: Spread + Drop, F: StateForm + Drop> World<'a, S, F> {
         self.nth_own(OwnStep::Rest, number)
     }
 
-    /// Returns step number `number`, counted from 0, among those that would change something, in the order Expand,
-    /// Send, Deliver, Offer, Look, Rest, and in each kind by increasing numbers. Returns `None` if at most `number`
-    /// steps would change something. It takes time linear in the number of owners.
+    /// Returns step number `number` among those that would change something, in the order Expand, Send, Deliver, Offer,
+    /// Look, Rest, and in each kind by increasing numbers. Returns `None` if at most `number` steps would change
+    /// something. It takes time linear in the number of owners.
     pub fn possible_step(&self, number: u128) -> Option<WorldStep>
         ensures { result ≡ slice_get (possible_steps S.owner self.now) number }
     {

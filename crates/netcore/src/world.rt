@@ -125,8 +125,8 @@ impl<'a, S: Spread + Drop, F: StateForm + Drop> World<'a, S, F> {
         })
     }
 
-    /// Expands the worker's next node below the bound that it has read last. Returns whether there was one. A fault is
-    /// that of the owner; the world is then unchanged.
+    /// Expands the worker's next node below the bound that it has read last. Returns whether there was one. Fails as
+    /// `Owner::expand` does; the world is then unchanged.
     fn expand(&mut self, worker: usize) -> Result<bool, OwnerFault>
         ensures { MatchResult result (IsStepDone S.owner self.old self.new (Expand worker)) (IsStepRefused S.owner self.old self.new (Expand worker)) }
     {
@@ -164,8 +164,8 @@ impl<'a, S: Spread + Drop, F: StateForm + Drop> World<'a, S, F> {
         Ok(true)
     }
 
-    /// Delivers message number `number`, counted from 0, of those underway to the worker, which is then not at rest.
-    /// Returns whether there was one. On failure the world is unchanged.
+    /// Delivers message number `number` of those underway to the worker, which is then not at rest. Returns whether
+    /// there was one. On failure the world is unchanged.
     fn deliver(&mut self, worker: usize, number: usize) -> Result<bool, AllocError>
         ensures { MatchResult result (IsStepDone S.owner self.old self.new (Deliver worker number)) (λ _. IsStepRefused S.owner self.old self.new (Deliver worker number) OutOfMemory) }
     {
@@ -239,8 +239,8 @@ impl<'a, S: Spread + Drop, F: StateForm + Drop> World<'a, S, F> {
         true
     }
 
-    /// Does a step, and returns whether something changed. A fault, after which the world is unchanged, is that of the
-    /// owner that is to expand a node, or a failed allocation in a step that would change something.
+    /// Does a step, and returns whether something changed. Fails with the fault of the owner that is to expand a node,
+    /// or if allocation fails in a step that would change something; the world is then unchanged.
     pub fn step(&mut self, step: WorldStep) -> Result<bool, OwnerFault>
         ensures stepped { (world : machine.World) → Shows S.owner self.old world → IfOk result (λ _. Steps S.owner self.old world step self.new) }
         ensures changed { IfOk result (λ changed. changed ≡ would_change S.owner self.old step) }
@@ -297,8 +297,8 @@ impl<'a, S: Spread + Drop, F: StateForm + Drop> World<'a, S, F> {
         messages.saturating_add(awake_count(&self.resting) as u128)
     }
 
-    /// Returns the number of messages underway or in outboxes plus the number of owners not at rest, capped at 2^128 -
-    /// 1. If it is 0, the owners are settled; if not, some step would change something.
+    /// Returns the number of messages underway or in outboxes plus the number of owners not at rest, capped at
+    /// `u128::MAX`. If it is 0, the owners are settled; if not, some step would change something.
     pub fn count(&self) -> u128
         ensures count { (world : machine.World) → Shows S.owner self.now world → result ≡ min (machine.count (space_in S.owner self.now) world) (2 ^ 128 - 1) }
         ensures quiet { result ≡ 0 → (asked : List WorldStep) (after : IsAfter S.owner (space_in S.owner self.now) asked self.now) →
@@ -352,7 +352,7 @@ impl<'a, S: Spread + Drop, F: StateForm + Drop> World<'a, S, F> {
         &self.owners
     }
 
-    /// Proves the type's invariant (only for the proof): every world is the world after some run, and it has owners.
+    /// Proves the type's invariant: every world is the world after some run, and it has owners. Only for the proof.
     pub fn recall(&self)
         ensures run { ∥ ((asked : List WorldStep) × IsAfter S.owner (space_in S.owner self.now) asked self.now) ∥₁ }
         ensures some { 0 < length self.now.owners }

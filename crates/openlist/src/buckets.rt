@@ -10,8 +10,8 @@ use crate::row::{begin_reserve, bucket_of, count_far, first_filled, push_near, r
 use std::alloc::{AllocError, Global};
 use std::marker::Model;
 
-/// An open list as an array of buckets by f (Dial 1969), each a run beside a binary heap, with one heap for all entries
-/// of f 65536 and above.
+/// An open list as an array of buckets by f (Dial 1969), each of a run and a binary heap, with one heap for all entries
+/// with f 65536 and above.
 ///
 /// A push or a pop takes at most time logarithmic in the number of entries of the same f. A pop also scans empty
 /// buckets, from the f-value of the last pop, or of a push below that, to the first bucket that has an entry; `least`

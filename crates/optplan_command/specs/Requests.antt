@@ -32,8 +32,8 @@ pub record DoesRequest (name : List ℕ) (value : List ℕ → Option (List ℕ)
 abbrev pub IsRefusedRequest : List ℕ → (List ℕ → Option (List ℕ)) → Type 0
 IsRefusedRequest name value = ((name ≡ codes "solve") ⊎ (name ≡ codes "solve-sas")) × HasRefusedValue value
 
--- arguments with an error of one of these kinds are misused: there is such a kind, and none is a request for help or
--- the version
+-- arguments with an error of one of these kinds are misused: there is at least one kind, and none is a request for help
+-- or the version
 pub record IsMisuse (kinds : List ErrorKind) : Type 0 where
   pub some : kinds ≢ []
   pub no_help : (k : ErrorKind) → IsAmong k kinds → (k ≢ DisplayHelp) × (k ≢ DisplayVersion)

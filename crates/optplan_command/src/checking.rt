@@ -37,7 +37,7 @@ fn check_line(alloc: Global, verdict: &Verdict) -> Result<String, AllocError>
 /// `Done` if the certificate is accepted, else `Rejected`. Each text is dropped as soon as it is parsed.
 ///
 /// Fails with the first fault of the task's text; if that spells a task, with the first fault of the certificate's; or
-/// with `OutOfMemory`.
+/// if allocation fails.
 fn check_of<R: AllocGlobal + Threads + Sync>(
     rt: &R,
     sas: Vec<u8>,

@@ -46,7 +46,7 @@ pub(crate) enum FileCommand<'a> {
     },
 }
 
-/// Returns whether the argument does not start an option.
+/// Returns whether the argument is not an option: it does not start with a hyphen.
 fn is_operand(word: &str) -> bool
     ensures { result ≡ is_operand word.now }
 {

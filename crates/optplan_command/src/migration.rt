@@ -12,7 +12,7 @@ use optplan_replies::{Fault, FileWord, Status, read_file, report};
 use std::alloc::Global;
 
 /// Returns the text of the certificate as version 2. The input text is dropped before that one is made. Fails with the
-/// first fault of the text, or with `OutOfMemory`.
+/// first fault of the text, or if allocation fails.
 fn migrated(alloc: Global, cert: Vec<u8>) -> Result<Vec<u8>, Fault>
     ensures text { IfOk result (λ text. IsMigrated cert.items text.items) }
     ensures refused { IfErr result (IsMigrationRefusal cert.items) }

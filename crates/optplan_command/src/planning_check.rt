@@ -59,8 +59,8 @@ fn planning_check_fault(
 /// Returns the line that is printed for a certificate's text and the texts of a domain and a problem, with its line
 /// feed, and the exit status: `Done` if the certificate is accepted, else `Rejected`.
 ///
-/// Fails with the fault of the domain and the problem that comes first, with the first fault of the certificate, with
-/// the limit that is exceeded, or with `OutOfMemory`.
+/// Fails with the first fault of the domain and the problem, with the first fault of the certificate, with the limit
+/// that is exceeded, or if allocation fails.
 fn planning_check_of<R: AllocGlobal + Threads + Sync>(
     rt: &R,
     domain: &[u8],

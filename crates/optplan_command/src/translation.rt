@@ -60,8 +60,8 @@ fn translation_text(alloc: Global, task: &Task) -> Result<Vec<u8>, Fault>
     }
 }
 
-/// Returns the text of the translation of the task that the texts spell. Fails with the fault of the texts that comes
-/// first, with the limit that is exceeded, or with `OutOfMemory`.
+/// Returns the text of the translation of the task that the texts spell. Fails with the first fault of the texts, with
+/// the limit that is exceeded, or if allocation fails.
 fn translation_of(alloc: Global, domain: &[u8], problem: &[u8]) -> Result<Vec<u8>, Fault>
     ensures text { IfOk result (λ text. IsTranslationText domain.now problem.now text.items) }
     ensures refused { IfErr result (IsTranslationRefusal domain.now problem.now) }

@@ -53,7 +53,7 @@ fn line_of(alloc: Global, task: &Task, plan: &Plan) -> Result<(String, Status), 
 }
 
 /// Returns the answer for a plan's text: the verdict's line, with its line feed, and the exit status. Fails with the
-/// fault of the plan's text, or with `OutOfMemory`.
+/// fault of the plan's text, or if allocation fails.
 fn answer_of(alloc: Global, task: &Task, plan: &[u8]) -> Result<(String, Status), Fault>
     requires small { IsTrue (has_small_costs task.now) }
     requires costs { CostsAtMost task.now max_cost }
@@ -74,8 +74,8 @@ fn answer_of(alloc: Global, task: &Task, plan: &[u8]) -> Result<(String, Status)
 /// Returns the line that is printed for a plan, with its line feed, and the exit status: `Done` if the plan is valid,
 /// else `Rejected`.
 ///
-/// Fails with the fault of the domain and the problem that comes first; if they spell a task, with that of the plan's
-/// text; or with `OutOfMemory`.
+/// Fails with the first fault of the domain and the problem; if they spell a task, with that of the plan's text; or if
+/// allocation fails.
 #[tactic(auto, unfolding(validate::specs::Verdicts::CostsAtMost))]
 pub fn verdict_of(
     alloc: Global,

@@ -8,7 +8,7 @@ use std::alloc::Global;
 /// The reason why a read or a write of a device failed.
 #[derive(Clone, Copy, Debug, PartialEq, Eq)]
 pub enum DeviceFault {
-    /// Memory ran out.
+    /// Allocation failed.
     Memory,
     /// The file, or the stream, could not be read or written.
     Failed,

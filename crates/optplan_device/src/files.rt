@@ -24,8 +24,8 @@ impl<'a, R: Files + Print + Eprint + AllocGlobal> ProcessDevice<'a, R> {
         ProcessDevice { rt, failures: 0 }
     }
 
-    /// Returns the fault for an error of this kind: `Memory` if memory ran out or the count of failures is at its
-    /// maximum, else `Failed`, which is counted.
+    /// Returns the fault for an error of this kind: `Memory` if it is `OutOfMemory` or the count of failures is at its
+    /// maximum, otherwise `Failed`, which is counted.
     fn fault_of(&mut self, kind: ErrorKind) -> DeviceFault
         ensures counted { self.new.failures ≡ self.old.failures + failure_of result }
         ensures failed { kind ≢ ErrorKind.OutOfMemory → self.old.failures < 2 ^ 64 - 1 → result ≡ DeviceFault.Failed }

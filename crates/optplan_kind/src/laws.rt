@@ -1,4 +1,4 @@
-//! Laws of certificates for translated tasks. Each function states a law as its contract and has an empty body.
+//! Laws of certificates for translated tasks.
 
 ghost use Rattle.std.specs.Prelude.{◌≡◌, ◌≤◌, ◌^◌, ℕ, List, length};
 ghost use Rattle.pddl_task.specs.Planning.{PlanningTask};
@@ -12,14 +12,14 @@ ghost use Rattle.checker_pddl.specs.Answers.{IsAnswer};
 ghost use Rattle.checker_pddl.specs.declared.verdict.PlanningVerdict.TheVariants.{Accepted};
 ghost use Rattle.optplan_kind.specs.Kinds.{translation_kind};
 
-/// The kind of certificates for a translation of a task that texts spell can be written in a text.
+/// Proves that the kind of certificates for a translation of a task that texts spell can be written in a text.
 pub fn translation_kind_has_text()
     ensures { (domain problem : List ℕ) (task : PlanningTask) (t : TranslatedTask) → SpellTask domain problem task → IsTranslation task t →
         IsLawfulKind (translation_kind task t) }
 {}
 
-/// A certificate of that kind that holds for the translation is accepted, by its text and for its bound, by the
-/// checker, which reads only the texts, if its text has at most 2^30 bytes.
+/// Proves that the checker, which reads only the texts, accepts the text of a certificate of that kind that holds for
+/// the translation, for the certificate's bound, if that text has at most 2^30 bytes.
 pub fn held_certificate_is_accepted()
     ensures { (domain problem text : List ℕ) (task : PlanningTask) (t : TranslatedTask) (c : CertificateValue) →
         SpellTask domain problem task → IsTranslation task t → c.kind ≡ translation_kind task t → IsHeld t.task c → IsLawful c →

@@ -54,7 +54,7 @@ pub record IsPlanningSolution (domain problem : List ℕ) (task : PlanningTask) 
   pub least : ValidPlansCostAtLeast task (Finite s.found.cost)
   pub accepted : IsAccepted domain problem s.cert.items (Finite s.found.cost)
 
--- a bound below which no valid plan costs, with the text of a certificate of it, and the best plan so far
+-- a lower bound on the cost of every valid plan, with the text of a certificate of it, and the best plan so far
 pub record IsPlanningKnown (domain problem : List ℕ) (task : PlanningTask) (most : Distance) (known : KnownSoFar (Vec Step Global)) : Type 0 where
   pub least : ValidPlansCostAtLeast task (Finite known.bound)
   pub best : IsBestWritten (IsPlanningPlan task) most known.best
@@ -78,7 +78,7 @@ pub record IsPlanningAnswer (domain problem : List ℕ) (ends : FiniteDomainTask
   pub ended : ends translated.task end
   pub is : IsAnswerFor domain problem task end answer
 
--- the texts are refused for the fault that comes first; or they spell a task that has too many atoms or actions, whose
+-- the texts are refused for their first fault; or they spell a task that has too many atoms or actions, whose
 -- translation is too large, or the search of whose translation is refused for a fault that satisfies `refused`: a
 -- path's total is too large, or a gate made it fail
 abbrev pub IsPlanningRefusal : List ℕ → List ℕ → (FiniteDomainTask → SearchFault → Type 0) → PlanningFault → Type 0

@@ -7,7 +7,7 @@ use Rattle.translate.specs.Translated.{IsTranslation, HasSamePlans}
 use Rattle.optplan_kind.specs.Kinds.{translation_kind}
 use Rattle.optplan_pddl.specs.declared.preparing.Prepared.{Prepared}
 
--- the texts spell a task, of which this is a translation with the same plans, with the kind of certificates for it
+-- the texts spell a task; this is a translation of it with the same plans, and the kind of certificates for it
 pub record IsPrepared (domain problem : List ℕ) (p : Prepared) : Type 0 where
   pub task : PlanningTask
   pub spelled : SpellTask domain problem task

@@ -12,7 +12,7 @@ use std::alloc::AllocError;
 /// The reason why a planning task is not solved.
 #[derive(Debug, Drop)]
 pub enum PlanningFault {
-    /// Memory ran out. This says nothing about the texts.
+    /// Allocation failed. This says nothing about the texts.
     OutOfMemory,
     /// The domain's or the problem's text is refused.
     Task(PddlFault),
@@ -22,8 +22,8 @@ pub enum PlanningFault {
     TaskTooLarge(TaskLimit),
     /// F60: a path would have a cost, or a number of actions, above 2^62.
     TotalTooLarge,
-    /// The gate of a multi-threaded search made it fail before a turn: the worker's number, counted from 0, and the
-    /// turn's, counted from 1 in its round.
+    /// The gate of a multi-threaded search made it fail before a turn: the worker's number, and the turn's, counted
+    /// from 1 in its round.
     Gate(usize, u64),
 }
 

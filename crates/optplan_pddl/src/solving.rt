@@ -135,13 +135,12 @@ fn answer_texts(
 
 /// Returns the answer for the task that the texts spell, after these steps of a world of owners, with a certificate
 /// that the checker accepts if its text has at most 2^30 bytes: a cheapest plan, or that there is none; `Limit` with a
-/// bound below which no plan costs, and possibly a plan, if the owners are not settled. Stops before the first step
-/// that asks an owner for more nodes than its limit allows.
+/// lower bound on the cost of every plan, and possibly a plan, if the owners are not settled. Stops before the first
+/// step that asks an owner for more nodes than its limit allows.
 ///
-/// Fails with the fault of the texts that comes first, with `GroundLimit` or `TaskTooLarge` if the task or its
-/// translation exceeds a limit, with `TotalTooLarge` if a path would have a cost or a number of actions above 2^62, or
-/// if allocation fails. The contract states neither that these steps were done nor the causes of `Limit` and
-/// `TotalTooLarge`.
+/// Fails with the first fault of the texts, with `GroundLimit` or `TaskTooLarge` if the task or its translation exceeds
+/// a limit, with `TotalTooLarge` if a path would have a cost or a number of actions above 2^62, or if allocation fails.
+/// The contract states neither that these steps were done nor the causes of `Limit` and `TotalTooLarge`.
 pub fn solve_steps<R: AllocGlobal + Threads + Sync>(
     rt: &R,
     domain: &[u8],
@@ -181,14 +180,13 @@ pub fn simulate<R: AllocGlobal + Threads + Sync, O: Observer>(
 
 /// Returns the answer for the task that the texts spell, by the chosen number of workers, each in a thread of its own,
 /// with a certificate that the checker accepts if its text has at most 2^30 bytes: a cheapest plan, or that there is
-/// none; `Limit` with a bound below which no plan costs, and possibly a plan, if the search ended before the owners
-/// were settled, by an owner's limit or by the gate.
+/// none; `Limit` with a lower bound on the cost of every plan, and possibly a plan, if the search ended before the
+/// owners were settled, by an owner's limit or by the gate.
 ///
-/// Fails with the fault of the texts that comes first, with `GroundLimit` or `TaskTooLarge` if the task or its
-/// translation exceeds a limit, with `TotalTooLarge` if a path would have a cost or a number of actions above 2^62,
-/// with `Gate` if the gate makes the search fail, or if allocation fails. The contract does not state the causes of
-/// `Limit` and `TotalTooLarge`. Termination is not guaranteed: an unfair scheduler may keep every worker from making
-/// progress.
+/// Fails with the first fault of the texts, with `GroundLimit` or `TaskTooLarge` if the task or its translation exceeds
+/// a limit, with `TotalTooLarge` if a path would have a cost or a number of actions above 2^62, with `Gate` if the gate
+/// makes the search fail, or if allocation fails. The contract does not state the causes of `Limit` and
+/// `TotalTooLarge`. Termination is not guaranteed: an unfair scheduler may keep every worker from making progress.
 pub fn solve<R: Threads + Wait + Clock + Sync + AllocGlobal, G: Gate + Sync>(
     rt: &R,
     domain: &[u8],

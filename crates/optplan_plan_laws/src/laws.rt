@@ -1,4 +1,4 @@
-//! Laws of the texts of a task's plans. Each function states one as its contract and has an empty body.
+//! Laws of the texts of a task's plans.
 
 ghost use Rattle.std.specs.Prelude.{◌<◌, ◌≤◌, ◌^◌, ℕ, List, All, length, map};
 ghost use Rattle.sexp.specs.Limits.{max_bytes};
@@ -13,21 +13,22 @@ ghost use Rattle.optplan_plans.specs.Plans.{step_of, text_of_plan};
 ghost use Rattle.validate.specs.PlanWords.{IsPlanWord};
 ghost use Rattle.optplan_plan_laws.specs.PlanNames.{NamesAre};
 
-/// The names of the objects, predicates and schemas of a spelled task are plan words: a plan's text has them unchanged.
+/// Proves that the names of the objects, predicates and schemas of a spelled task are plan words: a plan's text has
+/// them unchanged.
 pub fn spelled_names_are_plan_words()
     ensures { (domain problem : List ℕ) (t : PlanningTask) → SpellTask domain problem t → NamesAre IsPlanWord t.vocabulary }
 {}
 
-/// The text of a plan of a spelled task's actions spells the steps that name these actions, if there are at most
-/// 1,048,576 of them, the text is at most 16,777,216 bytes long and the cost fits 64 bits.
+/// Proves that the text of a plan of a spelled task's actions spells the steps that name these actions, if there are at
+/// most 1,048,576 of them, the text is at most 16,777,216 bytes long and the cost fits 64 bits.
 pub fn task_plan_is_read()
     ensures { (domain problem : List ℕ) (task : PlanningTask) (actions : List Action) (cost : ℕ) → SpellTask domain problem task →
         All (IsActionOf task) actions → length actions ≤ max_steps → cost < 2 ^ 64 → length (text_of_plan task actions cost) ≤ max_bytes →
         SpellsPlan (text_of_plan task actions cost) (map (step_of task.vocabulary) actions) }
 {}
 
-/// The text of a valid plan of a spelled task spells a plan with the verdict `Valid`, at the same cost, within the same
-/// limits.
+/// Proves that the text of a valid plan of a spelled task spells a plan with the verdict `Valid`, at the same cost,
+/// within the same limits.
 pub fn valid_plan_is_found_valid()
     ensures { (domain problem : List ℕ) (task : PlanningTask) (actions : List Action) → SpellTask domain problem task →
         IsValidPlan task actions → length actions ≤ max_steps → total_cost actions < 2 ^ 64 →

@@ -7,8 +7,8 @@ use Rattle.optplan_replies.specs.Words.{word_of_fault}
 use Rattle.optplan_replies.specs.declared.fault.Fault.{Fault}
 use Rattle.optplan_replies.specs.declared.fault.Fault.TheVariants.{OutOfMemory, CannotRead, CannotWrite, Task, Plan, Sas, Cert, GroundLimit, TaskTooLarge, TotalTooLarge}
 
--- the texts of a domain and a problem are refused for their first fault, with the word that the fault prints, or memory
--- ran out
+-- the texts of a domain and a problem are refused for their first fault, with the word that the fault prints, or
+-- allocation failed
 abbrev pub IsTaskReport : List ℕ → List ℕ → Fault → Type 0
 IsTaskReport domain problem OutOfMemory = Unit {0}
 IsTaskReport domain problem (CannotRead file) = ⊥

@@ -31,7 +31,7 @@ Follows IsAnswer IsRefusal events status =
     ((line : List ℕ) × IsAnswer line status × (events ≡ HasPut line ∷ []))
     ⊎ ((e : Fault) × IsRefusal e × (status ≡ fault_status e) × IsQuiet events)
 
--- the fault of a device that changes the count of failures in this way: memory ran out, or the failure is counted
+-- the fault of a device that changes the count of failures in this way: allocation failed, or the failure is counted
 abbrev pub IsDeviceFault : Fault → ℕ → ℕ → Type 0
 IsDeviceFault OutOfMemory old new = new ≡ old
 IsDeviceFault (CannotRead file) old new = new ≡ old + 1

@@ -31,7 +31,7 @@ pub enum FileWord {
 /// The reason why the program has no answer.
 #[derive(Debug, Drop)]
 pub enum Fault {
-    /// Memory ran out.
+    /// Allocation failed.
     OutOfMemory,
     /// F70: the file cannot be read.
     CannotRead(FileWord),
@@ -118,7 +118,7 @@ impl From<CheckFault> for Fault {
 }
 
 impl Fault {
-    /// Returns the exit status: `OutOfMemory` if memory ran out, `DeviceFailed` for a file that cannot be read or
+    /// Returns the exit status: `OutOfMemory` if allocation failed, `DeviceFailed` for a file that cannot be read or
     /// written, and `Refused` for a text or a task that is refused.
     pub fn status(&self) -> Status
         ensures { result ≡ fault_status self.now }
@@ -174,7 +174,7 @@ fn table_word(table: LimitedTable) -> &'static str
     }
 }
 
-/// Writes the number, name, file and byte offset (counted from 0) of a fault of a tree.
+/// Writes the number, name, file and byte offset of a fault of a tree.
 fn write_tree_fault<W: fmt::Write>(
     f: &mut fmt::Formatter<W>,
     fault: SexpFault,
@@ -193,7 +193,7 @@ fn write_tree_fault<W: fmt::Write>(
     }
 }
 
-/// Writes the number, name, word, file and byte offset (counted from 0) of a fault of a planning text.
+/// Writes the number, name, word, file and byte offset of a fault of a planning text.
 fn write_text_fault<W: fmt::Write>(
     f: &mut fmt::Formatter<W>,
     fault: TextFault,

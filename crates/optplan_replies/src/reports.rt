@@ -26,7 +26,7 @@ fn first_word(alloc: Global, text: &[u8]) -> Result<String, AllocError>
     Ok(word)
 }
 
-/// Returns the word that starts at byte `at` of a text, counted from 0, in lower case; empty if there is none.
+/// Returns the word that starts at byte `at` of a text, in lower case; empty if there is none.
 fn word_at(alloc: Global, text: &[u8], at: usize) -> Result<String, AllocError>
     ensures { IfOk result (λ word. string_bytes word ≡ word_at text.now at) }
 {

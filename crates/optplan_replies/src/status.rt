@@ -19,7 +19,7 @@ pub enum Status {
     Unsolvable,
     /// A search was stopped before it found a cheapest plan or that there is none.
     Limited,
-    /// Memory ran out.
+    /// Allocation failed.
     OutOfMemory,
     /// The device failed to read or to write.
     DeviceFailed,

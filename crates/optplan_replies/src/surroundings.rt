@@ -11,7 +11,8 @@ use crate::status::Status;
 use optplan_device::{Device, DeviceFault};
 use std::alloc::{AllocError, Global};
 
-/// Returns the bytes of a file. Fails with `CannotRead(file)` if the device fails, or with `OutOfMemory`.
+/// Returns the bytes of a file. Fails with `CannotRead(file)` if the device fails, or with `OutOfMemory` if allocation
+/// fails.
 pub fn read_file<D: Device>(
     alloc: Global,
     device: &mut D,
@@ -48,7 +49,7 @@ pub fn read_task_files<D: Device>(
     Ok((domain, problem))
 }
 
-/// Writes a text to standard output. Fails if the device fails, or if memory runs out.
+/// Writes a text to standard output. Fails if the device fails, or if allocation fails.
 fn put<D: Device>(device: &mut D, text: &[u8]) -> Result<(), Fault>
     ensures told { OnOk result (Adds (D.history device.old) (D.history device.new) (HasPut text.now)) }
     ensures word { IfErr result (λ e. (e ≡ OutOfMemory) ⊎ (e ≡ CannotWrite FileWord.Output)) }
@@ -63,7 +64,7 @@ fn put<D: Device>(device: &mut D, text: &[u8]) -> Result<(), Fault>
     }
 }
 
-/// The line which says that memory ran out, with its line feed. It is constant because making it must not allocate.
+/// The line for `OutOfMemory`, with its line feed. It is a constant because building it must not allocate.
 const OUT_OF_MEMORY_LINE: &[u8] = b"optplan: out of memory\n";
 
 /// Returns the line of a fault, with its line feed.
@@ -72,7 +73,7 @@ fn fault_line(alloc: Global, fault: &Fault) -> Result<String, AllocError> {
 }
 
 /// Reports a fault on standard error and returns the fault's exit status. If there is no memory for the fault's line,
-/// the line says that memory ran out. A failure to write the line is ignored.
+/// the line is that for `OutOfMemory`. A failure to write the line is ignored.
 pub fn report<D: Device>(alloc: Global, device: &mut D, fault: &Fault) -> Status
     ensures told { (h : List Event) → D.history device.old ≡ Some h →
         (later : List Event) × (D.history device.new ≡ Some (h ++ later)) × IsQuiet later }

@@ -21,7 +21,7 @@ pub struct Outcome {
 /// The reason why there is no outcome.
 #[derive(Clone, Copy, Debug, PartialEq, Eq, Error)]
 pub enum RunFault {
-    /// Memory ran out.
+    /// Allocation failed.
     #[error("out of memory")]
     OutOfMemory,
     /// What was printed or reported is not UTF-8.

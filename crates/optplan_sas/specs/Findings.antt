@@ -40,15 +40,15 @@ pub record IsSolution (task : FiniteDomainTask) (kind : Kind) (s : Solution) : T
   pub cheapest : IsCheapestPlan task s.found.plan.items s.found.cost
   pub certified : IsCertificateOf task kind (Finite s.found.cost) s.certificate
 
--- the best plan so far: none if no goal state was taken, and else one that costs at most as much as the best goal state
--- that was
+-- the best plan so far: none if no goal state was taken, otherwise one that costs at most as much as the best goal
+-- state that was
 abbrev pub IsBestSoFar : FiniteDomainTask → Distance → Option FoundPlan → Type 0
 IsBestSoFar task Infinite None = Unit {0}
 IsBestSoFar task Infinite (Some p) = ⊥
 IsBestSoFar task (Finite most) None = ⊥
 IsBestSoFar task (Finite most) (Some p) = IsPlanAt task p.plan.items p.cost × (p.cost ≤ most)
 
--- a bound below which no plan costs, with a certificate of it, and the best plan so far
+-- a lower bound on the cost of every plan, with a certificate of it, and the best plan so far
 pub record IsSoFar (task : FiniteDomainTask) (kind : Kind) (best : Distance) (s : SoFar) : Type 0 where
   pub least : EveryPlanCostsAtLeast task (Finite s.bound)
   pub certified : IsCertificateOf task kind (Finite s.bound) s.certificate

@@ -39,8 +39,8 @@ pub record IsSasPlan (task : FiniteDomainTask) (p : WrittenPlan (Vec ℕ Global)
   pub is : IsPlanAt task p.plan.items p.cost
   pub written : string_bytes p.plan_text ≡ sas_plan_text task p.plan.items p.cost
 
--- the best plan so far: none if no goal state was taken, and else one that costs at most as much as the best goal state
--- that was
+-- the best plan so far: none if no goal state was taken, otherwise one that costs at most as much as the best goal
+-- state that was
 abbrev pub IsBestWritten : {P : Type 0} → (WrittenPlan P → Type 0) → Distance → Option (WrittenPlan P) → Type 0
 IsBestWritten is_plan Infinite None = Unit {0}
 IsBestWritten is_plan Infinite (Some p) = ⊥
@@ -53,7 +53,7 @@ pub record IsSasSolution (sas : List ℕ) (task : FiniteDomainTask) (s : Cheapes
   pub least : EveryPlanCostsAtLeast task (Finite s.found.cost)
   pub accepted : IsAccepted sas s.cert.items (Finite s.found.cost)
 
--- a bound below which no plan costs, with the text of a certificate of it, and the best plan so far
+-- a lower bound on the cost of every plan, with the text of a certificate of it, and the best plan so far
 pub record IsSasKnown (sas : List ℕ) (task : FiniteDomainTask) (most : Distance) (known : KnownSoFar (Vec ℕ Global)) : Type 0 where
   pub least : EveryPlanCostsAtLeast task (Finite known.bound)
   pub best : IsBestWritten (IsSasPlan task) most known.best

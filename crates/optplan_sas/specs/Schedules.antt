@@ -20,7 +20,7 @@ abbrev pub state_after : ℕ → ℕ → List ℕ
 state_after seed zero = of_seed (splitmix_seed 32 seed)
 state_after seed (suc count) = (plus_plus (state_after seed count)).1
 
--- output `number` of the generator from a seed, counted from 0
+-- output `number` of the generator from a seed
 abbrev pub word_of : ℕ → ℕ → ℕ
 word_of seed number = (plus_plus (state_after seed number)).0
 

@@ -48,7 +48,7 @@ EndsAfter choices steps task e =
     (space : SpaceOf spread.Zobrist) × IsSimulatedSpace task choices space
     × ((w : WorldOf spread.Zobrist) × IsRun zobrist_owner space choices.workers steps w × (e ≡ end_of w))
 
--- a step is refused because its total is too large, or memory ran out
+-- a step is refused because its total is too large, or allocation failed
 abbrev pub IsRefusedAfter : Choices → List WorldStep → FiniteDomainTask → SearchFault → Type 0
 IsRefusedAfter choices steps task OutOfMemory = Unit {0}
 IsRefusedAfter choices steps task TotalTooLarge =
@@ -65,7 +65,7 @@ EndsBySeed choices seed task e =
     (space : SpaceOf spread.Zobrist) × IsSimulatedSpace task choices space
     × ((w : WorldOf spread.Zobrist) × IsSimulated zobrist_owner space choices.workers seed choices.steps w × (e ≡ end_of w))
 
--- a random step from the seed is refused because its total is too large, or memory ran out
+-- a random step from the seed is refused because its total is too large, or allocation failed
 abbrev pub IsRefusedBySeed : Choices → ℕ → FiniteDomainTask → SearchFault → Type 0
 IsRefusedBySeed choices seed task OutOfMemory = Unit {0}
 IsRefusedBySeed choices seed task TotalTooLarge =
@@ -87,7 +87,7 @@ EndsByThreads choices may_stop task e =
     × (IsSearched {F = Unit {0}} zobrist_owner may_stop space choices.workers (Settled e)
     ⊎ IsSearched {F = Unit {0}} zobrist_owner may_stop space choices.workers (Stopped e))
 
--- a search by the chosen number of workers fails for this fault, or memory ran out
+-- a search by the chosen number of workers fails for this fault, or allocation failed
 abbrev pub IsRefusedByThreads : Choices → MayStop → FiniteDomainTask → SearchFault → Type 0
 IsRefusedByThreads choices may_stop task OutOfMemory = Unit {0}
 IsRefusedByThreads choices may_stop task TotalTooLarge =

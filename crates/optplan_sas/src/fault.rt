@@ -12,26 +12,26 @@ use std::alloc::AllocError;
 /// The reason why a search has no finding.
 #[derive(Clone, Copy, Debug, PartialEq, Eq)]
 pub enum SearchFault {
-    /// Memory ran out. This says nothing about the task.
+    /// Allocation failed. This says nothing about the task.
     OutOfMemory,
     /// A path would have a cost, or a number of operators, above 2^62.
     TotalTooLarge,
-    /// The gate of a multi-threaded search made it fail before a turn: the worker's number, counted from 0, and the
-    /// turn's, counted from 1 in its round.
+    /// The gate of a multi-threaded search made it fail before a turn: the worker's number, and the turn's, counted
+    /// from 1 in its round.
     Gate(usize, u64),
 }
 
 /// The reason why a finite-domain task is not solved.
 #[derive(Clone, Copy, Debug, PartialEq, Eq)]
 pub enum SasSolveFault {
-    /// Memory ran out. This says nothing about the task.
+    /// Allocation failed. This says nothing about the task.
     OutOfMemory,
     /// The text of the task is refused.
     Sas(SasFault),
     /// F60: a path would have a cost, or a number of operators, above 2^62.
     TotalTooLarge,
-    /// The gate of a multi-threaded search made it fail before a turn: the worker's number, counted from 0, and the
-    /// turn's, counted from 1 in its round.
+    /// The gate of a multi-threaded search made it fail before a turn: the worker's number, and the turn's, counted
+    /// from 1 in its round.
     Gate(usize, u64),
 }
 

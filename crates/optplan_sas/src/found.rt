@@ -21,7 +21,7 @@ use std::alloc::{AllocError, Global};
 pub struct FoundPlan {
     /// The cost of the plan.
     pub cost: u64,
-    /// The numbers of its operators, counted from 0, in the order of the plan.
+    /// The numbers of its operators, in the order of the plan.
     pub plan: Vec<usize>,
 }
 
@@ -145,7 +145,7 @@ fn so_far_of<'a, S: Spread + Drop, F: StateForm + Drop>(
 }
 
 /// Returns the finding of the search, with a certificate of this kind: if it is settled, a cheapest plan, or that there
-/// is none; else a bound below which no plan costs, with the best plan so far.
+/// is none; otherwise a lower bound on the cost of every plan, with the best plan so far.
 pub fn found_by<'a, S: Spread + Drop, F: StateForm + Drop>(
     alloc: Global,
     joined: &Joined<'a, S, F>,

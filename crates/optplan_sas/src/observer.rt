@@ -12,9 +12,9 @@ pub const STEPS_BETWEEN_REPORTS: u64 = 100_000;
 /// The progress of all owners of a search together.
 #[derive(Clone, Copy, Debug, PartialEq, Eq)]
 pub struct Reached {
-    /// The number of expansions, or 2^64 - 1 if it is greater.
+    /// The number of expansions, capped at 2^64 - 1.
     pub expanded: u64,
-    /// The number of stored states, or 2^64 - 1 if it is greater.
+    /// The number of stored states, capped at 2^64 - 1.
     pub kept: u64,
     /// The least f-value of the states that are yet to be expanded, infinite if there is none.
     pub least_open: Dist,

@@ -29,7 +29,7 @@ use std::sync::Wait;
 use std::thread::Threads;
 use std::time::Clock;
 
-/// The answer for a finite-domain task: a plan is the list of its operators' numbers, counted from 0.
+/// The answer for a finite-domain task: a plan is the list of its operators' numbers.
 pub type SasAnswer = Answer<Vec<usize>>;
 
 /// Returns the task that the text spells. Fails with the first fault of the text, or if allocation fails.
@@ -127,8 +127,8 @@ fn answer_texts(alloc: Global, task: &FdrTask, found: Found) -> Result<SasAnswer
 
 /// Returns the answer for the task that the text spells, after these steps of a world of owners, with a certificate
 /// that the checker accepts if its text has at most 2^30 bytes: a cheapest plan, or that there is none; `Limit` with a
-/// bound below which no plan costs, and possibly a plan, if the owners are not settled. Stops before the first step
-/// that asks an owner for more nodes than its limit allows.
+/// lower bound on the cost of every plan, and possibly a plan, if the owners are not settled. Stops before the first
+/// step that asks an owner for more nodes than its limit allows.
 ///
 /// Fails with the first fault of the text, with `TotalTooLarge` if a path would have a cost or a number of operators
 /// above 2^62, or if allocation fails. The contract states neither that these steps were done nor the causes of `Limit`
@@ -171,8 +171,8 @@ pub fn simulate_sas<R: AllocGlobal + Threads + Sync, O: Observer>(
 
 /// Returns the answer for the task that the text spells, by the chosen number of workers, each in a thread of its own,
 /// with a certificate that the checker accepts if its text has at most 2^30 bytes: a cheapest plan, or that there is
-/// none; `Limit` with a bound below which no plan costs, and possibly a plan, if the search ended before the owners
-/// were settled, by an owner's limit or by the gate.
+/// none; `Limit` with a lower bound on the cost of every plan, and possibly a plan, if the search ended before the
+/// owners were settled, by an owner's limit or by the gate.
 ///
 /// Fails with the first fault of the text, with `TotalTooLarge` if a path would have a cost or a number of operators
 /// above 2^62, with `Gate` if the gate makes the search fail, or if allocation fails. The contract does not state the

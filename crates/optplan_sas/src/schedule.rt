@@ -32,7 +32,7 @@ fn drawn<'a, S: Spread + Drop, F: StateForm + Drop>(
 /// order, the one whose number is the next output of Xoshiro256++ (Blackman and Vigna 2021) from this seed modulo their
 /// number. The run ends when the world's count is 0, after `steps` steps, or before a step that asks an owner for more
 /// nodes than its limit allows. Fails with `TotalTooLarge` if a step does (the contract states this of some world, not
-/// of the one before the step), or with `OutOfMemory`. Reports progress to the observer.
+/// of the one before the step), or if allocation fails. Reports progress to the observer.
 pub fn simulated<'a, S: Spread + Drop, O: Observer, F: StateForm + Drop>(
     alloc: Global,
     space: &'a Space<'a, S>,

@@ -24,8 +24,8 @@ use std::sync::Wait;
 use std::thread::Threads;
 use std::time::Clock;
 
-/// Returns the search space for a task: columns of tables of the size that the options allow (the contract leaves them
-/// open), and this spread of the states.
+/// Returns the search space for a task: columns of tables of the size that the options allow (the contract does not
+/// specify them), and this spread of the states.
 fn space_for<'a, R: Threads + Sync>(
     rt: &R,
     alloc: Global,
@@ -197,8 +197,8 @@ fn by_threads_in_smallest_form<'a, R: Threads + Wait + Clock + Sync, G: Gate + S
 }
 
 /// Returns the finding for the task after these steps of a world of owners, with a certificate of that kind: a cheapest
-/// plan, or that there is none; if the owners are not settled, a bound below which no plan costs, and possibly a plan.
-/// Stops before the first step that asks an owner for more nodes than its limit allows.
+/// plan, or that there is none; if the owners are not settled, a lower bound on the cost of every plan, and possibly a
+/// plan. Stops before the first step that asks an owner for more nodes than its limit allows.
 ///
 /// Fails with `TotalTooLarge` if a path would have a cost or a number of operators above 2^62, or if allocation fails.
 /// The contract states neither that these steps were done nor why the search was stopped or fails with `TotalTooLarge`.
@@ -218,9 +218,9 @@ pub fn found_after<'a, R: Threads + Sync>(
 }
 
 /// Returns the finding for the task after random steps from the seed, at most as many as the options allow, with a
-/// certificate of that kind: a cheapest plan, or that there is none; if the owners are not settled, a bound below which
-/// no plan costs, and possibly a plan. Stops before the first step that asks an owner for more nodes than its limit
-/// allows.
+/// certificate of that kind: a cheapest plan, or that there is none; if the owners are not settled, a lower bound on
+/// the cost of every plan, and possibly a plan. Stops before the first step that asks an owner for more nodes than its
+/// limit allows.
 ///
 /// Fails with `TotalTooLarge` if a path would have a cost or a number of operators above 2^62, or if allocation fails.
 /// The contract states neither that these steps were done nor why the search was stopped or fails with `TotalTooLarge`.
@@ -242,7 +242,7 @@ pub fn found_by_seed<'a, R: Threads + Sync, O: Observer>(
 
 /// Returns the finding for the task by the chosen number of workers, each in a thread of its own, with a certificate of
 /// that kind: a cheapest plan, or that there is none; if one of the owners reached its limit, or the gate ended the
-/// search, before they were settled, a bound below which no plan costs, and possibly a plan.
+/// search, before they were settled, a lower bound on the cost of every plan, and possibly a plan.
 ///
 /// Fails with `TotalTooLarge` if a path would have a cost or a number of operators above 2^62, with `Gate` if the gate
 /// makes it fail, or if allocation fails. Termination is not guaranteed: an unfair scheduler may keep every worker from

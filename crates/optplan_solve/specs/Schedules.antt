@@ -27,7 +27,7 @@ abbrev pub EndsBy : Choices → Schedule → FiniteDomainTask → EndOf spread.Z
 EndsBy choices (Threads watch) = EndsByThreads choices (ends_in watch)
 EndsBy choices (Drawn seed) = EndsBySeed choices seed
 
--- the reason why such a search may be refused
+-- the reason why a search by a schedule may be refused
 abbrev pub IsRefusedBy : Choices → Schedule → FiniteDomainTask → SearchFault → Type 0
 IsRefusedBy choices (Threads watch) = IsRefusedByThreads choices (ends_in watch)
 IsRefusedBy choices (Drawn seed) = IsRefusedBySeed choices seed

@@ -55,7 +55,7 @@ fn answer_status<P: Drop>(answer: &Answer<P>) -> Status
     }
 }
 
-/// Writes a file, if it has a name. Fails with `CannotWrite(file)` if the device fails, or if memory runs out.
+/// Writes a file, if it has a name. Fails with `CannotWrite(file)` if the device fails, or if allocation fails.
 fn write_file<D: Device>(
     device: &mut D,
     name: Option<&str>,

@@ -57,7 +57,7 @@ fn solved<R: Threads + Wait + Clock + Eprint + Sync + AllocGlobal>(
 
 /// Returns the answer for the task that the text spells.
 ///
-/// Fails with the first fault of the text, with `TotalTooLarge` if a path's total is too large, or with `OutOfMemory`.
+/// Fails with the first fault of the text, with `TotalTooLarge` if a path's total is too large, or if allocation fails.
 fn answer_of<R: Threads + Wait + Clock + Eprint + Sync + AllocGlobal>(
     rt: &R,
     sas: &[u8],
@@ -77,7 +77,7 @@ fn answer_of<R: Threads + Wait + Clock + Eprint + Sync + AllocGlobal>(
 /// so far; or reports a fault.
 ///
 /// Returns the exit status: `Done` with a cheapest plan, `Unsolvable` if there is none, `Limited` at a limit, or the
-/// fault's. No plan is written if there is none.
+/// fault's status. No plan is written if there is none.
 pub fn run_solve_sas<D: Device, R: Threads + Wait + Clock + Eprint + Sync + AllocGlobal>(
     rt: &R,
     device: &mut D,

@@ -62,8 +62,8 @@ fn planned<R: Threads + Wait + Clock + Eprint + Sync + AllocGlobal>(
 
 /// Returns the answer for the task that the texts spell.
 ///
-/// Fails with the fault of the texts that comes first, if the task, its translation or a path's total exceeds a limit,
-/// or with `OutOfMemory`.
+/// Fails with the first fault of the texts, if the task, its translation or a path's total exceeds a limit, or if
+/// allocation fails.
 fn answer_of<R: Threads + Wait + Clock + Eprint + Sync + AllocGlobal>(
     rt: &R,
     domain: &[u8],
@@ -84,7 +84,7 @@ fn answer_of<R: Threads + Wait + Clock + Eprint + Sync + AllocGlobal>(
 /// so far; or reports a fault.
 ///
 /// Returns the exit status: `Done` with a cheapest plan, `Unsolvable` if there is none, `Limited` at a limit, or the
-/// fault's. No plan is written if there is none.
+/// fault's status. No plan is written if there is none.
 pub fn run_solve<D: Device, R: Threads + Wait + Clock + Eprint + Sync + AllocGlobal>(
     rt: &R,
     device: &mut D,

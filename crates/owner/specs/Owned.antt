@@ -61,7 +61,7 @@ goes_before ties space i m j n =
 abbrev pub is_open : SearchSpace → Node → Bool
 is_open space n = not n.expanded && not (is_at_most Infinite (f_value space n.state n.cost))
 
--- node `i` is open, its f-value is below the bound, and it comes first of all open nodes
+-- node `i` is open, its f-value is below the bound, and it is the first of all open nodes
 pub record IsNext (ties : Ties) (space : SearchSpace) (nodes : List Node) (bound : Distance) (i : ℕ) (n : Node) : Type 0 where
   pub there : At nodes i n
   pub open_node : is_open space n ≡ true

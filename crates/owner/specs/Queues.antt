@@ -69,7 +69,7 @@ pub record IsQueue (ties : Ties) (h : List ℕ → Distance) (nodes : List Node)
   pub queued : AreQueued h nodes (map (turned ties) entries)
   pub top : (e : OpenEntry) → Contains entries e → IsFirst e entries → IsCurrent nodes (turned ties e)
 
--- the entry belongs to an open node that comes first of all open nodes
+-- the entry belongs to the first of all open nodes
 pub record IsLeast (ties : Ties) (h : List ℕ → Distance) (nodes : List Node) (e : OpenEntry) : Type 0 where
   pub node : Node
   pub there : At nodes e.index node

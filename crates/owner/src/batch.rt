@@ -30,11 +30,11 @@ pub(crate) struct Batch<F: StateForm + Drop> {
     pub(crate) own: Vec<Message<F>>,
     /// Their f-values.
     pub(crate) fs: Vec<u64>,
-    /// The owners of the others, into whose outboxes these were put, in that order.
+    /// The receivers of the other successors, in the order in which these were put into the outboxes.
     pub(crate) receivers: Vec<usize>,
     /// The least cost at which a goal state was taken, including the owner's own successors.
     pub(crate) best: Dist,
-    /// A buffer for the outcomes of taking them.
+    /// A buffer for the outcomes of taking the owner's own successors.
     pub(crate) outcomes: Vec<Outcome>,
 }
 

@@ -111,7 +111,7 @@ fn try_to_expand<S: Spread + Drop, F: StateForm + Drop>(
 }
 
 /// Expands the owner's next node, whose state's table indices are cached, by these operators in their order. Returns
-/// the number of successors that were put into outboxes. On failure nothing is changed.
+/// the number of successors that were put into outboxes. On failure the owner is unchanged.
 pub(crate) fn expand_node<S: Spread + Drop, F: StateForm + Drop>(
     alloc: Global,
     holdings: &mut Holdings<'_, S, F>,

@@ -8,7 +8,7 @@ use std::alloc::AllocError;
 /// The reason why an owner does not expand its next node.
 #[derive(Clone, Copy, Debug, PartialEq, Eq)]
 pub enum OwnerFault {
-    /// Memory ran out.
+    /// Allocation failed.
     OutOfMemory,
     /// A successor would have a cost, or a number of operators, above 2^62.
     TotalTooLarge,

@@ -98,7 +98,7 @@ pub(crate) fn best_with(best: Dist, is_goal: bool, cost: u64) -> Dist
 }
 
 impl<'a, S: Spread + Drop, F: StateForm + Drop> Holdings<'a, S, F> {
-    /// Returns the data of worker `worker` of `owners`, counted from 0, at the start.
+    /// Returns the data of worker `worker` of `owners` at the start.
     pub(crate) fn start(
         alloc: Global,
         space: &'a Space<'a, S>,
@@ -131,7 +131,7 @@ impl<'a, S: Spread + Drop, F: StateForm + Drop> Holdings<'a, S, F> {
         })
     }
 
-    /// Takes a state of its own. On failure nothing is changed.
+    /// Takes a state of its own. On failure the owner is unchanged.
     pub(crate) fn take(
         &mut self,
         state: &[u32],
@@ -179,7 +179,7 @@ impl<'a, S: Spread + Drop, F: StateForm + Drop> Holdings<'a, S, F> {
     }
 
     /// Puts a message into the outbox for owner `to`, its state's owner, and appends that owner to `receivers`. On
-    /// failure nothing is changed.
+    /// failure both are unchanged.
     pub(crate) fn post(
         &mut self,
         to: usize,
@@ -227,8 +227,8 @@ impl<'a, S: Spread + Drop, F: StateForm + Drop> Holdings<'a, S, F> {
         self.reached.space().limit() == Some(self.expansions)
     }
 
-    /// Marks the node that is to be expanded next as expanded, and takes the batch's messages. On failure nothing is
-    /// changed.
+    /// Marks the node that is to be expanded next as expanded, and takes the batch's messages. On failure the owner is
+    /// unchanged.
     pub(crate) fn expand_next(&mut self, batch: &mut Batch<F>) -> Result<(), AllocError>
         requires allowed { self.old.space.limit ≢ Some self.old.expansions }
         requires some { (e : EntryOf) × IsLeast self.old.space.ties (h_of self.old.space) self.old.nodes e }
@@ -311,7 +311,7 @@ impl<'a, S: Spread + Drop, F: StateForm + Drop> Holdings<'a, S, F> {
         self.outboxes.messages()
     }
 
-    /// Proves the type's invariant, which holds of every owner (only for the proof).
+    /// Proves the type's invariant, which holds of every owner. Only for the proof.
     pub(crate) fn recall(&self)
         ensures owner { IsOwner S.owner self.now }
         ensures fits { F.Fits (ranges self.now.space.task) }

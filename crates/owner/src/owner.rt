@@ -84,8 +84,8 @@ fn read_state<S: Spread + Drop, F: StateForm + Drop>(
 }
 
 impl<'a, S: Spread + Drop, F: StateForm + Drop> Owner<'a, S, F> {
-    /// Returns an owner at the start: worker `worker` of `owners`, counted from 0. States of the task have the form
-    /// `F`. The owner of the initial state starts with that state, at cost 0.
+    /// Returns an owner at the start: worker `worker` of `owners`. States of the task have the form `F`. The owner of
+    /// the initial state starts with that state, at cost 0.
     pub fn start(
         alloc: Global,
         space: &'a Space<'a, S>,
@@ -153,7 +153,7 @@ impl<'a, S: Spread + Drop, F: StateForm + Drop> Owner<'a, S, F> {
     /// bound are dropped, those that belong to this owner are taken, and the others are put into outboxes.
     ///
     /// Returns the number of messages that were put into outboxes, or `None` if there is no such node, which changes
-    /// nothing. On a fault the owner is unchanged.
+    /// nothing. On failure the owner is unchanged.
     pub fn expand(&mut self, bound: Dist) -> Result<Option<usize>, OwnerFault>
         ensures expanded { IfOk result (IsExpansion S.owner bound self.old self.new) }
         ensures refused { IfErr result (IsRefusal S.owner bound self.old self.new) }
@@ -287,10 +287,10 @@ impl<'a, S: Spread + Drop, F: StateForm + Drop> Owner<'a, S, F> {
         self.holdings.reached.copy_state(index, state)
     }
 
-    /// Proves the type's invariant, which holds of every owner (only for the proof): the space is a search space whose
-    /// heuristic is a lower bound, nodes have states of the task that belong to this owner, messages have states of the
-    /// task that belong to their receiver, costs and numbers of operators are at most 2^62, and states of the task have
-    /// the form.
+    /// Proves the type's invariant, which holds of every owner: the space is a search space whose heuristic is a lower
+    /// bound, nodes have states of the task that belong to this owner, messages have states of the task that belong to
+    /// their receiver, costs and numbers of operators are at most 2^62, and states of the task have the form. Only for
+    /// the proof.
     pub fn recall(&self)
         ensures space { IsSearchSpace (space_of S.owner self.now) }
         ensures lower { IsLowerBound self.now.space.task (space_of S.owner self.now).heuristic }

@@ -134,7 +134,7 @@ impl<'a, S: Spread + Drop, F: StateForm + Drop> Reached<'a, S, F> {
         })
     }
 
-    /// Proves, from the type's invariant, that states of the task have the form (only for the proof).
+    /// Proves, from the type's invariant, that states of the task have the form. Only for the proof.
     pub(crate) fn recall(&self)
         ensures { F.Fits (ranges self.now.space.task) }
     {
@@ -148,7 +148,7 @@ impl<'a, S: Spread + Drop, F: StateForm + Drop> Reached<'a, S, F> {
         self.space
     }
 
-    /// Returns the outcome that reaching a state at a rank would have. Nothing is changed.
+    /// Returns the outcome that reaching a state at a rank would have. Changes nothing.
     pub(crate) fn look(&mut self, state: &[u32], rank: Rank) -> Outcome
         requires { IsState (ranges self.old.space.task) state.now }
         ensures outcome { (parent : Option Parent) → result ≡ outcome_of self.old.nodes (fresh state.now rank parent) }
@@ -157,8 +157,8 @@ impl<'a, S: Spread + Drop, F: StateForm + Drop> Reached<'a, S, F> {
         self.table.look(state, rank)
     }
 
-    /// Records that a state of this f-value was reached, with the outcome that `look` returned. On failure nothing is
-    /// changed.
+    /// Records that a state of this f-value was reached, with the outcome that `look` returned. On failure the states
+    /// are unchanged.
     pub(crate) fn reach_at(
         &mut self,
         state: &[u32],
@@ -185,8 +185,8 @@ impl<'a, S: Spread + Drop, F: StateForm + Drop> Reached<'a, S, F> {
         Ok(())
     }
 
-    /// Records that a state was reached. The heuristic is computed only if this changes something. On failure nothing
-    /// is changed.
+    /// Records that a state was reached. The heuristic is computed only if this changes something. On failure the
+    /// states are unchanged.
     pub(crate) fn reach(
         &mut self,
         state: &[u32],
@@ -218,7 +218,7 @@ impl<'a, S: Spread + Drop, F: StateForm + Drop> Reached<'a, S, F> {
     }
 
     /// Expands the node that is to be expanded next: marks it, and records that the states of these messages, with
-    /// f-values `fs`, were reached, one after the other. `outcomes` is a buffer. On failure nothing is changed.
+    /// f-values `fs`, were reached, one after the other. `outcomes` is a buffer. On failure the states are unchanged.
     pub(crate) fn expand_least(
         &mut self,
         messages: &[Message<F>],

@@ -125,7 +125,7 @@ impl<'a, S: Spread + Drop> Space<'a, S> {
         sum(cost, self.columns.h(state))
     }
 
-    /// Returns the owner of a state, given the number of owners. Owners are counted from 0.
+    /// Returns the owner of a state, given the number of owners.
     pub fn owner_of(&self, state: &[u32], owners: usize) -> usize
         requires owners { 0 < owners }
         requires state { IsState (tasks.ranges self.now.task) state.now }
@@ -166,8 +166,8 @@ impl<'a, S: Spread + Drop> Space<'a, S> {
         self.generator.applicable(state, found)
     }
 
-    /// Proves the invariant of the space (only for the proof): the task is a finite-domain task, and the heuristic of a
-    /// state is at most the cost of any operators from it to a goal state.
+    /// Proves the type's invariant: the task is a finite-domain task, and the heuristic of a state is at most the cost
+    /// of any operators from it to a goal state. Only for the proof.
     pub fn recall(&self)
         ensures task { IsTask self.now.task }
         ensures lower { IsLowerBound self.now.task (heuristic_of self.now.task self.now.columns) }

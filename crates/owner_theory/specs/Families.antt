@@ -1,5 +1,5 @@
 -- Families of owners of states, with no order between the events of different owners (after hash distributed A*:
--- Kishimoto, Fukunaga and Botea 2013): when such a family is lawful, when it is settled, and its closed list and plan.
+-- Kishimoto, Fukunaga and Botea 2013): when a family is lawful, when it is settled, and its closed list and plan.
 use Rattle.std.specs.Prelude.{◌≡◌, ℕ, zero, suc, ◌+◌, ◌<◌, ◌⊎◌, Bool, true, false, ◌&&◌, ◌==◌, if◌then◌else◌, List, [], ◌∷◌, ◌++◌, Some, None, AllPairs}
 use Rattle.cost.specs.Distances.{Distance, Finite, Infinite, ◌≤ᵈ◌, lesser}
 use Rattle.fdr.specs.Tasks.{FiniteDomainTask, ranges, IsTask, IsState, LeadsToGoal, is_goal_state, plan_cost}

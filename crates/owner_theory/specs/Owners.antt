@@ -28,7 +28,7 @@ put f w x v = if v == w then x else f v
 
 -- ---- what is searched
 
--- a task, a heuristic, the owner of each state, and the number of owners, which are counted from 0
+-- a task, a heuristic, the owner of each state, and the number of owners
 pub record SearchSpace : Type 0 where
   pub task : FiniteDomainTask
   pub heuristic : List ℕ → Distance

@@ -25,7 +25,7 @@ pub data Step : Type 0 where
 
 -- ---- messages underway
 
--- packet k, counted from 0, of those to v
+-- packet k of those to v
 abbrev pub nth_to : SearchSpace → ℕ → ℕ → List Packet → Option Packet
 nth_to space v k [] = None
 nth_to space v zero (p ∷ ps) = if space.owner_of p.message.state == v then Some p else nth_to space v zero ps

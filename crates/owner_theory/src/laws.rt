@@ -62,8 +62,8 @@ pub fn world_is_lawful()
         IsLawful space (family_of (world_run space (world_start space) steps)) }
 {}
 
-/// Proves that if the count is 0, no message is underway or in an outbox, every owner is idle, and the family is
-/// settled.
+/// Proves that if `count` is 0, no message is underway or in an outbox, every owner is idle, and the family is settled.
+/// `count` is the number of messages underway or in outboxes plus the number of owners not at rest.
 pub fn nothing_left_is_settled()
     ensures { (space : SearchSpace) (steps : List Step) → IsSearchSpace space →
         count space (world_run space (world_start space) steps) ≡ 0 →
@@ -76,8 +76,8 @@ pub fn requests_have_runs()
         (steps : List Step) × IsRunOf space (world_start space) requests steps }
 {}
 
-/// Proves a worked example, two owners and one operator of cost 1: after these steps nothing remains to be done, and
-/// the best cost is 1.
+/// Proves a worked example, with two owners and one operator of cost 1: after these steps nothing remains to be done,
+/// and the best cost is 1.
 pub fn two_owners_settle()
     ensures space { IsSearchSpace two_owners }
     ensures quiet { count two_owners (world_run two_owners (world_start two_owners)

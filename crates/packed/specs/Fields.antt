@@ -11,7 +11,7 @@ digits_up_to zero n = 0
 digits_up_to (suc limit) zero = 0
 digits_up_to (suc limit) (suc n) = digits_up_to limit (suc n / 2) + 1
 
--- the number of bits of a variable with `range` values: the binary digits of its greatest value, of which there are at
+-- the number of bits of a variable with `range` values: the binary digits of its greatest value; their number is at
 -- most that value
 abbrev pub width_of : ℕ → ℕ
 width_of range = digits_up_to (range - 1) (range - 1)

@@ -41,7 +41,7 @@ pub trait StateForm: Eq + Hash {
         requires { Fits layout.now }
         ensures { IsTrue result ↔ IsState layout.now (values layout.now self.now) };
 
-    /// Makes this the form of another state.
+    /// Replaces the form by that of another state.
     fn repack(&mut self, layout: &Layout, state: &[u32])
         requires form { IsForm layout.now self.old }
         requires state { IsState layout.now state.now }

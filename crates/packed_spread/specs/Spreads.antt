@@ -1,5 +1,5 @@
--- Which owner a state has in hash-distributed A* (Kishimoto, Fukunaga and Botea 2013). States are those of
--- finite-domain tasks, and owners are counted from 0.
+-- Which owner a state has in hash distributed A* (Kishimoto, Fukunaga and Botea 2013). States are those of
+-- finite-domain tasks.
 use Rattle.std.specs.Prelude.{ℕ, ◌+◌, ◌%◌, List, [], ◌∷◌, length, map, take, slice_index, fold, sum, bit_xor}
 use Rattle.std.specs.List.{range_with_len}
 use Rattle.rand_core.specs.Steps.{first_words}

@@ -1,4 +1,4 @@
-//! Owners of states: which worker of hash-distributed A* (Kishimoto, Fukunaga and Botea 2013) owns a state of a
+//! Owners of states: which worker of hash distributed A* (Kishimoto, Fukunaga and Botea 2013) owns a state of a
 //! finite-domain task.
 #![tactic(auto)]
 

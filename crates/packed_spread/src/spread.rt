@@ -2,8 +2,7 @@
 
 use fdr::Fact;
 
-/// A rule that assigns each state of a task to one of several owners (Kishimoto, Fukunaga and Botea 2013). Owners are
-/// counted from 0.
+/// A rule that assigns each state of a task to one of several owners (Kishimoto, Fukunaga and Botea 2013).
 pub trait Spread {
     ghost use Rattle.std.specs.Prelude.{◌≡◌, ℕ, ◌<◌, List};
     ghost use Rattle.fdr.specs.Tasks.{IsState, IsAssignment, with_values};
@@ -31,8 +30,7 @@ pub trait Spread {
         ensures { result ≡ state_hash self.now state.now };
 
     /// Returns the owner, given the number of owners, of the state in which the variables of these facts have the
-    /// facts' values, and all others their value in `state`; `hash` is the result of `hash_of` for `state`. Allocates
-    /// nothing.
+    /// facts' values, and all others their value in `state`; `hash` is the result of `hash_of` for `state`.
     fn owner_after(&self, state: &[u32], hash: u64, facts: &[Fact], owners: usize) -> usize
         requires some { 0 < owners }
         requires state { IsState (ranges self.now) state.now }

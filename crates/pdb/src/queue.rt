@@ -113,7 +113,7 @@ fn numbers_below(alloc: Global, size: usize) -> Result<Vec<u32>, AllocError>
 impl Queue {
     ghost use Rattle.pdb.specs.Queues.{size_of, IsQueued, IsAbsent, HasAdded, HasTaken};
 
-    /// Makes an empty queue for the states below the size.
+    /// Returns an empty queue for the states below the size.
     pub(crate) fn new(alloc: Global, size: usize) -> Result<Queue, AllocError>
         requires { size ≤ 2 ^ 24 }
         ensures size { IfOk result (λ queue. size_of queue ≡ size) }

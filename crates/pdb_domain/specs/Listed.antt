@@ -40,7 +40,7 @@ pub record AreListed (a : Abstraction) (n : ℕ) (lists : List (List Transition)
   pub as_long : length lists ≡ a.size
   pub listed : (j : ℕ) (t : Transition) → j < a.size → Contains (slice_index_or lists j []) t ↔ IsListed a n j t
 
--- it is a transition of the operator with the number n, from one of the first k abstract states
+-- a transition of the operator with the number n, from one of the first k abstract states
 pub record IsLatest (a : Abstraction) (n k j : ℕ) (t : Transition) : Type 0 where
   pub class : t.class ≡ n
   pub before : t.source < k

@@ -33,10 +33,10 @@ impl<'a> Model for BackwardDomain<'a> {
 }
 
 impl<'a> BackwardDomain<'a> {
-    /// Prepares a domain abstraction. Each operator that affects the abstraction is tried on the abstract states that
-    /// have the class of its precondition on the variable with the most classes, or on all of them if it has no
-    /// precondition on a variable with a row. So time is linear in the number of abstract states that are tried, times
-    /// the length of the operators' preconditions and effects.
+    /// Prepares a domain abstraction for regression. Each operator that affects the abstraction is tried on the
+    /// abstract states that have the class of its precondition on the variable with the most classes, or on all of them
+    /// if it has no precondition on a variable with a row. So time is linear in the number of abstract states that are
+    /// tried, times the length of the operators' preconditions and effects.
     pub fn new(
         alloc: Global,
         domain: &'a DomainAbstraction<'a>,

@@ -54,7 +54,7 @@ fn append(
     Ok(())
 }
 
-/// Returns, of two conditions, the one on the variable with more classes, and the first if they are equally many.
+/// Returns the condition on the variable with more classes, or the first of the two if they have equally many.
 fn wider(condition: Option<ClassDigit>, other: Option<ClassDigit>) -> Option<ClassDigit>
     ensures { (result ≡ condition) ⊎ (result ≡ other) }
 {
@@ -152,7 +152,7 @@ fn append_operator(
     }
 }
 
-/// Lists the transitions of all operators that affect the abstraction by the abstract state that they enter.
+/// Returns the transitions of all operators that affect the abstraction , listed by the abstract state that they enter.
 pub(crate) fn lists_of(
     alloc: Global,
     domain: &DomainAbstraction<'_>,

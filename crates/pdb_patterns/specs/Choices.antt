@@ -29,7 +29,7 @@ KeepGoal task limit mappings = All (λ f. ((2 ≤ limit) ⊎ (slice_index (range
 abbrev pub max_mappings : ℕ
 max_mappings = 64
 
--- few distinct mappings
+-- at most `max_mappings` distinct mappings of the task, each with at most `limit` abstract states
 pub record AreMappings (task : FiniteDomainTask) (limit : ℕ) (mappings : List Mapping) : Type 0 where
   pub each : All (IsMappingWithin task limit) mappings
   pub distinct : AllPairs (λ m n. m ≢ n) mappings

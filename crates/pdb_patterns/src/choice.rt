@@ -100,7 +100,7 @@ fn pattern_from(
 }
 
 /// Returns the mapping that begins with a variable for which the goal requires the value `goal`: a pattern that grows
-/// from it if its range is within the limit, and else classes of its values, or `None` if the limit is moreover 1.
+/// from it if its range is within the limit, otherwise classes of its values, or `None` if the limit is 1.
 fn mapping_from(
     alloc: Global,
     task: &FdrTask,
@@ -136,10 +136,10 @@ fn mapping_from(
 /// For each variable of the goal, in order, whose range is within the limit, a pattern starts with it and grows along
 /// the causal graph (Helmert 2006): the least variable is added that occurs in a precondition of an operator with an
 /// effect on the pattern and leaves the pattern within the limit, until there is none. For a variable whose range
-/// exceeds the limit there is a domain abstraction of that variable alone, if the limit is at least 2: the first `limit
-/// - 2` values other than the goal's value, and the goal's value, have classes of their own, and all the rest share
-/// one. The contract specifies that each variable of the goal is in a mapping, if the limit is at least 2 or the
-/// variable has one value, unless there are 64 mappings; it does not specify which other variables a pattern has.
+/// exceeds the limit there is a domain abstraction of that variable alone, if the limit is at least 2: the goal's value
+/// and the first `limit-2` other values have classes of their own, and all the rest share one. The contract specifies
+/// that each variable of the goal is in a mapping, if the limit is at least 2 or the variable has one value, unless
+/// there are 64 mappings; it does not specify which other variables a pattern has.
 pub fn choose_mappings(
     alloc: Global,
     task: &FdrTask,

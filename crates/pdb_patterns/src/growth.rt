@@ -13,7 +13,7 @@ use std::alloc::{AllocError, Global};
 enum Standing {
     /// No operator with an effect on the pattern has a precondition on it.
     Unnamed,
-    /// Such an operator has a precondition on it, and it has not been decided whether it fits.
+    /// An operator with an effect on the pattern has a precondition on it, and it has not been decided whether it fits.
     Named,
     /// It does not fit. It never will, since a pattern only grows.
     LeftOut,

@@ -54,7 +54,7 @@ asked (Required c) = Some c
 asked (Moved from to) = Some to
 asked (Assigned e) = Some e
 
--- the value that the effect sets, and the one that it replaces, if they are known, and else 0
+-- the value that the effect sets, and the one that it replaces, if they are known, otherwise 0
 abbrev pub put_at : Change → ℕ
 put_at Kept = 0
 put_at (Required c) = 0

@@ -34,7 +34,7 @@ abbrev pub word_by : ℕ → List DigitChange → ℕ
 word_by j [] = 0
 word_by j (c ∷ cs) = value_of c.digit j + room_of c.digit.range * word_by j cs
 
--- all bits of a digit if a value is required at it, and else none
+-- all bits of a digit if a value is required at it, otherwise none
 abbrev pub mask_at : ℕ → Change → ℕ
 mask_at room Kept = 0
 mask_at room (Required c) = room - 1

@@ -26,8 +26,8 @@ impl<'a> Model for BackwardProjection<'a> {
 }
 
 impl<'a> BackwardProjection<'a> {
-    /// Prepares a projection. Time and memory are linear in the number of the pattern's variables for each operator
-    /// with an effect on the pattern; each value of a variable with 4 values or more takes a list.
+    /// Prepares a projection for regression. Time and memory are linear in the number of the pattern's variables for
+    /// each operator with an effect on the pattern; each value of a variable with 4 values or more takes a list.
     pub fn new(
         alloc: Global,
         projection: &'a Projection<'a>,

@@ -75,7 +75,7 @@ impl Change {
         }
     }
 
-    /// Returns `room - 1` if the variable must have some value after the change, and else 0.
+    /// Returns `room - 1` if the variable must have some value after the change, otherwise 0.
     pub(crate) fn mask(self, room: u64) -> u64
         requires { 0 < room }
         ensures { result ≡ words.mask_at room self }
@@ -86,7 +86,7 @@ impl Change {
         }
     }
 
-    /// Returns the value that the effect sets, if there is one, and else 0.
+    /// Returns the value that the effect sets, if there is one, otherwise 0.
     pub(crate) fn put(self) -> u32
         ensures { result ≡ spec.put_at self }
     {
@@ -96,7 +96,7 @@ impl Change {
         }
     }
 
-    /// Returns the value that the effect replaces, if the operator has a precondition on the variable, and else 0.
+    /// Returns the value that the effect replaces, if the operator has a precondition on the variable, otherwise 0.
     pub(crate) fn taken(self) -> u32
         ensures { result ≡ spec.taken_at self }
     {

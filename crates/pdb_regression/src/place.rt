@@ -15,7 +15,7 @@ use std::marker::Model;
 /// still be long, so that searching them would cost more than it saves.
 const LISTED_RANGE: usize = 4;
 
-/// A digit of the pattern, and its number among the digits, counted from 0.
+/// A digit of the pattern, and its number among the digits.
 #[derive(Clone, Copy)]
 pub(crate) struct Position {
     pub(crate) number: usize,
@@ -63,7 +63,7 @@ struct Key {
 }
 
 impl Place {
-    /// Makes the `Place` of a digit, without classes.
+    /// Returns the `Place` of a digit, without classes.
     fn new(alloc: Global, position: Position) -> Result<Place, AllocError>
         requires { IsDigitBelow (2 ^ 24) position.digit }
         ensures { IfOk result (λ p. p.position ≡ position) }
@@ -104,7 +104,7 @@ impl Place {
     }
 }
 
-/// Makes a `Place`, without classes, for each of the digits under whose values classes are listed.
+/// Returns a `Place`, without classes, for each of the digits under whose values classes are listed.
 pub(crate) fn places_of(alloc: Global, digits: &[Digit]) -> Result<Vec<Place>, AllocError>
     requires { All (IsDigitBelow (2 ^ 24)) digits.now }
     ensures { IfOk result (λ v. All (IsPositionIn digits.now) (positions_of v.items)) }

@@ -151,7 +151,7 @@ fn add_sources(
 }
 
 impl Rule {
-    /// Makes the rule of changes, of which there must be at least one.
+    /// Returns the rule of these changes. There must be at least one.
     pub(crate) fn new(alloc: Global, changes: Vec<DigitChange>) -> Result<Rule, AllocError>
         requires { IsRow changes.items }
         ensures { IfOk result (λ r. r ≡ changes.items) }

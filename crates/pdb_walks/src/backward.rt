@@ -36,8 +36,8 @@ pub trait BackwardTransitions {
         ensures { result ≡ (classes self.now).class operator };
 
     /// Replaces the content of `transitions` by the transitions into this abstract state of all operators that have a
-    /// class. The order is not specified, and a transition may occur more than once. `digits` is a buffer whose content
-    /// is not specified before and after the call. On failure the content of `transitions` is not specified.
+    /// class. The order is not specified, and a transition may occur more than once. `digits` is a buffer. On failure
+    /// the content of `transitions` is not specified.
     fn entering(
         &self,
         abstract_state: usize,

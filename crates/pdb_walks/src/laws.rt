@@ -30,8 +30,8 @@ pub fn saturated_shares_suffice()
         IsSaturated t → IsConsistent (record t { share = made_with }) → (o : ℕ) → t.share o ≤ made_with o }
 {}
 
-/// Proves that tables made in turn from the remaining costs are a cost-partitioned column (saturated cost partitioning,
-/// Seipp, Keller and Helmert 2020).
+/// Proves that tables that are made one after another from the remaining costs are a cost-partitioned column (saturated
+/// cost partitioning, Seipp, Keller and Helmert 2020).
 pub fn partition_is_column()
     ensures { (task : FiniteDomainTask) (column : List Table) → All (λ t. IsAbstractionOf task t.abstraction) column →
         IsPartition (cost_of task) column → IsColumn task column }

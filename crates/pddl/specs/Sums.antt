@@ -36,14 +36,14 @@ abbrev pub most_known : List (ℕ × ℕ) → Increase → ℕ
 most_known known (Amount n) = n
 most_known known (Value f) = known_value known f.predicate
 
--- the faults of schemas whose increases may sum up to too much, at the byte offsets of their names, from the greatest
--- amount of each increase
+-- the faults of schemas whose actions may cost too much, at the byte offsets of their names, from the greatest amount
+-- of each increase
 abbrev pub sum_faults : (Increase → ℕ) → List Schema → List ℕ → List Fault
 sum_faults most [] places = []
 sum_faults most (s ∷ schemas) [] = []
 sum_faults most (s ∷ schemas) (at ∷ places) =
     faults_if (nat_lt max_cost (sum_by most s.increases)) (fault CostRange at) (sum_faults most schemas places)
 
--- the faults of schemas whose increases may sum up to too much, from these initial values
+-- the faults of schemas whose actions may cost too much, from these initial values
 unfoldable pub stated_sum_faults : List FunctionValue → List Schema → List ℕ → List Fault
 stated_sum_faults values schemas places = sum_faults (most_of values) schemas places

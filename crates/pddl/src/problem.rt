@@ -173,7 +173,7 @@ pub fn read_problem(
     Ok(())
 }
 
-/// Records the schemas whose actions may cost too much, if there is a metric.
+/// Records F17 for each schema whose actions may cost too much, if there is a metric.
 #[tactic(auto, unfolding(pddl_syntax::specs::Faults::first_of))]
 fn read_sums(
     alloc: Global,
@@ -196,8 +196,8 @@ fn read_sums(
     Ok(())
 }
 
-/// Checks the costs of actions, in the last pass. Fails with the first schema whose actions may cost too much, if there
-/// is a metric, or if allocation fails.
+/// Checks the costs of actions, in the last pass. Fails with F17 for the first schema whose actions may cost too much,
+/// if there is a metric, or if allocation fails.
 fn sums_pass(alloc: Global, problem: &Problem, actions: &Actions) -> Result<(), PddlFault>
     requires { length actions.now.schemas.items ≡ length actions.now.places.items }
     ensures clean { OnOk result (first_of None (spec.sums_pass problem.now.metric (values_of problem.now.values.entries) actions.now.schemas.items actions.now.places.items).faults ≡ None) }

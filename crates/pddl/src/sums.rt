@@ -11,7 +11,7 @@ use pddl_syntax::{Fault, FaultKind, blame_if};
 use pddl_task::{ActionSchema, GroundAtom, Increase};
 use std::alloc::{AllocError, Global};
 
-/// The largest cost that an action may have.
+/// The greatest cost that an action may have.
 const MAX_COST: u64 = 2_147_483_647;
 
 /// The greatest value found so far of each function that has a value.
@@ -59,7 +59,7 @@ fn most_of(greatest: &GreatestValues, increase: &Increase) -> u64
     }
 }
 
-/// Returns whether the increases may add up to more than an action may cost. Computes no sum above that bound.
+/// Returns whether the increases may sum to more than an action may cost. Computes no sum above that bound.
 fn cost_too_much(greatest: &GreatestValues, increases: &[Increase]) -> bool
     ensures { result ≡ nat_lt max_cost (sum_by (spec.most_known greatest.now.entries) increases.now) }
 {
@@ -74,7 +74,7 @@ fn cost_too_much(greatest: &GreatestValues, increases: &[Increase]) -> bool
     false
 }
 
-/// Records the schemas whose actions may cost too much, each at its byte offset in `places`.
+/// Records F17 for each schema whose actions may cost too much, at its byte offset in `places`.
 #[tactic(auto, unfolding(pddl_syntax::specs::Faults::first_of))]
 fn blame_schemas(
     greatest: &GreatestValues,
@@ -95,8 +95,8 @@ fn blame_schemas(
     }
 }
 
-/// Records in `first` the schemas whose actions may cost too much, each as F17 at its byte offset in `places`. Takes
-/// time linear in the number of values, schemas and increases.
+/// Records F17 in `first` for each schema whose actions may cost too much, at its byte offset in `places`. Takes time
+/// linear in the number of values, schemas and increases.
 pub fn blame_sums(
     alloc: Global,
     values: &IndexMap<GroundAtom, u64>,

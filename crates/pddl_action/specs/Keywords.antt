@@ -75,8 +75,8 @@ abbrev pub end_faults : Option Keyword → ℕ → List Fault
 end_faults (Some k) home = fault Shape home ∷ []
 end_faults None home = []
 
--- the faults of expressions that follow keywords, of which the last may still require a list (`waiting`), in the action
--- at `home`
+-- the faults of the expressions after the keywords `seen`, in the action at `home`; `waiting` is the last keyword, if
+-- it still requires a list
 abbrev pub keyword_faults : ℕ → Seen → Option Keyword → Forms → List Fault
 keyword_faults home seen waiting none = end_faults waiting home
 keyword_faults home seen waiting (word s e t f) =

@@ -41,8 +41,8 @@ pub struct Actions {
     pub schemas: Vec<ActionSchema>,
     /// The names, without repetitions.
     pub names: Names,
-    /// For each action the byte offset, counted from 0, of the expression in the position of its name, or of the action
-    /// itself if there is none.
+    /// For each action the byte offset of the expression in the position of its name, or of the action itself if there
+    /// is none.
     pub places: Vec<usize>,
 }
 

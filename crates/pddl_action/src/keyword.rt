@@ -172,9 +172,9 @@ impl<'a> PartList<'a> {
     }
 }
 
-/// Reads the items after the name of the action at byte offset `home`, counted from 0, and records the faults of the
-/// keywords in `first`: F10 for an item that is no keyword, and for a word in the position of a keyword's list; F14 for
-/// a keyword that occurs a second time; F10 at the action if the last keyword has no list.
+/// Reads the items after the name of the action at byte offset `home`, and records the faults of the keywords in
+/// `first`: F10 for an item that is no keyword, and for a word in the position of a keyword's list; F14 for a keyword
+/// that occurs a second time; F10 at the action if the last keyword has no list.
 #[tactic(auto, unfolding(pddl_syntax::specs::Faults::first_of))]
 pub fn parts<'a>(
     alloc: Global,

@@ -57,8 +57,8 @@ pub fn types_on_cycles(alloc: Global, supertypes: &[usize]) -> Result<Vec<bool>,
     marked(alloc, &far, supertypes.len())
 }
 
-/// A law: the test for a cycle, which takes at most as many steps as there are types, holds exactly for the types on
-/// cycles.
+/// Proves that the test for a cycle, which takes at most as many steps as there are types, holds exactly for the types
+/// on cycles.
 pub fn cycles_are_found()
     ensures { (supertypes : List ℕ) (n : ℕ) → All (λ s. s < length supertypes) supertypes → n < length supertypes
         → (IsTrue (lies_on_cycle supertypes n) ↔ LiesOnCycle supertypes n) }

@@ -22,7 +22,7 @@ use std::alloc::{AllocError, Global};
 /// The greatest number of predicates, and of functions.
 const MAX_HEADS: usize = 512;
 
-/// An item `(HEAD PARAMETERS)` whose head is a word, with the byte offsets of the item and of its head, counted from 0.
+/// An item `(HEAD PARAMETERS)` whose head is a word, with the byte offsets of the item and of its head.
 #[derive(Clone, Copy)]
 struct Item<'a> {
     at: usize,

@@ -194,7 +194,7 @@ impl Objects {
     }
 }
 
-/// A law: if each object has a type, each has one after further declarations too.
+/// Proves that if each object has a type, each has one after further declarations too.
 #[tactic(auto, using(crate::proofs::ObjectSteps::types_count))]
 pub fn each_object_has_a_type()
     ensures { (types : List (List ℕ)) (o : DeclaredObjects) (ds : List Declared) → length o.types ≡ length o.names

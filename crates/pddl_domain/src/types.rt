@@ -18,8 +18,8 @@ use pddl_syntax::{Fault, FaultKind, Named, Run, Types, blame_if, typed_list};
 use sexp::Tree;
 use std::alloc::{AllocError, Global};
 
-/// A declaration of a type at byte offset `at`, counted from 0, with its supertype if that can be read. Types are
-/// represented by their numbers.
+/// A declaration of a type at byte offset `at`, with its supertype if that can be read. Types are represented by their
+/// numbers.
 #[derive(Clone, Copy, Debug, PartialEq, Eq)]
 pub struct Subtype {
     pub name: usize,
@@ -178,7 +178,7 @@ fn is_twice(first: Option<Subtype>, subtype: Subtype) -> bool
     }
 }
 
-/// Records the declarations of types that repeat a type with another supertype, or whose type lies on a cycle.
+/// Records the faults of declarations that repeat a type with another supertype, or whose type lies on a cycle.
 #[tactic(auto, unfolding(pddl_syntax::specs::Faults::first_of))]
 fn blame_subtypes(
     subtypes: &[Subtype],

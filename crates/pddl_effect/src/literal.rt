@@ -8,8 +8,8 @@ use pddl_terms::{Beginning, Setting, beginning_of};
 use sexp::Tree;
 use std::alloc::{AllocError, Global};
 
-/// The byte offsets, counted from 0, at which the literals and the increases of an action begin, in the order of the
-/// text. Those with a fault count too.
+/// The byte offsets at which the literals and the increases of an action begin, in the order of the text. Those with a
+/// fault count too.
 #[derive(Drop)]
 pub struct Places {
     pub literals: Vec<usize>,

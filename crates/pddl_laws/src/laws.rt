@@ -6,30 +6,31 @@ ghost use Rattle.pddl_names.specs.Names.{AreDistinct};
 ghost use Rattle.pddl.specs.Texts.{SpellTask};
 ghost use Rattle.pddl_laws.specs.Known.{KnowsItsAtoms, HasWords};
 
-/// The goal of a spelled task is consistent: it does not contain both an atom and its negation.
+/// Proves that the goal of a spelled task is consistent: it does not contain both an atom and its negation.
 pub fn spelled_goal_is_consistent()
     ensures { (domain problem : List ℕ) (t : PlanningTask) → SpellTask domain problem t → IsPlanningTask t }
 {}
 
-/// The initial atoms, the atoms of the goal and those that actions add are atoms of the task: their predicates exist
-/// and have that arity, and their objects exist.
+/// Proves that the initial atoms, the atoms of the goal and those that actions add are atoms of the task: their
+/// predicates exist and take that many objects, and the objects exist.
 pub fn spelled_atoms_are_known()
     ensures { (domain problem : List ℕ) (t : PlanningTask) → SpellTask domain problem t → KnowsItsAtoms t }
 {}
 
-/// The names of the objects, predicates and schemas are words: one or more printable bytes other than blanks.
+/// Proves that the names of the objects, predicates and schemas are words: one or more printable bytes other than
+/// blanks.
 pub fn spelled_names_are_words()
     ensures { (domain problem : List ℕ) (t : PlanningTask) → SpellTask domain problem t → HasWords t.vocabulary }
 {}
 
-/// Each predicate, object and schema has a name.
+/// Proves that each predicate, object and schema has a name.
 pub fn spelled_numbers_have_names()
     ensures predicates { (domain problem : List ℕ) (t : PlanningTask) → SpellTask domain problem t → length t.arities ≡ length t.vocabulary.predicates }
     ensures objects { (domain problem : List ℕ) (t : PlanningTask) → SpellTask domain problem t → length t.object_types ≡ length t.vocabulary.objects }
     ensures schemas { (domain problem : List ℕ) (t : PlanningTask) → SpellTask domain problem t → length t.schemas ≡ length t.vocabulary.schemas }
 {}
 
-/// The names of the objects are distinct, and so are those of the predicates and those of the schemas.
+/// Proves that the names of the objects are distinct, and so are those of the predicates and those of the schemas.
 pub fn spelled_names_are_distinct()
     ensures objects { (domain problem : List ℕ) (t : PlanningTask) → SpellTask domain problem t → AreDistinct t.vocabulary.objects }
     ensures predicates { (domain problem : List ℕ) (t : PlanningTask) → SpellTask domain problem t → AreDistinct t.vocabulary.predicates }

@@ -1,4 +1,4 @@
--- Distinct names and their numbers. The number of a name is its index in a list of texts, counted from 0.
+-- Distinct names and their numbers. The number of a name is its index in a list of texts.
 use Rattle.std.specs.Prelude.{◌≡◌, ℕ, ◌+◌, nat_eq, nat_lt, Bool, if◌then◌else◌, List, [], ◌∷◌, ◌++◌, map, length, position, slice_get, Option, Some, String}
 use Rattle.std.specs.Cmp.Lexicographic.{pointwise}
 use Rattle.std.specs.String.{string_bytes}

@@ -11,7 +11,7 @@ use std::marker::Model;
 
 /// Distinct names, numbered from 0 in the order in which they were first added.
 ///
-/// In contracts the value is the list of the texts, in that order. Each look-up is by hash.
+/// In contracts its value is the list of the texts, in that order. Each look-up is by hash.
 #[derive(Debug, Drop)]
 pub struct Names {
     table: IndexSet<String>,
@@ -73,10 +73,8 @@ impl Names {
         self.table.contains(name)
     }
 
-    /// Adds the name if it is new, and returns its number. A name that is in the table keeps its number, and nothing is
-    /// allocated.
-    ///
-    /// Only a new name allocates; on failure the names are unchanged.
+    /// Adds the name if it is new, and returns its number. A name that is in the table keeps its number. Only a new
+    /// name allocates.
     pub fn add(&mut self, alloc: Global, name: &str) -> Result<usize, AllocError>
         ensures names { OnOk result (self.new ≡ with_name self.old name.now) }
         ensures number { IfOk result (λ n. n ≡ number_of self.new name.now) }
@@ -120,7 +118,7 @@ impl Names {
         Ok(Names { table })
     }
 
-    /// A law: the names are distinct, so the number of the name with the number n is n.
+    /// Proves that the names are distinct, so the number of the name with the number n is n.
     pub fn are_distinct(&self)
         ensures { AreDistinct self.now }
     {

@@ -16,7 +16,7 @@ use std::alloc::{AllocError, Global};
 use std::collections::HashSet;
 use std::marker::Model;
 
-/// A literal, and the byte offset of its list, counted from 0.
+/// A literal, and the byte offset of its list.
 #[derive(Drop)]
 struct PlacedLiteral {
     at: usize,
@@ -275,7 +275,7 @@ impl KnownGoals {
     }
 }
 
-/// Records each literal that follows its negation.
+/// Records F19 for each literal that follows its negation.
 #[tactic(auto, unfolding(pddl_syntax::specs::Faults::first_of))]
 fn blame_opposites(
     alloc: Global,
@@ -309,9 +309,9 @@ fn without_places(
         .collect(alloc)
 }
 
-/// Reads the section `:goal` in the list at byte offset `home`, counted from 0, whose items without its head are
-/// `items`: one goal of atoms, negated atoms and conjunctions (McDermott and others 1998). Faults are recorded in
-/// `first`, and an expression that cannot be read adds no literal.
+/// Reads the section `:goal` in the list at byte offset `home`, whose items without its head are `items`: one goal of
+/// atoms, negated atoms and conjunctions (McDermott and others 1998). Faults are recorded in `first`, and an expression
+/// that cannot be read adds no literal.
 ///
 /// F10 for a missing goal, for a second one and for one of another form; F11 for a construct of PDDL that is not
 /// supported, such as an equality; F12 for a name that is not declared; F13 for a predicate with another number of

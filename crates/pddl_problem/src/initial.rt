@@ -16,7 +16,7 @@ use pddl_terms::{Beginning, Scope, Setting, beginning_of, lifted};
 use sexp::Tree;
 use std::alloc::{AllocError, Global};
 
-/// The largest number of items of the section.
+/// The greatest number of items of the section.
 const MAX_ITEMS: usize = 1_000_000;
 
 /// The kind of an item of the section, by its head and the rest of it.

@@ -81,9 +81,8 @@ fn first_word(items: &[Tree]) -> Option<usize>
     None
 }
 
-/// Records the fault of the section `:metric` in the list at byte offset `home`, counted from 0, whose items without
-/// its head are `items`. These must be `minimize (total-cost)` or `minimize total-cost`, which mean the same (Fox and
-/// Long 2003).
+/// Records the fault of the section `:metric` in the list at byte offset `home`, whose items without its head are
+/// `items`. These must be `minimize (total-cost)` or `minimize total-cost`, which mean the same (Fox and Long 2003).
 ///
 /// Any other content is F11 at its first word, including words in lists, or F10 at the section if it has no word.
 #[tactic(auto, unfolding(pddl_syntax::specs::Faults::first_of))]

@@ -49,7 +49,7 @@ pub enum FaultKind {
     TypeCycle,
     /// F16: a number with a fraction.
     NotWhole,
-    /// F17: a cost below 0 or above 2147483647, or a schema whose increases may sum up to more.
+    /// F17: a cost below 0 or above 2147483647, or a schema whose increases may sum to more.
     CostRange,
     /// F18: the first item past a limit.
     Limit(LimitedTable),
@@ -116,12 +116,12 @@ pub fn blame_if(is_fault: bool, first: &mut Option<Fault>, at: usize, kind: Faul
     }
 }
 
-/// A law: recording faults one by one records the first of them.
+/// Proves that recording faults one by one records the first of them.
 pub fn kept_is_first()
     ensures { (fs : List Fault) (e : Fault) → first_of None fs ≡ Some e → IsFirst fs e }
 {}
 
-/// A law: if no fault remains recorded, the list of faults is empty.
+/// Proves that if no fault remains recorded, the list of faults is empty.
 #[tactic(auto, using(crate::proofs::Firsts::none_kept))]
 pub fn none_kept()
     ensures { (fs : List Fault) → first_of None fs ≡ None → fs ≡ [] }

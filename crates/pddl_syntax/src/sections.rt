@@ -15,7 +15,7 @@ use pddl_names::Names;
 use sexp::Tree;
 use std::alloc::{AllocError, Global};
 
-/// A section: its byte offset, counted from 0, and its items without its head.
+/// A section: its byte offset, and its items without its head.
 #[derive(Clone, Copy)]
 pub struct Section<'a> {
     pub at: usize,

@@ -33,7 +33,7 @@ pub enum Item {
     Wrong,
 }
 
-/// A name and its byte offset, counted from 0.
+/// A name and its byte offset.
 #[derive(Debug, Drop)]
 pub struct Named {
     pub name: String,

@@ -10,7 +10,7 @@ use std::alloc::{AllocError, Global};
 use std::hash::{Hash, Hasher};
 use std::marker::Model;
 
-/// A ground atom: a predicate or a function by its number, and objects by theirs. Numbers count from 0.
+/// A ground atom: a predicate or a function by its number, and objects by theirs.
 #[derive(Debug, Drop)]
 pub struct GroundAtom {
     /// The number of the predicate or of the function.

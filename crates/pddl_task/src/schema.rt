@@ -8,8 +8,7 @@ use crate::atom::{GroundAtom, GroundLiteral};
 use std::alloc::{AllocError, Global};
 use std::marker::Model;
 
-/// A term in an atom of a schema: the index of a parameter of the schema, or the number of an object. Both count from
-/// 0.
+/// A term in an atom of a schema: the index of a parameter of the schema, or the number of an object.
 #[derive(Debug, Clone, Copy, PartialEq, Eq)]
 pub enum Term {
     /// The index of a parameter of the schema.

@@ -15,7 +15,7 @@ use std::alloc::{AllocError, Global};
 use std::marker::Model;
 
 /// A planning task. The numbers of types, objects, predicates and schemas are their indices in the lists below, and
-/// those of functions their indices in the vocabulary. All numbers count from 0.
+/// those of functions their indices in the vocabulary.
 #[derive(Debug, Drop)]
 pub struct Task {
     /// The supertype of each type. Type 0 is `object`, its own supertype.

@@ -121,7 +121,7 @@ fn blame_arity(
 }
 
 /// Reads a predicate or a function of `heads` with its terms, and records the faults in `first`. The list is at byte
-/// offset `home` and the head at byte offset `head_at`, both counted from 0. Returns `None` if there is a fault.
+/// offset `home` and the head at byte offset `head_at`. Returns `None` if there is a fault.
 ///
 /// F12 at the head or at a term that is not declared, F13 at the list if the head has another arity, F10 at a term of
 /// another form.

@@ -1,4 +1,4 @@
-//! Worked laws of PDDL texts.
+//! Worked examples of PDDL texts, as laws.
 
 ghost use Rattle.pddl_syntax.specs.declared.fault.PlanningFile.TheVariants.{Problem};
 ghost use Rattle.pddl_syntax.specs.declared.fault.FaultKind.TheVariants.{NotWhole};
@@ -10,29 +10,31 @@ ghost use Rattle.pddl_worked.specs.Road.{road_domain, road_problem, road_task};
 ghost use Rattle.pddl_worked.specs.Drive.{drive_domain, drive_problem, drive_problem_with_fraction, drive_task};
 ghost use Rattle.pddl_worked.specs.Grip.{grip_domain, grip_problem, grip_task};
 
-/// The texts of `examples/noop`: capital letters, a comment, an action without parameters, and the cost `5.0`.
+/// Proves which task the texts of `examples/noop` spell: capital letters, a comment, an action without parameters, and
+/// the cost `5.0`.
 pub fn noop_is_spelled()
     ensures { SpellTask noop_domain noop_problem noop_task }
 {}
 
-/// The texts of `examples/road`: a type, predicates with parameters of it, and no metric.
+/// Proves which task the texts of `examples/road` spell: a type, predicates with parameters of it, and no metric.
 pub fn road_is_spelled()
     ensures { SpellTask road_domain road_problem road_task }
 {}
 
-/// The texts of `examples/drive`: a function with initial values, an increase by its value, and a metric.
+/// Proves which task the texts of `examples/drive` spell: a function with initial values, an increase by its value, and
+/// a metric.
 pub fn drive_is_spelled()
     ensures { SpellTask drive_domain drive_problem drive_task }
 {}
 
-/// The texts of `examples/grip`: objects without types, three actions, an inequality as a condition, and a goal of two
-/// atoms.
+/// Proves which task the texts of `examples/grip` spell: objects without types, three actions, an inequality as a
+/// condition, and a goal of two atoms.
 pub fn grip_is_spelled()
     ensures { SpellTask grip_domain grip_problem grip_task }
 {}
 
-/// With `5.5` for the 8 in the problem of `examples/drive`, the first fault is that this number is not whole. Its place
-/// is byte 156.
+/// Proves that, with `5.5` for the 8 in the problem of `examples/drive`, the first fault is that this number is not
+/// whole. Its place is byte 156.
 pub fn fraction_is_refused()
     ensures { IsTaskRefusal drive_domain drive_problem_with_fraction (Section Problem (fault NotWhole 156)) }
 {}

@@ -1,5 +1,5 @@
-//! Worked laws: the tasks that the texts of examples spell, byte by byte, and the first fault of texts that spell no
-//! task.
+//! Worked examples, as laws: the tasks that the texts of examples spell, byte by byte, and the first fault of texts
+//! that spell no task.
 #![tactic(auto)]
 
 mod laws;

@@ -31,7 +31,7 @@ abbrev pub ◌>>=◌ : {A B : Type 0} → Result A SasFault → (A → Result B 
 (Ok x) >>= f = f x
 (Err e) >>= f = Err e
 
--- the lines that remain to be read, and the number of the first of them, counted from 1
+-- the lines that remain to be read, and the number of the first of them
 pub record Remaining : Type 0 where
   pub number : ℕ
   pub lines : List (List ℕ)
@@ -279,7 +279,7 @@ is_positive None = false
 is_positive (Some (Natural n)) = nat_lt 0 n
 is_positive (Some (Negative n)) = false
 
--- whether the first word spells a number greater than 0
+-- whether the first word spells a number above 0
 abbrev pub is_conditional : List (List ℕ) → Bool
 is_conditional [] = false
 is_conditional (w ∷ ws) = is_positive (number w)

@@ -194,7 +194,7 @@ fn counted_facts<'a>(
 }
 
 /// Reads the number of facts, and then each of them, on distinct variables. `named` has for each variable the last line
-/// that named it; only lines from that of the number on count.
+/// that named it; lines before that of the number do not count.
 #[tactic(auto, unfolding(crate::specs::Reading::facts_at))]
 pub(crate) fn facts<'a>(
     alloc: Global,

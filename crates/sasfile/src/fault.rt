@@ -7,13 +7,13 @@ use fdr::TaskLimit;
 use std::alloc::{AllocError, AllocFailed};
 use thiserror::Error;
 
-/// The first fault of a text, or a failed allocation. Lines are counted from 1.
+/// The first fault of a text, or a failed allocation.
 ///
 /// The first fault is the one on the earliest line. On the same line F44 comes before F41, and F41 before all others.
 /// The codes are those of `docs/FAULTS.md`.
 #[derive(Clone, Copy, Debug, PartialEq, Eq, Error)]
 pub enum SasFault {
-    /// Memory ran out. This does not depend on the text.
+    /// Allocation failed. This says nothing about the text.
     #[error("out of memory")]
     OutOfMemory,
     /// F18: more variables, values of a variable or operators than the limits of a task allow.

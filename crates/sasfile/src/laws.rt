@@ -16,7 +16,7 @@ pub fn no_fault()
     ensures { (text : List ℕ) (task : FiniteDomainTask) (e : SasFault) → length text < 2 ^ 64 - 1 → SpellsTask text task → task_in text ≡ Err e → ⊥ }
 {}
 
-/// Proves that each text either spells a task or has a first fault.
+/// Proves that each text spells a task or has a first fault.
 pub fn spelled_or_not()
     ensures { (text : List ℕ) → length text < 2 ^ 64 - 1 → ((task : FiniteDomainTask) × SpellsTask text task) ⊎ ((e : SasFault) × (task_in text ≡ Err e)) }
 {}

@@ -8,7 +8,7 @@ use crate::pieces::{first_piece, trimmed};
 /// The lines of a text that remain to be read.
 #[derive(Clone, Copy)]
 pub(crate) struct Lines<'a> {
-    /// The number of the next line, counted from 1.
+    /// The number of the next line.
     pub number: usize,
     /// The bytes from that line to the end of the text.
     pub rest: &'a [u8],

@@ -154,11 +154,11 @@ fn whole(alloc: Global, bytes: &[u8]) -> Result<FdrTask, SasFault>
 ///
 /// Fails with the first fault of the text, or if allocation fails.
 pub fn read_sas(alloc: Global, bytes: &[u8]) -> Result<FdrTask, SasFault>
-    // The text spells the task that is returned.
+    // The result is what the text spells.
     ensures found { IfOk result (λ task. SpellsTask bytes.now task) }
-    // If the text spells a task, that task is returned, unless allocation fails.
+    // A text that spells a task is read, unless allocation fails.
     ensures only { (task : FiniteDomainTask) → SpellsTask bytes.now task → Gives (λ x. x) result (Ok task) }
-    // The error is the first fault of the text, reading its lines in order.
+    // An error is the first fault of the text, or that allocation failed.
     ensures fault { Gives (λ x. x) result (task_in bytes.now) }
 {
     whole(alloc, bytes)

@@ -4,7 +4,7 @@ use Rattle.sasfile.specs.declared.fault.SasFault.{SasFault}
 use Rattle.sasfile.specs.declared.fault.SasFault.TheVariants as fault
 use Rattle.sasfile.specs.Lines.{lines}
 
--- the number of the line, counted from 1; an exceeded limit and a text that ends too soon have none
+-- the number of the line; an exceeded limit and a text that ends too soon have none
 abbrev pub line_of : SasFault → Option ℕ
 line_of fault.OutOfMemory = None
 line_of (fault.Limit t) = None

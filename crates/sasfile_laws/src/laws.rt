@@ -1,7 +1,7 @@
 //! Laws of the texts of finite-domain tasks.
 //!
 //! Lines are those of the definition of the format: without the blanks and carriage returns at their ends, and the last
-//! one with or without a line feed. They are counted from 1.
+//! one with or without a line feed.
 
 ghost use Rattle.std.specs.Prelude.{◌≡◌, ◌≢◌, ◌<◌, ◌≤◌, ◌-◌, ◌^◌, ◌++◌, ◌∷◌, [], ℕ, List, length, Some, Err};
 ghost use Rattle.fdr.specs.Tasks.{FiniteDomainTask, IsTask};

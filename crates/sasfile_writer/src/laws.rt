@@ -18,7 +18,7 @@ pub fn text_order_has_same_plans()
     ensures costs { (task : FiniteDomainTask) (plan : List ℕ) → plan_cost (in_text_order task) plan ≡ plan_cost task plan }
 {}
 
-/// Proves that the lines written for an example, the road task, are the ones worked out by hand.
+/// Proves a worked example: the lines written for the road task.
 pub fn worked_texts()
     ensures { written_lines road_task (3 ∷ []) ≡ road_lines }
 {}

@@ -23,8 +23,8 @@ fn push_metric(out: &mut Vec<u8>, metric: bool) -> Result<(), AllocError>
 }
 
 /// Returns the text of the task: `output.sas`, version 3, each line with its line feed (Helmert 2006). The first
-/// `sizes[v]` values of the variable `v` are its atoms, of which at most one is true; if there are at least two, they
-/// are written as a mutex group.
+/// `sizes[v]` values of the variable `v` are its atoms; at most one of them is true, and if there are at least two,
+/// they are written as a mutex group.
 ///
 /// The text is written in one pass, into one buffer that grows.
 pub fn write_sas(alloc: Global, task: &FdrTask, sizes: &[usize]) -> Result<Vec<u8>, AllocError>

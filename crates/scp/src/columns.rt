@@ -67,9 +67,9 @@ impl<'a> Columns<'a> {
         self.task
     }
 
-    /// Proves the invariant of the type (nothing happens at run time): the tables of each column partition the costs of
-    /// the operators, so that the heuristic is at most the cost of every plan from a state, and it is infinite or at
-    /// most 2^61.
+    /// Proves the type's invariant: the tables of each column partition the costs of the operators, so that the
+    /// heuristic is at most the cost of every plan from a state, and it is infinite or at most 2^61. Only for the
+    /// proof.
     pub fn recall(&self)
         ensures partitioned { ∥ AreCostPartitioned self.now.task self.now.columns ∥₁ }
         ensures bound { (plan state : List ℕ) → IsState (ranges self.now.task) state → LeadsToGoal self.now.task state plan →

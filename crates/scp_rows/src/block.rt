@@ -171,8 +171,9 @@ pub(crate) fn first_block<'b, 'a, R: Row>(
     }
 }
 
-/// Returns the greatest value of blocks at a successor of an entered state, the same as `greatest_value`. Given are the
-/// abstract states and the sums of the entered state in the first block, and which of its mappings are affected.
+/// Returns the greatest value of blocks at `state`, a successor of the state `entered`, the same as `greatest_value`.
+/// `indices` and `entered_sums` are the abstract states and the sums of `entered` in the first block, and `touched`
+/// lists the mappings of that block that are affected.
 pub(crate) fn greatest_after<R: Row>(
     blocks: &[Vec<MappingRows<'_, R>>],
     entered: &[u32],

@@ -112,9 +112,9 @@ pub fn touches_in(
     }
 }
 
-/// Returns the greatest value of the blocks at a successor of an entered state, the same as `flat_value`. Given are the
-/// abstract states and the sums of the entered state in the first block, and which of its mappings are affected. No
-/// memory is allocated.
+/// Returns the greatest value of the blocks at `state`, a successor of the state `entered`, the same as `flat_value`.
+/// `indices` and `entered_sums` are the abstract states and the sums of `entered` in the first block, and `touched`
+/// lists the mappings of that block that are affected. No memory is allocated.
 pub fn flat_value_after(
     flat: &Flat<'_>,
     entered: &[u32],

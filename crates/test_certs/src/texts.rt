@@ -25,7 +25,7 @@ const ONE_DOMAIN_TABLE: &[u8] =
 const TWO_KINDS_OF_TABLE: &[u8] =
     b"optplan-cert 2\nsas\nbound 2\ncolumns 1\ncolumn 2\ntable 1 3\nshares 0\nvalues 1 0\ndomain 2\n3 2 0 0\n5 3 0 1 1\nshares 0\nvalues 2 0 inf\nclosed 0\nend\n";
 
-/// Returns the text with a line replaced by other bytes. Lines are counted from 1.
+/// Returns the text with a line replaced by other bytes.
 fn with_line(alloc: Global, text: &[u8], place: usize, line: &[u8]) -> Result<Vec<u8>, AllocError> {
     let mut bytes = Vec::new(alloc);
     let mut at = 1;

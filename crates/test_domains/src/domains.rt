@@ -121,7 +121,8 @@ const S4: Option<usize> = Some(4);
 
 const S5: Option<usize> = Some(5);
 
-/// Its transitions: abstract state i has the class i % 3 of x and i / 3 of y. The last column belongs to no operator.
+/// The transitions for both variables: abstract state i has the class i % 3 of x and i / 3 of y. The last column
+/// belongs to no operator.
 const BOTH_ROWS: &[[Option<usize>; 4]] = &[
     [S1, None, None, None],
     [None, None, None, None],

@@ -24,8 +24,8 @@ use Rattle.translate_vars.specs.Parts.{AreFit}
 use Rattle.translate_vars.specs.declared.fault.TranslateFault.{TranslateFault}
 use Rattle.translate_vars.specs.declared.fault.TranslateFault.TheVariants as fault
 
--- what holds of every task that texts spell: costs are small, and the initial atoms, the atoms of the goal and those
--- that actions add are atoms of the task
+-- the properties of every task that texts spell: costs are small, and the initial atoms, the atoms of the goal and
+-- those that actions add are atoms of the task
 pub record IsReadTask (task : PlanningTask) : Type 0 where
   pub small : IsTrue (has_small_costs task)
   pub costs : (a : Action) → IsActionOf task a → a.cost ≤ max_cost

@@ -50,8 +50,8 @@ impl Translated {
         &self.task
     }
 
-    /// Returns the index of the operator's action among the ground actions over the atoms, counted from 0, or `None` if
-    /// there is no such operator.
+    /// Returns the index of the operator's action among the ground actions over the atoms, or `None` if there is no
+    /// such operator.
     pub fn action_of(&self, operator: usize) -> Option<usize>
         ensures place { result ≡ slice_get self.now.places operator }
         ensures none { result ≡ None ↔ length self.now.task.operators ≤ operator }

@@ -85,7 +85,7 @@ pub fn with_variables(
     translated(alloc, task, parts, variables)
 }
 
-/// Computes the least closed set of atoms, with the actions over it. Fails if a limit on atoms or actions is exceeded,
+/// Returns the least closed set of atoms, with the actions over it. Fails if a limit on atoms or actions is exceeded,
 /// or if allocation fails.
 fn grounded(alloc: Global, task: &Task) -> Result<Grounded, TranslateFault>
     requires small { IsTrue (has_small_costs task.now) }
@@ -99,7 +99,7 @@ fn grounded(alloc: Global, task: &Task) -> Result<Grounded, TranslateFault>
 {
     match ground(alloc, task) {
         Ok(grounded) => {
-            // only for the proof: reading the list of atoms brings its invariant, that they are distinct, into it
+            // only for the proof: reading the list of atoms makes its invariant available, that they are distinct
             let _ = grounded.atoms.as_slice().len();
             Ok(grounded)
         }

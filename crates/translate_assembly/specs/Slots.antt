@@ -16,7 +16,7 @@ first_slot test variable count value [] = None
 first_slot test variable count value (x ∷ xs) =
     if test x then Some (record { variable = variable; value = value; count = count }) else first_slot test variable count (value + 1) xs
 
--- the slot of the first such element in the variables, which are counted from `variable`
+-- the slot of the first element that passes the test in the variables, which are counted from `variable`
 abbrev pub slots_from : {X : Type 0} → (X → Bool) → ℕ → List (List X) → Option Slot
 slots_from test variable [] = None
 slots_from test variable (xs ∷ rest) =

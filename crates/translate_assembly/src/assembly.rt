@@ -20,10 +20,10 @@ use pddl_task::{GroundAction, Task};
 use std::alloc::{AllocError, AllocFailed, Global};
 use translate_theory::ListedVariable;
 
-/// Why no task was made.
+/// The reason why no task was made.
 #[derive(Clone, Copy, Debug, PartialEq, Eq)]
 pub enum AssemblyFault {
-    /// Memory ran out.
+    /// Allocation failed.
     OutOfMemory,
     /// F18: the task would have more variables, values of a variable or operators than the limits of a task allow.
     Limit(TaskLimit),
@@ -53,7 +53,7 @@ impl From<TaskLimit> for AssemblyFault {
     }
 }
 
-/// A finite-domain task, and the indices of its operators' actions in the list of actions, counted from 0.
+/// A finite-domain task, and the indices of its operators' actions in the list of actions.
 #[derive(Drop)]
 pub struct Assembled {
     /// The finite-domain task.
@@ -62,8 +62,8 @@ pub struct Assembled {
     pub carried: Vec<usize>,
 }
 
-/// Makes the finite-domain task over the atoms, with these variables and an operator for each action that can have one:
-/// each action whose precondition is not contradictory and requires at most one atom of each variable to be true
+/// Returns the finite-domain task over the atoms, with these variables and an operator for each action that can have
+/// one: each action whose precondition is not contradictory and requires at most one atom of each variable to be true
 /// (Helmert 2009).
 ///
 /// For each literal of an action it looks up the atom by hash and its fact by binary search; a new fact is inserted in

@@ -26,7 +26,8 @@ pub(crate) fn effect(
     changes(alloc, condition, facts.as_slice())
 }
 
-/// Sets the none value of the variables of which the deletion of an atom leaves none true.
+/// Sets the none value of the variable of each deleted atom that was true by the condition or is the only one of its
+/// variable.
 fn set_removed(
     facts: &mut Assignment,
     table: &Table<'_>,

@@ -23,7 +23,7 @@ pub(crate) struct CarriedOperators {
 }
 
 impl CarriedOperators {
-    /// Makes the operators of those actions that have one.
+    /// Returns the operators of those actions that have one.
     pub(crate) fn new(
         alloc: Global,
         vocabulary: &Vocabulary,

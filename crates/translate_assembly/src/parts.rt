@@ -32,11 +32,11 @@ pub struct Parts {
     pub goal: Vec<Fact>,
     /// The operators, in the order of their actions.
     pub operators: Vec<Operator>,
-    /// For each operator the index of its action in the list of actions, counted from 0.
+    /// For each operator the index of its action in the list of actions.
     pub carried: Vec<usize>,
 }
 
-/// Computes the parts of the finite-domain task over listed atoms and variables, from the literals of the task and of
+/// Returns the parts of the finite-domain task over listed atoms and variables, from the literals of the task and of
 /// the actions.
 ///
 /// `value_names` and `initial` have one item for each variable, and `operators` and `carried` one for each action that

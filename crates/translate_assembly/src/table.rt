@@ -30,7 +30,7 @@ impl<'a> Model for Table<'a> {
 }
 
 impl<'a> Table<'a> {
-    /// Makes the table of these variables. If an atom is in several, the first one counts.
+    /// Returns the table of these variables. If an atom is in several, the first one counts.
     pub(crate) fn new(
         alloc: Global,
         atoms: &'a Atoms,

@@ -41,8 +41,8 @@ left_of taken group = filter (λ p. not (slice_index_or taken p false)) group
 abbrev pub GoesFirst : ℕ → ℕ → ℕ → ℕ → Type 0
 GoesFirst size number other_size other = (other_size < size) ⊎ ((other_size ≡ size) × (number ≤ other))
 
--- given the rest that is left of each group: the rest of the group with this number is fit, it goes first of all rests
--- that are fit, and the variable is that of its atoms
+-- given the rest that is left of each group: the rest of the group with this number is fit, it goes before all other
+-- rests that are fit, and the variable is that of its atoms
 pub record IsLargest (index : Indexed) (groups : List (List ℕ)) (left : List ℕ → List ℕ) (number : ℕ) (v : PlacedVariable) : Type 0 where
   pub fit : is_fit index (left (group_at groups number)) ≡ true
   pub first : (other : ℕ) → is_fit index (left (group_at groups other)) ≡ true

@@ -26,7 +26,7 @@ struct Choice {
 }
 
 impl Choice {
-    /// Makes a choice without variables, over `count` atoms.
+    /// Returns a choice without variables, over `count` atoms.
     fn new(alloc: Global, count: usize) -> Result<Choice, AllocError>
         ensures choice { IfOk result (λ choice. (index : Indexed) → length index.atoms ≡ count → IsChoice index choice) }
         ensures empty { IfOk result (λ choice. choice.variables.items ≡ []) }

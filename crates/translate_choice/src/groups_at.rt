@@ -61,7 +61,7 @@ impl Model for GroupsAt {
 }
 
 impl GroupsAt {
-    /// Lists the groups of each index below `count`.
+    /// Returns the groups of each index below `count`.
     pub(crate) fn new(alloc: Global, count: usize, groups: &[Group]) -> Result<GroupsAt, AllocError>
         ensures { IfOk result (IsTranspose count groups.now) }
     {

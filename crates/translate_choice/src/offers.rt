@@ -40,7 +40,7 @@ impl<'a> Offers<'a> {
         ensures index { IfOk result (λ offers. offers.index.now ≡ index.now) }
         ensures groups { IfOk result (λ offers. offers.groups.now ≡ groups.now) }
     {
-        // only for the proof: reading the list of atoms brings its invariant, that they are distinct, into it
+        // only for the proof: reading the list of atoms makes its invariant available, that they are distinct
         let _ = index.atoms().as_slice().len();
         Ok(Offers {
             index,

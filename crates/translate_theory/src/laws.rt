@@ -58,9 +58,8 @@ pub fn values_tell_atoms()
         (state p ≡ true) ↔ (value_in state v ≡ k) }
 {}
 
-/// Proves that the definitions yield the translations worked out by hand: a road as one variable, in the form that Fast
-/// Downward would write; the road with two variables; and a gripper, of which operator 2 picks up a ball and operator 7
-/// drops one.
+/// Proves worked examples: a road as one variable, in the form that Fast Downward would write; the road with two
+/// variables; and a gripper, in which operator 2 picks up a ball and operator 7 drops one.
 pub fn worked_tasks_translate()
     ensures one_variable { translation named_road (variable (at_a ∷ at_b ∷ at_c ∷ []) false ∷ []) go_b_go_c ≡ record {
       metric = false;

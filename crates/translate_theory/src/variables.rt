@@ -1,9 +1,9 @@
 use std::marker::Model;
 
-/// Listed atoms that make up one variable of a translation, of which at most one is true in each reachable state.
+/// Listed atoms that make up one variable of a translation; at most one of them is true in each reachable state.
 #[derive(Debug, Drop)]
 pub struct ListedVariable {
-    /// The indices of the atoms in the list, counted from 0. They must be strictly increasing.
+    /// The indices of the atoms in the list. They must be strictly increasing.
     pub places: Vec<usize>,
     /// Whether the variable has the none value, at which none of the atoms is true. It comes after those of the atoms.
     pub has_none: bool,

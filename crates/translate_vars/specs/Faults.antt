@@ -36,7 +36,7 @@ pub record IsBadAtom (task : PlanningTask) (atoms : List Atom) (k : ℕ) : Type 
   pub before : AreAtomsOf task (take k atoms)
   pub bad : AreAtomsOf task (take (suc k) atoms) → ⊥
 
--- the least initial atom that is not listed or, if all are, the first such atom of the goal
+-- the least initial atom that is not listed or, if all are, the first atom of the goal that is not
 abbrev pub IsMissing : PlanningTask → List Atom → Atom → Type 0
 IsMissing task atoms p =
     IsLeastMissing (contains atoms) task.initial p
@@ -84,7 +84,7 @@ module _ (task : PlanningTask) (actions : List Action) where
   abbrev pub is_uncovered : List Variable → State
   is_uncovered variables p = not (is_constant task actions p) && not (list_any (λ v. contains v.atoms p) variables)
 
-  -- the first such atom, if the variables have no fault
+  -- the index of the first uncovered atom, if the variables have no fault
   pub record IsFirstUncovered (atoms : List Atom) (variables : List Variable) (k : ℕ) : Type 0 where
     pub in_order : AreInOrder variables (length variables)
     pub uncovered : IsSomeAnd (slice_get atoms k) (λ p. is_uncovered variables p ≡ true)

@@ -62,7 +62,7 @@ fn check_each(
     }
 }
 
-/// Checks as `check_each` does that the variables are fit, over the actions of a closed set of atoms.
+/// Checks, as `check_each` does, that the variables are fit, over the actions of a closed set of atoms.
 pub(crate) fn check_variables(
     alloc: Global,
     task: &Task,

@@ -8,11 +8,10 @@ use ground::GroundFault;
 use pddl_task::GroundAtom;
 use std::alloc::{AllocError, AllocFailed};
 
-/// Why listed atoms and variables are not fit for a translation. Indices of atoms in their list, and variables, count
-/// from 0.
+/// The reason why listed atoms and variables are not fit for a translation.
 #[derive(Debug, Drop)]
 pub enum TranslateFault {
-    /// Memory ran out. This does not depend on the atoms and the variables.
+    /// Allocation failed. This says nothing about the atoms and the variables.
     OutOfMemory,
     /// F20: there are more than 262,144 atoms, or more than 1,048,576 ground actions over them.
     GroundLimit,
@@ -30,8 +29,8 @@ pub enum TranslateFault {
     NotGroup(usize),
     /// F35: the variable has several atoms and no none value, but they are not a full group.
     NotFull(usize),
-    /// F36: the variable has a constant atom or an atom of an earlier variable; or it has several atoms, of which one
-    /// is used negatively or two are goals; or it has a single atom and no none value.
+    /// F36: the variable has a constant atom or an atom of an earlier variable; or it has several atoms, and one of
+    /// them is used negatively or two are goals; or it has a single atom and no none value.
     Misplaced(usize),
 }
 

@@ -50,7 +50,7 @@ shape_faults none = []
 shape_faults (word s e t f) = s ∷ shape_faults f
 shape_faults (group s e i f) = list_faults s i ++ shape_faults f
 
--- the largest number of steps of a plan
+-- the greatest number of steps of a plan
 abbrev pub max_steps : ℕ
 max_steps = 1048576
 

@@ -9,28 +9,28 @@ ghost use Rattle.validate.specs.declared.plan.PlanFault.{PlanFault};
 ghost use Rattle.validate.specs.declared.plan.PlanFault.TheVariants.{OutOfMemory};
 ghost use Rattle.validate.specs.declared.verdict.Verdict.{Verdict};
 
-/// A law: a text spells at most one plan.
+/// Proves that a text spells at most one plan.
 pub fn one_plan()
     ensures { (bytes : List ℕ) (plan other : List Words) → SpellsPlan bytes plan → SpellsPlan bytes other → plan ≡ other }
 {}
 
-/// A law: a text that spells a plan has no fault.
+/// Proves that a text that spells a plan has no fault.
 pub fn no_plan_fault()
     ensures { (bytes : List ℕ) (plan : List Words) (e : PlanFault) → SpellsPlan bytes plan → e ≢ OutOfMemory → IsPlanFault bytes e → ⊥ }
 {}
 
-/// A law: a text spells a plan, or has a fault.
+/// Proves that a text spells a plan or has a fault.
 pub fn plan_spelled_or_not()
     ensures { (bytes : List ℕ) →
         ((plan : List Words) × SpellsPlan bytes plan) ⊎ ((e : PlanFault) × (e ≢ OutOfMemory) × IsPlanFault bytes e) }
 {}
 
-/// A law: a text has at most one fault.
+/// Proves that a text has at most one fault.
 pub fn one_plan_fault()
     ensures { (bytes : List ℕ) (e f : PlanFault) → e ≢ OutOfMemory → f ≢ OutOfMemory → IsPlanFault bytes e → IsPlanFault bytes f → e ≡ f }
 {}
 
-/// A law: a plan has exactly one verdict.
+/// Proves that a plan has exactly one verdict.
 pub fn one_verdict()
     ensures some { (task : PlanningTask) (steps : List Words) → (verdict : Verdict) × IsVerdict task steps verdict }
     ensures unique { (task : PlanningTask) (steps : List Words) (verdict other : Verdict) →

@@ -144,7 +144,7 @@ impl Step {
 }
 
 impl Plan {
-    /// Returns the plan with these steps, of which there are at most `MAX_STEPS`.
+    /// Returns the plan with these steps, at most `MAX_STEPS`.
     pub fn new(steps: Vec<Step>) -> Plan
         requires few { length steps.items ≤ max_steps }
         requires words { AllByRecursion IsPlanStep steps.items }

@@ -202,7 +202,7 @@ pub record HasRefused {S F : Type 0} (owner : S → List ℕ → ℕ → ℕ) (v
   pub looks : HasLooked received new before after
   pub refusal : IsRefusal owner new.bound new.owner new.owner fault
 
--- the reason why a turn is refused: memory ran out for a message, and the worker holds it; or the owner refused to
+-- the reason why a turn is refused: allocation failed for a message, and the worker holds it; or the owner refused to
 -- expand
 abbrev pub IsTurnRefusal : {S F : Type 0} → (S → List ℕ → ℕ → ℕ) → (List ℕ → F → List ℕ) → WorkerOf S F → WorkerOf S F → View → View → OwnerFault → Type 0
 IsTurnRefusal owner values old new before after OutOfMemory =

@@ -59,8 +59,8 @@ impl<'a, S: Spread + Drop, F: StateForm + Drop> Worker<'a, S, F> {
         }
     }
 
-    /// Returns whether this turn polls for messages sent since the last poll: always if the worker is at rest, and else
-    /// in one of several turns.
+    /// Returns whether this turn polls for messages sent since the last poll: always if the worker is at rest,
+    /// otherwise in one of several turns.
     pub(crate) fn looks(&self) -> bool {
         self.resting || self.turns == 0
     }

@@ -14,7 +14,7 @@ pub enum Received {
 /// The result of a turn.
 #[derive(Clone, Copy, Debug, PartialEq, Eq)]
 pub enum Turn {
-    /// The round goes on.
+    /// The round continues.
     Next,
     /// No units of work are left, or the round was ended.
     Last,

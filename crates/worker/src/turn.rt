@@ -67,8 +67,8 @@ impl<'a, S: Spread + Drop, F: StateForm + Drop> Worker<'a, S, F> {
     /// link; and stops counting among the units if it comes to rest. A message that is not for its owner ends the turn.
     /// The contract fixes the worker and what its seat knows afterwards, not the order of these steps.
     ///
-    /// A fault leaves the worker as it was after it read the bound; if memory ran out for a message, the worker holds
-    /// it and it still counts as pending. A caller that continues after a fault calls `count_taken` first.
+    /// A fault leaves the worker as it was after it read the bound; if allocation failed for a message, the worker
+    /// holds it and it still counts as pending. A caller that continues after a fault calls `count_taken` first.
     pub fn turn(&mut self, board: &Board, seat: &mut Seat) -> Result<Turn, OwnerFault>
         requires seat { IsSeatOf board.now seat.old }
         requires none_aside { self.old.misfits ≡ [] }

@@ -106,8 +106,8 @@ pub struct Parts<'a, S: Spread + Drop, F: StateForm + Drop> {
 }
 
 impl<'a, S: Spread + Drop, F: StateForm + Drop> Worker<'a, S, F> {
-    /// Creates worker `number` of `workers`, counted from 0, with its ends of links over which nothing was sent. States
-    /// of the task have the form `F`.
+    /// Creates worker `number` of `workers`, with its ends of links over which nothing was sent. States of the task
+    /// have the form `F`.
     pub fn start(
         alloc: Global,
         space: &'a Space<'a, S>,
@@ -225,7 +225,7 @@ impl<'a, S: Spread + Drop, F: StateForm + Drop> Worker<'a, S, F> {
     }
 
     /// Expands the next node below the bound that was read last. Returns the number of messages that this put into
-    /// outboxes, or `None` if there is no such node. A fault is that of the owner, and leaves the worker unchanged.
+    /// outboxes, or `None` if there is no such node. Fails as `Owner::expand` does; the worker is then unchanged.
     pub fn expand(&mut self) -> Result<Option<usize>, OwnerFault>
         requires { self.old.uncounted ≡ 0 }
         ensures expanded { IfOk result (HasExpanded S.owner self.old self.new) }
@@ -272,8 +272,8 @@ impl<'a, S: Spread + Drop, F: StateForm + Drop> Worker<'a, S, F> {
         self.resting
     }
 
-    /// States the type's invariant as a contract: the worker has a link to each worker and from each, and its owner is
-    /// at the end of a run that records what went over its links, and what was seen and offered. Only for proofs.
+    /// Proves the type's invariant: the worker has a link to each worker and from each, and its owner is at the end of
+    /// a run that records what went over its links, and what was seen and offered. Only for the proof.
     pub fn recall(&self)
         ensures { IsKept S.owner F.values self.now }
     {
