@@ -131,7 +131,7 @@ class Release(unittest.TestCase):
         self.assertEqual((out, err, status), ("", f"optplan: release/ was built from other sources{ENDING}", 127))
 
     def test_changed_line_of_crates(self):
-        self.edit("crates.txt", "cost:", "cost: ")
+        self.edit("crates.txt", "\ncost:", "\ncost: ")
         self.is_missing("release/ was built from other sources")
 
     def test_flipped_byte(self):
