@@ -1,0 +1,3 @@
+pub mod ForColumns
+mod OrderLists
+mod Successors
