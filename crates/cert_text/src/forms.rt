@@ -31,8 +31,7 @@ pub(crate) fn fixed_line<'a>(lines: Lines<'a>, text: &[u8]) -> Result<Lines<'a>,
     }
 }
 
-/// Returns the second word of a line that consists of the keyword and one other word. `number` is the number of the
-/// line.
+/// Returns the second word of line `number` of the text, which must consist of the keyword and one other word.
 pub(crate) fn second_word<'a>(
     line: &'a [u8],
     keyword: &[u8],
