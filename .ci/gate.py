@@ -266,7 +266,7 @@ def tell_weak(weak):
 
 def is_tree_committed():
     """Returns whether the program's crates in the work tree are those of the last commit."""
-    changed = subprocess.run(["git", "-C", TOP, "status", "--porcelain", "crates", "crates.txt"], stdout=subprocess.PIPE, check=True)
+    changed = subprocess.run(["git", "-C", TOP, "status", "--porcelain", "crates", "crates.txt", "HANDLES"], stdout=subprocess.PIPE, check=True)
     return not changed.stdout
 
 

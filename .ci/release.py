@@ -70,7 +70,7 @@ def unpacked(packed):
 
 def difference(top, program, kit=None):
     """Compares release/ of the tree `top` with the program's bytes, built from its sources by this toolchain or the one at hand. Returns
-    whether release/ is for other sources or for another toolchain, so that nothing is to be compared, and what to say."""
+    False only if release/ is for these sources and this toolchain and is not this program, and what to say."""
     path = os.path.join(top, "release", NAMES[0])
     if not os.path.isfile(path):
         return True, "release/ is missing, so the program is not compared"
