@@ -1,7 +1,0 @@
-pub mod WithRow
-pub mod Renumbered
-pub mod Splits
-pub mod Ordered
-pub mod Ranges
-pub mod Avoiding
-pub mod Chosen

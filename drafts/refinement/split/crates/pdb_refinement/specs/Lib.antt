@@ -1,2 +1,0 @@
-pub mod Refinements
-pub mod Classes
