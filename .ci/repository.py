@@ -131,7 +131,7 @@ class Record:
     state, and the toolchain's identity."""
 
     HEAD = ("# The crates whose must-fail edits were all refused: the crate, a sum over the sources on which that depends, and the toolchain.\n"
-            "# Written by .ci/run alone, which drops the lines of sources that have changed since.\n")
+            "# Written by .ci/run, which drops the lines of sources that have changed since; after a landing also for the edits that its gate tried.\n")
 
     def __init__(self, path):
         self.path = path
