@@ -84,8 +84,9 @@ def keep_crates(repository, names):
 def run_toolchain(copy, tell, on_crate=None):
     """Runs the toolchain's gate in a copy, and passes on each line that it prints. Returns its status and the seconds
     of its provers."""
-    gate = subprocess.Popen(["rt", "ci"], cwd=copy, stdin=subprocess.DEVNULL, stdout=subprocess.PIPE, stderr=subprocess.STDOUT,
-                            text=True, errors="replace", start_new_session=True)
+    gate = subprocess.Popen([sys.executable, f"{TOP}/.ci/toolchain.py"], cwd=copy, stdin=subprocess.DEVNULL,
+                            stdout=subprocess.PIPE, stderr=subprocess.STDOUT, text=True, errors="replace",
+                            start_new_session=True)
     seconds = ProverSeconds(gate.pid, on_crate)
     try:
         for line in gate.stdout:
