@@ -1,3 +1,0 @@
-pub mod ForColumns
-mod OrderLists
-mod Successors

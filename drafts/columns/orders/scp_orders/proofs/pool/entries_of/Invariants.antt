@@ -1,7 +1,0 @@
-use Rattle.std.proofs.Common.{◌≡◌}
-use Rattle.std.specs.Prelude.{All}
-use Rattle.scp_orders.specs.Tasks.{task_listed}
-use Rattle.scp_orders.proofs.pool.entries_of.Given as goal
-
-abbrev pub invariant-loop-abstraction : goal.invariant-loop-abstraction
-invariant-loop-abstraction l = All (λ e. task_listed e.listed ≡ l.task) l.entries.items

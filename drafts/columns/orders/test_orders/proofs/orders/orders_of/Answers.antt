@@ -1,8 +1,0 @@
-use Rattle.std.proofs.Common.{◌≤◌, ◌^◌, arith}
-use Rattle.scp.proofs.ChosenMappings.{each_mapping}
-use Rattle.test_orders.proofs.orders.orders_of.Goals as goal
-
-pub choose_orders-requires : goal.choose_orders-requires
-choose_orders-requires c =
-    let small : c.clamp-limit.result ≤ 2 ^ 24 = omega arith in
-    rw c.deref.ensures.value (λ _ _. each_mapping c.args.task.now c.clamp-limit.result small c.in_ok-pool.pool.items c.in_ok-pool.ensures.mappings _ _)
