@@ -31,7 +31,7 @@ def with_remembered_sums():
         crate = command.rtlib.Crate
         crate.stamp, crate.below = remembered(crate.stamp), remembered(crate.below)
         return command.ci
-    except (ImportError, SyntaxError, ValueError, AttributeError):
+    except (ImportError, SyntaxError, ValueError, TypeError, AttributeError):
         return None
 
 
