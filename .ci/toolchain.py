@@ -1,13 +1,16 @@
-"""Runs the toolchain's own gate, `rt ci`, in the current folder, and computes each crate's sum over its sources once.
+"""Runs the toolchain's own gate, `rt ci`, in the current folder, and computes for each crate once which crates lie below
+it, and the sum over its sources.
 
-The toolchain computes the sum of a crate from those of the crates that it uses, each anew for each use: some two
-million sums for a hundred crates in layers, more than an hour of one processor in each run. Sources do not change while
-the gate runs, so neither do the sums. What is proved, and how it is judged, stays the toolchain's. A toolchain whose
-insides are others is run as it is.
+The toolchain computes both from those of the crates that a crate uses, each anew for each use: some two million lists
+and sums for a hundred crates in layers, more than an hour of one processor in each run. Sources do not change while the
+gate runs, so neither do these. What is proved, and how it is judged, stays the toolchain's. A toolchain whose insides
+are others is run as it is.
 """
 
+import functools
 import importlib.machinery
 import importlib.util
+import inspect
 import os
 import shutil
 import sys
@@ -30,7 +33,8 @@ def with_remembered_sums():
         command = loaded(os.path.realpath(shutil.which("rt")))
         crate = command.rtlib.Crate
         crate.stamp, crate.below = remembered(crate.stamp), remembered(crate.below)
-        return command.ci
+        # If `ci` takes arguments, `main` is called with the words of the command.
+        return functools.partial(command.main, ["ci"]) if inspect.signature(command.ci).parameters else command.ci
     except (ImportError, SyntaxError, ValueError, TypeError, AttributeError):
         return None
 

@@ -73,19 +73,23 @@ def run(program, arguments):
     return output.decode("ascii", "replace"), process.returncode, seconds, usage.ru_maxrss * RESIDENT_UNIT
 
 
-def run_capped(command):
+def run_capped(command, reports=False):
     """Runs a command once, for at most CAP processor seconds. Returns its status, None if the system ended it, its
-    standard output, processor seconds, and the peak of resident memory in bytes."""
+    standard output, processor seconds, and the peak of resident memory in bytes; with `reports` its standard error too."""
     def cap():
         resource.setrlimit(resource.RLIMIT_CPU, (CAP, CAP))
 
-    process = subprocess.Popen(command, stdin=subprocess.DEVNULL, stdout=subprocess.PIPE, stderr=subprocess.DEVNULL, preexec_fn=cap)
-    with process.stdout:
-        output = process.stdout.read().decode("ascii", "replace")
-    _, wait_status, usage = os.wait4(process.pid, 0)
+    with tempfile.TemporaryFile() as errors:
+        process = subprocess.Popen(command, stdin=subprocess.DEVNULL, stdout=subprocess.PIPE, stderr=errors, preexec_fn=cap)
+        with process.stdout:
+            output = process.stdout.read().decode("ascii", "replace")
+        _, wait_status, usage = os.wait4(process.pid, 0)
+        errors.seek(0)
+        report = errors.read().decode("ascii", "replace")
     process.returncode = os.waitstatus_to_exitcode(wait_status)
     status = None if process.returncode < 0 else process.returncode
-    return status, output, usage.ru_utime + usage.ru_stime, usage.ru_maxrss * RESIDENT_UNIT
+    found = status, output, usage.ru_utime + usage.ru_stime, usage.ru_maxrss * RESIDENT_UNIT
+    return (*found, report) if reports else found
 
 
 def measure(name, program, command, script, files, size, answer):

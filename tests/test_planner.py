@@ -38,9 +38,19 @@ def by_threads(*numbers):
     return [{"workers": workers, "ring": ROOMS[search % len(ROOMS)]} for workers in numbers for search in range(SEARCHES)]
 
 
+def staged_by(*numbers):
+    """Returns the options of a search in stages for each of these numbers of threads."""
+    return [{"workers": workers, "tables": "staged"} for workers in numbers]
+
+
 def deep_by(*numbers):
     """Returns the options of four searches with `--ties deep` for each of these numbers of workers."""
     return [{"workers": workers, "ties": "deep", **schedule} for workers in numbers for schedule in [{"simulate": seed} for seed in SEEDS[:3]] + [{}]]
+
+
+def with_tables(options, size):
+    """Returns the options of a search, with tables of this size if it names none."""
+    return options if "tables" in options else {**options, "table": size}
 
 
 class PlannerTest(ProgramTest):
@@ -61,22 +71,25 @@ class PlannerTest(ProgramTest):
         self.certifies(domain, problem, outcome.files["c"], cost)
 
     def costs_by(self, searches, domain, problem, cost, table=TABLE):
-        """Fails for each of these searches, given by its options, that does not solve the task at this cost."""
+        """Fails for each of these searches, given by its options, that does not solve the task at this cost. Those that
+        name no tables have tables of that size."""
         for options in searches:
             with self.subTest(problem=problem, **options):
-                self.is_cheapest(domain, problem, solved(domain, problem, table=table, **options), cost)
+                outcome = solved(domain, problem, **with_tables(options, table))
+                self.is_cheapest(domain, problem, outcome, cost)
 
     def costs(self, domain, problem, cost, table=TABLE):
         """Fails unless simulations and threads solve the task at this cost, with tables of that size."""
         self.costs_by(by_seeds(*WORKERS), domain, problem, cost, table)
         self.costs_by(by_threads(*THREADS), domain, problem, cost, table)
         self.costs_by(deep_by(*WORKERS), domain, problem, cost, table)
+        self.costs_by(staged_by(*THREADS), domain, problem, cost)
 
     def unsolvable(self, domain, problem):
         """Fails unless simulations and threads find that the task has no plan, with a certificate of that."""
-        for options in by_seeds(*WORKERS) + by_threads(*THREADS) + deep_by(*WORKERS):
+        for options in by_seeds(*WORKERS) + by_threads(*THREADS) + deep_by(*WORKERS) + staged_by(*THREADS):
             with self.subTest(problem=problem, **options):
-                outcome = solved(domain, problem, table=TABLE, **options)
+                outcome = solved(domain, problem, **with_tables(options, TABLE))
                 cert = outcome.files.get("c", b"")
                 self.assertEqual(outcome, Outcome(out=b"unsolvable\n", status=4, files={"c": cert}))
                 self.certifies(domain, problem, cert, "unsolvable")

@@ -41,7 +41,7 @@ fn search_in_threads<'a, R: Threads + Wait + Clock + Sync, F: StateForm + Drop +
     let milliseconds = milliseconds_since(rt, start);
     let joined = match end {
         Searched::Settled(joined) => joined,
-        Searched::Stopped(joined) => joined,
+        Searched::Stopped(joined, _) => joined,
     };
     Ok(Report::new(alloc, &joined, milliseconds)?)
 }

@@ -1,5 +1,5 @@
 -- How a search ends, from the team whose rings are empty.
-use Rattle.std.proofs.Common.{◌≡◌, ℕ, true, false, List, [], length, map, Option, Some, None, is_some, sym, ap, ◌∙◌, subst, inl, inr, ⊎_elim}
+use Rattle.std.proofs.Common.{◌≡◌, ℕ, true, false, List, [], length, map, Option, Some, None, is_some, sym, ap, ◌∙◌, subst}
 use Rattle.std.proofs.lemmas.List.{length-map}
 use Rattle.cost.specs.Distances.{Distance}
 use Rattle.owner_theory.specs.Owners.{SearchSpace}
@@ -15,11 +15,13 @@ use Rattle.engine_team.specs.Draining.{IsDrained}
 use Rattle.engine_team.proofs.Joining.{end_of}
 use Rattle.engine.specs.declared.searches.Outcome.{Outcome}
 use Rattle.engine.specs.declared.searches.Outcome.TheVariants.{Next, Last}
+use Rattle.engine.specs.declared.searched.Cause.{Cause}
+use Rattle.engine.specs.declared.searched.Cause.TheVariants as cause
 use Rattle.engine.specs.declared.searched.Searched.TheVariants.{Settled, Stopped}
 use Rattle.engine.specs.declared.fault.EngineFault.{EngineFault}
 use Rattle.engine.specs.declared.fault.EngineFault.TheVariants.{OutOfMemory, TotalTooLarge, Gate}
-use Rattle.engine.specs.Searches.{IsEndIn, IsEndedByGate, IsRefusedBy, IsSearched, IsSearchFault}
-use Rattle.engine.specs.Steps.{no_stop, IsTeamIn, IsReadyIn, IsOutcome}
+use Rattle.engine.specs.Searches.{IsEndIn, IsRefusedBy, IsSearched, IsSearchFault}
+use Rattle.engine.specs.Steps.{no_stop, IsByGate, IsTeamIn, IsReadyIn, IsOutcome}
 
 -- the answer that they are not
 pub unsettled : {S : Type 0} (space : SearchSpace) (owners : List (OwnerOf S)) (answer : Option Distance)
@@ -58,8 +60,9 @@ module _ {S : Type 0} (owner : S → List ℕ → ℕ → ℕ) (space : SpaceOf 
   pub searched_under : {F : Type 0} (may_stop : MayStop) (o : Outcome S F) → IsOutcome owner no_stop space n o → IsOutcome owner may_stop space n o
   searched_under may_stop (Next t) out = out
   searched_under may_stop (Last (Settled e)) out = out
-  searched_under may_stop (Last (Stopped e)) out =
-      (out.0, out.1, ⊎_elim (λ (r : IsRefusedBy owner e LimitReached). inl r) (λ (g : IsEndedByGate no_stop n). absurd g.stops) out.2)
+  searched_under may_stop (Last (Stopped e cause.Limit)) out = out
+  searched_under may_stop (Last (Stopped e cause.Gate)) out = absurd out.2.stops
+  searched_under may_stop (Last (Stopped e cause.Stage)) out = absurd out.2.stops
 
   pub fault_under : (may_stop : MayStop) (f : EngineFault) → IsSearchFault owner no_stop space n f → IsSearchFault owner may_stop space n f
   fault_under may_stop OutOfMemory out = tt
@@ -96,13 +99,15 @@ module _ {S : Type 0} (owner : S → List ℕ → ℕ → ℕ) (space : SpaceOf 
       settled_end may_stop (Some bound) settled some = (end_in, (bound, answer_at (Some bound) settled))
 
       -- not settled, and ended by the gate
-      pub gate_end : (may_stop : MayStop)
-          → IsSettledAnswer (searched owner t.space (length t.workers)) (map (λ w. w.owner) t.workers) [] None → IsEndedByGate may_stop n
-          → IsSearched {F = F} owner may_stop space n (Stopped e)
-      gate_end may_stop not_settled gate = (end_in, answer_at None not_settled, inr gate)
+      pub gate_end : (may_stop : MayStop) (why : Cause)
+          → IsSettledAnswer (searched owner t.space (length t.workers)) (map (λ w. w.owner) t.workers) [] None → IsByGate may_stop n why
+          → IsSearched {F = F} owner may_stop space n (Stopped e why)
+      gate_end may_stop cause.Limit not_settled never = absurd never
+      gate_end may_stop cause.Gate not_settled gate = (end_in, answer_at None not_settled, gate)
+      gate_end may_stop cause.Stage not_settled gate = (end_in, answer_at None not_settled, gate)
 
       -- not settled, and an owner at its limit
       pub limit_end : (may_stop : MayStop)
           → IsSettledAnswer (searched owner t.space (length t.workers)) (map (λ w. w.owner) t.workers) [] None → IsRefusedBy owner e LimitReached
-          → IsSearched {F = F} owner may_stop space n (Stopped e)
-      limit_end may_stop not_settled refused = (end_in, answer_at None not_settled, inl refused)
+          → IsSearched {F = F} owner may_stop space n (Stopped e cause.Limit)
+      limit_end may_stop not_settled refused = (end_in, answer_at None not_settled, refused)

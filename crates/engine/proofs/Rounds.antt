@@ -16,15 +16,16 @@ use Rattle.worker.specs.Workers.{WorkerOf, AreSameOuts}
 use Rattle.engine_round.specs.Turns.{MayStop}
 use Rattle.engine_round.specs.Jobs.{AreNumbered}
 use Rattle.engine_round.specs.Rounds.{RoundEndOf, HasPlayed, IsEndedBy, first_fault, IsRound}
-use Rattle.engine_round.specs.declared.gate.Stop.TheVariants.{Fail, Limit}
+use Rattle.engine_round.specs.declared.gate.Stop.TheVariants.{Fail, Limit, Stage}
 use Rattle.engine_round.specs.declared.fault.TurnFault.{TurnFault}
 use Rattle.engine_round.specs.declared.fault.TurnFault.TheVariants.{Owner, Gate}
 use Rattle.engine_team.specs.Teams.{TeamOf, IsTeam, IsMember, AreAllLinked}
 use Rattle.engine_team.proofs.Members.{linked_after}
 use Rattle.engine.specs.declared.fault.EngineFault.{EngineFault}
 use Rattle.engine.specs.declared.fault.EngineFault.TheVariants as engine
+use Rattle.engine.specs.declared.searched.Cause.TheVariants as cause
 use Rattle.engine.specs.declared.halt.Halt.{Halt}
-use Rattle.engine.specs.declared.halt.Halt.TheVariants.{Refused, AtGate}
+use Rattle.engine.specs.declared.halt.Halt.TheVariants.{Refused, ByGate}
 use Rattle.engine.specs.Searches.{IsSearchFault}
 use Rattle.engine.specs.Steps.{halt_of, IsHalt}
 
@@ -157,7 +158,10 @@ halt_in may_stop workers None halt is e = let same : None ≡ halt = cc in subst
 halt_in may_stop workers (Some (v, Owner fault)) halt is e = let same : Some (Refused v) ≡ halt = cc in subst (IsHalt may_stop workers) same is
 halt_in may_stop workers (Some (v, Gate turn Fail)) halt is e = absurd (cc)
 halt_in may_stop workers (Some (v, Gate turn Limit)) halt is e =
-    let same : Some AtGate ≡ halt = cc in
+    let same : Some (ByGate cause.Gate) ≡ halt = cc in
+    subst (IsHalt may_stop workers) same (record { worker = v; within = is.0; turn = turn; stops = is.1 })
+halt_in may_stop workers (Some (v, Gate turn Stage)) halt is e =
+    let same : Some (ByGate cause.Stage) ≡ halt = cc in
     subst (IsHalt may_stop workers) same (record { worker = v; within = is.0; turn = turn; stops = is.1 })
 
 pub fault_in : {S : Type 0} (owner : S → List ℕ → ℕ → ℕ) (may_stop : MayStop) (space : SpaceOf S) (workers : ℕ) (fault : Option (ℕ × TurnFault))
@@ -167,3 +171,4 @@ fault_in owner may_stop space workers (Some (v, Owner fault)) failed is e = absu
 fault_in owner may_stop space workers (Some (v, Gate turn Fail)) failed is e =
     let same : engine.Gate v turn ≡ failed = cc in subst (IsSearchFault owner may_stop space workers) same is
 fault_in owner may_stop space workers (Some (v, Gate turn Limit)) failed is e = absurd (cc)
+fault_in owner may_stop space workers (Some (v, Gate turn Stage)) failed is e = absurd (cc)

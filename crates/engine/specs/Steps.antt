@@ -2,14 +2,16 @@
 use Rattle.std.specs.Prelude.{◌≡◌, ℕ, ◌<◌, List, [], length, All, Option, Some, None, Result, Ok, Err}
 use Rattle.owner.specs.Spaces.{SpaceOf}
 use Rattle.engine_round.specs.Turns.{MayStop}
-use Rattle.engine_round.specs.declared.gate.Stop.TheVariants.{Fail, Limit}
+use Rattle.engine_round.specs.declared.gate.Stop.TheVariants.{Fail, Limit, Stage}
 use Rattle.engine_round.specs.declared.fault.TurnFault.{TurnFault}
 use Rattle.engine_round.specs.declared.fault.TurnFault.TheVariants.{Owner, Gate}
 use Rattle.engine_team.specs.Teams.{TeamOf}
 use Rattle.engine.specs.declared.fault.EngineFault.{EngineFault}
 use Rattle.engine.specs.declared.fault.EngineFault.TheVariants as engine
 use Rattle.engine.specs.declared.halt.Halt.{Halt}
-use Rattle.engine.specs.declared.halt.Halt.TheVariants.{Refused, AtGate}
+use Rattle.engine.specs.declared.halt.Halt.TheVariants.{Refused, ByGate}
+use Rattle.engine.specs.declared.searched.Cause.{Cause}
+use Rattle.engine.specs.declared.searched.Cause.TheVariants as cause
 use Rattle.engine.specs.declared.searches.Outcome.{Outcome}
 use Rattle.engine.specs.declared.searches.Outcome.TheVariants.{Next, Last}
 use Rattle.engine.specs.Searches.{IsEndedByGate, IsSearched}
@@ -19,14 +21,21 @@ abbrev pub halt_of : Option (ℕ × TurnFault) → Result (Option Halt) EngineFa
 halt_of None = Ok None
 halt_of (Some (worker, Owner fault)) = Ok (Some (Refused worker))
 halt_of (Some (worker, Gate turn Fail)) = Err (engine.Gate worker turn)
-halt_of (Some (worker, Gate turn Limit)) = Ok (Some AtGate)
+halt_of (Some (worker, Gate turn Limit)) = Ok (Some (ByGate cause.Gate))
+halt_of (Some (worker, Gate turn Stage)) = Ok (Some (ByGate cause.Stage))
+
+-- the gate may end a search of `workers` workers for this reason
+abbrev pub IsByGate : MayStop → ℕ → Cause → Type 0
+IsByGate may_stop workers cause.Limit = ⊥
+IsByGate may_stop workers cause.Gate = IsEndedByGate may_stop workers Limit
+IsByGate may_stop workers cause.Stage = IsEndedByGate may_stop workers Stage
 
 -- the reason why a round of `workers` workers ended early: the owner of one of them refused; or the gate may end the
--- search as at a limit
+-- search for this reason
 abbrev pub IsHalt : MayStop → ℕ → Option Halt → Type 0
 IsHalt may_stop workers None = Unit {0}
 IsHalt may_stop workers (Some (Refused worker)) = worker < workers
-IsHalt may_stop workers (Some AtGate) = IsEndedByGate may_stop workers
+IsHalt may_stop workers (Some (ByGate why)) = IsByGate may_stop workers why
 
 -- a team of `workers` workers in that space
 pub record IsTeamIn {S F : Type 0} (searched_space : SpaceOf S) (workers : ℕ) (t : TeamOf S F) : Type 0 where

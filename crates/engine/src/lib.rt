@@ -9,5 +9,5 @@ mod searches;
 
 pub use engine_round::{Gate, Open, Progress, Stop};
 pub use fault::EngineFault;
-pub use searched::Searched;
+pub use searched::{Cause, Searched};
 pub use searches::search;

@@ -10,7 +10,7 @@ ghost use Rattle.engine.specs.Steps.{no_stop, IsHalt, IsTeamIn, IsOutcome};
 
 use crate::fault::EngineFault;
 use crate::halt::{Halt, halt_of};
-use crate::searched::Searched;
+use crate::searched::{Cause, Searched};
 use engine_round::{Gate, RoundEnd, round};
 use engine_team::{Parts, Team};
 use owner::{OwnerFault, Space};
@@ -82,7 +82,7 @@ fn after_refusal<'a, S: Spread + Drop, F: StateForm + Drop>(
     match refused {
         None => Ok(Outcome::Next(team)),
         Some(OwnerFault::LimitReached) => {
-            Ok(Outcome::Last(Searched::Stopped(team.into_joined(alloc)?)))
+            Ok(Outcome::Last(Searched::Stopped(team.into_joined(alloc)?, Cause::Limit)))
         }
         Some(OwnerFault::TotalTooLarge) => {
             team.into_joined(alloc)?.recall();
@@ -113,16 +113,17 @@ fn step<
     match halt {
         None => Ok(Outcome::Next(drained)),
         Some(Halt::Refused(number)) => after_refusal(alloc, drained, number),
-        Some(Halt::AtGate) => {
+        Some(Halt::ByGate(cause)) => {
             let joined = drained.into_joined(alloc)?;
-            Ok(Outcome::Last(Searched::Stopped(joined)))
+            Ok(Outcome::Last(Searched::Stopped(joined, cause)))
         }
     }
 }
 
 /// Searches a space with `workers` workers, each in a thread of its own, with a link from each to each that has room
 /// for `capacity` messages (for 1 if that is 0): runs rounds of turns until the owners are settled, one of them has
-/// reached its limit, or the gate ends the search. States of the task have the form `F`.
+/// reached its limit, or the gate ends the search or its stage. States of the task have the form `F`. If workers stop
+/// for several reasons in one round, that of the lowest worker counts.
 ///
 /// Fails with `TotalTooLarge` if a path would have a cost or a number of operators above 2^62 (the contract states this
 /// of some end of a search, not of this one), with `Gate` if the gate makes it fail, or if allocation fails.

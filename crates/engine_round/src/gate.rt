@@ -1,6 +1,7 @@
 //! Gates, which may end a multi-threaded search between turns.
 
 use crate::progress::Progress;
+use std::time::Duration;
 
 /// How a gate ends a search.
 #[derive(Clone, Copy, Debug, PartialEq, Eq)]
@@ -9,12 +10,15 @@ pub enum Stop {
     Fail,
     /// The search ends as at a limit, with what it has reached.
     Limit,
+    /// The search ends as at a limit, with what it has reached, and its caller continues with another search.
+    Stage,
 }
 
 /// Asked before each turn of each worker; may end the search there.
 pub trait Gate {
-    ghost use Rattle.std.specs.Prelude.{ℕ, IfErr};
+    ghost use Rattle.std.specs.Prelude.{◌≡◌, ℕ, true, IfErr};
     ghost use Rattle.engine_round.specs.declared.gate.Stop.{Stop};
+    ghost use Rattle.engine_round.specs.declared.gate.Stop.TheVariants.{Limit};
 
     /// Whether the gate may end a search in this way, before turn `turn` of worker `worker`.
     ghost may_stop: { Self → ℕ → ℕ → Stop → Type 0 };
@@ -23,6 +27,24 @@ pub trait Gate {
     /// are counted from 1 in each round; the number is capped at `u64::MAX`.
     fn turn(&self, worker: usize, turn: u64, progress: Progress) -> Result<(), Stop>
         ensures { IfErr result (may_stop self.now worker turn) };
+
+    /// Returns whether the gate certainly never ends a search as at a limit, so that nothing need be stored for that
+    /// case.
+    fn never_limits(&self) -> bool
+        ensures { result ≡ true → (worker turn : ℕ) → may_stop self.now worker turn Limit → ⊥ }
+    {
+        false
+    }
+
+    /// Returns whether a search in stages may begin another stage now, after one that took this long. The contract does
+    /// not specify the answer: no result depends on it but when a stage ends.
+    fn allows_stage(&self, _took: Duration) -> bool {
+        true
+    }
+
+    /// Called when a search in stages has made the tables of a stage, counted from 1: their number, and that of their
+    /// abstract states.
+    fn stage_begins(&self, _stage: usize, _tables: usize, _abstract_states: usize) {}
 }
 
 /// The gate that never ends a search.
@@ -34,5 +56,9 @@ impl Gate for Open {
 
     fn turn(&self, _worker: usize, _turn: u64, _progress: Progress) -> Result<(), Stop> {
         Ok(())
+    }
+
+    fn never_limits(&self) -> bool {
+        true
     }
 }

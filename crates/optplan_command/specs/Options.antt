@@ -1,9 +1,11 @@
 -- The options of a solve command.
-use Rattle.std.specs.Prelude.{◌≡◌, ℕ, ◌≤◌, ◌<◌, ◌^◌, List, Option, Some, None, codes}
+use Rattle.std.specs.Prelude.{◌≡◌, ℕ, ◌≤◌, ◌<◌, ◌^◌, Bool, true, false, ◌||◌, is_some, List, [], ◌∷◌, Option, Some, None, codes}
 use Rattle.std.specs.Str.Parse.{IsNumeral, digits_value}
 use Rattle.owner_space.specs.declared.ties.Ties.{Ties}
 use Rattle.owner_space.specs.declared.ties.Ties.TheVariants.{Shallow, Deep}
 use Rattle.optplan_sas.specs.Choices.{Choices}
+use Rattle.optplan_sas.specs.declared.options.Tables.{Tables}
+use Rattle.optplan_sas.specs.declared.options.Tables.TheVariants.{Goal, Staged}
 use Rattle.optplan_solve.specs.declared.settings.Schedule.{Schedule}
 use Rattle.optplan_solve.specs.declared.settings.Schedule.TheVariants.{Threads, Drawn}
 use Rattle.optplan_solve.specs.declared.settings.Settings.{Settings}
@@ -36,6 +38,23 @@ abbrev pub IsTiesOf : Option (List ℕ) → Ties → Type 0
 IsTiesOf None ties = ties ≡ Shallow
 IsTiesOf (Some text) ties = NamesTies text ties
 
+-- the text names these tables
+abbrev pub NamesTables : List ℕ → Tables → Type 0
+NamesTables text Goal = text ≡ codes "goal"
+NamesTables text Staged = text ≡ codes "staged"
+
+-- the tables of an option with this value: the default is Staged; if something else requires Goal, that is the default
+-- and the only value
+abbrev pub IsTablesOf : Bool → Option (List ℕ) → Tables → Type 0
+IsTablesOf false None tables = tables ≡ Staged
+IsTablesOf false (Some text) tables = NamesTables text tables
+IsTablesOf true None tables = tables ≡ Goal
+IsTablesOf true (Some text) tables = (text ≡ codes "goal") × (tables ≡ Goal)
+
+-- the size of tables, and a schedule of random steps, require tables from the goal
+abbrev pub requires_goal : (List ℕ → Option (List ℕ)) → Bool
+requires_goal value = is_some (value (codes "table")) || is_some (value (codes "simulate"))
+
 -- the options of the solver, from the values of the command's options
 pub record AreChoicesOf (value : List ℕ → Option (List ℕ)) (choices : Choices) : Type 0 where
   pub workers : IsNumberOr 4 1 64 (value (codes "workers")) choices.workers
@@ -44,6 +63,8 @@ pub record AreChoicesOf (value : List ℕ → Option (List ℕ)) (choices : Choi
   pub ring : IsNumberOr 64 1 65536 (value (codes "ring")) choices.ring
   pub steps : IsNumberOr 1000000 0 9223372036854775807 (value (codes "steps")) choices.steps
   pub ties : IsTiesOf (value (codes "ties")) choices.ties
+  pub tables : IsTablesOf (requires_goal value) (value (codes "tables")) choices.tables
+  pub stage_ends : choices.stage_ends ≡ 60000 ∷ 700000 ∷ 15000000 ∷ []
 
 -- the schedule from a seed, seconds and a memory: random steps from the seed, whatever the others are; or, if there is
 -- no seed, threads, with these seconds and this memory, if there are any

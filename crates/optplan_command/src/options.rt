@@ -6,11 +6,12 @@ ghost use Rattle.clap.specs.Matches.{found_of, first_value};
 ghost use Rattle.clap.specs.Words.{kind_of};
 ghost use Rattle.clap.specs.declared.error.kind.ErrorKind.TheVariants.{OutOfMemory, ValueValidation};
 ghost use Rattle.owner_space.specs.declared.ties.Ties.{Ties as TiesOf};
-ghost use Rattle.optplan_command.specs.Options.{IsNumberIn, IsNumberOf, NamesTies, IsTiesOf};
+ghost use Rattle.optplan_sas.specs.declared.options.Tables.{Tables as TablesOf};
+ghost use Rattle.optplan_command.specs.Options.{IsNumberIn, IsNumberOf, NamesTies, IsTiesOf, NamesTables, IsTablesOf};
 
 use clap::error::ErrorKind;
 use clap::{ArgMatches, Command, Error};
-use optplan_sas::Ties;
+use optplan_sas::{Tables, Ties};
 use std::alloc::{AllocError, Global};
 
 /// The type of an option's value.
@@ -20,6 +21,10 @@ enum Taken {
     Number(u64, u64),
     /// The name of an order among states of the same f-value.
     Ties,
+    /// The name of a choice of tables.
+    Tables,
+    /// The name of tables from the goal, which other options require.
+    Goal,
 }
 
 /// A value that is refused for an option.
@@ -47,6 +52,12 @@ impl<'a> RefusedValue<'a> {
             ),
             Taken::Ties => format!(in alloc;
                 "invalid value '{value}' for '--{option}': neither shallow nor deep"
+            ),
+            Taken::Tables => format!(in alloc;
+                "invalid value '{value}' for '--{option}': neither staged nor goal"
+            ),
+            Taken::Goal => format!(in alloc;
+                "invalid value '{value}' for '--{option}': only goal goes with --table or --simulate"
             ),
         };
         let Ok(message) = message else {
@@ -128,4 +139,46 @@ pub(crate) fn ties_for<'a>(
             taken: Taken::Ties,
         }),
     }
+}
+
+/// Returns the tables that a text names, if it names any.
+fn tables_named(text: &str) -> Option<Tables>
+    ensures named { IfSome result (NamesTables text.now) }
+    ensures neither { IfNone result ((text.now ≢ codes "staged") × (text.now ≢ codes "goal")) }
+{
+    match text {
+        "staged" => Some(Tables::Staged),
+        "goal" => Some(Tables::Goal),
+        _ => None,
+    }
+}
+
+/// Returns the tables of the option. If the option is absent, they are `Goal` if other options require that, and else
+/// `Staged`. Fails if the value names none, or `Staged` although `Goal` is required.
+pub(crate) fn tables_for<'a>(
+    words: &ArgMatches<'a>,
+    option: &'a str,
+    requires_goal: bool,
+) -> Result<Tables, RefusedValue<'a>>
+    ensures taken { IfOk result (IsTablesOf requires_goal (first_value (found_of words.now) option.entry.now)) }
+    ensures refused { IfErr result (λ _. (tables : TablesOf) → IsTablesOf requires_goal (first_value (found_of words.now) option.entry.now) tables → ⊥) }
+{
+    let Some(value) = words.get_str(option) else {
+        let absent = if requires_goal {
+            Tables::Goal
+        } else {
+            Tables::Staged
+        };
+        return Ok(absent);
+    };
+    let taken = match tables_named(value) {
+        None => Taken::Tables,
+        Some(Tables::Staged) if requires_goal => Taken::Goal,
+        Some(tables) => return Ok(tables),
+    };
+    Err(RefusedValue {
+        option,
+        value,
+        taken,
+    })
 }

@@ -11,7 +11,7 @@ ghost use Rattle.optplan_command.specs.Options.{AreChoicesOf, IsScheduleOf, AreS
 ghost use Rattle.optplan_command.specs.SolveWords.{HasRefusedValue};
 ghost use Rattle.optplan_command.specs.SolvingCommands.{name_of, Solved};
 
-use crate::options::{RefusedValue, number_for, ties_for};
+use crate::options::{RefusedValue, number_for, tables_for, ties_for};
 use clap::{ArgMatches, Command, Error};
 use optplan_device::Device;
 use optplan_replies::Status;
@@ -41,12 +41,15 @@ fn search_options<'a>(words: &ArgMatches<'a>) -> Result<Options, RefusedValue<'a
     let steps = number_for(words, "steps", 0, MAX_NUMBER)?.unwrap_or(plain.steps());
     let ring = number_for(words, "ring", 1, MAX_RING as u64)?.unwrap_or(plain.ring() as u64);
     let ties = ties_for(words, "ties")?;
+    let requires_goal = words.get_str("table").is_some() || words.get_str("simulate").is_some();
+    let tables = tables_for(words, "tables", requires_goal)?;
     let options = plain
         .with_workers(workers as usize)
         .with_table(table as usize)
         .with_ring(ring as usize)
         .with_steps(steps)
-        .with_ties(ties);
+        .with_ties(ties)
+        .with_tables(tables);
     match limit {
         Some(limit) => Ok(options.with_limit(limit)),
         None => Ok(options),

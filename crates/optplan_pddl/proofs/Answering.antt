@@ -13,8 +13,7 @@ use Rattle.translate.specs.Translated.{TranslatedTask, IsTranslation, HasSamePla
 use Rattle.validate.specs.Steps.{Step}
 use Rattle.packed_spread.specs.Spreads as spread
 use Rattle.packed_spread.specs.Spreads.{zobrist_owner}
-use Rattle.extract.specs.Ends.{EndOf}
-use Rattle.extract.specs.Bounds.{least_best}
+use Rattle.optplan_sas.specs.SearchEnds.{EndsOf, least_best_of}
 use Rattle.optplan_kind.specs.Kinds.{translation_kind}
 use Rattle.optplan_sas.specs.Findings.{IsCertificateOf, IsSolution, IsSoFar, IsFound, IsFinding, IsTrueOf, IsSettledEnd, IsShortEnd}
 use Rattle.optplan_sas.specs.declared.answer.CheapestPlan.{CheapestPlan}
@@ -38,35 +37,35 @@ use Rattle.optplan_pddl.proofs.Accepting.{accepted}
 
 -- what is found of a task is found of the same task at its end
 pub solution_there : (over : FiniteDomainTask) (kind : Kind) (s : Solution) → IsTrueOf over kind (Solved s) → IsSolution over kind s
-solution_there over kind s (e, same, found) = subst (λ (t : FiniteDomainTask). IsSolution t kind s) same found.0
+solution_there over kind s (es, same, found) = subst (λ (t : FiniteDomainTask). IsSolution t kind s) same found.0
 
 pub known_there : (over : FiniteDomainTask) (kind : Kind) (s : SoFar) → IsTrueOf over kind (Stopped s) → (most : Distance) × IsSoFar over kind most s
-known_there over kind s (e, same, found) = (least_best e, subst (λ (t : FiniteDomainTask). IsSoFar t kind (least_best e) s) same found.0)
+known_there over kind s (es, same, found) = (least_best_of es, subst (λ (t : FiniteDomainTask). IsSoFar t kind (least_best_of es) s) same found.0)
 
-module _ (domain problem : List ℕ) (task : PlanningTask) (t : TranslatedTask) (e : EndOf spread.Zobrist) (spells : SpellTask domain problem task)
-    (made : IsTranslation task t) (plans : HasSamePlans task t) (same : e.space.task ≡ t.task) where
-  pub solved_answer : (s : Solution) (p : CheapestPlan (Vec Step Global)) → IsFound zobrist_owner e (translation_kind task t) (Solved s)
+module _ (domain problem : List ℕ) (task : PlanningTask) (t : TranslatedTask) (es : EndsOf spread.Zobrist) (spells : SpellTask domain problem task)
+    (made : IsTranslation task t) (plans : HasSamePlans task t) (same : es.last.space.task ≡ t.task) where
+  pub solved_answer : (s : Solution) (p : CheapestPlan (Vec Step Global)) → IsFound zobrist_owner es (translation_kind task t) (Solved s)
       → (IsSolution t.task (translation_kind task t) s → IsPlanningSolution domain problem task p) → p.found.cost ≡ s.found.cost
-      → IsAnswerFor domain problem task e (answer.Solved p)
+      → IsAnswerFor domain problem task es (answer.Solved p)
   solved_answer s p found texts cost = (
     texts (subst (λ (x : FiniteDomainTask). IsSolution x (translation_kind task t) s) same found.0),
-    subst (λ (n : ℕ). IsSettledEnd zobrist_owner e (Finite n)) (sym cost) found.1,
+    subst (λ (n : ℕ). IsSettledEnd zobrist_owner es.last (Finite n)) (sym cost) found.1,
   )
 
-  pub unsolvable_answer : (c : CertificateValue) (cert : Vec ℕ Global) → IsFound zobrist_owner e (translation_kind task t) (Unsolvable c) → cert.items ≡ spelling c
-      → IsAnswerFor domain problem task e (answer.Unsolvable cert)
+  pub unsolvable_answer : (c : CertificateValue) (cert : Vec ℕ Global) → IsFound zobrist_owner es (translation_kind task t) (Unsolvable c) → cert.items ≡ spelling c
+      → IsAnswerFor domain problem task es (answer.Unsolvable cert)
   unsolvable_answer c cert (none, certified, ended) is = (
     plans.none.0 (subst HasNoPlan same none),
     accepted domain problem cert.items task t Infinite c spells made (subst (λ (x : FiniteDomainTask). IsCertificateOf x (translation_kind task t) Infinite c) same certified) is,
     ended,
   )
 
-  pub limit_answer : (s : SoFar) (known : KnownSoFar (Vec Step Global)) → IsFound zobrist_owner e (translation_kind task t) (Stopped s)
-      → (IsSoFar t.task (translation_kind task t) (least_best e) s → IsPlanningKnown domain problem task (least_best e) known) → known.bound ≡ s.bound
-      → IsAnswerFor domain problem task e (answer.Limit known)
+  pub limit_answer : (s : SoFar) (known : KnownSoFar (Vec Step Global)) → IsFound zobrist_owner es (translation_kind task t) (Stopped s)
+      → (IsSoFar t.task (translation_kind task t) (least_best_of es) s → IsPlanningKnown domain problem task (least_best_of es) known) → known.bound ≡ s.bound
+      → IsAnswerFor domain problem task es (answer.Limit known)
   limit_answer s known found texts bound = (
-    texts (subst (λ (x : FiniteDomainTask). IsSoFar x (translation_kind task t) (least_best e) s) same found.0),
-    subst (λ (n : ℕ). IsShortEnd zobrist_owner e n) (sym bound) found.1,
+    texts (subst (λ (x : FiniteDomainTask). IsSoFar x (translation_kind task t) (least_best_of es) s) same found.0),
+    subst (λ (n : ℕ). IsShortEnd zobrist_owner es n) (sym bound) found.1,
   )
 
 -- ---- refusals
@@ -91,21 +90,21 @@ text_refused domain problem why (planning.Gate worker turn) (task, spells, (t, m
 
 module _ (domain problem : List ℕ) (p : Prepared) (is : IsPrepared domain problem p) (over : FiniteDomainTask) (over_is : over ≡ p.translated.task) where
   -- what is found of the translation, by its own kind of certificates
-  pub found_of : (ends : FiniteDomainTask → EndOf spread.Zobrist → Type 0) (f : Found) → IsFinding over (kind_of p.kind) (ends over) f
+  pub found_of : (ends : FiniteDomainTask → EndsOf spread.Zobrist → Type 0) (f : Found) → IsFinding over (kind_of p.kind) (ends over) f
       → IsFinding p.translated.task (translation_kind is.task p.translated) (ends p.translated.task) f
   found_of ends f found =
       subst (λ (k : Kind). IsFinding p.translated.task k (ends p.translated.task) f) is.kind_is
       (subst (λ (t : FiniteDomainTask). IsFinding t (kind_of p.kind) (ends t) f) over_is found)
 
   -- what is found is true of the translation
-  pub found_true : (ends : FiniteDomainTask → EndOf spread.Zobrist → Type 0) (f : Found) → IsFinding over (kind_of p.kind) (ends over) f
+  pub found_true : (ends : FiniteDomainTask → EndsOf spread.Zobrist → Type 0) (f : Found) → IsFinding over (kind_of p.kind) (ends over) f
       → (task : PlanningTask) × IsTrueOf p.translated.task (translation_kind task p.translated) f
-  found_true ends f found = let is_found = found_of ends f found in (is.task, (is_found.end, is_found.task_is, is_found.found))
+  found_true ends f found = let is_found = found_of ends f found in (is.task, (is_found.at, is_found.task_is, is_found.found))
 
   -- its texts are the answer
-  pub answer_for : (ends : FiniteDomainTask → EndOf spread.Zobrist → Type 0) (f : Found) (given : PlanningAnswer) → IsFinding over (kind_of p.kind) (ends over) f
-      → ((d q : List ℕ) (task : PlanningTask) (e : EndOf spread.Zobrist) → SpellTask d q task → IsTranslation task p.translated → HasSamePlans task p.translated
-      → e.space.task ≡ p.translated.task → IsFound zobrist_owner e (translation_kind task p.translated) f → IsAnswerFor d q task e given)
+  pub answer_for : (ends : FiniteDomainTask → EndsOf spread.Zobrist → Type 0) (f : Found) (given : PlanningAnswer) → IsFinding over (kind_of p.kind) (ends over) f
+      → ((d q : List ℕ) (task : PlanningTask) (es : EndsOf spread.Zobrist) → SpellTask d q task → IsTranslation task p.translated → HasSamePlans task p.translated
+      → es.last.space.task ≡ p.translated.task → IsFound zobrist_owner es (translation_kind task p.translated) f → IsAnswerFor d q task es given)
       → IsPlanningAnswer domain problem ends given
   answer_for ends f given found texts =
       let is_found = found_of ends f found in
@@ -114,9 +113,9 @@ module _ (domain problem : List ℕ) (p : Prepared) (is : IsPrepared domain prob
         spelled = is.spelled;
         translated = p.translated;
         translation = is.translation;
-        end = is_found.end;
+        at = is_found.at;
         ended = is_found.ended;
-        is = texts domain problem is.task is_found.end is.spelled is.translation is.same is_found.task_is is_found.found;
+        is = texts domain problem is.task is_found.at is.spelled is.translation is.same is_found.task_is is_found.found;
       }
 
   pub search_refused : (why : FiniteDomainTask → SearchFault → Type 0) (e : SearchFault) → why over e → IsPlanningRefusal domain problem why (fault_of_search e)

@@ -17,8 +17,7 @@ use Rattle.validate.specs.Steps.{Step}
 use Rattle.optplan_plans.specs.Plans.{step_of, text_of_plan}
 use Rattle.packed_spread.specs.Spreads as spread
 use Rattle.packed_spread.specs.Spreads.{zobrist_owner}
-use Rattle.extract.specs.Ends.{EndOf}
-use Rattle.extract.specs.Bounds.{least_best}
+use Rattle.optplan_sas.specs.SearchEnds.{EndsOf, least_best_of}
 use Rattle.optplan_sas.specs.Findings.{IsSettledEnd, IsShortEnd}
 use Rattle.optplan_sas.specs.SasAnswers.{IsBestWritten}
 use Rattle.optplan_sas.specs.declared.answer.WrittenPlan.{WrittenPlan}
@@ -60,23 +59,23 @@ pub record IsPlanningKnown (domain problem : List ℕ) (task : PlanningTask) (mo
   pub best : IsBestWritten (IsPlanningPlan task) most known.best
   pub accepted : IsAccepted domain problem known.cert.items (Finite known.bound)
 
--- the answer for a task by a search of a translation at its end: a cheapest plan, that there is none, or a bound and
+-- the answer for a task by searches of a translation at their ends: a cheapest plan, that there is none, or a bound and
 -- the best plan so far; each with the text of a certificate
-abbrev pub IsAnswerFor : List ℕ → List ℕ → PlanningTask → EndOf spread.Zobrist → PlanningAnswer → Type 0
-IsAnswerFor domain problem task e (Solved s) = IsPlanningSolution domain problem task s × IsSettledEnd zobrist_owner e (Finite s.found.cost)
-IsAnswerFor domain problem task e (Unsolvable cert) = HasNoValidPlan task × IsAccepted domain problem cert.items Infinite × IsSettledEnd zobrist_owner e Infinite
-IsAnswerFor domain problem task e (Limit known) = IsPlanningKnown domain problem task (least_best e) known × IsShortEnd zobrist_owner e known.bound
+abbrev pub IsAnswerFor : List ℕ → List ℕ → PlanningTask → EndsOf spread.Zobrist → PlanningAnswer → Type 0
+IsAnswerFor domain problem task es (Solved s) = IsPlanningSolution domain problem task s × IsSettledEnd zobrist_owner es.last (Finite s.found.cost)
+IsAnswerFor domain problem task es (Unsolvable cert) = HasNoValidPlan task × IsAccepted domain problem cert.items Infinite × IsSettledEnd zobrist_owner es.last Infinite
+IsAnswerFor domain problem task es (Limit known) = IsPlanningKnown domain problem task (least_best_of es) known × IsShortEnd zobrist_owner es known.bound
 
--- the texts spell a task, and this is the answer for it, by a search of a translation of the task whose end satisfies
+-- the texts spell a task, and this is the answer for it, by searches of a translation of the task whose ends satisfy
 -- `ends`
-pub record IsPlanningAnswer (domain problem : List ℕ) (ends : FiniteDomainTask → EndOf spread.Zobrist → Type 0) (answer : PlanningAnswer) : Type 0 where
+pub record IsPlanningAnswer (domain problem : List ℕ) (ends : FiniteDomainTask → EndsOf spread.Zobrist → Type 0) (answer : PlanningAnswer) : Type 0 where
   pub task : PlanningTask
   pub spelled : SpellTask domain problem task
   pub translated : TranslatedTask
   pub translation : IsTranslation task translated
-  pub end : EndOf spread.Zobrist
-  pub ended : ends translated.task end
-  pub is : IsAnswerFor domain problem task end answer
+  pub at : EndsOf spread.Zobrist
+  pub ended : ends translated.task at
+  pub is : IsAnswerFor domain problem task at answer
 
 -- the texts are refused for their first fault; or they spell a task that has too many atoms or actions, whose
 -- translation is too large, or the search of whose translation is refused for a fault that satisfies `refused`: a

@@ -7,7 +7,7 @@ ghost use Rattle.pddl.specs.Texts.{SpellTask};
 ghost use Rattle.translate.specs.Translated.{IsTranslation, HasSamePlans};
 ghost use Rattle.packed_spread.specs.Spreads as spread;
 ghost use Rattle.packed_spread.specs.Spreads.{zobrist_owner};
-ghost use Rattle.extract.specs.Ends.{EndOf};
+ghost use Rattle.optplan_sas.specs.SearchEnds.{EndsOf};
 ghost use Rattle.optplan_kind.specs.Kinds.{translation_kind};
 ghost use Rattle.optplan_plans.specs.Steps.{HasStepNames};
 ghost use Rattle.optplan_sas.specs.Findings.{IsPlanAt, IsBestSoFar, IsSolution, IsSoFar, IsFound, IsTrueOf};
@@ -122,9 +122,9 @@ fn answer_texts(
 ) -> Result<PlanningAnswer, AllocError>
     requires found { (task : PlanningTask) × IsTrueOf translated.now.task (translation_kind task translated.now) found }
     requires names { HasStepNames translated.now.task }
-    ensures { (domain problem : List ℕ) (task : PlanningTask) (e : EndOf spread.Zobrist) → SpellTask domain problem task →
-        IsTranslation task translated.now → HasSamePlans task translated.now → e.space.task ≡ translated.now.task →
-        IsFound zobrist_owner e (translation_kind task translated.now) found → IfOk result (IsAnswerFor domain problem task e) }
+    ensures { (domain problem : List ℕ) (task : PlanningTask) (es : EndsOf spread.Zobrist) → SpellTask domain problem task →
+        IsTranslation task translated.now → HasSamePlans task translated.now → es.last.space.task ≡ translated.now.task →
+        IsFound zobrist_owner es (translation_kind task translated.now) found → IfOk result (IsAnswerFor domain problem task es) }
 {
     match found {
         Found::Solved(solution) => Ok(Answer::Solved(solution_texts(alloc, translated, solution)?)),
@@ -181,7 +181,8 @@ pub fn simulate<R: AllocGlobal + Threads + Sync, O: Observer>(
 /// Returns the answer for the task that the texts spell, by the chosen number of workers, each in a thread of its own,
 /// with a certificate that the checker accepts if its text has at most 2^30 bytes: a cheapest plan, or that there is
 /// none; `Limit` with a lower bound on the cost of every plan, and possibly a plan, if the search ended before the
-/// owners were settled, by an owner's limit or by the gate.
+/// owners were settled, by an owner's limit or by the gate. If the options request stages, up to four searches follow
+/// one another, and `Limit` has the best of what all of them know.
 ///
 /// Fails with the first fault of the texts, with `GroundLimit` or `TaskTooLarge` if the task or its translation exceeds
 /// a limit, with `TotalTooLarge` if a path would have a cost or a number of actions above 2^62, with `Gate` if the gate

@@ -5,7 +5,7 @@ use Rattle.cert_value.specs.Certificates.{Kind, FiniteDomain}
 use Rattle.sasfile.specs.SasTexts.{SpellsTask}
 use Rattle.packed_spread.specs.Spreads as spread
 use Rattle.packed_spread.specs.Spreads.{zobrist_owner}
-use Rattle.extract.specs.Ends.{EndOf}
+use Rattle.optplan_sas.specs.SearchEnds.{EndsOf}
 use Rattle.optplan_sas.specs.Findings.{IsFound, IsFinding, IsTrueOf}
 use Rattle.optplan_sas.specs.SasAnswers.{SasAnswer, IsSasAnswerFor, IsSasAnswer, IsSasRefusal}
 use Rattle.optplan_sas.specs.Faults.{fault_of_search}
@@ -15,16 +15,16 @@ use Rattle.optplan_sas.specs.declared.fault.SearchFault.TheVariants as search
 use Rattle.optplan_sas.specs.declared.fault.SasSolveFault.{SasSolveFault}
 use Rattle.optplan_sas.specs.declared.fault.SasSolveFault.TheVariants as solve
 
-pub true_of : (task : FiniteDomainTask) (kind : Kind) (ends : EndOf spread.Zobrist → Type 0) (f : Found) → IsFinding task kind ends f → IsTrueOf task kind f
-true_of task kind ends f found = (found.end, found.task_is, found.found)
+pub true_of : (task : FiniteDomainTask) (kind : Kind) (ends : EndsOf spread.Zobrist → Type 0) (f : Found) → IsFinding task kind ends f → IsTrueOf task kind f
+true_of task kind ends f found = (found.at, found.task_is, found.found)
 
 -- the texts of what was found are the answer
-pub answered : (sas : List ℕ) (task : FiniteDomainTask) (ends : FiniteDomainTask → EndOf spread.Zobrist → Type 0) (f : Found) (answer : SasAnswer)
+pub answered : (sas : List ℕ) (task : FiniteDomainTask) (ends : FiniteDomainTask → EndsOf spread.Zobrist → Type 0) (f : Found) (answer : SasAnswer)
     → SpellsTask sas task → IsFinding task FiniteDomain (ends task) f
-    → ((text : List ℕ) (e : EndOf spread.Zobrist) → SpellsTask text task → e.space.task ≡ task → IsFound zobrist_owner e FiniteDomain f → IsSasAnswerFor text task e answer)
+    → ((text : List ℕ) (es : EndsOf spread.Zobrist) → SpellsTask text task → es.last.space.task ≡ task → IsFound zobrist_owner es FiniteDomain f → IsSasAnswerFor text task es answer)
     → IsSasAnswer sas ends answer
 answered sas task ends f answer spells found texts =
-    record { task = task; spelled = spells; end = found.end; ended = found.ended; is = texts sas found.end spells found.task_is found.found }
+    record { task = task; spelled = spells; at = found.at; ended = found.ended; is = texts sas found.at spells found.task_is found.found }
 
 -- a refused search is a refusal of what asked for it
 pub refused : (sas : List ℕ) (task : FiniteDomainTask) (why : FiniteDomainTask → SearchFault → Type 0) (e : SearchFault) → SpellsTask sas task → why task e → IsSasRefusal sas why (fault_of_search e)

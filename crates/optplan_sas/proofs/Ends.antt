@@ -25,7 +25,7 @@ use Rattle.extract.proofs.Leasts.{at_most_each}
 use Rattle.extract.proofs.Pending.{pending_below}
 use Rattle.extract.proofs.Bounds.{stated_at_most}
 
-nothing_prop : IsProp ⊥
+pub nothing_prop : IsProp ⊥
 nothing_prop x y = absurd x
 
 module _ {S : Type 0} (owner : S → List ℕ → ℕ → ℕ) (e : EndOf S) where

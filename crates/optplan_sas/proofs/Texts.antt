@@ -9,8 +9,7 @@ use Rattle.cert_text.specs.Spelling.{spelling}
 use Rattle.sasfile.specs.SasTexts.{SpellsTask}
 use Rattle.packed_spread.specs.Spreads as spread
 use Rattle.packed_spread.specs.Spreads.{zobrist_owner}
-use Rattle.extract.specs.Ends.{EndOf}
-use Rattle.extract.specs.Bounds.{least_best}
+use Rattle.optplan_sas.specs.SearchEnds.{EndsOf, least_best_of}
 use Rattle.optplan_sas.specs.Findings.{IsPlanAt, IsCertificateOf, IsBestSoFar, IsSolution, IsSoFar, IsFound, IsTrueOf, IsSettledEnd, IsShortEnd}
 use Rattle.optplan_sas.specs.SasAnswers.{IsBestWritten, IsSasSolution, IsSasKnown, IsSasAnswerFor}
 use Rattle.optplan_sas.specs.declared.answer.WrittenPlan.{WrittenPlan}
@@ -46,28 +45,28 @@ none_with_text is_plan task (Finite most) is = absurd is
 
 -- what is found of a task is found of the same task at its end
 pub solution_there : (task : FiniteDomainTask) (s : Solution) → IsTrueOf task FiniteDomain (Solved s) → IsSolution task FiniteDomain s
-solution_there task s (e, same, found) = subst (λ (t : FiniteDomainTask). IsSolution t FiniteDomain s) same found.0
+solution_there task s (es, same, found) = subst (λ (t : FiniteDomainTask). IsSolution t FiniteDomain s) same found.0
 
 pub known_there : (task : FiniteDomainTask) (s : SoFar) → IsTrueOf task FiniteDomain (Stopped s) → (most : Distance) × IsSoFar task FiniteDomain most s
-known_there task s (e, same, found) = (least_best e, subst (λ (t : FiniteDomainTask). IsSoFar t FiniteDomain (least_best e) s) same found.0)
+known_there task s (es, same, found) = (least_best_of es, subst (λ (t : FiniteDomainTask). IsSoFar t FiniteDomain (least_best_of es) s) same found.0)
 
-module _ (sas : List ℕ) (task : FiniteDomainTask) (e : EndOf spread.Zobrist) (spells : SpellsTask sas task) (same : e.space.task ≡ task) where
-  pub solved_answer : (s : Solution) (t : CheapestPlan (Vec ℕ Global)) → IsFound zobrist_owner e FiniteDomain (Solved s) → IsSasSolution sas task t
-      → t.found.cost ≡ s.found.cost → IsSasAnswerFor sas task e (answer.Solved t)
-  solved_answer s t found texts cost = (texts, subst (λ (n : ℕ). IsSettledEnd zobrist_owner e (Finite n)) (sym cost) found.1)
+module _ (sas : List ℕ) (task : FiniteDomainTask) (es : EndsOf spread.Zobrist) (spells : SpellsTask sas task) (same : es.last.space.task ≡ task) where
+  pub solved_answer : (s : Solution) (t : CheapestPlan (Vec ℕ Global)) → IsFound zobrist_owner es FiniteDomain (Solved s) → IsSasSolution sas task t
+      → t.found.cost ≡ s.found.cost → IsSasAnswerFor sas task es (answer.Solved t)
+  solved_answer s t found texts cost = (texts, subst (λ (n : ℕ). IsSettledEnd zobrist_owner es.last (Finite n)) (sym cost) found.1)
 
-  pub unsolvable_answer : (c : CertificateValue) (cert : Vec ℕ Global) → IsFound zobrist_owner e FiniteDomain (Unsolvable c) → cert.items ≡ spelling c
-      → IsSasAnswerFor sas task e (answer.Unsolvable cert)
+  pub unsolvable_answer : (c : CertificateValue) (cert : Vec ℕ Global) → IsFound zobrist_owner es FiniteDomain (Unsolvable c) → cert.items ≡ spelling c
+      → IsSasAnswerFor sas task es (answer.Unsolvable cert)
   unsolvable_answer c cert (none, certified, ended) is = (
     subst HasNoPlan same none,
     accepted sas task Infinite c cert.items spells (subst (λ (t : FiniteDomainTask). IsCertificateOf t FiniteDomain Infinite c) same certified) is,
     ended,
   )
 
-  pub limit_answer : (s : SoFar) (known : KnownSoFar (Vec ℕ Global)) → IsFound zobrist_owner e FiniteDomain (Stopped s)
-      → (IsSoFar task FiniteDomain (least_best e) s → IsSasKnown sas task (least_best e) known) → known.bound ≡ s.bound
-      → IsSasAnswerFor sas task e (answer.Limit known)
+  pub limit_answer : (s : SoFar) (known : KnownSoFar (Vec ℕ Global)) → IsFound zobrist_owner es FiniteDomain (Stopped s)
+      → (IsSoFar task FiniteDomain (least_best_of es) s → IsSasKnown sas task (least_best_of es) known) → known.bound ≡ s.bound
+      → IsSasAnswerFor sas task es (answer.Limit known)
   limit_answer s known found texts bound = (
-    texts (subst (λ (t : FiniteDomainTask). IsSoFar t FiniteDomain (least_best e) s) same found.0),
-    subst (λ (n : ℕ). IsShortEnd zobrist_owner e n) (sym bound) found.1,
+    texts (subst (λ (t : FiniteDomainTask). IsSoFar t FiniteDomain (least_best_of es) s) same found.0),
+    subst (λ (n : ℕ). IsShortEnd zobrist_owner es n) (sym bound) found.1,
   )

@@ -10,6 +10,7 @@ use Rattle.extract.specs.Ends.{EndOf}
 use Rattle.netcore.specs.declared.step.WorldStep.{WorldStep}
 use Rattle.netcore.specs.Worlds.{WorldOf, IsRun, IsRunRefusal, left_in}
 use Rattle.optplan_sas.specs.Choices.{Choices}
+use Rattle.optplan_sas.specs.SearchEnds.{single}
 use Rattle.optplan_sas.specs.Findings.{IsFinding, IsFound}
 use Rattle.optplan_sas.specs.Schedules.{IsSimulated, IsSimulationRefusal}
 use Rattle.optplan_sas.specs.Searches.{IsSimulatedSpace, end_of, EndsAfter, EndsBySeed, IsRefusedAfter, IsRefusedBySeed}
@@ -33,20 +34,20 @@ module _ (choices : Choices) (task : FiniteDomainTask) (kind : Kind) (space : Sp
 
     -- after a list of steps
     pub found_after_steps : (steps : List WorldStep) (w : WorldOf spread.Zobrist) (e : EndOf spread.Zobrist) (f : Found) → w.space ≡ space
-        → IsRun zobrist_owner space n steps w → IsEndOfWorld w e → IsFound zobrist_owner e kind f → IsFinding task kind (EndsAfter choices steps task) f
+        → IsRun zobrist_owner space n steps w → IsEndOfWorld w e → IsFound zobrist_owner (single e) kind f → IsFinding task kind (EndsAfter choices steps task) f
     found_after_steps steps w e f over run is found = record {
-      end = e;
-      ended = (space, is_space, (w, subst (λ (k : ℕ). IsRun zobrist_owner space k steps w) n_is run, is_end_of w e is));
+      at = single e;
+      ended = (space, is_space, (w, subst (λ (k : ℕ). IsRun zobrist_owner space k steps w) n_is run, ap single (is_end_of w e is)));
       task_is = same_task w e over is;
       found = found;
     }
 
     -- after steps that were drawn
     pub found_after_drawn : (seed most : ℕ) (w : WorldOf spread.Zobrist) (e : EndOf spread.Zobrist) (f : Found) → most ≡ choices.steps
-        → IsSimulated zobrist_owner space n seed most w → IsEndOfWorld w e → IsFound zobrist_owner e kind f
+        → IsSimulated zobrist_owner space n seed most w → IsEndOfWorld w e → IsFound zobrist_owner (single e) kind f
         → IsFinding task kind (EndsBySeed choices seed task) f
     found_after_drawn seed most w e f most_is run is found = record {
-      end = e;
+      at = single e;
       ended = (
         space,
         is_space,
@@ -54,7 +55,7 @@ module _ (choices : Choices) (task : FiniteDomainTask) (kind : Kind) (space : Sp
           w,
           subst (λ (m : ℕ). IsSimulated zobrist_owner space choices.workers seed m w) most_is
               (subst (λ (k : ℕ). IsSimulated zobrist_owner space k seed most w) n_is run),
-          is_end_of w e is,
+          ap single (is_end_of w e is),
         ),
       );
       task_is = same_task w e run.world.space is;

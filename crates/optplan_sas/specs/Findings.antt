@@ -9,7 +9,7 @@ use Rattle.checker_clauses.specs.Violations.{IsHeld}
 use Rattle.packed_spread.specs.Spreads as spread
 use Rattle.packed_spread.specs.Spreads.{zobrist_owner}
 use Rattle.extract.specs.Ends.{EndOf, IsSettledAt, space_at}
-use Rattle.extract.specs.Bounds.{least_best, lower_bound}
+use Rattle.optplan_sas.specs.SearchEnds.{EndsOf, least_best_of, greatest_bound_of}
 use Rattle.optplan_sas.specs.declared.found.FoundPlan.{FoundPlan}
 use Rattle.optplan_sas.specs.declared.found.Solution.{Solution}
 use Rattle.optplan_sas.specs.declared.found.SoFar.{SoFar}
@@ -54,30 +54,31 @@ pub record IsSoFar (task : FiniteDomainTask) (kind : Kind) (best : Distance) (s 
   pub certified : IsCertificateOf task kind (Finite s.bound) s.certificate
   pub best_is : IsBestSoFar task best s.best
 
--- ---- by the end of the search
+-- ---- by the ends of the searches
 
 -- the owners at an end are settled at the bound
 abbrev pub IsSettledEnd : {S : Type 0} → (S → List ℕ → ℕ → ℕ) → EndOf S → Distance → Type 0
 IsSettledEnd owner e bound = IsSettledAt (space_at owner e) e.owners e.left bound
 
--- the owners at an end are not settled, and its lower bound is `bound`
-pub record IsShortEnd {S : Type 0} (owner : S → List ℕ → ℕ → ℕ) (e : EndOf S) (bound : ℕ) : Type 0 where
-  pub unsettled : (at : Distance) → IsSettledEnd owner e at → ⊥
-  pub bound_is : lower_bound owner e ≡ Finite bound
+-- the owners at the last end are not settled, and the greatest lower bound of the searches is `bound`
+pub record IsShortEnd {S : Type 0} (owner : S → List ℕ → ℕ → ℕ) (es : EndsOf S) (bound : ℕ) : Type 0 where
+  pub unsettled : (at : Distance) → IsSettledEnd owner es.last at → ⊥
+  pub bound_is : greatest_bound_of owner es ≡ Finite bound
 
--- the finding of a search at its end
-abbrev pub IsFound : {S : Type 0} → (S → List ℕ → ℕ → ℕ) → EndOf S → Kind → Found → Type 0
-IsFound owner e kind (Solved s) = IsSolution e.space.task kind s × IsSettledEnd owner e (Finite s.found.cost)
-IsFound owner e kind (Unsolvable c) = HasNoPlan e.space.task × IsCertificateOf e.space.task kind Infinite c × IsSettledEnd owner e Infinite
-IsFound owner e kind (Stopped s) = IsSoFar e.space.task kind (least_best e) s × IsShortEnd owner e s.bound
+-- the finding of searches at their ends
+abbrev pub IsFound : {S : Type 0} → (S → List ℕ → ℕ → ℕ) → EndsOf S → Kind → Found → Type 0
+IsFound owner es kind (Solved s) = IsSolution es.last.space.task kind s × IsSettledEnd owner es.last (Finite s.found.cost)
+IsFound owner es kind (Unsolvable c) =
+    HasNoPlan es.last.space.task × IsCertificateOf es.last.space.task kind Infinite c × IsSettledEnd owner es.last Infinite
+IsFound owner es kind (Stopped s) = IsSoFar es.last.space.task kind (least_best_of es) s × IsShortEnd owner es s.bound
 
--- the finding for a task by a search whose end satisfies `ends` and whose states are spread by a hash
-pub record IsFinding (task : FiniteDomainTask) (kind : Kind) (ends : EndOf spread.Zobrist → Type 0) (f : Found) : Type 0 where
-  pub end : EndOf spread.Zobrist
-  pub ended : ends end
-  pub task_is : end.space.task ≡ task
-  pub found : IsFound zobrist_owner end kind f
+-- the finding for a task by searches whose ends satisfy `ends` and whose states are spread by a hash
+pub record IsFinding (task : FiniteDomainTask) (kind : Kind) (ends : EndsOf spread.Zobrist → Type 0) (f : Found) : Type 0 where
+  pub at : EndsOf spread.Zobrist
+  pub ended : ends at
+  pub task_is : at.last.space.task ≡ task
+  pub found : IsFound zobrist_owner at kind f
 
--- the finding is that of some end for the task
+-- the finding is that of some ends for the task
 abbrev pub IsTrueOf : FiniteDomainTask → Kind → Found → Type 0
-IsTrueOf task kind found = (e : EndOf spread.Zobrist) × (e.space.task ≡ task) × IsFound zobrist_owner e kind found
+IsTrueOf task kind found = (es : EndsOf spread.Zobrist) × (es.last.space.task ≡ task) × IsFound zobrist_owner es kind found

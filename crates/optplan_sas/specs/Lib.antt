@@ -1,6 +1,8 @@
 pub mod Choices
 pub mod Faults
+pub mod SearchEnds
 pub mod Searches
 pub mod Findings
+pub mod Stages
 pub mod Schedules
 pub mod SasAnswers

@@ -12,8 +12,7 @@ use Rattle.checker.specs.Answers.{IsAnswer}
 use Rattle.checker.specs.declared.verdict.Verdict.TheVariants.{Accepted}
 use Rattle.packed_spread.specs.Spreads as spread
 use Rattle.packed_spread.specs.Spreads.{zobrist_owner}
-use Rattle.extract.specs.Ends.{EndOf}
-use Rattle.extract.specs.Bounds.{least_best}
+use Rattle.optplan_sas.specs.SearchEnds.{EndsOf, least_best_of}
 use Rattle.optplan_sas.specs.Findings.{IsPlanAt, IsSettledEnd, IsShortEnd}
 use Rattle.optplan_sas.specs.declared.fault.SearchFault.{SearchFault}
 use Rattle.optplan_sas.specs.declared.fault.SearchFault.TheVariants as search
@@ -59,20 +58,20 @@ pub record IsSasKnown (sas : List ℕ) (task : FiniteDomainTask) (most : Distanc
   pub best : IsBestWritten (IsSasPlan task) most known.best
   pub accepted : IsAccepted sas known.cert.items (Finite known.bound)
 
--- the answer for a task by a search at its end: a cheapest plan, that there is none, or a bound and the best plan so
+-- the answer for a task by searches at their ends: a cheapest plan, that there is none, or a bound and the best plan so
 -- far; each with the text of a certificate
-abbrev pub IsSasAnswerFor : List ℕ → FiniteDomainTask → EndOf spread.Zobrist → SasAnswer → Type 0
-IsSasAnswerFor sas task e (Solved s) = IsSasSolution sas task s × IsSettledEnd zobrist_owner e (Finite s.found.cost)
-IsSasAnswerFor sas task e (Unsolvable cert) = HasNoPlan task × IsAccepted sas cert.items Infinite × IsSettledEnd zobrist_owner e Infinite
-IsSasAnswerFor sas task e (Limit known) = IsSasKnown sas task (least_best e) known × IsShortEnd zobrist_owner e known.bound
+abbrev pub IsSasAnswerFor : List ℕ → FiniteDomainTask → EndsOf spread.Zobrist → SasAnswer → Type 0
+IsSasAnswerFor sas task es (Solved s) = IsSasSolution sas task s × IsSettledEnd zobrist_owner es.last (Finite s.found.cost)
+IsSasAnswerFor sas task es (Unsolvable cert) = HasNoPlan task × IsAccepted sas cert.items Infinite × IsSettledEnd zobrist_owner es.last Infinite
+IsSasAnswerFor sas task es (Limit known) = IsSasKnown sas task (least_best_of es) known × IsShortEnd zobrist_owner es known.bound
 
--- the text spells a task, and this is the answer for it by a search whose end satisfies `ends`
-pub record IsSasAnswer (sas : List ℕ) (ends : FiniteDomainTask → EndOf spread.Zobrist → Type 0) (answer : SasAnswer) : Type 0 where
+-- the text spells a task, and this is the answer for it by searches whose ends satisfy `ends`
+pub record IsSasAnswer (sas : List ℕ) (ends : FiniteDomainTask → EndsOf spread.Zobrist → Type 0) (answer : SasAnswer) : Type 0 where
   pub task : FiniteDomainTask
   pub spelled : SpellsTask sas task
-  pub end : EndOf spread.Zobrist
-  pub ended : ends task end
-  pub is : IsSasAnswerFor sas task end answer
+  pub at : EndsOf spread.Zobrist
+  pub ended : ends task at
+  pub is : IsSasAnswerFor sas task at answer
 
 -- the text is refused for its first fault; or it spells a task, the search for which is refused for a fault that
 -- satisfies `refused`: a path's total is too large, or a gate made it fail

@@ -1,6 +1,6 @@
 -- The ends that a search for a task may have, and why it may be refused: by a list of steps, by random steps, and with
 -- threads.
-use Rattle.std.specs.Prelude.{◌≡◌, ℕ, ◌⊎◌, List, sum}
+use Rattle.std.specs.Prelude.{◌≡◌, ◌≢◌, ℕ, ◌≤◌, ◌⊎◌, true, Bool, List, [], length, sum, All}
 use Rattle.fdr.specs.Tasks.{FiniteDomainTask, ranges}
 use Rattle.packed_spread.specs.Spreads as spread
 use Rattle.packed_spread.specs.Spreads.{zobrist_owner, splitmix_words}
@@ -11,10 +11,16 @@ use Rattle.extract.specs.Ends.{EndOf}
 use Rattle.netcore.specs.declared.step.WorldStep.{WorldStep}
 use Rattle.netcore.specs.Worlds.{WorldOf, IsRun, IsRunRefusal, left_in}
 use Rattle.engine_round.specs.Turns.{MayStop}
+use Rattle.engine_round.specs.declared.gate.Stop.TheVariants.{Fail, Limit, Stage}
 use Rattle.engine.specs.Searches.{IsSearched, IsSearchFault}
+use Rattle.engine.specs.declared.searched.Cause.{Cause}
+use Rattle.engine.specs.declared.searched.Cause.TheVariants as cause
 use Rattle.engine.specs.declared.searched.Searched.TheVariants.{Settled, Stopped}
 use Rattle.engine.specs.declared.fault.EngineFault.TheVariants as engine
 use Rattle.optplan_sas.specs.Choices.{Choices}
+use Rattle.optplan_sas.specs.SearchEnds.{EndsOf, single}
+use Rattle.optplan_sas.specs.declared.options.Tables.{Tables}
+use Rattle.optplan_sas.specs.declared.options.Tables.TheVariants.{Goal, Staged}
 use Rattle.optplan_sas.specs.Schedules.{IsSimulated, IsSimulationRefusal}
 use Rattle.optplan_sas.specs.declared.fault.SearchFault.{SearchFault}
 use Rattle.optplan_sas.specs.declared.fault.SearchFault.TheVariants.{OutOfMemory, TotalTooLarge, Gate}
@@ -43,10 +49,10 @@ end_of w = record { space = w.space; owners = w.owners; left = left_in w }
 
 -- the end of the world of the chosen number of owners after these steps, or before one of them that its owner's limit
 -- does not allow
-abbrev pub EndsAfter : Choices → List WorldStep → FiniteDomainTask → EndOf spread.Zobrist → Type 0
-EndsAfter choices steps task e =
+abbrev pub EndsAfter : Choices → List WorldStep → FiniteDomainTask → EndsOf spread.Zobrist → Type 0
+EndsAfter choices steps task es =
     (space : SpaceOf spread.Zobrist) × IsSimulatedSpace task choices space
-    × ((w : WorldOf spread.Zobrist) × IsRun zobrist_owner space choices.workers steps w × (e ≡ end_of w))
+    × ((w : WorldOf spread.Zobrist) × IsRun zobrist_owner space choices.workers steps w × (es ≡ single (end_of w)))
 
 -- a step is refused because its total is too large, or allocation failed
 abbrev pub IsRefusedAfter : Choices → List WorldStep → FiniteDomainTask → SearchFault → Type 0
@@ -60,10 +66,10 @@ IsRefusedAfter choices steps task (Gate worker turn) = ⊥
 
 -- the end of the world of the chosen number of owners after random steps from the seed, at most as many as the options
 -- allow
-abbrev pub EndsBySeed : Choices → ℕ → FiniteDomainTask → EndOf spread.Zobrist → Type 0
-EndsBySeed choices seed task e =
+abbrev pub EndsBySeed : Choices → ℕ → FiniteDomainTask → EndsOf spread.Zobrist → Type 0
+EndsBySeed choices seed task es =
     (space : SpaceOf spread.Zobrist) × IsSimulatedSpace task choices space
-    × ((w : WorldOf spread.Zobrist) × IsSimulated zobrist_owner space choices.workers seed choices.steps w × (e ≡ end_of w))
+    × ((w : WorldOf spread.Zobrist) × IsSimulated zobrist_owner space choices.workers seed choices.steps w × (es ≡ single (end_of w)))
 
 -- a random step from the seed is refused because its total is too large, or allocation failed
 abbrev pub IsRefusedBySeed : Choices → ℕ → FiniteDomainTask → SearchFault → Type 0
@@ -79,13 +85,40 @@ IsRefusedBySeed choices seed task (Gate worker turn) = ⊥
 abbrev pub no_stop : MayStop
 no_stop worker turn stop = ⊥
 
--- the end of a search by the chosen number of workers, whose owners are settled or were stopped before that; the form
--- of their states makes no difference
-abbrev pub EndsByThreads : Choices → MayStop → FiniteDomainTask → EndOf spread.Zobrist → Type 0
-EndsByThreads choices may_stop task e =
+-- the end of a search by the chosen number of workers, whose owners are settled, or were stopped before that, but not
+-- because a stage ended; the form of their states makes no difference
+abbrev pub IsThreadedEnd : Choices → MayStop → FiniteDomainTask → EndOf spread.Zobrist → Type 0
+IsThreadedEnd choices may_stop task e =
     (space : SpaceOf spread.Zobrist) × IsThreadedSpace task choices space
     × (IsSearched {F = Unit {0}} zobrist_owner may_stop space choices.workers (Settled e)
-    ⊎ IsSearched {F = Unit {0}} zobrist_owner may_stop space choices.workers (Stopped e))
+    ⊎ ((why : Cause) × (why ≢ cause.Stage) × IsSearched {F = Unit {0}} zobrist_owner may_stop space choices.workers (Stopped e why)))
+
+-- the end of a search by the chosen number of workers that was stopped because a stage ended
+abbrev pub IsStageEnd : Choices → MayStop → FiniteDomainTask → EndOf spread.Zobrist → Type 0
+IsStageEnd choices may_stop task e =
+    (space : SpaceOf spread.Zobrist) × IsThreadedSpace task choices space
+    × IsSearched {F = Unit {0}} zobrist_owner may_stop space choices.workers (Stopped e cause.Stage)
+
+-- how the search of a stage may be stopped: as the caller's gate may stop it, and by the stage's end, if it has one
+abbrev pub stops_in : Bool → MayStop → MayStop
+stops_in has_end may_stop worker turn Fail = may_stop worker turn Fail
+stops_in has_end may_stop worker turn Limit = may_stop worker turn Limit
+stops_in has_end may_stop worker turn Stage = has_end ≡ true
+
+-- the ends of the searches before the last: none, or those of at most three stages
+abbrev pub AreEarlier : Tables → Choices → MayStop → FiniteDomainTask → List (EndOf spread.Zobrist) → Type 0
+AreEarlier Goal choices may_stop task es = es ≡ []
+AreEarlier Staged choices may_stop task es =
+    (length es ≤ 3) × All (IsStageEnd choices (stops_in true may_stop) task) es
+
+-- the ends of searches by the chosen number of workers, of one alone or in stages: the last one was not stopped because
+-- a stage ended, and each one before it was
+abbrev pub EndsIn : Tables → Choices → MayStop → FiniteDomainTask → EndsOf spread.Zobrist → Type 0
+EndsIn tables choices may_stop task es = IsThreadedEnd choices may_stop task es.last × AreEarlier tables choices may_stop task es.earlier
+
+-- the same, of one search alone or in stages as chosen
+abbrev pub EndsByThreads : Choices → MayStop → FiniteDomainTask → EndsOf spread.Zobrist → Type 0
+EndsByThreads choices = EndsIn choices.tables choices
 
 -- a search by the chosen number of workers fails for this fault, or allocation failed
 abbrev pub IsRefusedByThreads : Choices → MayStop → FiniteDomainTask → SearchFault → Type 0

@@ -3,9 +3,8 @@
 ghost use Rattle.std.specs.Prelude.{◌≡◌};
 ghost use Rattle.optplan_sas.specs.declared.fault.SearchFault.TheVariants as search;
 ghost use Rattle.optplan_sas.specs.declared.fault.SasSolveFault.TheVariants as solve;
-ghost use Rattle.optplan_sas.specs.Faults.{fault_of_engine, fault_of_search};
+ghost use Rattle.optplan_sas.specs.Faults.{fault_of_search};
 
-use engine::EngineFault;
 use sasfile::SasFault;
 use std::alloc::AllocError;
 
@@ -40,18 +39,6 @@ impl From<AllocError> for SearchFault {
 
     fn from(_e: AllocError) -> SearchFault {
         SearchFault::OutOfMemory
-    }
-}
-
-impl From<EngineFault> for SearchFault {
-    ghost from_gives = { λ fault e. e ≡ fault_of_engine fault };
-
-    fn from(fault: EngineFault) -> SearchFault {
-        match fault {
-            EngineFault::OutOfMemory => SearchFault::OutOfMemory,
-            EngineFault::TotalTooLarge => SearchFault::TotalTooLarge,
-            EngineFault::Gate(worker, turn) => SearchFault::Gate(worker, turn),
-        }
     }
 }
 

@@ -6,6 +6,7 @@ ghost use Rattle.cost.specs.Distances.{Distance, Finite, ◌≤ᵈ◌};
 ghost use Rattle.fdr.specs.Tasks.{plan_cost};
 ghost use Rattle.extract.specs.Bounds.{least_best, lower_bound};
 ghost use Rattle.extract.specs.Ends.{IsBestGoal};
+ghost use Rattle.optplan_sas.specs.SearchEnds.{single};
 ghost use Rattle.optplan_sas.specs.Findings.{IsPlanAt, IsBestSoFar, IsSettledEnd, IsFound, IsSolution, IsSoFar};
 
 use cert::cert_of;
@@ -122,7 +123,7 @@ fn solution_of<'a, S: Spread + Drop, F: StateForm + Drop>(
 }
 
 /// Returns the result of a search that is not settled.
-fn so_far_of<'a, S: Spread + Drop, F: StateForm + Drop>(
+pub(crate) fn so_far_of<'a, S: Spread + Drop, F: StateForm + Drop>(
     alloc: Global,
     joined: &Joined<'a, S, F>,
     kind: CertificateKind,
@@ -151,7 +152,7 @@ pub fn found_by<'a, S: Spread + Drop, F: StateForm + Drop>(
     joined: &Joined<'a, S, F>,
     kind: CertificateKind,
 ) -> Result<Found, AllocError>
-    ensures { IfOk result (IsFound S.owner joined.now (kind_of kind)) }
+    ensures { IfOk result (IsFound S.owner (single joined.now) (kind_of kind)) }
 {
     joined.recall();
     match joined.settled(alloc)? {

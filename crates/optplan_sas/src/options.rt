@@ -1,6 +1,6 @@
 //! Options of the solver.
 
-ghost use Rattle.std.specs.Prelude.{◌≡◌, ◌≤◌, ◌^◌, Some, None};
+ghost use Rattle.std.specs.Prelude.{◌≡◌, ◌≤◌, ◌^◌, ◌∷◌, [], Some, None};
 
 use owner::Ties;
 use std::marker::Model;
@@ -14,10 +14,27 @@ pub const MAX_TABLE: usize = 16_777_216;
 /// The greatest capacity of a link, in messages.
 pub const MAX_RING: usize = 65_536;
 
+/// The number of stages of a search in stages that have an end. One more stage, which has none, may follow them.
+pub const STAGES: usize = 3;
+
+/// The numbers of states that the workers of a search in stages store together when its stages end.
+pub const STAGE_ENDS: [usize; STAGES] = [60_000, 700_000, 15_000_000];
+
+/// Which searches a multi-threaded solver runs, and with which tables.
+#[derive(Clone, Copy, Debug, PartialEq, Eq)]
+pub enum Tables {
+    /// One search, with tables of at most as many abstract states as the options allow.
+    Goal,
+    /// Searches in stages, each from nothing: first with small tables and until a number of states is stored, then with
+    /// larger tables. The last stage has no end.
+    Staged,
+}
+
 /// How a task is solved: the number of owners (1 to 64), the greatest number of abstract states of a table (1 to 2^24),
-/// the limit on the nodes that each owner expands, if there is one, the capacity of a link between two workers in
-/// messages (1 to 65,536), the greatest number of steps of a simulation, and the order of expansion among nodes of the
-/// same f-value.
+/// the limit on the nodes that each owner expands in each search, if there is one, the capacity of a link between two
+/// workers in messages (1 to 65,536), the greatest number of steps of a simulation, the order of expansion among nodes
+/// of the same f-value, whether a multi-threaded solver searches in stages, and the numbers of states at which these
+/// end.
 #[derive(Debug, Drop)]
 pub struct Options {
     workers: usize,
@@ -26,6 +43,8 @@ pub struct Options {
     ring: usize,
     steps: u64,
     ties: Ties,
+    tables: Tables,
+    stage_ends: [usize; STAGES],
 }
 
 impl Model for Options {
@@ -34,16 +53,26 @@ impl Model for Options {
 
     ghost Value = { Choices };
 
-    ghost view = { λ o. record { workers = o.workers; table = o.table; limit = o.limit; ring = o.ring; steps = o.steps; ties = o.ties } };
+    ghost view = { λ o. record { workers = o.workers; table = o.table; limit = o.limit; ring = o.ring; steps = o.steps; ties = o.ties; tables = o.tables; stage_ends = o.stage_ends } };
 
     ghost invariant = { λ o. (1 ≤ o.workers) × (o.workers ≤ 64) × (1 ≤ o.table) × (o.table ≤ 2 ^ 24) × (1 ≤ o.ring) × (o.ring ≤ 2 ^ 16) };
 }
 
 impl Options {
     /// Returns the defaults: 4 owners, tables of at most 100,000 abstract states, no limit on expansions, links with
-    /// room for 64 messages, 1,000,000 steps of a simulation, and the order `Shallow`.
+    /// room for 64 messages, 1,000,000 steps of a simulation, the order `Shallow`, one search, and stages that end at
+    /// 100,000, 1,000,000 and 20,000,000 states.
     pub fn new() -> Options
-        ensures { result ≡ record { workers = 4; table = 100000; limit = None; ring = 64; steps = 1000000; ties = Ties.Shallow } }
+        ensures { result ≡ record {
+          workers = 4;
+          table = 100000;
+          limit = None;
+          ring = 64;
+          steps = 1000000;
+          ties = Ties.Shallow;
+          tables = Tables.Goal;
+          stage_ends = 60000 ∷ 700000 ∷ 15000000 ∷ [];
+        } }
     {
         Options {
             workers: 4,
@@ -52,6 +81,8 @@ impl Options {
             ring: 64,
             steps: 1_000_000,
             ties: Ties::Shallow,
+            tables: Tables::Goal,
+            stage_ends: STAGE_ENDS,
         }
     }
 
@@ -106,6 +137,21 @@ impl Options {
         Options { ties, ..self }
     }
 
+    /// Returns these options with one search, or with searches in stages.
+    pub fn with_tables(self, tables: Tables) -> Options
+        ensures { result ≡ record self { tables = tables } }
+    {
+        Options { tables, ..self }
+    }
+
+    /// Returns these options with stages that end once the workers store together as many states as these. A stage that
+    /// ends at 0 states ends at once; so a given stage must answer if those before it end at 0, and it at `usize::MAX`.
+    pub fn with_stage_ends(self, stage_ends: [usize; STAGES]) -> Options
+        ensures { result ≡ record self { stage_ends = stage_ends } }
+    {
+        Options { stage_ends, ..self }
+    }
+
     /// Returns the number of owners.
     pub fn workers(&self) -> usize
         ensures value { result ≡ self.now.workers }
@@ -152,5 +198,19 @@ impl Options {
         ensures { result ≡ self.now.ties }
     {
         self.ties
+    }
+
+    /// Returns whether a multi-threaded solver runs one search, or searches in stages.
+    pub fn tables(&self) -> Tables
+        ensures { result ≡ self.now.tables }
+    {
+        self.tables
+    }
+
+    /// Returns the numbers of states at which the stages end.
+    pub fn stage_ends(&self) -> [usize; STAGES]
+        ensures { result ≡ self.now.stage_ends }
+    {
+        self.stage_ends
     }
 }

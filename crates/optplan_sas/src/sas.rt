@@ -6,7 +6,7 @@ ghost use Rattle.sasfile.specs.SasTexts.{SpellsTask};
 ghost use Rattle.cost.specs.Distances.{Distance};
 ghost use Rattle.packed_spread.specs.Spreads as spread;
 ghost use Rattle.packed_spread.specs.Spreads.{zobrist_owner};
-ghost use Rattle.extract.specs.Ends.{EndOf};
+ghost use Rattle.optplan_sas.specs.SearchEnds.{EndsOf};
 ghost use Rattle.optplan_sas.specs.Findings.{IsPlanAt, IsBestSoFar, IsSolution, IsSoFar, IsFound, IsTrueOf};
 ghost use Rattle.optplan_sas.specs.Searches.{EndsAfter, IsRefusedAfter, EndsBySeed, IsRefusedBySeed, EndsByThreads, IsRefusedByThreads};
 ghost use Rattle.optplan_sas.specs.SasAnswers.{IsSasAnswer, IsSasAnswerFor, IsSasRefusal, IsSasPlan, IsSasSolution, IsSasKnown, IsBestWritten};
@@ -16,7 +16,8 @@ use crate::fault::SasSolveFault;
 use crate::found::{Found, FoundPlan, SoFar, Solution};
 use crate::observer::Observer;
 use crate::options::Options;
-use crate::searching::{found_after, found_by_seed, found_by_threads};
+use crate::searching::{found_after, found_by_seed};
+use crate::stages::found_by_threads;
 use cert_text::write_cert;
 use cert_value::CertificateKind;
 use engine::Gate;
@@ -115,8 +116,8 @@ fn known_texts(
 /// Returns the answer with the texts of the finding of a search.
 fn answer_texts(alloc: Global, task: &FdrTask, found: Found) -> Result<SasAnswer, AllocError>
     requires { IsTrueOf task.now FiniteDomain found }
-    ensures { (sas : List ℕ) (e : EndOf spread.Zobrist) → SpellsTask sas task.now → e.space.task ≡ task.now →
-        IsFound zobrist_owner e FiniteDomain found → IfOk result (IsSasAnswerFor sas task.now e) }
+    ensures { (sas : List ℕ) (es : EndsOf spread.Zobrist) → SpellsTask sas task.now → es.last.space.task ≡ task.now →
+        IsFound zobrist_owner es FiniteDomain found → IfOk result (IsSasAnswerFor sas task.now es) }
 {
     match found {
         Found::Solved(solution) => Ok(Answer::Solved(solution_texts(alloc, task, solution)?)),
@@ -172,7 +173,8 @@ pub fn simulate_sas<R: AllocGlobal + Threads + Sync, O: Observer>(
 /// Returns the answer for the task that the text spells, by the chosen number of workers, each in a thread of its own,
 /// with a certificate that the checker accepts if its text has at most 2^30 bytes: a cheapest plan, or that there is
 /// none; `Limit` with a lower bound on the cost of every plan, and possibly a plan, if the search ended before the
-/// owners were settled, by an owner's limit or by the gate.
+/// owners were settled, by an owner's limit or by the gate. If the options request stages, up to four searches follow
+/// one another, and `Limit` has the best of what all of them know.
 ///
 /// Fails with the first fault of the text, with `TotalTooLarge` if a path would have a cost or a number of operators
 /// above 2^62, with `Gate` if the gate makes the search fail, or if allocation fails. The contract does not state the

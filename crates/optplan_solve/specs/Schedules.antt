@@ -2,7 +2,7 @@
 use Rattle.std.specs.Prelude.{◌≡◌, ℕ, ◌⊎◌, Some}
 use Rattle.fdr.specs.Tasks.{FiniteDomainTask}
 use Rattle.packed_spread.specs.Spreads as spread
-use Rattle.extract.specs.Ends.{EndOf}
+use Rattle.optplan_sas.specs.SearchEnds.{EndsOf}
 use Rattle.engine_round.specs.Turns.{MayStop}
 use Rattle.engine_round.specs.declared.gate.Stop.TheVariants.{Limit}
 use Rattle.optplan_sas.specs.Choices.{Choices}
@@ -21,9 +21,9 @@ IsLimited watch = ((s : ℕ) × (watch.seconds ≡ Some s)) ⊎ ((m : ℕ) × (w
 abbrev pub ends_in : Watch → MayStop
 ends_in watch worker turn stop = (stop ≡ Limit) × IsLimited watch
 
--- the end of a search for a task: with threads, within the seconds and the memory if these are specified, or by random
--- steps from a seed
-abbrev pub EndsBy : Choices → Schedule → FiniteDomainTask → EndOf spread.Zobrist → Type 0
+-- the ends of the searches for a task: with threads, within the seconds and the memory if these are specified, or of
+-- one by random steps from a seed
+abbrev pub EndsBy : Choices → Schedule → FiniteDomainTask → EndsOf spread.Zobrist → Type 0
 EndsBy choices (Threads watch) = EndsByThreads choices (ends_in watch)
 EndsBy choices (Drawn seed) = EndsBySeed choices seed
 

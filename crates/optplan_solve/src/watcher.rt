@@ -7,7 +7,7 @@ use crate::settings::Watch;
 use crate::tally::Tally;
 use optplan_sas::{Gate, Observer, Progress, Reached, Stop};
 use std::alloc::{AllocError, Global};
-use std::time::{Clock, Instant};
+use std::time::{Clock, Duration, Instant};
 
 /// The bytes that a state or a message takes in addition to the words of its values: its entry, its hash, its slot in
 /// the index, and its entry in the open list.
@@ -107,6 +107,31 @@ impl<'a, R: Clock + Eprint + Sync> Gate for Watcher<'a, R> {
         match self.watch.seconds {
             Some(seconds) if now >= seconds => Err(Stop::Limit),
             _ => Ok(()),
+        }
+    }
+
+    fn never_limits(&self) -> bool {
+        self.watch.seconds.is_none() && self.watch.mebibytes.is_none()
+    }
+
+    /// Allows a further stage if more time is left than the last one took; always if no seconds are specified or the
+    /// clock cannot be read.
+    fn allows_stage(&self, took: Duration) -> bool {
+        let (Some(seconds), Some(start)) = (self.watch.seconds, self.start) else {
+            return true;
+        };
+        let Ok(elapsed) = start.elapsed(self.rt) else {
+            return true;
+        };
+        Duration::from_secs(seconds).saturating_sub(elapsed) > took
+    }
+
+    /// Prints a line for each stage after the first, if progress is reported. A line that cannot be printed is skipped.
+    fn stage_begins(&self, stage: usize, tables: usize, abstract_states: usize) {
+        if self.tally.is_some() && stage > 1 {
+            let _ = eprintln!(self.rt;
+                "optplan: stage {stage}, {tables} tables, {abstract_states} abstract states"
+            );
         }
     }
 }

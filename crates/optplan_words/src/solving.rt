@@ -30,6 +30,10 @@ certificate are not counted. --progress prints lines such as
 about once a second, with --simulate once in 100000 steps: the numbers of expanded and of stored states, the least f-value
 of an open state, and the least cost of a plan so far.
 
+Threads search in stages (--tables staged): first with small tables, which take little time, then again with larger ones
+if that search goes on for long; the last search has no end. With --tables goal there is one search, with tables of at most
+--table abstract states that grow from the variables of the goal. --limit counts within each search.
+
 Among open states of the least f-value (the cost to reach the state plus its heuristic value), --ties shallow expands one
 with the least cost to reach it, and --ties deep one with the greatest. deep usually needs fewer expansions if many states
 have the f-value of a cheapest plan.
@@ -61,6 +65,10 @@ certificate are not counted. --progress prints lines such as
 
 about once a second, with --simulate once in 100000 steps: the numbers of expanded and of stored states, the least f-value
 of an open state, and the least cost of a plan so far.
+
+Threads search in stages (--tables staged): first with small tables, which take little time, then again with larger ones
+if that search goes on for long; the last search has no end. With --tables goal there is one search, with tables of at most
+--table abstract states that grow from the variables of the goal. --limit counts within each search.
 
 Among open states of the least f-value (the cost to reach the state plus its heuristic value), --ties shallow expands one
 with the least cost to reach it, and --ties deep one with the greatest. deep usually needs fewer expansions if many states
@@ -123,12 +131,17 @@ fn with_search_options<'a>(alloc: Global, command: Command<'a>) -> Result<Comman
         "64",
         "Capacity of the ring of messages from one worker to another, 1 to 65536; without effect with --simulate",
     );
-    let table = option_or(
+    let tables = option(
+        alloc,
+        "tables",
+        "CHOICE",
+        "Tables of the heuristic: staged (the default) or goal (the default with --table or --simulate)",
+    );
+    let table = option(
         alloc,
         "table",
         "N",
-        "100000",
-        "Greatest number of abstract states of a table of the heuristic, 1 to 16777216",
+        "Greatest number of abstract states of a table with --tables goal, 1 to 16777216 [default: 100000]",
     );
     let ties = option_or(
         alloc,
@@ -140,6 +153,7 @@ fn with_search_options<'a>(alloc: Global, command: Command<'a>) -> Result<Comman
     let command = with_arg(command, simulate)?;
     let command = with_arg(command, workers)?;
     let command = with_arg(command, ring)?;
+    let command = with_arg(command, tables)?;
     let command = with_arg(command, table)?;
     with_arg(command, ties)
 }

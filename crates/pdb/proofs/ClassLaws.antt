@@ -1,4 +1,4 @@
--- Distances and falls of classes are those of their operators.
+-- Distances under the least shares of classes are those under the shares of the operators.
 use Rattle.std.proofs.Common.{◌≡◌, ℕ, ◌<◌, ◌≤◌, ◌⊎◌, true, List, [], ◌∷◌, length, Option, Some, None, slice_index, slice_set, min, refl, sym, ap, ◌∙◌, subst, inl, inr, ⊎_elim, arith}
 use Rattle.std.specs.Prelude.{sum_by, IfSome, IsSomeAnd, option_and_then}
 use Rattle.std.proofs.lemmas.Bool.{cases_lt}
@@ -7,52 +7,14 @@ use Rattle.cost.specs.Distances.{Distance, Finite, Infinite, ◌≤ᵈ◌}
 use Rattle.fdr.specs.Tasks.{FiniteDomainTask}
 use Rattle.abstraction.specs.Abstractions.{Abstraction, IsAbstractionOf}
 use Rattle.pdb_walks.specs.Walks.{walk, IsWalkFrom, IsTotalFrom, IsDistanceFrom, AreDistances, value_in}
-use Rattle.pdb_walks.specs.Entrances.{LeadsTo, Classes, AreClasses}
+use Rattle.abstraction_groups.specs.Entrances.{LeadsTo, Classes, AreClasses}
 use Rattle.pdb.specs.Classes.{share_by, AreLeast}
-use Rattle.pdb.proofs.Lowering.{cases_set}
 use Rattle.pdb.proofs.Expansion.{share_told, share_none}
 
--- only the task's operators lead on
+-- only operators of the task have transitions
 pub operator_below : (task : FiniteDomainTask) (a : Abstraction) (o i j : ℕ) → IsAbstractionOf task a → LeadsTo a o i j → o < length task.operators
 operator_below task a o i j abs step =
     ⊎_elim (λ (l : o < length task.operators). l) (λ (l : length task.operators ≤ o). let none = abs.operators i o l in let some = step.1 in absurd (cc)) (cases_lt o (length task.operators))
-
--- the class of one operator more is lowered to its share
-module _ (classes : Classes) (shares least : List ℕ) (o c m : ℕ) (inside : c < length least) (of : classes.class o ≡ Some c) (is : m ≡ min (slice_index least c) (slice_index shares o)) where
-  pub least_kept : (p : ℕ) → slice_index (slice_set least c m) p ≤ slice_index least p
-  least_kept p =
-      ⊎_elim
-      (λ (w : (p ≡ c) × (slice_index (slice_set least c m) p ≡ m)). let e = ap (slice_index least) w.0 in omega arith)
-      (λ (w : (p ≡ c → ⊥) × (slice_index (slice_set least c m) p ≡ slice_index least p)). omega arith)
-      (cases_set least c m p inside)
-
-  pub least_here : (p : ℕ) → classes.class o ≡ Some p → slice_index (slice_set least c m) p ≤ slice_index shares o
-  least_here p e =
-      let same : p ≡ c = cc in
-      ⊎_elim
-      (λ (w : (p ≡ c) × (slice_index (slice_set least c m) p ≡ m)). omega arith)
-      (λ (w : (p ≡ c → ⊥) × (slice_index (slice_set least c m) p ≡ slice_index least p)). absurd (w.0 same))
-      (cases_set least c m p inside)
-
-  pub least_reached : (n p : ℕ) → ((slice_index least p ≡ n) ⊎ ((q : ℕ) × (classes.class q ≡ Some p) × (slice_index shares q ≡ slice_index least p))) →
-      (slice_index (slice_set least c m) p ≡ n) ⊎ ((q : ℕ) × (classes.class q ≡ Some p) × (slice_index shares q ≡ slice_index (slice_set least c m) p))
-  least_reached n p before =
-      ⊎_elim
-      (λ (w : (p ≡ c) × (slice_index (slice_set least c m) p ≡ m)).
-      let there = ap (slice_index least) w.0 in
-      let mine : classes.class o ≡ Some p = of ∙ ap Some (sym w.0) in
-      ⊎_elim
-      (λ (l : slice_index shares o < slice_index least c). inr (o, mine, omega arith))
-      (λ (l : slice_index least c ≤ slice_index shares o). ⊎_elim
-      (λ (e : slice_index least p ≡ n). inl (omega arith))
-      (λ (r : (q : ℕ) × (classes.class q ≡ Some p) × (slice_index shares q ≡ slice_index least p)). inr (r.0, r.1, omega (arith, r.2)))
-      before)
-      (cases_lt (slice_index shares o) (slice_index least c)))
-      (λ (w : (p ≡ c → ⊥) × (slice_index (slice_set least c m) p ≡ slice_index least p)). ⊎_elim
-      (λ (e : slice_index least p ≡ n). inl (omega arith))
-      (λ (r : (q : ℕ) × (classes.class q ≡ Some p) × (slice_index shares q ≡ slice_index least p)). inr (r.0, r.1, omega (arith, r.2)))
-      before)
-      (cases_set least c m p inside)
 
 at_most_more : (d : Distance) (m n : ℕ) → m ≤ n → d ≤ᵈ Finite m → d ≤ᵈ Finite n
 at_most_more Infinite m n l h = absurd h

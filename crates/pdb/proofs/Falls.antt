@@ -1,4 +1,4 @@
--- Falls of values over the transitions of classes of operators.
+-- The decreases of values over the transitions of classes of operators.
 use Rattle.std.proofs.Common.{◌≡◌, ℕ, ◌<◌, ◌≤◌, ◌⊎◌, max, List, length, Option, Some, None, slice_index, slice_set, refl, sym, ap, subst, inl, inr, ⊎_elim, arith}
 use Rattle.std.specs.Prelude.{IfSome, IsSomeAnd, slice_get}
 use Rattle.std.specs.Option.{option_map_or}
@@ -8,8 +8,8 @@ use Rattle.cost.specs.Distances.{Distance, Finite, Infinite, ◌≤ᵈ◌, ◌+�
 use Rattle.fdr.specs.Tasks.{FiniteDomainTask}
 use Rattle.abstraction.specs.Abstractions.{Abstraction, Table, IsAbstractionOf}
 use Rattle.pdb_walks.specs.Walks.{AreDistances, value_in, fall, IsGreatestFall}
-use Rattle.pdb_walks.specs.Entrances.{LeadsTo, Classes, AreClasses}
-use Rattle.pdb_walks.proofs.Saturation.{distances_consistent}
+use Rattle.abstraction_groups.specs.Entrances.{LeadsTo, Classes, AreClasses}
+use Rattle.pdb_walks.proofs.Saturation.{distances_consistent, fall_unique}
 use Rattle.pdb.specs.Classes.{share_by, AreLeast}
 use Rattle.pdb.specs.Saturations.{IsFallOf, AreFalls, AreFull, AreWithin, IsCoveredAt}
 use Rattle.pdb.proofs.ClassLaws.{operator_below}
@@ -52,7 +52,7 @@ falls_within_least task a b classes shares least values e abs grouped exact long
     let also = grouped.alike o p.0 c i j of p.1 below step in
     omega (arith, fall_within_share task b share values p.0 i j abstracts distances also, p.2)
 
--- where each number is the least share of its class at least, no fall is greater
+-- if each number is at least the least share of its class, no decrease is greater
 pub covered_full : (a : Abstraction) (classes : Classes) (value : ℕ → Distance) (least numbers : List ℕ) (n : ℕ) → AreClasses a classes → classes.count ≤ n → AreWithin a classes value least → AreFull n least numbers →
     (j : ℕ) → j < a.size → IsCoveredAt a classes value j numbers
 covered_full a classes value least numbers n grouped long within full j below o i c e step =
@@ -93,7 +93,7 @@ module _ (a : Abstraction) (classes : Classes) (value : ℕ → Distance) (numbe
 pub covered_infinite : (a : Abstraction) (classes : Classes) (value : ℕ → Distance) (j : ℕ) (numbers : List ℕ) → value j ≡ Infinite → IsCoveredAt a classes value j numbers
 covered_infinite a classes value j numbers e o i c _ step = rw e (omega (arith, fall_to_infinite (value i)))
 
--- the falls of the classes are those of the operators
+-- the greatest decreases of the classes are those of the operators
 pub IsGreatestFall-covered : (task : FiniteDomainTask) (a : Abstraction) (classes : Classes) (value : ℕ → Distance) (numbers : List ℕ) (o n : ℕ) → IsAbstractionOf task a → AreClasses a classes →
     n ≡ share_by classes numbers o → AreFalls a classes value numbers → ((j : ℕ) → j < a.size → IsCoveredAt a classes value j numbers) → IsGreatestFall a value o n
 IsGreatestFall-covered task a classes value numbers o n abs grouped is reached covered =
@@ -144,3 +144,11 @@ falls_told task a b classes value numbers needed e abs grouped reached covered l
     (λ (l : length task.operators ≤ o).
     subst (λ (n : ℕ). IsGreatestFall a value o n) (sym (get_or_past needed o 0 (omega arith))) (no_fall_past task a value o abs l))
     (cases_lt o (length task.operators))
+
+-- the greatest decrease of an operator is that of its class
+pub fall_told : (task : FiniteDomainTask) (a b : Abstraction) (classes : Classes) (value : ℕ → Distance) (numbers : List ℕ) → b ≡ a → IsAbstractionOf task a → AreClasses b classes →
+    AreFalls b classes value numbers → ((j : ℕ) → j < b.size → IsCoveredAt b classes value j numbers) → (o n : ℕ) → IsGreatestFall a value o n → share_by classes numbers o ≡ n
+fall_told task a b classes value numbers e abs grouped reached covered o n greatest =
+    let mine : IsGreatestFall b value o (share_by classes numbers o) =
+    IsGreatestFall-covered task b classes value numbers o (share_by classes numbers o) (subst (λ (x : Abstraction). IsAbstractionOf task x) (sym e) abs) grouped refl reached covered in
+    fall_unique a value o (share_by classes numbers o) n (subst (λ (x : Abstraction). IsGreatestFall x value o (share_by classes numbers o)) e mine) greatest

@@ -1,9 +1,9 @@
-pub mod Orders
-pub mod Queues
+pub mod Buckets
 pub mod Lowering
 pub mod Starts
 pub mod Expansion
 pub mod ClassLaws
+pub mod Shares
 pub mod Totals
 pub mod Falls
 pub mod Zips

@@ -1,7 +1,10 @@
 -- What holds of a search still holds once it has lowered a value.
-use Rattle.std.proofs.Common.{◌≡◌, ℕ, ◌+◌, ◌*◌, ◌^◌, ◌<◌, ◌≤◌, ◌⊎◌, List, ◌∷◌, length, slice_index, slice_set, min, nat_lt, cond, refl, ap, sym, ◌∙◌, subst, inl, inr, ⊎_elim, arith}
+use Rattle.std.proofs.Common.{◌≡◌, ℕ, zero, suc, ◌+◌, ◌*◌, ◌^◌, ◌<◌, ◌≤◌, ◌⊎◌, List, [], ◌∷◌, length, get_or, slice_index, slice_set, min, nat_lt, cond, refl, ap, sym, ◌∙◌, subst, inl, inr, ⊎_elim, arith}
+use Rattle.std.specs.Prelude.{Contains, IsPermutation, sum}
 use Rattle.std.proofs.Common.{get_or-set_same, get_or-set_other}
 use Rattle.std.proofs.lemmas.List.{get_or_past}
+use Rattle.std.proofs.lemmas.List.Elements.{Contains-get_or, Contains-append_right, Contains-append_cases}
+use Rattle.std.proofs.lemmas.List.Sorted.{Contains-permutation, IsPermutation-sym, length_permutation}
 use Rattle.std.proofs.Math.ListN.{length-set}
 use Rattle.std.proofs.lemmas.Bool.{cases_eq, cases_lt}
 use Rattle.std.proofs.lemmas.Bool.Decides.{nat_tests}
@@ -9,11 +12,10 @@ use Rattle.std.proofs.lemmas.List.Sums.{sum_by-cons, sum_by-set, count_by-le-len
 use Rattle.cost.specs.Distances.{Finite}
 use Rattle.abstraction.specs.Abstractions.{Abstraction}
 use Rattle.pdb_walks.specs.Walks.{IsTotalFrom}
-use Rattle.pdb_walks.specs.Entrances.{LeadsTo}
-use Rattle.pdb.specs.declared.queue.Queue.{Queue}
+use Rattle.abstraction_groups.specs.Entrances.{LeadsTo}
+use Rattle.pdb.specs.declared.queue.Entry.{Entry}
 use Rattle.pdb.specs.declared.search.TheConstants.{UNREACHED}
-use Rattle.pdb.specs.Queues.{size_of, IsQueued, IsAbsent}
-use Rattle.pdb.specs.Searches.{reached, IsSound, IsSearchBut, HasFallen, HasLowered}
+use Rattle.pdb.specs.Searches.{reached, entry_of, IsSound, IsSettled, IsQueued, IsSearchBut, HasLowered}
 
 -- a value after a write
 pub cases_set : (xs : List ℕ) (i y k : ℕ) → i < length xs → ((k ≡ i) × (slice_index (slice_set xs i y) k ≡ y)) ⊎ ((k ≡ i → ⊥) × (slice_index (slice_set xs i y) k ≡ slice_index xs k))
@@ -23,7 +25,19 @@ cases_set xs i y k l =
     (λ (ne : k ≡ i → ⊥). inr (ne, get_or-set_other xs i k y 0 ne))
     (cases_eq k i)
 
--- numbers that are small in the list are so past its end, where they are 0
+only_one : {X : Type 0} (x y : X) (k : ℕ) → k < 1 → get_or (x ∷ []) k y ≡ y → x ≡ y
+only_one x y zero l e = e
+only_one x y (suc k) l e = absurd (omega arith)
+
+-- an element of a list that has one more at its front
+pub cases_front : {X : Type 0} (x : X) (xs : List X) (y : X) → Contains (x ∷ xs) y → (x ≡ y) ⊎ Contains xs y
+cases_front x xs y has =
+    ⊎_elim
+    (λ (w : Contains (x ∷ []) y). inl (only_one x y w.0 (omega (arith, w.1)) w.2))
+    (λ (w : Contains xs y). inr w)
+    (Contains-append_cases (x ∷ []) xs y has)
+
+-- if the numbers of a list are small, so are those past its end, which are 0
 pub small_everywhere : (xs : List ℕ) → ((k : ℕ) → k < length xs → slice_index xs k < 2 ^ 31) → (o : ℕ) → slice_index xs o < 2 ^ 31
 small_everywhere xs small o =
     ⊎_elim
@@ -51,7 +65,7 @@ prolonged a share o i j n leads total =
 pub same_total : (a : Abstraction) (share : ℕ → ℕ) (k m n : ℕ) → m ≡ n → IsTotalFrom a share k (Finite m) → IsTotalFrom a share k (Finite n)
 same_total a share k m n e total = subst (λ (x : ℕ). IsTotalFrom a share k (Finite x)) e total
 
-pub total_below : (a : Abstraction) (share : ℕ → ℕ) (values : List ℕ) (q : Queue) (b x : ℕ) → IsSound a share values q → b < a.size → slice_index values b < UNREACHED → x < 2 ^ 31 → slice_index values b + x < UNREACHED
+pub total_below : (a : Abstraction) (share : ℕ → ℕ) (values : List ℕ) (q : List Entry) (b x : ℕ) → IsSound a share values q → b < a.size → slice_index values b < UNREACHED → x < 2 ^ 31 → slice_index values b + x < UNREACHED
 total_below a share values q b x sound inside has small =
     let bound : slice_index values b ≤ 2147483648 * reached values = sound.bounds b inside has in
     let count : reached values ≤ length values = count_by-le-length (λ v. nat_lt v UNREACHED) values in
@@ -59,7 +73,7 @@ total_below a share values q b x sound inside has small =
     let long : length values ≡ a.size = sound.as_long in
     omega arith
 
-module _ (a : Abstraction) (share : ℕ → ℕ) (old : List ℕ) (before : Queue) (new : List ℕ) (after : Queue) (b o i value : ℕ)
+module _ (a : Abstraction) (share : ℕ → ℕ) (old : List ℕ) (before : List Entry) (new : List ℕ) (after : List Entry) (b o i value : ℕ)
     (search : IsSearchBut a share old before b) (leads : LeadsTo a o i b) (small : share o < 2 ^ 31)
     (shown : value ≡ slice_index old b + share o) (lowered : HasLowered old before new after i value) where
   inside_old : i < length old
@@ -107,7 +121,7 @@ module _ (a : Abstraction) (share : ℕ → ℕ) (old : List ℕ) (before : Queu
       let l : y < UNREACHED = omega (arith, value_total) in
       omega (arith, count_set, counted_total y l, counted_none (slice_index old i) none)
 
-  -- the value here, where it is lowered and where it is not
+  -- the value of the state if it is lowered, and if it is not
   cases_here : ((value < slice_index old i) × (min (slice_index old i) value ≡ value)) ⊎ (min (slice_index old i) value ≡ slice_index old i)
   cases_here = ⊎_elim (λ (l : value < slice_index old i). inl (l, omega arith)) (λ (l : slice_index old i ≤ value). inr (omega arith)) (cases_lt value (slice_index old i))
 
@@ -143,60 +157,82 @@ module _ (a : Abstraction) (share : ℕ → ℕ) (old : List ℕ) (before : Queu
       (cases_at k))
       (cases_lt (slice_index old k) UNREACHED)
 
-  queued_new : (k : ℕ) → k < a.size → IsQueued after k → slice_index new k < UNREACHED
-  queued_new k inside q =
-      let l : k < size_of before = omega (arith, search.sound.queue_as_long) in
+  inside_new : (e : Entry) → Contains after e → e.state < a.size
+  inside_new e q =
       ⊎_elim
-      (λ (w : (k ≡ i) × (value < slice_index old i)). let f = ap (slice_index new) w.0 in omega (arith, lowered_here, value_total))
-      (λ (w : IsQueued before k). omega (arith, lowered_at_most k, search.sound.queued k inside w))
-      (lowered.only k l q)
+      (λ (w : (e ≡ entry_of i value) × (value < slice_index old i)). let f : e.state ≡ i = ap (λ (x : Entry). x.state) w.0 in omega (arith, leads.0))
+      (λ (w : Contains before e). search.sound.inside e w)
+      (lowered.only e q)
 
-  -- a value of a state that is not in the queue is as it was
-  absent_same : (s : ℕ) → IsAbsent after s → slice_index new s ≡ slice_index old s
-  absent_same s away =
+  queued_new : (e : Entry) → Contains after e → e.value < UNREACHED
+  queued_new e q =
+      ⊎_elim
+      (λ (w : (e ≡ entry_of i value) × (value < slice_index old i)). let f : e.value ≡ value = ap (λ (x : Entry). x.value) w.0 in omega (arith, value_total))
+      (λ (w : Contains before e). search.sound.queued e w)
+      (lowered.only e q)
+
+  -- a state whose value is the same is queued or settled as before
+  settled_same : (s : ℕ) → s < a.size → (s ≡ b → ⊥) → slice_index new s ≡ slice_index old s → IsQueued new after s ⊎ IsSettled a share new s
+  settled_same s inside ne same =
+      ⊎_elim
+      (λ (q : IsQueued old before s). inl (subst (λ (n : ℕ). Contains after (entry_of s n)) (sym same) (lowered.stay (entry_of s (slice_index old s)) q)))
+      (λ (h : IsSettled a share old s). inr (λ p j step. omega (arith, h p j step, same, lowered_at_most j)))
+      (search.settled s inside ne)
+
+  settled_new : (s : ℕ) → s < a.size → (s ≡ b → ⊥) → IsQueued new after s ⊎ IsSettled a share new s
+  settled_new s inside ne =
       ⊎_elim
       (λ (w : (s ≡ i) × (slice_index new s ≡ min (slice_index old i) value)). at_here w.0 w.1)
-      (λ (w : (s ≡ i → ⊥) × (slice_index new s ≡ slice_index old s)). w.1)
+      (λ (w : (s ≡ i → ⊥) × (slice_index new s ≡ slice_index old s)). settled_same s inside ne w.1)
       (cases_at s)
     where
-      at_here : s ≡ i → slice_index new s ≡ min (slice_index old i) value → slice_index new s ≡ slice_index old s
+      at_here : s ≡ i → slice_index new s ≡ min (slice_index old i) value → IsQueued new after s ⊎ IsSettled a share new s
       at_here e m =
           let f = ap (slice_index old) e in
-          let p = ap (slice_index after.places.items) e in
           ⊎_elim
-          (λ (w : (value < slice_index old i) × (min (slice_index old i) value ≡ value)). let here = lowered.here w.0 in absurd (omega arith))
-          (λ (w : min (slice_index old i) value ≡ slice_index old i). omega arith)
+          (λ (w : (value < slice_index old i) × (min (slice_index old i) value ≡ value)).
+          let is : value ≡ slice_index new s = omega arith in
+          inl (subst (λ (n : ℕ). Contains after (entry_of s n)) is (subst (λ (x : ℕ). Contains after (entry_of x value)) (sym e) (lowered.here w.0))))
+          (λ (w : min (slice_index old i) value ≡ slice_index old i). settled_same s inside ne (omega arith))
           cases_here
-
-  absent_before : (s : ℕ) → s < a.size → IsAbsent after s → IsAbsent before s
-  absent_before s inside away =
-      ⊎_elim
-      (λ (l : IsQueued before s). let q = lowered.stay s (omega (arith, search.sound.queue_as_long)) l in absurd (omega arith))
-      (λ (l : IsAbsent before s). l)
-      (cases_lt (slice_index before.places.items s) before.len)
 
   pub IsSearchBut-lowered : IsSearchBut a share new after b
   IsSearchBut-lowered =
       record {
         sound = record {
           as_long = rw lowered.values (length-set old i (min (slice_index old i) value) ∙ search.sound.as_long);
-          queue_as_long = lowered.same_size ∙ search.sound.queue_as_long;
           small = search.sound.small;
           totals = totals_new;
           bounds = bounds_new;
           goals = λ k inside goal. omega (arith, lowered_at_most k, search.sound.goals k inside goal);
+          inside = inside_new;
           queued = queued_new;
         };
         inside = search.inside;
         has_value = omega (arith, lowered_same, search.has_value);
-        settled = λ s inside ne away p j step.
-            let below = search.settled s inside ne (absent_before s inside away) p j step in
-            omega (arith, absent_same s away, lowered_at_most j);
+        settled = settled_new;
       }
 
-  pub HasFallen-lowered : (first : List ℕ) → HasFallen first old b → HasFallen first new b
-  HasFallen-lowered first fallen =
-      record {
-        at_most = λ k. omega (arith, fallen.at_most k, lowered_at_most k);
-        same = lowered_same ∙ fallen.same;
-      }
+-- the state of a lowered value is added to the queue
+pub HasLowered-added : (values : List ℕ) (queue after : List Entry) (state value : ℕ) → state < length values → value < slice_index values state → IsPermutation (entry_of state value ∷ queue) after →
+    HasLowered values queue (slice_set values state value) after state value
+HasLowered-added values queue after state value inside lower added =
+    record {
+      values = ap (slice_set values state) least;
+      here = λ _. Contains-permutation (x ∷ queue) after x added (Contains-get_or (x ∷ queue) 0 x (omega arith));
+      stay = λ e has. Contains-permutation (x ∷ queue) after e added (Contains-append_right (x ∷ []) queue e has);
+      only = λ e has. ⊎_elim
+          (λ (is : x ≡ e). inl (sym is, lower))
+          (λ (h : Contains queue e). inr h)
+          (cases_front x queue e (Contains-permutation after (x ∷ queue) e (IsPermutation-sym (x ∷ queue) after added) has));
+      no_more =
+          let totals : sum (slice_set values state value) + slice_index values state ≡ sum values + value = sum_by-set (λ (v : ℕ). v) values state value 0 inside in
+          let long : length after ≡ suc (length queue) = length_permutation (x ∷ queue) after added in
+          omega arith;
+    }
+  where
+    x : Entry
+    x = entry_of state value
+
+    least : value ≡ min (slice_index values state) value
+    least = omega arith

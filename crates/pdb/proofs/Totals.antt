@@ -1,9 +1,9 @@
 -- At the end of a search the values are the distances.
-use Rattle.std.proofs.Common.{◌≡◌, ℕ, ◌+◌, ◌*◌, ◌^◌, ◌<◌, ◌≤◌, true, List, [], ◌∷◌, length, map, Option, Some, None, slice_index, refl, ap, ◌∙◌, ⊎_elim, arith}
+use Rattle.std.proofs.Common.{◌≡◌, ℕ, ◌+◌, ◌*◌, ◌^◌, ◌<◌, ◌≤◌, true, List, [], ◌∷◌, length, map, Option, Some, None, slice_index, refl, ap, ◌∙◌, subst, ⊎_elim, arith}
 use Rattle.std.proofs.Common.{get_or}
 use Rattle.std.proofs.lemmas.List.Elements.{All-map}
 use Rattle.std.proofs.lemmas.List.{get_or_default}
-use Rattle.std.specs.Prelude.{All, nat_lt, sum_by, IfSome, IsSomeAnd, option_and_then}
+use Rattle.std.specs.Prelude.{All, Contains, nat_lt, sum_by, IfSome, IsSomeAnd, option_and_then}
 use Rattle.std.specs.Option.{option_map_or}
 use Rattle.std.proofs.lemmas.Bool.{cases_lt}
 use Rattle.std.proofs.lemmas.Bool.Decides.{nat_tests}
@@ -15,10 +15,10 @@ use Rattle.fdr.specs.Tasks.{FiniteDomainTask}
 use Rattle.abstraction.specs.Abstractions.{Abstraction, IsAbstractionOf}
 use Rattle.cert_value.specs.Kept.{kept_distance}
 use Rattle.pdb_walks.specs.Walks.{walk, IsWalkFrom, IsTotalFrom, AreDistances, value_in}
-use Rattle.pdb_walks.specs.Entrances.{LeadsTo}
-use Rattle.pdb.specs.declared.queue.Queue.{Queue}
+use Rattle.abstraction_groups.specs.Entrances.{LeadsTo}
+use Rattle.pdb.specs.declared.queue.Entry.{Entry}
 use Rattle.pdb.specs.declared.search.TheConstants.{UNREACHED}
-use Rattle.pdb.specs.Searches.{reached, IsSearch, IsSettled}
+use Rattle.pdb.specs.Searches.{reached, entry_of, IsSearch, IsSettled, IsQueued}
 
 kept_finite : (n : ℕ) → n ≤ 2 ^ 63 → kept_distance n ≡ Finite n
 kept_finite n l = grind (arith, nat_tests)
@@ -26,7 +26,7 @@ kept_finite n l = grind (arith, nat_tests)
 kept_infinite : (n : ℕ) → 2 ^ 63 < n → kept_distance n ≡ Infinite
 kept_infinite n l = grind (arith, nat_tests)
 
--- a step to a value, where a value is small or stands for infinite
+-- a step to a value, if a value is small or denotes the infinite one
 kept_step : (m n x : ℕ) → m ≤ x + n → (n ≤ 2 ^ 63 → x + n ≤ 2 ^ 63) → kept_distance m ≤ᵈ Finite x +ᵈ kept_distance n
 kept_step m n x l small =
     ⊎_elim
@@ -44,13 +44,19 @@ value_in-map values i l =
     let long : i < length (map kept_distance values) = omega (arith, length-map values kept_distance) in
     ap (λ (o : Option Distance). option_map_or (λ d. d) o Infinite) (slice_get-get_or (map kept_distance values) i Infinite long) ∙ get_or-map kept_distance values i 0 Infinite l
 
-module _ (task : FiniteDomainTask) (a : Abstraction) (share : ℕ → ℕ) (values : List ℕ) (queue : Queue)
-    (abs : IsAbstractionOf task a) (small : (o : ℕ) → share o < 2 ^ 31) (search : IsSearch a share values queue) (empty : queue.len ≡ 0) where
+module _ (task : FiniteDomainTask) (a : Abstraction) (share : ℕ → ℕ) (values : List ℕ) (queue : List Entry)
+    (abs : IsAbstractionOf task a) (small : (o : ℕ) → share o < 2 ^ 31) (search : IsSearch a share values queue) (empty : queue ≡ []) where
   abbrev value : ℕ → Distance
   value i = kept_distance (slice_index values i)
 
   settled : (j : ℕ) → j < a.size → IsSettled a share values j
-  settled j l = search.settled j l (omega arith)
+  settled j l =
+      ⊎_elim
+      (λ (q : IsQueued values queue j).
+      let none : Contains [] (entry_of j (slice_index values j)) = subst (λ (es : List Entry). Contains es (entry_of j (slice_index values j))) empty q in
+      absurd (omega (arith, none.1)))
+      (λ (h : IsSettled a share values j). h)
+      (search.settled j l)
 
   step : (o i j : ℕ) → j < a.size → LeadsTo a o i j → value i ≤ᵈ Finite (share o) +ᵈ value j
   step o i j l leads =

@@ -1,4 +1,4 @@
--- Lists that agree place by place, with one element more in each.
+-- Lists that agree element by element, with one element more in each.
 use Rattle.std.proofs.Common.{List, [], ◌∷◌, ◌++◌}
 use Rattle.std.specs.List.{AllZip}
 

@@ -1,5 +1,4 @@
 pub mod Classes
-pub mod Orders
 pub mod Queues
 pub mod Saturations
 pub mod Searches

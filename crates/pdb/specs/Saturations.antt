@@ -3,7 +3,7 @@ use Rattle.std.specs.Prelude.{◌≡◌, ℕ, ◌<◌, ◌≤◌, ◌⊎◌, Lis
 use Rattle.cost.specs.Distances.{Distance}
 use Rattle.abstraction.specs.Abstractions.{Abstraction}
 use Rattle.pdb_walks.specs.Walks.{fall}
-use Rattle.pdb_walks.specs.Entrances.{LeadsTo, Classes}
+use Rattle.abstraction_groups.specs.Entrances.{LeadsTo, Classes}
 
 -- the number is 0, or the decrease over some transition of an operator of the class
 abbrev pub IsFallOf : Abstraction → Classes → (ℕ → Distance) → ℕ → ℕ → Type 0

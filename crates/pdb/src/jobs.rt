@@ -6,8 +6,8 @@ ghost use Rattle.fdr.specs.Tasks.{FiniteDomainTask};
 ghost use Rattle.pdb.specs.Jobs.{IsTableOf};
 
 use crate::search::distances;
+use abstraction_groups::BackwardAbstraction;
 use cert_value::Values;
-use pdb_walks::BackwardAbstraction;
 use std::alloc::{AllocError, Global};
 
 /// A table to compute: its abstraction, and the share of each operator of the task, in the order of their numbers.

@@ -8,8 +8,12 @@ mod jobs;
 mod least;
 mod queue;
 mod saturation;
+mod scratch;
 mod search;
+mod table;
 
 pub use jobs::{Job, build_all};
 pub use saturation::saturate;
+pub use scratch::Scratch;
 pub use search::distances;
+pub use table::take_table;

@@ -1,183 +1,175 @@
 //! The priority queue of abstract states.
 
-ghost use Rattle.std.specs.Prelude.{◌≡◌, ℕ, ◌+◌, ◌^◌, ◌<◌, ◌≤◌, length, slice_index, vec_len, IfOk, MatchOption};
-ghost use Rattle.pdb.specs.Orders.{IsOrder, exchanged, SameBefore};
+ghost use Rattle.std.specs.Prelude.{◌≡◌, ◌<◌, [], ◌∷◌, ◌++◌, length, IfSome, IfNone, IfOk, OnOk, IsPermutation};
+ghost use Rattle.pdb.specs.Queues.{entries_of, IsFilled};
 
 use std::alloc::{AllocError, Global};
+use std::marker::Model;
+use std::mem;
 
-/// A priority queue of states, which are the numbers below a size: a binary heap (Williams 1964). The values that order
-/// it are passed with each call. A state occurs at most once, and moves up when its value decreases. The queue takes 8
-/// bytes for each state below the size, queued or not.
+/// An entry of the queue: an abstract state with the value that it had when it was added.
+#[derive(Clone, Copy)]
+pub(crate) struct Entry {
+    pub(crate) value: u64,
+    pub(crate) state: u32,
+}
+
+/// The number of buckets: one for each position of the highest bit in which two values can differ, and one for values
+/// that do not differ.
+const BUCKETS: usize = 65;
+
+/// A priority queue of abstract states: a radix heap (Ahuja, Mehlhorn, Orlin and Tarjan 1990). Entries are taken by
+/// increasing values, provided that no entry is added with a lesser value than the last one taken; this order is not
+/// proved. An entry cannot be changed: after the value of a state has decreased, the state is added once more. In
+/// contracts the value of a queue is the list of its entries, in no particular order.
+///
+/// An entry takes 16 bytes and is moved at most 64 times. Memory of earlier entries is reused.
 #[derive(Drop)]
 pub(crate) struct Queue {
-    /// Each state once. The queued states come first, as a heap.
-    order: Vec<u32>,
-    /// The index of each state in `order`.
-    places: Vec<u32>,
-    /// The number of queued states.
-    len: usize,
-    ghost is_order: { IsOrder order.items places.items },
-    ghost within: { len ≤ length order.items },
+    /// Bucket 0 has the entries with the value `last`, and bucket b those whose value differs from it in bit b - 1,
+    /// counted from 0, and in none above.
+    buckets: Vec<Vec<Entry>>,
+    /// The least value of the entries that were last moved to other buckets.
+    last: u64,
+    /// A buffer.
+    moved: Vec<Entry>,
 }
 
-/// Exchanges the states at two indices of the order.
-fn exchange(order: &mut [u32], places: &mut [u32], first: usize, second: usize)
-    requires order { IsOrder order.old places.old }
-    requires first { first < length order.old }
-    requires second { second < length order.old }
-    ensures order { IsOrder order.new places.new }
-    ensures places { (s : ℕ) → s < length places.old →
-        slice_index places.new s ≡ exchanged first second (slice_index places.old s) }
-{
-    let a = order[first];
-    let b = order[second];
-    order[first] = b;
-    order[second] = a;
-    places[a as usize] = second as u32;
-    places[b as usize] = first as u32;
+impl Model for Queue {
+    ghost use Rattle.std.specs.Prelude.{◌≡◌, List, length};
+    ghost use Rattle.pdb.specs.declared.queue.Entry.{Entry};
+    ghost use Rattle.pdb.specs.declared.queue.TheConstants.{BUCKETS};
+    ghost use Rattle.pdb.specs.Queues.{entries_of};
+
+    ghost Value = { List Entry };
+
+    ghost view = { λ q. entries_of q.buckets.items };
+
+    ghost invariant = { λ q. length q.buckets.items ≡ BUCKETS };
 }
 
-/// Moves the state at `start` up in the heap, past states with a greater value.
-fn move_up(order: &mut [u32], places: &mut [u32], values: &[u64], start: usize)
-    requires order { IsOrder order.old places.old }
-    requires values { length values.now ≡ length places.old }
-    requires start { start < length order.old }
-    ensures order { IsOrder order.new places.new }
-    ensures same { (n : ℕ) → start < n → SameBefore n places.old places.new }
+/// Returns the bucket for a value.
+fn bucket_of(value: u64, last: u64) -> usize
+    ensures { result < BUCKETS }
 {
-    let mut place = start;
-    while place > 0 {
-        let above = (place - 1) / 2;
-        if values[order[above] as usize] <= values[order[place] as usize] {
-            break;
+    64usize.saturating_sub((value ^ last).leading_zeros() as usize)
+}
+
+/// Adds an entry to its bucket.
+fn put(buckets: &mut [Vec<Entry>], last: u64, entry: Entry) -> Result<(), AllocError>
+    requires { length buckets.old ≡ BUCKETS }
+    ensures { OnOk result (IsPermutation (entry ∷ entries_of buckets.old) (entries_of buckets.new)) }
+{
+    let bucket = bucket_of(entry.value, last);
+    buckets[bucket].push(entry)?;
+    Ok(())
+}
+
+/// Returns the first bucket that has an entry.
+fn first_filled(buckets: &[Vec<Entry>]) -> Option<usize>
+    ensures some { IfSome result (λ bucket. IsFilled buckets.now bucket) }
+    ensures none { IfNone result (entries_of buckets.now ≡ []) }
+{
+    for bucket in 0..buckets.len() {
+        if !buckets[bucket].is_empty() {
+            return Some(bucket);
         }
-        exchange(order, places, above, place);
-        place = above;
     }
+    None
 }
 
-/// Returns the child of index `place` in the heap whose state has the lesser value, if there is a child below index
-/// `len`.
-fn lesser_below(order: &[u32], values: &[u64], len: usize, place: usize) -> Option<usize>
-    requires small { length order.now ≤ 2 ^ 24 }
-    requires states { (k : ℕ) → k < length order.now → slice_index order.now k < length values.now }
-    requires len { len ≤ length order.now }
-    requires place { place < len }
-    ensures { MatchOption result (Unit {0}) (λ below. (place < below) × (below < len)) }
+/// Returns the index of an entry with the least value.
+fn least_index(entries: &[Entry]) -> usize
+    requires { 0 < length entries.now }
+    ensures { result < length entries.now }
 {
-    let left = 2 * place + 1;
-    if left >= len {
-        return None;
-    }
-    let right = left + 1;
-    if right < len && values[order[right] as usize] < values[order[left] as usize] {
-        return Some(right);
-    }
-    Some(left)
-}
-
-/// Moves the first state down in the heap of the first `len` indices, past states with a lesser value.
-fn move_down(order: &mut [u32], places: &mut [u32], values: &[u64], len: usize)
-    requires order { IsOrder order.old places.old }
-    requires values { length values.now ≡ length places.old }
-    requires len { len ≤ length order.old }
-    ensures order { IsOrder order.new places.new }
-    ensures same { SameBefore len places.old places.new }
-{
-    let mut place = 0;
-    while place < len {
-        let Some(below) = lesser_below(order, values, len, place) else {
-            break;
-        };
-        if values[order[place] as usize] <= values[order[below] as usize] {
-            break;
+    let mut least = 0;
+    for index in 1..entries.len() {
+        if entries[index].value < entries[least].value {
+            least = index;
         }
-        exchange(order, places, place, below);
-        place = below;
     }
+    least
 }
 
-/// Returns the numbers below the size, in order.
-fn numbers_below(alloc: Global, size: usize) -> Result<Vec<u32>, AllocError>
-    requires { size ≤ 2 ^ 24 }
-    ensures len { IfOk result (λ numbers. length numbers.items ≡ size) }
-    ensures values { IfOk result (λ numbers. (k : ℕ) → k < size → slice_index numbers.items k ≡ k) }
+/// Adds entries to their buckets.
+fn put_all(buckets: &mut [Vec<Entry>], last: u64, entries: &[Entry]) -> Result<(), AllocError>
+    requires { length buckets.old ≡ BUCKETS }
+    ensures { OnOk result (IsPermutation (entries.now ++ entries_of buckets.old) (entries_of buckets.new)) }
 {
-    let mut numbers = Vec::with_capacity(alloc, size)?;
-    for number in 0..size {
-        numbers.push(number as u32)?;
+    for entry in entries {
+        put(buckets, last, *entry)?;
     }
-    Ok(numbers)
+    Ok(())
+}
+
+/// Removes an entry with the least value of a bucket and returns it. The other entries of the bucket move to their
+/// buckets relative to that value. `moved` is a buffer.
+fn take_from(
+    buckets: &mut [Vec<Entry>],
+    moved: &mut Vec<Entry>,
+    bucket: usize,
+) -> Result<Entry, AllocError>
+    requires len { length buckets.old ≡ BUCKETS }
+    requires filled { IsFilled buckets.old bucket }
+    ensures { IfOk result (λ entry. IsPermutation (entries_of buckets.old) (entry ∷ entries_of buckets.new)) }
+{
+    moved.clear();
+    mem::swap(moved, &mut buckets[bucket]);
+    let least = least_index(moved);
+    let entry = moved.swap_remove(least);
+    put_all(buckets, entry.value, moved)?;
+    Ok(entry)
 }
 
 impl Queue {
-    ghost use Rattle.pdb.specs.Queues.{size_of, IsQueued, IsAbsent, HasAdded, HasTaken};
-
-    /// Returns an empty queue for the states below the size.
-    pub(crate) fn new(alloc: Global, size: usize) -> Result<Queue, AllocError>
-        requires { size ≤ 2 ^ 24 }
-        ensures size { IfOk result (λ queue. size_of queue ≡ size) }
-        ensures empty { IfOk result (λ queue. queue.len ≡ 0) }
+    /// Returns an empty queue.
+    pub(crate) fn new(alloc: Global) -> Result<Queue, AllocError>
+        ensures { IfOk result (λ queue. queue ≡ []) }
     {
-        let order = numbers_below(alloc, size)?;
-        let places = numbers_below(alloc, size)?;
+        let mut buckets = Vec::with_capacity(alloc, BUCKETS)?;
+        for _ in 0..BUCKETS {
+            buckets.push(Vec::new(alloc))?;
+        }
         Ok(Queue {
-            order,
-            places,
-            len: 0,
+            buckets,
+            last: 0,
+            moved: Vec::new(alloc),
         })
     }
 
-    /// Moves a queued state up after its value has decreased.
-    fn raise(&mut self, values: &[u64], state: usize)
-        requires values { length values.now ≡ size_of self.old }
-        requires state { state < size_of self.old }
-        requires queued { IsQueued self.old state }
-        ensures size { size_of self.new ≡ size_of self.old }
-        ensures len { self.new.len ≡ self.old.len }
-        ensures same { SameBefore self.old.len self.old.places.items self.new.places.items }
+    /// Removes all entries. The next entry may have any value.
+    pub(crate) fn clear(&mut self)
+        ensures { self.new ≡ [] }
     {
-        let place = self.places[state] as usize;
-        move_up(&mut self.order, &mut self.places, values, place);
-    }
-
-    /// Appends a state that is not queued.
-    fn append(&mut self, state: usize)
-        requires state { state < size_of self.old }
-        requires absent { IsAbsent self.old state }
-        ensures { HasAdded self.old self.new state }
-    {
-        let place = self.places[state] as usize;
-        exchange(&mut self.order, &mut self.places, place, self.len);
-        self.len += 1;
-    }
-
-    /// Adds the state to the queue, or moves it up if it is queued and its value has decreased.
-    pub(crate) fn add(&mut self, values: &[u64], state: usize)
-        requires values { length values.now ≡ size_of self.old }
-        requires state { state < size_of self.old }
-        ensures { HasAdded self.old self.new state }
-    {
-        if (self.places[state] as usize) < self.len {
-            return self.raise(values, state);
+        for bucket in 0..self.buckets.len() {
+            self.buckets[bucket].clear();
         }
-        self.append(state);
-        self.raise(values, state);
+        self.last = 0;
     }
 
-    /// Removes a state and returns it, or returns `None` if the queue is empty. The state has the least value, provided
-    /// that each state whose value decreased was moved up; this is not proved.
-    pub(crate) fn take(&mut self, values: &[u64]) -> Option<usize>
-        requires { length values.now ≡ size_of self.old }
-        ensures { MatchOption result ((self.new ≡ self.old) × (self.old.len ≡ 0)) (λ state. HasTaken self.old self.new state) }
+    /// Adds an entry. On failure the content of the queue is not specified.
+    pub(crate) fn add(&mut self, value: u64, state: u32) -> Result<(), AllocError>
+        ensures { OnOk result (IsPermutation (record { value = value; state = state } ∷ self.old) self.new) }
     {
-        if self.len == 0 {
-            return None;
+        put(&mut self.buckets, self.last, Entry { value, state })
+    }
+
+    /// Removes an entry with the least value and returns it, or returns `None` if the queue is empty. On failure the
+    /// content of the queue is not specified.
+    pub(crate) fn take(&mut self) -> Result<Option<Entry>, AllocError>
+        ensures none { IfOk result (λ taken. IfNone taken (self.old ≡ [])) }
+        ensures empty { IfOk result (λ taken. IfNone taken (self.new ≡ [])) }
+        ensures some { IfOk result (λ taken. IfSome taken (λ entry. IsPermutation self.old (entry ∷ self.new))) }
+    {
+        if let Some(entry) = self.buckets[0].pop() {
+            return Ok(Some(entry));
         }
-        let state = self.order[0] as usize;
-        self.len -= 1;
-        exchange(&mut self.order, &mut self.places, 0, self.len);
-        move_down(&mut self.order, &mut self.places, values, self.len);
-        Some(state)
+        let Some(bucket) = first_filled(&self.buckets) else {
+            return Ok(None);
+        };
+        let entry = take_from(&mut self.buckets, &mut self.moved, bucket)?;
+        self.last = entry.value;
+        Ok(Some(entry))
     }
 }

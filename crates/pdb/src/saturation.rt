@@ -4,12 +4,12 @@ ghost use Rattle.std.specs.Prelude.{◌≡◌, ℕ, ◌^◌, ◌<◌, ◌≤◌,
 ghost use Rattle.cost.specs.Distances.{Finite};
 ghost use Rattle.fdr.specs.Tasks.{FiniteDomainTask};
 ghost use Rattle.pdb_walks.specs.Walks.{AreDistances, IsGreatestFall, value_in, fall};
-ghost use Rattle.pdb_walks.specs.Entrances.{LeadsTo};
+ghost use Rattle.abstraction_groups.specs.Entrances.{LeadsTo};
 ghost use Rattle.pdb.specs.Saturations.{AreFalls, AreFull, AreWithin, IsCoveredAt};
 
-use crate::least::{least_shares, shares_by_class};
+use crate::least::{set_least, shares_by_class};
+use abstraction_groups::{BackwardAbstraction, BackwardTransitions, Transition};
 use cert_value::Values;
-use pdb_walks::{BackwardAbstraction, BackwardTransitions, Transition};
 use std::alloc::{AllocError, Global};
 
 /// Returns by how much `value` is below the value of a state, and 0 if it is not below or that value is infinite.
@@ -108,35 +108,29 @@ fn cover_all<T: BackwardTransitions>(
     Ok(())
 }
 
-/// Returns the greatest decrease of the values over the transitions of each class. `least` has the least share of each
-/// class, which no decrease exceeds.
-fn greatest_falls<T: BackwardTransitions>(
-    alloc: Global,
+/// Replaces the content of `greatest` by the greatest decrease of the values over the transitions of each class.
+/// `least` has the least share of each class, which no decrease exceeds. On failure the content is not specified.
+/// `digits` and the list of transitions are buffers.
+pub(crate) fn set_greatest<T: BackwardTransitions>(
     transitions: &T,
     values: &Values,
     least: &[u32],
-) -> Result<Vec<u32>, AllocError>
+    greatest: &mut Vec<u32>,
+    digits: &mut Vec<u32>,
+    entering: &mut Vec<Transition>,
+) -> Result<(), AllocError>
     requires least_len { length least.now ≡ (T.classes transitions.now).count }
     requires values { length values.now ≡ (T.abstraction transitions.now).size }
     requires falls { AreWithin (T.abstraction transitions.now) (T.classes transitions.now) (value_in values.now) least.now }
-    ensures len { IfOk result (λ greatest. length greatest.items ≡ (T.classes transitions.now).count) }
-    ensures reached { IfOk result (λ greatest.
-        AreFalls (T.abstraction transitions.now) (T.classes transitions.now) (value_in values.now) greatest.items) }
-    ensures covered { IfOk result (λ greatest. (j : ℕ) → j < (T.abstraction transitions.now).size →
-        IsCoveredAt (T.abstraction transitions.now) (T.classes transitions.now) (value_in values.now) j greatest.items) }
+    ensures len { OnOk result (length greatest.new.items ≡ (T.classes transitions.now).count) }
+    ensures reached { OnOk result
+        (AreFalls (T.abstraction transitions.now) (T.classes transitions.now) (value_in values.now) greatest.new.items) }
+    ensures covered { OnOk result ((j : ℕ) → j < (T.abstraction transitions.now).size →
+        IsCoveredAt (T.abstraction transitions.now) (T.classes transitions.now) (value_in values.now) j greatest.new.items) }
 {
-    let mut greatest = vec![in alloc; 0; transitions.class_count()]?;
-    let mut digits = Vec::new(alloc);
-    let mut entering = Vec::new(alloc);
-    cover_all(
-        transitions,
-        values,
-        least,
-        &mut greatest,
-        &mut digits,
-        &mut entering,
-    )?;
-    Ok(greatest)
+    greatest.clear();
+    greatest.resize(least.len(), 0)?;
+    cover_all(transitions, values, least, greatest, digits, entering)
 }
 
 /// Returns the saturated cost function of a table: for each operator of the task, in order, the least share that
@@ -156,7 +150,18 @@ pub fn saturate<A: BackwardAbstraction>(
         IsGreatestFall (A.abstraction abstraction.now) (value_in values.now) o (slice_index needed.items o)) }
 {
     let transitions = abstraction.transitions();
-    let least = least_shares(alloc, transitions, shares, u32::MAX)?;
-    let greatest = greatest_falls(alloc, transitions, values, &least)?;
+    let mut least = Vec::new(alloc);
+    set_least(transitions, shares, u32::MAX, &mut least)?;
+    let mut greatest = Vec::new(alloc);
+    let mut digits = Vec::new(alloc);
+    let mut entering = Vec::new(alloc);
+    set_greatest(
+        transitions,
+        values,
+        &least,
+        &mut greatest,
+        &mut digits,
+        &mut entering,
+    )?;
     shares_by_class(alloc, transitions, &greatest, shares.len())
 }

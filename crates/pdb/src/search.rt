@@ -1,54 +1,71 @@
 //! The search backwards from the abstract goals.
 
-ghost use Rattle.std.specs.Prelude.{◌≡◌, ℕ, ◌+◌, ◌^◌, ◌<◌, ◌≤◌, length, slice_index, map, All, IfOk, OnOk};
+ghost use Rattle.std.specs.Prelude.{◌≡◌, [], ℕ, ◌+◌, ◌^◌, ◌<◌, ◌≤◌, length, slice_index, map, All, IfOk, OnOk};
 ghost use Rattle.cost.specs.Distances.{IsWithin};
 ghost use Rattle.fdr.specs.Tasks.{FiniteDomainTask};
 ghost use Rattle.cert_value.specs.Kept.{kept_distance};
 ghost use Rattle.pdb_walks.specs.Walks.{AreDistances};
-ghost use Rattle.pdb.specs.Queues.{size_of};
-ghost use Rattle.pdb.specs.Classes.{share_by};
+ghost use Rattle.pdb.specs.Classes.{share_by, AreLeast};
 ghost use Rattle.pdb.specs.Searches.{IsSearch, IsSearchBut, HasLowered, work};
 
-use crate::least::least_shares;
+use crate::least::set_least;
 use crate::queue::Queue;
+use crate::scratch::Scratch;
+use abstraction_groups::{BackwardAbstraction, BackwardTransitions, Transition};
 use cert_value::Values;
 use cost::Dist;
-use pdb_walks::{BackwardAbstraction, BackwardTransitions, Transition};
 use std::alloc::{AllocError, Global};
 
 /// The greatest share of an operator.
-const GREATEST_SHARE: u32 = 2_147_483_647;
+pub(crate) const GREATEST_SHARE: u32 = 2_147_483_647;
 
 /// The value of an abstract state from which no walk to an abstract goal has been found.
 const UNREACHED: u64 = 18_446_744_073_709_551_615;
 
+/// Removes all entries of the queue, and sets the values of this number of abstract states to `UNREACHED`. On failure
+/// the content of both is not specified.
+fn reset(values: &mut Vec<u64>, queue: &mut Queue, size: usize) -> Result<(), AllocError>
+    ensures len { OnOk result (length values.new.items ≡ size) }
+    ensures values { OnOk result ((k : ℕ) → k < size → slice_index values.new.items k ≡ UNREACHED) }
+    ensures empty { queue.new ≡ [] }
+{
+    queue.clear();
+    values.clear();
+    values.resize(size, UNREACHED)
+}
+
 /// Sets the values of the abstract goals to 0 and queues them. No state may have a value before, and the queue must be
-/// empty.
-fn add_goals<A: BackwardAbstraction>(abstraction: &A, values: &mut [u64], queue: &mut Queue)
+/// empty. On failure the content of the queue is not specified.
+fn add_goals<A: BackwardAbstraction>(
+    abstraction: &A,
+    values: &mut [u64],
+    queue: &mut Queue,
+) -> Result<(), AllocError>
     requires size { length values.old ≡ (A.abstraction abstraction.now).size }
-    requires queue_size { size_of queue.old ≡ (A.abstraction abstraction.now).size }
     requires values { (k : ℕ) → k < length values.old → slice_index values.old k ≡ UNREACHED }
-    requires empty { queue.old.len ≡ 0 }
-    ensures { (share : ℕ → ℕ) → IsSearch (A.abstraction abstraction.now) share values.new queue.new }
+    requires empty { queue.old ≡ [] }
+    ensures { OnOk result ((share : ℕ → ℕ) → IsSearch (A.abstraction abstraction.now) share values.new queue.new) }
 {
     for state in 0..values.len() {
         if abstraction.is_goal(state) {
             values[state] = 0;
-            queue.add(values, state);
+            queue.add(0, state as u32)?;
         }
     }
+    Ok(())
 }
 
-/// Lowers the value of a state to `value`, if that is less, and then queues the state.
-fn lower(values: &mut [u64], queue: &mut Queue, state: usize, value: u64)
-    requires state { state < length values.old }
-    requires size { size_of queue.old ≡ length values.old }
-    ensures { HasLowered values.old queue.old values.new queue.new state value }
+/// Lowers the value of a state to `value`, if that is less, and then queues the state. On failure the content of the
+/// queue is not specified.
+fn lower(values: &mut [u64], queue: &mut Queue, state: u32, value: u64) -> Result<(), AllocError>
+    requires { state < length values.old }
+    ensures { OnOk result (HasLowered values.old queue.old values.new queue.new state value) }
 {
-    if value < values[state] {
-        values[state] = value;
-        queue.add(values, state);
+    if value < values[state as usize] {
+        values[state as usize] = value;
+        queue.add(value, state)?;
     }
+    Ok(())
 }
 
 /// Relaxes all transitions into a state: lowers the values of the states that they come from. `least` has the share of
@@ -74,18 +91,20 @@ fn expand<T: BackwardTransitions>(
     let value = values[state];
     for transition in &*entering {
         let total = value + u64::from(least[transition.class as usize]);
-        lower(values, queue, transition.source as usize, total);
+        lower(values, queue, transition.source, total)?;
     }
     Ok(())
 }
 
-/// Removes states from the queue and relaxes the transitions into them until the queue is empty.
+/// Removes entries from the queue and relaxes the transitions into their states until the queue is empty. An entry is
+/// stale if the value of its state has decreased since: the state was added once more, and only then is it expanded.
 fn settle<T: BackwardTransitions>(
-    alloc: Global,
     transitions: &T,
     least: &[u32],
     values: &mut [u64],
     queue: &mut Queue,
+    digits: &mut Vec<u32>,
+    entering: &mut Vec<Transition>,
 ) -> Result<(), AllocError>
     requires classes { length least.now ≡ (T.classes transitions.now).count }
     requires small { (c : ℕ) → slice_index least.now c < 2 ^ 31 }
@@ -93,26 +112,19 @@ fn settle<T: BackwardTransitions>(
         values.old queue.old }
     ensures search { OnOk result (IsSearch (T.abstraction transitions.now) (share_by (T.classes transitions.now) least.now)
         values.new queue.new) }
-    ensures empty { OnOk result (queue.new.len ≡ 0) }
+    ensures empty { OnOk result (queue.new ≡ []) }
 {
-    let mut digits = Vec::new(alloc);
-    let mut entering = Vec::new(alloc);
-    while let Some(state) = queue.take(values) {
-        expand(
-            transitions,
-            least,
-            values,
-            queue,
-            state,
-            &mut digits,
-            &mut entering,
-        )?;
+    while let Some(entry) = queue.take()? {
+        let state = entry.state as usize;
+        if values[state] == entry.value {
+            expand(transitions, least, values, queue, state, digits, entering)?;
+        }
     }
     Ok(())
 }
 
 /// Returns the values as distances.
-fn as_distances(alloc: Global, values: &[u64]) -> Result<Values, AllocError>
+pub(crate) fn as_distances(alloc: Global, values: &[u64]) -> Result<Values, AllocError>
     ensures { IfOk result (λ distances. distances ≡ map kept_distance values.now) }
 {
     let mut distances = Values::new(alloc);
@@ -122,12 +134,45 @@ fn as_distances(alloc: Global, values: &[u64]) -> Result<Values, AllocError>
     Ok(distances)
 }
 
+/// Finds the distance of each abstract state under `shares`, which has a share below 2^31 for each operator of the
+/// task, in order. In `scratch` the distances are the values, and `least` has the least share of each class of
+/// operators.
+pub(crate) fn search<A: BackwardAbstraction>(
+    abstraction: &A,
+    transitions: &A::Transitions,
+    shares: &[u32],
+    scratch: &mut Scratch,
+) -> Result<(), AllocError>
+    requires transitions { A.Transitions.abstraction transitions.now ≡ A.abstraction abstraction.now }
+    requires operators { length shares.now ≡ length (A.task abstraction.now).operators }
+    requires small { (o : ℕ) → slice_index shares.now o < 2 ^ 31 }
+    ensures small { OnOk result (All (IsWithin (2 ^ 55)) (map kept_distance scratch.new.values.items)) }
+    ensures distances { OnOk result
+        (AreDistances (A.abstraction abstraction.now) (λ o. slice_index shares.now o)
+        (map kept_distance scratch.new.values.items)) }
+    ensures len { OnOk result (length scratch.new.least.items ≡ (A.Transitions.classes transitions.now).count) }
+    ensures least { OnOk result (AreLeast (A.Transitions.classes transitions.now) shares.now scratch.new.least.items) }
+{
+    set_least(transitions, shares, GREATEST_SHARE, &mut scratch.least)?;
+    reset(&mut scratch.values, &mut scratch.queue, abstraction.size())?;
+    add_goals(abstraction, &mut scratch.values, &mut scratch.queue)?;
+    settle(
+        transitions,
+        &scratch.least,
+        &mut scratch.values,
+        &mut scratch.queue,
+        &mut scratch.digits,
+        &mut scratch.entering,
+    )?;
+    Ok(())
+}
+
 /// Returns the distance of each abstract state, in order: the least total of shares over the walks from it to an
 /// abstract goal, and infinite if there is no walk. `shares` has a share below 2^31 for each operator of the task, in
 /// order. Finite distances are at most 2^55.
 ///
 /// This is a search backwards from the goals (Dijkstra 1959; for pattern databases Culberson and Schaeffer 1998). It
-/// takes 16 bytes for each abstract state, besides the result and the buffers of one expansion.
+/// allocates the memory of a `Scratch`, besides the result.
 pub fn distances<A: BackwardAbstraction>(
     alloc: Global,
     abstraction: &A,
@@ -139,13 +184,7 @@ pub fn distances<A: BackwardAbstraction>(
     ensures distances { IfOk result
         (λ values. AreDistances (A.abstraction abstraction.now) (λ o. slice_index shares.now o) values) }
 {
-    let transitions = abstraction.transitions();
-    let least = least_shares(alloc, transitions, shares, GREATEST_SHARE)?;
-    let size = abstraction.size();
-    let mut values = vec![in alloc; UNREACHED; size]?;
-    let mut queue = Queue::new(alloc, size)?;
-    add_goals(abstraction, &mut values, &mut queue);
-    settle(alloc, transitions, &least, &mut values, &mut queue)?;
-    drop(queue);
-    as_distances(alloc, &values)
+    let mut scratch = Scratch::new(alloc)?;
+    search(abstraction, abstraction.transitions(), shares, &mut scratch)?;
+    as_distances(alloc, &scratch.values)
 }

@@ -31,7 +31,7 @@ fn goal_values(alloc: Global, task: &FdrTask) -> Result<Vec<Option<u32>>, AllocE
 }
 
 /// Returns whether one of the mappings is the same as this one.
-fn has_mapping(mappings: &[Mapping], mapping: &Mapping) -> bool
+pub fn has_mapping(mappings: &[Mapping], mapping: &Mapping) -> bool
     ensures none { result ≡ false → All (λ m. mapping_of m ≢ mapping_of mapping.now) mappings.now }
     ensures one { result ≡ true → (p : MappingOf → Bool) → p (mapping_of mapping.now) ≡ true → list_any p (map mapping_of mappings.now) ≡ true }
 {
@@ -101,7 +101,7 @@ fn pattern_from(
 
 /// Returns the mapping that begins with a variable for which the goal requires the value `goal`: a pattern that grows
 /// from it if its range is within the limit, otherwise classes of its values, or `None` if the limit is 1.
-fn mapping_from(
+pub(crate) fn mapping_from(
     alloc: Global,
     task: &FdrTask,
     effects: &[Effect],

@@ -5,6 +5,8 @@
 mod choice;
 mod domains;
 mod effects;
+mod from_goals;
 mod growth;
 
-pub use choice::{MAX_MAPPINGS, choose_mappings};
+pub use choice::{MAX_MAPPINGS, choose_mappings, has_mapping};
+pub use from_goals::Growth;

@@ -4,10 +4,11 @@ use Rattle.std.specs.Prelude.{All}
 use Rattle.std.proofs.lemmas.List.Elements.{All-head, All-tail}
 use Rattle.std.proofs.Math.Nat.{mod-add-div}
 use Rattle.std.proofs.lemmas.Nat.{mod_below, mul-add-lt, mul-le}
-use Rattle.pdb_regression.specs.declared.change.DigitChange.{DigitChange}
-use Rattle.pdb_regression.specs.declared.change.Change.{Change}
-use Rattle.pdb_regression.specs.declared.change.Change.TheVariants.{Kept, Required, Moved, Assigned}
-use Rattle.pdb_regression.specs.Changes.{LeadsBy, FitsIn, IsFit, put_at, taken_at, size_by}
+use Rattle.abstraction_groups.specs.declared.change.DigitChange.{DigitChange}
+use Rattle.abstraction_groups.specs.declared.change.Change.{Change}
+use Rattle.abstraction_groups.specs.declared.change.Change.TheVariants.{Kept, Required, Moved, Assigned}
+use Rattle.abstraction_groups.specs.Changes.{LeadsBy, FitsIn, IsFit, size_by}
+use Rattle.pdb_regression.specs.Changes.{put_at, taken_at}
 use Rattle.pdb_regression.specs.Rules.{put_by, taken_by}
 use Rattle.pdb_regression.specs.Tables.{no_change}
 use Rattle.pdb_regression.proofs.Elements.{first_and_rest}

@@ -1,9 +1,7 @@
 pub mod Bounds
-pub mod ChangeLaws
 pub mod Elements
 pub mod RowLaws
 pub mod RuleLaws
 pub mod TableLaws
 pub mod TransitionLaws
-pub mod WayLaws
 pub mod WordLaws

@@ -11,15 +11,16 @@ use Rattle.abstraction.specs.Projections.{Projection}
 use Rattle.abstraction.specs.declared.digit.Digit.{Digit}
 use Rattle.abstraction.specs.Digits.{value_of, IsDigitBelow, digits_from}
 use Rattle.abstraction.specs.ProjectionLaws.{quotient, remainder}
-use Rattle.pdb_regression.specs.declared.change.Change.{Change}
-use Rattle.pdb_regression.specs.declared.change.Change.TheVariants.{Kept, Required, Moved, Assigned}
-use Rattle.pdb_regression.specs.declared.change.DigitChange.{DigitChange}
-use Rattle.pdb_regression.specs.Changes.{LeadsAt, LeadsBy, FitsIn, IsFit, enters_at, enters_digit, put_at, taken_at, is_free, size_by}
-use Rattle.pdb_regression.specs.Tables.{IsChain, IsRow}
+use Rattle.abstraction_groups.specs.declared.change.Change.{Change}
+use Rattle.abstraction_groups.specs.declared.change.Change.TheVariants.{Kept, Required, Moved, Assigned}
+use Rattle.abstraction_groups.specs.declared.change.DigitChange.{DigitChange}
+use Rattle.abstraction_groups.specs.Changes.{LeadsAt, LeadsBy, FitsIn, IsFit, size_by}
+use Rattle.pdb_regression.specs.Changes.{enters_at, enters_digit, put_at, taken_at, is_assigned}
+use Rattle.abstraction_groups.specs.Pairs.{IsChain, IsRow}
 use Rattle.pdb_regression.specs.Rules.{unpacked, put_by, taken_by, free_in, IsWith}
-use Rattle.pdb_walks.specs.declared.backward.Transition.{Transition}
+use Rattle.abstraction_groups.specs.declared.backward.Transition.{Transition}
 use Rattle.pdb_regression.proofs.Bounds.{leads_below}
-use Rattle.pdb_regression.proofs.WayLaws.{all_enter}
+use Rattle.pdb_regression.proofs.TableLaws.{all_enter}
 
 below_one : (m n : ℕ) → m < n + 1 → (m < n) ⊎ (m ≡ n)
 below_one m n l = grind arith
@@ -49,7 +50,7 @@ with_itself (d ∷ ds) n all =
 -- ---- one change
 
 abbrev free_of : Change → Digit → List Digit → List Digit
-free_of change d ds = cond (is_free change) (d ∷ ds) ds
+free_of change d ds = cond (is_assigned change) (d ∷ ds) ds
 
 step_to : (change : Change) (d : Digit) (ds : List Digit) (w y a x i taken put : ℕ) → d.weight ≡ w → x < d.range → LeadsAt change x y →
     IsWith ds (w * d.range * a + w * d.range * taken) (w * d.range * i + w * d.range * put) →
@@ -205,7 +206,7 @@ free_fit [] all = λ k d l. absurd (omega arith)
 free_fit (c ∷ cs) all =
     let fit = All-head IsFit c cs all in
     let rest = free_fit cs (All-tail IsFit c cs all) in
-    cond_both (is_free c.change) (c.digit ∷ free_in cs) (free_in cs) (All (IsDigitBelow (2 ^ 24)))
+    cond_both (is_assigned c.change) (c.digit ∷ free_in cs) (free_in cs) (All (IsDigitBelow (2 ^ 24)))
     (λ _. All-cons (IsDigitBelow (2 ^ 24)) c.digit (free_in cs) fit.digit rest) (λ _. rest)
 
 -- ---- one value more of a free digit

@@ -1,5 +1,5 @@
 -- Classes under their keys are found at the abstract states that they enter.
-use Rattle.std.proofs.Common.{◌≡◌, ℕ, zero, suc, ◌+◌, ◌<◌, true, false, List, [], ◌∷◌, ◌++◌, length, map, take, get_or, set, refl, sym, ap, ◌∙◌, arith, Option, Some, None, subst, inl, inr, ⊎_elim, get_or-set_same, get_or-set_other}
+use Rattle.std.proofs.Common.{◌≡◌, ℕ, zero, suc, ◌+◌, ◌/◌, ◌%◌, ◌<◌, eq-eqb, true, false, List, [], ◌∷◌, ◌++◌, length, map, take, get_or, set, refl, sym, ap, ◌∙◌, arith, Option, Some, None, subst, inl, inr, ⊎_elim, get_or-set_same, get_or-set_other}
 use Rattle.std.specs.Prelude.{◌⊎◌, ◌↔◌, Contains, All, IsSomeAnd, slice_get, slice_set, slice_index_or}
 use Rattle.std.specs.List.{list_all}
 use Rattle.std.specs.Option.{option_map_or}
@@ -9,14 +9,15 @@ use Rattle.std.proofs.lemmas.List.{length-set, length-map, take_more}
 use Rattle.std.proofs.lemmas.List.Elements.{All-push, Contains-append_left, Contains-push, Contains-push_cases}
 use Rattle.std.proofs.lemmas.List.Folds.{list_all_at}
 use Rattle.std.proofs.lemmas.Option.{slice_get_past}
-use Rattle.std.proofs.lemmas.Bool.{cases_eq, eqb-true, false≢true, true_from_ne_false}
+use Rattle.std.proofs.lemmas.Bool.{and_from, cases_eq, eqb-true, false≢true, true_from_ne_false}
 use Rattle.abstraction.specs.declared.digit.Digit.{Digit}
 use Rattle.abstraction.specs.Digits.{value_of}
-use Rattle.pdb_regression.specs.declared.change.Change.{Change}
-use Rattle.pdb_regression.specs.declared.change.Change.TheVariants.{Kept, Required, Moved, Assigned}
-use Rattle.pdb_regression.specs.declared.change.DigitChange.{DigitChange}
-use Rattle.pdb_walks.specs.declared.backward.Transition.{Transition}
-use Rattle.pdb_regression.specs.Changes.{LeadsBy, asked, enters_at, enters_digit}
+use Rattle.abstraction_groups.specs.declared.change.Change.{Change}
+use Rattle.abstraction_groups.specs.declared.change.Change.TheVariants.{Kept, Required, Moved, Assigned}
+use Rattle.abstraction_groups.specs.declared.change.DigitChange.{DigitChange}
+use Rattle.abstraction_groups.specs.declared.backward.Transition.{Transition}
+use Rattle.abstraction_groups.specs.Changes.{LeadsAt, LeadsBy}
+use Rattle.pdb_regression.specs.Changes.{asked, enters_at, enters_digit}
 use Rattle.pdb_regression.specs.declared.place.Position.{Position}
 use Rattle.pdb_regression.specs.Tables.{enters, LeadsIn, no_change, IsKey, Place, IsPositionIn, IsReadAt, positions_of, list_at, IsAdded, no_position, no_place, IsUnder, IsListed, AreIndexed}
 
@@ -46,6 +47,19 @@ added_is at lists new v o l e =
     other j p has there =
         subst (λ (xs : List ℕ). Contains xs p)
         (sym (ap (λ (xs : List (List ℕ)). get_or xs (value_of d j) []) e ∙ get_or-set_other lists v (value_of d j) (get_or lists v [] ++ o ∷ []) [] there)) has
+
+-- ---- a change enters where it leads
+
+is_entered : (change : Change) (x y : ℕ) → LeadsAt change x y → enters_at change y ≡ true
+is_entered Kept x y h = refl
+is_entered (Required c) x y h = eq-eqb y c h.1
+is_entered (Moved from to) x y h = eq-eqb y to h.1
+is_entered (Assigned e) x y h = eq-eqb y e h
+
+pub all_enter : (cs : List DigitChange) (i j : ℕ) → LeadsBy cs i j → list_all (enters_digit j) cs ≡ true
+all_enter [] i j h = refl
+all_enter (c ∷ cs) i j h =
+    and_from (enters_digit j c) (list_all (enters_digit j) cs) (is_entered c.change (i % c.digit.range) (value_of c.digit j) h.0) (all_enter cs (i / c.digit.range) j h.1)
 
 -- ---- keys
 

@@ -14,10 +14,11 @@ use Rattle.abstraction.specs.declared.digit.Digit.{Digit}
 use Rattle.abstraction.specs.Digits.{value_of, IsDigitBelow, digits_from}
 use Rattle.abstraction.specs.Projections.{Projection, size_of}
 use Rattle.abstraction.specs.ProjectionLaws.{quotient, remainder}
-use Rattle.pdb_regression.specs.declared.change.Change.{Change}
-use Rattle.pdb_regression.specs.declared.change.Change.TheVariants.{Kept, Required, Moved, Assigned}
-use Rattle.pdb_regression.specs.declared.change.DigitChange.{DigitChange}
-use Rattle.pdb_regression.specs.Changes.{FitsIn, IsFit, enters_at, enters_digit, size_by}
+use Rattle.abstraction_groups.specs.declared.change.Change.{Change}
+use Rattle.abstraction_groups.specs.declared.change.Change.TheVariants.{Kept, Required, Moved, Assigned}
+use Rattle.abstraction_groups.specs.declared.change.DigitChange.{DigitChange}
+use Rattle.abstraction_groups.specs.Changes.{FitsIn, IsFit, size_by}
+use Rattle.pdb_regression.specs.Changes.{enters_at, enters_digit}
 use Rattle.pdb_regression.specs.Words.{bits_of, room_of, size_from, rooms_of, word_from, word_by, mask_at, want_at, mask_by, want_by, IsPlain}
 use Rattle.pdb_regression.specs.Rules.{unpacked}
 use Rattle.pdb_regression.specs.Tables.{IsAlong, no_change}

@@ -1,10 +1,10 @@
 -- The changes of a class of operators as arithmetic on the number of an abstract state.
 use Rattle.std.specs.Prelude.{◌≡◌, ℕ, ◌+◌, ◌*◌, ◌/◌, ◌%◌, ◌<◌, if◌then◌else◌, List, [], ◌∷◌}
 use Rattle.abstraction.specs.declared.digit.Digit.{Digit}
-use Rattle.pdb_regression.specs.declared.change.DigitChange.{DigitChange}
-use Rattle.pdb_regression.specs.Changes.{put_at, taken_at, is_free}
+use Rattle.abstraction_groups.specs.declared.change.DigitChange.{DigitChange}
+use Rattle.pdb_regression.specs.Changes.{put_at, taken_at, is_assigned}
 use Rattle.pdb_regression.specs.Words.{mask_by, want_by}
-use Rattle.pdb_regression.specs.Tables.{IsRow}
+use Rattle.abstraction_groups.specs.Pairs.{IsRow}
 
 -- the values at the digits, the lowest first
 abbrev pub unpacked : ℕ → List Digit → List ℕ
@@ -23,7 +23,7 @@ taken_by (c ∷ cs) = taken_at c.change + c.digit.range * taken_by cs
 -- the digits that may have any value before
 abbrev pub free_in : List DigitChange → List Digit
 free_in [] = []
-free_in (c ∷ cs) = if is_free c.change then c.digit ∷ free_in cs else free_in cs
+free_in (c ∷ cs) = if is_assigned c.change then c.digit ∷ free_in cs else free_in cs
 
 -- the second number is the first with a multiple of the weight of each digit added, below the digit's range
 abbrev pub IsWith : List Digit → ℕ → ℕ → Type 0

@@ -1,24 +1,25 @@
--- The classes of operators, and the lists by which those that enter an abstract state are found.
-use Rattle.std.specs.Prelude.{◌≡◌, ℕ, ◌*◌, ◌^◌, ◌<◌, ◌≤◌, Bool, true, false, if◌then◌else◌, List, [], ◌∷◌, ◌++◌, ◌⊎◌, length, map, Option, Some, None, IsSomeAnd, All, Contains, slice_get, slice_index, slice_index_or}
+-- The rules of groups of operators, and the lists by which the groups that enter an abstract state are found.
+use Rattle.std.specs.Prelude.{◌≡◌, ℕ, ◌<◌, Bool, true, false, List, [], ◌⊎◌, length, map, Some, IsSomeAnd, All, Contains, slice_get, slice_index, slice_index_or}
 use Rattle.std.specs.List.{list_all}
 use Rattle.std.specs.Option.{option_map_or}
-use Rattle.fdr.specs.Tasks.{Operator, ranges}
+use Rattle.fdr.specs.Tasks.{ranges}
 use Rattle.abstraction.specs.declared.digit.Digit.{Digit}
 use Rattle.abstraction.specs.Digits.{value_of, digits_from}
-use Rattle.abstraction.specs.Projections.{Projection, touches_pattern}
-use Rattle.abstraction.specs.Projections.{projection as projected}
-use Rattle.pdb_walks.specs.Entrances.{Classes, AreClasses}
-use Rattle.pdb_regression.specs.declared.change.Change.TheVariants.{Kept}
-use Rattle.pdb_regression.specs.declared.change.DigitChange.{DigitChange}
+use Rattle.abstraction.specs.Projections.{Projection}
+use Rattle.abstraction_groups.specs.declared.change.Change.TheVariants.{Kept}
+use Rattle.abstraction_groups.specs.declared.change.DigitChange.{DigitChange}
+use Rattle.abstraction_groups.specs.Changes.{at_digits, LeadsBy}
+use Rattle.abstraction_groups.specs.FactorLaws.{projection_factors}
+use Rattle.abstraction_groups.specs.Factors.{group_changes}
 use Rattle.pdb_regression.specs.declared.place.Position.{Position}
 use Rattle.pdb_regression.specs.Words.{IsPlain}
-use Rattle.pdb_regression.specs.Changes.{changes_of, LeadsBy, enters_digit, IsFit, size_by}
+use Rattle.pdb_regression.specs.Changes.{enters_digit}
 
--- ---- the changes by each operator
+-- ---- the rules
 
--- the changes of an operator that affects the pattern, and none for the others
-abbrev pub changes_in : Projection → Operator → List DigitChange
-changes_in p op = if touches_pattern p.pattern op then changes_of op (digits_from (ranges p.task) 1 p.pattern) p.pattern else []
+-- the changes of each group of operators, with the digits at which they are made
+abbrev pub rows_of : Projection → List (List DigitChange)
+rows_of p = map (at_digits (digits_from (ranges p.task) 1 p.pattern)) (group_changes p.task (projection_factors p))
 
 -- whether each change results in the value of the abstract state from some value
 abbrev pub enters : List (List DigitChange) → ℕ → ℕ → Bool
@@ -27,17 +28,6 @@ enters rules j c = option_map_or (λ changes. list_all (enters_digit j) changes)
 -- the changes of the class turn the first abstract state into the second
 abbrev pub LeadsIn : List (List DigitChange) → ℕ → ℕ → ℕ → Type 0
 LeadsIn rules c i j = IsSomeAnd (slice_get rules c) (λ changes. LeadsBy changes i j)
-
--- each digit's weight is the product of `w`, the weight of the first, and the ranges below it
-abbrev pub IsChain : ℕ → List DigitChange → Type 0
-IsChain w [] = Unit {0}
-IsChain w (c ∷ cs) = (c.digit.weight ≡ w) × IsChain (w * c.digit.range) cs
-
--- the changes of an operator with an effect on the pattern
-pub record IsRow (changes : List DigitChange) : Type 0 where
-  pub fit : All IsFit changes
-  pub small : size_by changes ≤ 2 ^ 24
-  pub chain : IsChain 1 changes
 
 -- the default for an index without a change
 abbrev pub no_change : DigitChange
@@ -106,36 +96,3 @@ AreIndexed rest places rows n = (o j : ℕ) → o < n → enters rows j o ≡ tr
 -- the changes are at these digits, in their order
 abbrev pub IsAlong : List Digit → List DigitChange → Type 0
 IsAlong digits changes = map (λ c. c.digit) changes ≡ digits
-
--- ---- the classes of the operators
-
--- the operator with these changes is in this class, or has no changes and no class
-abbrev pub IsIn : List (List DigitChange) → Option ℕ → List DigitChange → Type 0
-IsIn rules None changes = changes ≡ []
-IsIn rules (Some c) changes = (slice_get rules c ≡ Some changes) × (changes ≡ [] → ⊥)
-
--- the class of an operator with these changes: none if there are none, one that has them, or a new one
-abbrev pub AddsClass : List (List DigitChange) → List (List DigitChange) → List DigitChange → Option ℕ → Type 0
-AddsClass old new changes None = (new ≡ old) × (changes ≡ [])
-AddsClass old new changes (Some c) = (changes ≡ [] → ⊥) ×
-    (((new ≡ old) × (slice_get old c ≡ Some changes)) ⊎ ((new ≡ old ++ changes ∷ []) × (c ≡ length old)))
-
--- the first n operators are in the classes of their changes, and each class has an operator
-pub record AreGrouped (p : Projection) (rules : List (List DigitChange)) (class_of : List (Option ℕ)) (n : ℕ) : Type 0 where
-  pub as_long : length class_of ≡ n
-  pub classes : (o : ℕ) → o < n → (changes : List DigitChange) → slice_get (map (changes_in p) p.task.operators) o ≡ Some changes → IsIn rules (slice_index_or class_of o None) changes
-  pub below : (o c : ℕ) → o < n → slice_index_or class_of o None ≡ Some c → c < length rules
-  pub some : (c : ℕ) → c < length rules → (o : ℕ) × (o < n) × (slice_index_or class_of o None ≡ Some c)
-  pub rows : All IsRow rules
-  pub along : All (IsAlong (digits_from (ranges p.task) 1 p.pattern)) rules
-
--- the classes in lists
-abbrev pub classes_in : ℕ → List (Option ℕ) → Classes
-classes_in count class_of = record { count = count; class = λ o. slice_index_or class_of o None }
-
--- a projection with classes of its operators
-pub record Transitions : Type 0 where
-  pub projection : Projection
-  pub count : ℕ
-  pub class_of : List (Option ℕ)
-  pub grouped : AreClasses (projected projection.task projection.pattern) (classes_in count class_of)

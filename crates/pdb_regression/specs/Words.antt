@@ -3,9 +3,9 @@ use Rattle.std.specs.Prelude.{◌≡◌, ℕ, ◌+◌, ◌-◌, ◌*◌, ◌/◌
 use Rattle.std.specs.Int.Count.{count_leading_zeros}
 use Rattle.abstraction.specs.declared.digit.Digit.{Digit}
 use Rattle.abstraction.specs.Digits.{value_of}
-use Rattle.pdb_regression.specs.declared.change.Change.{Change}
-use Rattle.pdb_regression.specs.declared.change.Change.TheVariants.{Kept, Required, Moved, Assigned}
-use Rattle.pdb_regression.specs.declared.change.DigitChange.{DigitChange}
+use Rattle.abstraction_groups.specs.declared.change.Change.{Change}
+use Rattle.abstraction_groups.specs.declared.change.Change.TheVariants.{Kept, Required, Moved, Assigned}
+use Rattle.abstraction_groups.specs.declared.change.DigitChange.{DigitChange}
 
 -- how many bits hold the values below the range
 abbrev pub bits_of : ℕ → ℕ

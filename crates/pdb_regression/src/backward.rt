@@ -4,14 +4,13 @@ ghost use Rattle.std.specs.Prelude.{◌≡◌, IfOk};
 
 use crate::transitions::ProjectionTransitions;
 use abstraction::{Abstraction, Projection};
-use pdb_walks::BackwardAbstraction;
+use abstraction_groups::{BackwardAbstraction, OperatorIndex};
 use std::alloc::{AllocError, Global};
 use std::marker::Model;
 
 /// A projection whose transitions can be followed backwards (regression). In contracts its value is the projection.
 ///
-/// For each operator with an effect on the pattern it stores its class: the operators that make the same changes to the
-/// values of the pattern.
+/// Operators that make the same changes to the values of the pattern are one class.
 #[derive(Drop)]
 pub struct BackwardProjection<'a> {
     transitions: ProjectionTransitions<'a>,
@@ -22,19 +21,22 @@ impl<'a> Model for BackwardProjection<'a> {
 
     ghost Value = { Projection };
 
-    ghost view = { λ b. b.transitions.projection };
+    ghost view = { λ b. b.transitions };
 }
 
 impl<'a> BackwardProjection<'a> {
-    /// Prepares a projection for regression. Time and memory are linear in the number of the pattern's variables for
-    /// each operator with an effect on the pattern; each value of a variable with 4 values or more takes a list.
+    /// Prepares a projection of the indexed task for regression. Time and memory are linear in the number of the
+    /// pattern's variables for each operator with an effect on the pattern; each value of a variable with 4 values or
+    /// more takes a list.
     pub fn new(
         alloc: Global,
         projection: &'a Projection<'a>,
+        index: &OperatorIndex<'_>,
     ) -> Result<BackwardProjection<'a>, AllocError>
+        requires { index.now ≡ projection.now.task }
         ensures { IfOk result (λ b. b ≡ projection.now) }
     {
-        let transitions = ProjectionTransitions::new(alloc, projection)?;
+        let transitions = ProjectionTransitions::new(alloc, projection, index)?;
         Ok(BackwardProjection { transitions })
     }
 }
@@ -52,25 +54,25 @@ impl<'a> Abstraction for BackwardProjection<'a> {
     ghost is_small = { λ b. b.small };
 
     fn size(&self) -> usize {
-        self.transitions.projection.size()
+        self.transitions.projection().size()
     }
 
     fn index(&self, state: &[u32]) -> usize {
-        self.transitions.projection.index(state)
+        self.transitions.projection().index(state)
     }
 
     fn transition(&self, abstract_state: usize, operator: usize) -> Option<usize> {
         self.transitions
-            .projection
+            .projection()
             .transition(abstract_state, operator)
     }
 
     fn touches(&self, operator: usize) -> bool {
-        self.transitions.projection.touches(operator)
+        self.transitions.projection().touches(operator)
     }
 
     fn is_goal(&self, abstract_state: usize) -> bool {
-        self.transitions.projection.is_goal(abstract_state)
+        self.transitions.projection().is_goal(abstract_state)
     }
 }
 

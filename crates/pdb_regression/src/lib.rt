@@ -4,10 +4,9 @@
 
 mod backward;
 mod change;
-mod classes;
 mod place;
-mod row;
 mod rule;
+mod rules;
 mod transitions;
 mod word;
 

@@ -2,19 +2,21 @@
 
 ghost use Rattle.std.specs.Prelude.{◌≡◌, ℕ, ◌+◌, ◌++◌, ◌<◌, ◌≤◌, ◌==◌, true, ◌^◌, ◌⊎◌, ◌↔◌, All, Contains, length, slice_index_or, IfSome, IfOk, OnOk};
 ghost use Rattle.std.specs.Int.RustNames.{bit_and};
-ghost use Rattle.pdb_walks.specs.declared.backward.Transition.{Transition};
+ghost use Rattle.abstraction_groups.specs.declared.backward.Transition.{Transition};
 ghost use Rattle.abstraction.specs.Digits.{IsDigitBelow};
-ghost use Rattle.pdb_regression.specs.Changes.{LeadsBy, IsFit, asked, size_by};
+ghost use Rattle.abstraction_groups.specs.Changes.{LeadsBy, IsFit, size_by};
+ghost use Rattle.pdb_regression.specs.Changes.{asked};
 ghost use Rattle.pdb_regression.specs.Rules as spec;
 ghost use Rattle.pdb_regression.specs.Rules.{free_in, IsWith};
 ghost use Rattle.pdb_regression.specs.Words as words;
 ghost use Rattle.pdb_regression.specs.Words.{word_by};
-ghost use Rattle.pdb_regression.specs.Tables.{no_change, IsRow};
+ghost use Rattle.abstraction_groups.specs.Pairs.{IsRow};
+ghost use Rattle.pdb_regression.specs.Tables.{no_change};
 
-use crate::change::DigitChange;
+use crate::change::{mask_of, sets_any_value, value_asked, value_put, value_taken, value_wanted};
 use crate::word::room_of;
 use abstraction::Digit;
-use pdb_walks::Transition;
+use abstraction_groups::{DigitChange, Transition};
 use std::alloc::{AllocError, Global};
 use std::marker::Model;
 
@@ -36,7 +38,7 @@ pub(crate) struct Rule {
 
 impl Model for Rule {
     ghost use Rattle.std.specs.Prelude.{◌≡◌, List};
-    ghost use Rattle.pdb_regression.specs.declared.change.DigitChange.{DigitChange};
+    ghost use Rattle.abstraction_groups.specs.declared.change.DigitChange.{DigitChange};
     ghost use Rattle.pdb_regression.specs.Rules.{IsRule};
 
     ghost Value = { List DigitChange };
@@ -56,7 +58,7 @@ fn mask_by(changes: &[DigitChange]) -> u64
         return 0;
     };
     let room = room_of(change.digit.range);
-    change.change.mask(room) + room * mask_by(others)
+    mask_of(change.change, room) + room * mask_by(others)
 }
 
 /// Returns the required values, each at the bits of its digit.
@@ -69,7 +71,7 @@ fn want_by(changes: &[DigitChange]) -> u64
         return 0;
     };
     let room = room_of(change.digit.range);
-    u64::from(change.change.want()) + room * want_by(others)
+    u64::from(value_wanted(change.change)) + room * want_by(others)
 }
 
 /// Appends the digits that may have any value before.
@@ -79,7 +81,7 @@ fn add_free(changes: &[DigitChange], free: &mut Vec<Digit>) -> Result<(), AllocE
     let [change, others @ ..] = changes else {
         return Ok(());
     };
-    if change.change.is_free() {
+    if sets_any_value(change.change) {
         free.push(change.digit)?;
     }
     add_free(others, free)
@@ -94,7 +96,7 @@ fn put_by(changes: &[DigitChange]) -> usize
     let [change, others @ ..] = changes else {
         return 0;
     };
-    change.change.put() as usize + change.digit.range * put_by(others)
+    value_put(change.change) as usize + change.digit.range * put_by(others)
 }
 
 /// Returns what the effects subtract from the number of an abstract state.
@@ -106,22 +108,7 @@ fn taken_by(changes: &[DigitChange]) -> usize
     let [change, others @ ..] = changes else {
         return 0;
     };
-    change.change.taken() as usize + change.digit.range * taken_by(others)
-}
-
-/// Returns whether the changes are the same.
-fn are_same(changes: &[DigitChange], others: &[DigitChange]) -> bool
-    ensures { result ≡ true → changes.now ≡ others.now }
-{
-    if changes.len() != others.len() {
-        return false;
-    }
-    for place in 0..changes.len() {
-        if !changes[place].is_same(others[place]) {
-            return false;
-        }
-    }
-    true
+    value_taken(change.change) as usize + change.digit.range * taken_by(others)
 }
 
 /// Appends a transition of the class for each choice of values of the free digits: from `source` plus each value times
@@ -151,7 +138,7 @@ fn add_sources(
 }
 
 impl Rule {
-    /// Returns the rule of these changes. There must be at least one.
+    /// Returns the rule of these changes.
     pub(crate) fn new(alloc: Global, changes: Vec<DigitChange>) -> Result<Rule, AllocError>
         requires { IsRow changes.items }
         ensures { IfOk result (λ r. r ≡ changes.items) }
@@ -172,20 +159,13 @@ impl Rule {
         })
     }
 
-    /// Returns whether the rule has these changes.
-    pub(crate) fn is_of(&self, changes: &[DigitChange]) -> bool
-        ensures { result ≡ true → self.now ≡ changes.now }
-    {
-        are_same(&self.changes, changes)
-    }
-
     /// Returns the value that is required at the digit with this number, if there is one.
     pub(crate) fn asked_of(&self, digit: usize) -> Option<u32>
         requires { digit < length self.now }
         ensures asked { result ≡ asked (slice_index_or self.now digit no_change).change }
         ensures below { IfSome result (λ value. value < (slice_index_or self.now digit no_change).digit.range) }
     {
-        self.changes[digit].change.asked()
+        value_asked(self.changes[digit].change)
     }
 
     /// Returns whether the abstract state with this word has the required values.

@@ -1,62 +1,52 @@
 //! The transitions of a projection.
 
 ghost use Rattle.std.specs.Prelude.{◌≡◌, ◌<◌, ◌⊎◌, ◌↔◌, All, Contains, length, slice_get, Some, None, IfSome, IfNone, IfOk, OnOk};
-ghost use Rattle.pdb_walks.specs.declared.backward.Transition.{Transition};
-ghost use Rattle.abstraction.specs.Projections.{size_of};
-ghost use Rattle.pdb_regression.specs.Changes.{size_by};
+ghost use Rattle.abstraction_groups.specs.declared.backward.Transition.{Transition};
+ghost use Rattle.abstraction_groups.specs.Changes.{size_by};
 ghost use Rattle.pdb_regression.specs.Words.{word_by};
-ghost use Rattle.pdb_regression.specs.Tables.{LeadsIn, IsListed, IsReadAt, positions_of, classes_in};
-ghost use Rattle.pdb_walks.specs.Entrances.{AreClasses};
-ghost use Rattle.abstraction.specs.Projections.{projection as projected};
+ghost use Rattle.pdb_regression.specs.Tables.{LeadsIn, IsListed, IsReadAt, positions_of};
 
-use crate::classes::classes_of;
 use crate::place::{Place, add_classes, is_read_plainly, places_of};
 use crate::rule::Rule;
+use crate::rules::rules_of;
 use crate::word::word_of;
 use abstraction::Projection;
-use pdb_walks::{BackwardTransitions, Transition};
+use abstraction_groups::{BackwardTransitions, Groups, OperatorIndex, Transition};
 use std::alloc::{AllocError, Global};
 use std::marker::Model;
 
-/// The transitions of a projection, by classes of operators that make the same changes to the pattern. In contracts its
-/// value is the projection with these classes.
+/// The transitions of a projection, by groups of operators that make the same changes to the pattern, which are their
+/// classes. In contracts its value is the projection.
 ///
 /// The values of an abstract state are packed into a word, so that one comparison decides whether a class enters it,
 /// and the sources are computed by additions. Classes that require a value at a digit with many values are listed under
 /// it. The rest are tested for every abstract state.
 #[derive(Drop)]
 pub struct ProjectionTransitions<'a> {
-    pub(crate) projection: &'a Projection<'a>,
+    groups: Groups<'a, Projection<'a>>,
     places: Vec<Place>,
     rest: Vec<u32>,
     rules: Vec<Rule>,
-    class_of: Vec<Option<u32>>,
     /// Whether abstract states are their own words, and no class is listed under a value.
     plain: bool,
-    ghost grouped: { AreClasses (projected projection.now.task projection.now.pattern) (classes_in (length rules.items) class_of.items) },
 }
 
 impl<'a> Model for ProjectionTransitions<'a> {
     ghost use Rattle.std.specs.Prelude.{◌≡◌, length, true, All};
     ghost use Rattle.fdr.specs.Tasks.{ranges};
     ghost use Rattle.abstraction.specs.Digits.{digits_from};
-    ghost use Rattle.pdb_regression.specs.Tables as spec;
-    ghost use Rattle.pdb_regression.specs.Tables.{AreGrouped, AreIndexed, IsPositionIn, IsReadPlainly, positions_of};
+    ghost use Rattle.abstraction.specs.Projections.{Projection};
+    ghost use Rattle.pdb_regression.specs.Tables.{rows_of, AreIndexed, IsPositionIn, IsReadPlainly, positions_of};
 
-    ghost Value = { spec.Transitions };
+    ghost Value = { Projection };
 
-    ghost view = { λ t. record {
-      projection = t.projection.now;
-      count = length t.rules.items;
-      class_of = t.class_of.items;
-      grouped = t.grouped;
-    } };
+    ghost view = { λ t. t.groups };
 
     ghost invariant = { λ t.
-        AreGrouped t.projection.now t.rules.items t.class_of.items (length t.projection.now.task.operators) ×
+        (t.rules.items ≡ rows_of t.groups) ×
         AreIndexed t.rest.items t.places.items t.rules.items (length t.rules.items) ×
-        All (IsPositionIn (digits_from (ranges t.projection.now.task) 1 t.projection.now.pattern)) (positions_of t.places.items) ×
-        (t.plain ≡ true → IsReadPlainly (digits_from (ranges t.projection.now.task) 1 t.projection.now.pattern) t.places.items) };
+        All (IsPositionIn (digits_from (ranges t.groups.task) 1 t.groups.pattern)) (positions_of t.places.items) ×
+        (t.plain ≡ true → IsReadPlainly (digits_from (ranges t.groups.task) 1 t.groups.pattern) t.places.items) };
 }
 
 /// Returns the rule of a class, if there is such a class.
@@ -116,49 +106,61 @@ fn add_entering(
 }
 
 impl<'a> ProjectionTransitions<'a> {
-    /// Prepares the transitions of a projection. Time and memory are linear in the number of the pattern's variables
-    /// for each operator with an effect on the pattern; each value of a variable with 4 values or more takes a list.
+    /// Prepares the transitions of a projection of the indexed task. Time and memory are linear in the number of the
+    /// pattern's variables for each operator with an effect on the pattern; each value of a variable with 4 values or
+    /// more takes a list.
     pub(crate) fn new(
         alloc: Global,
         projection: &'a Projection<'a>,
+        index: &OperatorIndex<'_>,
     ) -> Result<ProjectionTransitions<'a>, AllocError>
-        ensures { IfOk result (λ t. t.projection ≡ projection.now) }
+        requires { index.now ≡ projection.now.task }
+        ensures { IfOk result (λ t. t ≡ projection.now) }
     {
+        // only for the proof: with fewer than 2^32 operators there are as few classes
+        projection.task().recall();
         let digits = projection.digits();
-        let classes = classes_of(alloc, projection)?;
+        let groups = Groups::new(alloc, projection, index)?;
+        let rules = rules_of(alloc, &groups)?;
         let mut places = places_of(alloc, digits)?;
         let mut rest = Vec::new(alloc);
-        add_classes(digits, &mut places, &mut rest, &classes.rules)?;
+        add_classes(digits, &mut places, &mut rest, &rules)?;
         let plain = is_read_plainly(digits, &places);
         Ok(ProjectionTransitions {
-            projection,
+            groups,
             places,
             rest,
-            rules: classes.rules,
-            class_of: classes.class_of,
+            rules,
             plain,
         })
+    }
+
+    /// Returns the projection.
+    pub(crate) fn projection(&self) -> &'a Projection<'a>
+        ensures { result.now ≡ self.now }
+    {
+        self.groups.abstraction()
     }
 }
 
 impl<'a> BackwardTransitions for ProjectionTransitions<'a> {
     ghost use Rattle.abstraction.specs.Projections as projections;
+    ghost use Rattle.abstraction_groups.specs.Factors.{groups_of};
+    ghost use Rattle.abstraction_groups.specs.FactorLaws.{projection_factors, projection_factored};
+    ghost use Rattle.abstraction_groups.specs.GroupLaws.{factored_grouped};
 
-    ghost abstraction = { λ t. projections.projection t.projection.task t.projection.pattern };
+    ghost abstraction = { λ p. projections.projection p.task p.pattern };
 
-    ghost classes = { λ t. classes_in t.count t.class_of };
+    ghost classes = { λ p. groups_of p.task (projection_factors p) };
 
-    ghost grouped = { λ t. t.grouped };
+    ghost grouped = { λ p. factored_grouped p.task (projections.projection p.task p.pattern) (projection_factors p) (projection_factored p) };
 
     fn class_count(&self) -> usize {
-        self.rules.len()
+        self.groups.len()
     }
 
-    fn class_of(&self, operator: usize) -> Option<usize> {
-        match self.class_of.get(operator) {
-            Some(Some(class)) => Some(*class as usize),
-            _ => None,
-        }
+    fn operators_of(&self, class: usize) -> &[u32] {
+        self.groups.operators_of(class)
     }
 
     fn entering(
@@ -167,7 +169,12 @@ impl<'a> BackwardTransitions for ProjectionTransitions<'a> {
         digits: &mut Vec<u32>,
         transitions: &mut Vec<Transition>,
     ) -> Result<(), AllocError> {
-        let word = word_of(self.plain, self.projection.digits(), abstract_state, digits)?;
+        let word = word_of(
+            self.plain,
+            self.projection().digits(),
+            abstract_state,
+            digits,
+        )?;
         add_entering(
             &self.rest,
             &self.places,

@@ -13,13 +13,12 @@ use crate::costs::{costs_of, take_shares};
 use crate::earlier::EarlierColumn;
 use crate::shares::shares_of;
 use crate::table::ColumnTable;
+use abstraction_groups::{BackwardAbstraction, Groups, Listed, OperatorIndex};
 use abstraction_mapping::{Mapping, TableAbstraction};
 use cert_value::{AbstractionTable, Values};
 use fdr::FdrTask;
 use pdb::{distances, saturate};
-use pdb_domain::BackwardDomain;
 use pdb_regression::BackwardProjection;
-use pdb_walks::BackwardAbstraction;
 use std::alloc::{AllocError, Global};
 
 /// Returns the abstraction of the task by one of its mappings.
@@ -57,12 +56,15 @@ fn saturated_by<A: BackwardAbstraction>(
     Ok((values, needed))
 }
 
-/// Returns the distances of an abstraction under the remaining costs, and the saturated cost function.
+/// Returns the distances of an abstraction under the remaining costs, and the saturated cost function. `index` is that
+/// of the abstraction's task.
 fn saturated_distances(
     alloc: Global,
+    index: &OperatorIndex<'_>,
     abstraction: &TableAbstraction<'_>,
     left: &[u32],
 ) -> Result<(Values, Vec<u32>), AllocError>
+    requires index { index.now ≡ task_in abstraction.now }
     requires operators { length left.now ≡ length (task_in abstraction.now).operators }
     requires small { (o : ℕ) → slice_index left.now o < 2 ^ 31 }
     ensures distances { IfOk result (λ made. AreDistances (abstraction_in abstraction.now) (λ o. slice_index left.now o) made.0) }
@@ -73,25 +75,28 @@ fn saturated_distances(
 {
     match abstraction {
         TableAbstraction::Projection(projection) => {
-            let backward = BackwardProjection::new(alloc, projection)?;
+            let backward = BackwardProjection::new(alloc, projection, index)?;
             saturated_by(alloc, &backward, left)
         }
         TableAbstraction::Domain(domain) => {
-            let backward = BackwardDomain::new(alloc, domain)?;
+            let groups = Groups::new(alloc, domain, index)?;
+            let backward = Listed::new(alloc, groups)?;
             saturated_by(alloc, &backward, left)
         }
     }
 }
 
 /// Returns the table of a mapping with the distances under the remaining costs, whose shares are the saturated cost
-/// function.
+/// function. `index` is that of the task.
 fn new_table<'a>(
     alloc: Global,
     task: &'a FdrTask,
+    index: &OperatorIndex<'_>,
     mapping: &Mapping,
     abstraction: &TableAbstraction<'_>,
     left: &[u32],
 ) -> Result<ColumnTable<'a>, AllocError>
+    requires index { index.now ≡ task.now }
     requires mapping { IsMappingWithin task.now (2 ^ 24) (mapping_of mapping.now) }
     requires abstraction { (task_in abstraction.now ≡ task.now) × (mapping_in abstraction.now ≡ mapping_of mapping.now) }
     requires operators { length left.now ≡ length task.now.operators }
@@ -100,7 +105,7 @@ fn new_table<'a>(
     ensures next { IfOk result (λ t. IsNextTable task.now (mapping_of mapping.now) (λ o. slice_index left.now o) t.table) }
 {
     task.recall();
-    let (values, needed) = saturated_distances(alloc, abstraction, left)?;
+    let (values, needed) = saturated_distances(alloc, index, abstraction, left)?;
     let shares = shares_of(alloc, &needed)?;
     let mapping = mapping.copied(alloc)?;
     let table = AbstractionTable {
@@ -112,14 +117,16 @@ fn new_table<'a>(
 }
 
 /// Returns the table of a mapping with the distances under the remaining costs, copied from the earlier column if that
-/// has it.
+/// has it. `index` is that of the task.
 fn table_under<'a>(
     alloc: Global,
     task: &'a FdrTask,
+    index: &OperatorIndex<'_>,
     mapping: &Mapping,
     left: &[u32],
     earlier: Option<&EarlierColumn<'_>>,
 ) -> Result<ColumnTable<'a>, AllocError>
+    requires index { index.now ≡ task.now }
     requires mapping { IsMappingWithin task.now (2 ^ 24) (mapping_of mapping.now) }
     requires operators { length left.now ≡ length task.now.operators }
     requires small { (o : ℕ) → slice_index left.now o < 2 ^ 31 }
@@ -133,7 +140,7 @@ fn table_under<'a>(
             return table.copied(alloc, task);
         }
     }
-    new_table(alloc, task, mapping, &abstraction, left)
+    new_table(alloc, task, index, mapping, &abstraction, left)
 }
 
 /// Returns a column with a table for each mapping, in order, by saturated cost partitioning (Seipp, Keller and Helmert
@@ -152,10 +159,11 @@ pub fn make_column<'a>(
     ensures task { IfOk result (λ column. All (λ t. t.task ≡ task.now) column.items) }
     ensures made { IfOk result (λ column. IsMadeFrom task.now (map mapping_of mappings.now) (tables_of column)) }
 {
+    let index = OperatorIndex::new(alloc, task)?;
     let mut left = costs_of(alloc, task)?;
     let mut column = Vec::with_capacity(alloc, mappings.len())?;
     for mapping in mappings {
-        let table = table_under(alloc, task, mapping, &left, earlier)?;
+        let table = table_under(alloc, task, &index, mapping, &left, earlier)?;
         take_shares(&mut left, &table.table().shares);
         column.push(table)?;
     }

@@ -2,12 +2,11 @@ ghost use Rattle.std.specs.Prelude.{◌≡◌, ℕ, ◌<◌, ◌^◌, slice_inde
 
 use crate::domains::{X, Y, abstraction, rows, worked};
 use abstraction::Abstraction;
-use abstraction_domain::ClassRow;
+use abstraction_domain::{ClassRow, DomainAbstraction};
+use abstraction_groups::{BackwardTransitions, Groups, Listed, OperatorIndex, Transition};
 use cert_value::Values;
 use fdr::FdrTask;
 use pdb::{distances, saturate};
-use pdb_domain::BackwardDomain;
-use pdb_walks::{BackwardTransitions, Transition};
 use std::alloc::Global;
 use std::process::Abort;
 
@@ -47,7 +46,7 @@ fn has_transition(list: &[Transition], class: u32, source: u32) -> bool {
 fn enters(
     rt: &impl Abort,
     alloc: Global,
-    backward: &BackwardDomain<'_>,
+    backward: &Listed<'_, DomainAbstraction<'_>>,
     expected: &[&[(u32, u32)]],
 ) {
     assert_eq!(rt; backward.size(), expected.len());
@@ -75,7 +74,7 @@ fn has_distances(
     rt: &impl Abort,
     alloc: Global,
     task: &FdrTask,
-    backward: &BackwardDomain<'_>,
+    backward: &Listed<'_, DomainAbstraction<'_>>,
     expected: &[u64],
     saturated: &[u32],
 )
@@ -100,7 +99,9 @@ fn follows(
 ) {
     match abstraction(rt, alloc, task, rows) {
         Ok(domain) => {
-            let backward = BackwardDomain::new(alloc, &domain).expect(rt, "memory");
+            let index = OperatorIndex::new(alloc, task).expect(rt, "memory");
+            let groups = Groups::new(alloc, &domain, &index).expect(rt, "memory");
+            let backward = Listed::new(alloc, groups).expect(rt, "memory");
             enters(rt, alloc, &backward, entering);
             has_distances(rt, alloc, task, &backward, expected, saturated);
         }
@@ -127,12 +128,13 @@ fn two_variables(rt: HostRuntime) {
     follows(&rt, alloc, &task, &both, &entering, &expected, &[2, 3, 0]);
 }
 
-/// y alone, which the first operator does not affect.
+/// y alone, which the first operator does not affect, and to which the second makes no change: the third is the only
+/// class.
 #[test]
 fn one_variable(rt: HostRuntime) {
     let alloc = rt.alloc();
     let task = worked(&rt, alloc);
     let y = rows(&rt, alloc, &[Y]);
-    let entering: [&[(u32, u32)]; 2] = [&[(2, 0), (2, 1)], &[(1, 1)]];
+    let entering: [&[(u32, u32)]; 2] = [&[(0, 0), (0, 1)], &[]];
     follows(&rt, alloc, &task, &y, &entering, &[NONE, 0], &[0, 0, 0]);
 }

@@ -139,7 +139,7 @@ fn ends<'t, R: Threads + Wait + Clock + Sync, G: Gate + Sync>(
     );
     match end {
         Ok(Searched::Settled(_)) => Ok(Ok(true)),
-        Ok(Searched::Stopped(_)) => Ok(Ok(false)),
+        Ok(Searched::Stopped(_, _)) => Ok(Ok(false)),
         Err(fault) => Ok(Err(fault)),
     }
 }

@@ -3,7 +3,7 @@
 ghost use Rattle.std.specs.Prelude.{◌<◌};
 ghost use Rattle.fdr.specs.Tasks.{ranges};
 
-use engine::{Open, Searched, search};
+use engine::{Cause, Open, Searched, search};
 use extract::{Joined, SearchAnswer, plan_of};
 use fdr::{FdrTask, Operator};
 use netcore::World;
@@ -93,7 +93,7 @@ fn settles<'a, R: Threads + Wait + Clock + Sync + Abort, S: Spread + Drop + Send
             assert_eq!(rt; answer_of(alloc, &joined)?, Some(answer));
             Ok(())
         }
-        Searched::Stopped(_) => panic!(rt; "the search was stopped"),
+        Searched::Stopped(_, _) => panic!(rt; "the search was stopped"),
     }
 }
 
@@ -132,7 +132,8 @@ fn stops<'a, R: Threads + Wait + Clock + Sync + Abort, S: Spread + Drop + Send +
     let end: Searched<'a, S, Plain> = search(rt, alloc, space, workers, 64, &Open)?;
     match end {
         Searched::Settled(_) => panic!(rt; "the search was settled"),
-        Searched::Stopped(joined) => {
+        Searched::Stopped(joined, cause) => {
+            assert_eq!(rt; cause, Cause::Limit);
             assert!(rt; most_expansions(&joined) == limit);
             assert_eq!(rt; joined.settled(alloc)?, None);
             Ok(())
@@ -257,7 +258,7 @@ fn finds_plan<'a, R: Threads + Wait + Clock + Sync + Abort, S: Spread + Drop + S
             );
             has_plan_of(rt, alloc, &joined, cost)
         }
-        Searched::Stopped(_) => panic!(rt; "the search was stopped"),
+        Searched::Stopped(_, _) => panic!(rt; "the search was stopped"),
     }
 }
 

@@ -1,14 +1,10 @@
-//! Tests of distances, mappings, tables and columns of tasks, and of their check, worked out by hand.
+//! Tests of mappings, tables and columns of tasks, and of their check, worked out by hand.
 #![tactic(auto)]
 
 #[cfg(test)]
 mod closed_violations;
 #[cfg(test)]
 mod domain_violations;
-#[cfg(test)]
-mod stair_distances;
-#[cfg(test)]
-mod stairs;
 #[cfg(test)]
 mod table_violations;
 #[cfg(test)]

@@ -47,14 +47,14 @@ returns-in-Some-Refused-clause-fault g c =
     (λ f out. fault_under g.S.Spread.owner c.args.team.space (length c.args.team.workers) (g.G.Gate.may_stop c.args.gate.now) f
     (fault_through g.S.Spread.owner c.args.team.space (length c.args.team.workers) no_stop c.in_ok-drained.drained f ready.is_in out))
 
-pub returns-in_ok-joined-in-Some-AtGate-clause-outcome : goal.returns-in_ok-joined-in-Some-AtGate-clause-outcome
-returns-in_ok-joined-in-Some-AtGate-clause-outcome g c =
+pub returns-in_ok-joined-in-Some-ByGate-clause-outcome : goal.returns-in_ok-joined-in-Some-ByGate-clause-outcome
+returns-in_ok-joined-in-Some-ByGate-clause-outcome g c =
     let ready = drained_ready g.S.Spread.owner c.args.team.space (length c.args.team.workers) g.F.StateForm.values c.in_ok-played.played c.in_ok-drained.drained
     c.in_ok-played.ensures.team c.in_ok-drained.ensures in
-    let joined = c.in_ok-joined-in-Some-AtGate in
+    let joined = c.in_ok-joined-in-Some-ByGate in
     gate_end g.S.Spread.owner c.args.team.space (length c.args.team.workers) c.in_ok-drained.drained ready.is_in joined.joined
-    joined.ensures.space joined.ensures.owners joined.ensures.left (g.G.Gate.may_stop c.args.gate.now)
+    joined.ensures.space joined.ensures.owners joined.ensures.left (g.G.Gate.may_stop c.args.gate.now) c.in-Some-ByGate.cause
     (unsettled (searched g.S.Spread.owner c.in_ok-drained.drained.space (length c.in_ok-drained.drained.workers))
     (map (λ w. w.owner) c.in_ok-drained.drained.workers) c.in_ok-settled.field-0 c.in_ok-settled.ensures (sym c.is_some.ensures ∙ c.if-is_some.false))
-    (subst (IsHalt (g.G.Gate.may_stop c.args.gate.now) (length c.args.team.workers)) (c.in-Some-AtGate.is ∙ ap Some (rw c.in-Some-AtGate.is at c.in-Some-AtGate.field-0-is))
+    (subst (IsHalt (g.G.Gate.may_stop c.args.gate.now) (length c.args.team.workers)) (c.in-Some-ByGate.is ∙ ap Some (rw c.in-Some-ByGate.is at c.in-Some-ByGate.field-0-is))
     c.in_ok-played.ensures.halt)

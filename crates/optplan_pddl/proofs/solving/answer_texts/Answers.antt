@@ -1,6 +1,6 @@
 use Rattle.std.proofs.Common.{subst}
 use Rattle.packed_spread.specs.Spreads.{zobrist_owner}
-use Rattle.extract.specs.Bounds.{least_best}
+use Rattle.optplan_sas.specs.SearchEnds.{least_best_of}
 use Rattle.optplan_kind.specs.Kinds.{translation_kind}
 use Rattle.optplan_sas.specs.Findings.{IsFound, IsTrueOf}
 use Rattle.optplan_pddl.proofs.Answering.{solution_there, known_there, solved_answer, unsolvable_answer, limit_answer}
@@ -19,24 +19,24 @@ known_texts-requires-clause-known c =
     (c.requires.found.0, known_there t.task kind c.in-Stopped.known (subst (IsTrueOf t.task kind) c.in-Stopped.is c.requires.found.1))
 
 pub returns-in_ok-solution_texts-in-Solved : goal.returns-in_ok-solution_texts-in-Solved
-returns-in_ok-solution_texts-in-Solved c = λ domain problem task e spells made plans same found.
+returns-in_ok-solution_texts-in-Solved c = λ domain problem task es spells made plans same found.
     let t = c.args.translated.now in
     let texts = c.in_ok-solution_texts-in-Solved in
-    solved_answer domain problem task t e spells made plans same c.in-Solved.solution texts.field-0
-    (subst (IsFound zobrist_owner e (translation_kind task t)) c.in-Solved.is found)
+    solved_answer domain problem task t es spells made plans same c.in-Solved.solution texts.field-0
+    (subst (IsFound zobrist_owner es (translation_kind task t)) c.in-Solved.is found)
     (texts.ensures.solution domain problem task spells made plans) texts.ensures.cost
 
 pub returns-in_ok-write_cert-in-Unsolvable : goal.returns-in_ok-write_cert-in-Unsolvable
-returns-in_ok-write_cert-in-Unsolvable c = λ domain problem task e spells made plans same found.
+returns-in_ok-write_cert-in-Unsolvable c = λ domain problem task es spells made plans same found.
     let t = c.args.translated.now in
     let text = c.in_ok-write_cert-in-Unsolvable in
-    unsolvable_answer domain problem task t e spells made plans same c.in-Unsolvable.certificate text.field-0
-    (subst (IsFound zobrist_owner e (translation_kind task t)) c.in-Unsolvable.is found) text.ensures
+    unsolvable_answer domain problem task t es spells made plans same c.in-Unsolvable.certificate text.field-0
+    (subst (IsFound zobrist_owner es (translation_kind task t)) c.in-Unsolvable.is found) text.ensures
 
 pub returns-in_ok-known_texts-in-Stopped : goal.returns-in_ok-known_texts-in-Stopped
-returns-in_ok-known_texts-in-Stopped c = λ domain problem task e spells made plans same found.
+returns-in_ok-known_texts-in-Stopped c = λ domain problem task es spells made plans same found.
     let t = c.args.translated.now in
     let texts = c.in_ok-known_texts-in-Stopped in
-    limit_answer domain problem task t e spells made plans same c.in-Stopped.known texts.field-0
-    (subst (IsFound zobrist_owner e (translation_kind task t)) c.in-Stopped.is found)
-    (texts.ensures.known domain problem task (least_best e) spells made plans) texts.ensures.bound
+    limit_answer domain problem task t es spells made plans same c.in-Stopped.known texts.field-0
+    (subst (IsFound zobrist_owner es (translation_kind task t)) c.in-Stopped.is found)
+    (texts.ensures.known domain problem task (least_best_of es) spells made plans) texts.ensures.bound

@@ -11,6 +11,7 @@ returns c =
     let s0 = adds_arg c.args.command c.in_ok-command.command (spec.option (codes "simulate")) c.option-simulate.result c.option-simulate.ensures c.in_ok-command.ensures in
     let s1 = adds_one_more c.args.command c.in_ok-command.command c.in_ok-command-2.command (spec.option (codes "simulate") ∷ []) (spec.option_or (codes "workers") (codes "4")) c.option_or-workers.result s0 c.option_or-workers.ensures c.in_ok-command-2.ensures in
     let s2 = adds_one_more c.args.command c.in_ok-command-2.command c.in_ok-command-3.command (spec.option (codes "simulate") ∷ spec.option_or (codes "workers") (codes "4") ∷ []) (spec.option_or (codes "ring") (codes "64")) c.option_or-ring.result s1 c.option_or-ring.ensures c.in_ok-command-3.ensures in
-    let s3 = adds_one_more c.args.command c.in_ok-command-3.command c.in_ok-command-4.command (spec.option (codes "simulate") ∷ spec.option_or (codes "workers") (codes "4") ∷ spec.option_or (codes "ring") (codes "64") ∷ []) (spec.option_or (codes "table") (codes "100000")) c.option_or-table.result s2 c.option_or-table.ensures c.in_ok-command-4.ensures in
-    IfOk-weaker c.with_arg-5.result (AddsRules c.in_ok-command-4.command (rule_of c.option_or-ties.result ∷ [])) (AddsRules c.args.command spec.search_options)
-    (λ d h. adds_one_more c.args.command c.in_ok-command-4.command d (spec.option (codes "simulate") ∷ spec.option_or (codes "workers") (codes "4") ∷ spec.option_or (codes "ring") (codes "64") ∷ spec.option_or (codes "table") (codes "100000") ∷ []) (spec.option_or (codes "ties") (codes "shallow")) c.option_or-ties.result s3 c.option_or-ties.ensures h) c.with_arg-5.ensures
+    let s3 = adds_one_more c.args.command c.in_ok-command-3.command c.in_ok-command-4.command (spec.option (codes "simulate") ∷ spec.option_or (codes "workers") (codes "4") ∷ spec.option_or (codes "ring") (codes "64") ∷ []) (spec.option (codes "tables")) c.option-tables.result s2 c.option-tables.ensures c.in_ok-command-4.ensures in
+    let s4 = adds_one_more c.args.command c.in_ok-command-4.command c.in_ok-command-5.command (spec.option (codes "simulate") ∷ spec.option_or (codes "workers") (codes "4") ∷ spec.option_or (codes "ring") (codes "64") ∷ spec.option (codes "tables") ∷ []) (spec.option (codes "table")) c.option-table.result s3 c.option-table.ensures c.in_ok-command-5.ensures in
+    IfOk-weaker c.with_arg-6.result (AddsRules c.in_ok-command-5.command (rule_of c.option_or-ties.result ∷ [])) (AddsRules c.args.command spec.search_options)
+    (λ d h. adds_one_more c.args.command c.in_ok-command-5.command d (spec.option (codes "simulate") ∷ spec.option_or (codes "workers") (codes "4") ∷ spec.option_or (codes "ring") (codes "64") ∷ spec.option (codes "tables") ∷ spec.option (codes "table") ∷ []) (spec.option_or (codes "ties") (codes "shallow")) c.option_or-ties.result s4 c.option_or-ties.ensures h) c.with_arg-6.ensures

@@ -1,8 +1,8 @@
 use Rattle.std.proofs.Common.{◌≡◌, ◌∙◌, ℕ, ◌<◌, ◌≤◌, length, max, slice_index, slice_set, get_or, inr, below_more, arith}
 use Rattle.cost.specs.Distances.{Finite}
-use Rattle.pdb_walks.specs.declared.backward.Transition.{Transition}
+use Rattle.abstraction_groups.specs.declared.backward.Transition.{Transition}
 use Rattle.pdb_walks.specs.Walks.{value_in, fall}
-use Rattle.pdb_walks.specs.Entrances.{AreEntering}
+use Rattle.abstraction_groups.specs.Entrances.{AreEntering}
 use Rattle.pdb.specs.Saturations.{IsFallOf}
 use Rattle.pdb.proofs.Expansion.{no_transition, listed_leads, of_each}
 use Rattle.pdb.proofs.Falls.{value_in-get, falls_raised, kept_raised, covered_here}

@@ -5,8 +5,8 @@ use Rattle.pdb.specs.Classes.{share_by, AreLeast}
 use Rattle.pdb.proofs.Falls.{falls_within_least, falls_told}
 use Rattle.pdb.proofs.saturation.saturate.Goals as goal
 
-pub greatest_falls-requires-clause-falls : goal.greatest_falls-requires-clause-falls
-greatest_falls-requires-clause-falls g c =
+pub set_greatest-requires-clause-falls : goal.set_greatest-requires-clause-falls
+set_greatest-requires-clause-falls g c =
     let a = g.A.Abstraction.abstraction c.args.abstraction.now in
     let task = g.A.Abstraction.task c.args.abstraction.now in
     let b = g.A.Transitions.BackwardTransitions.abstraction c.transitions-transitions.result.now in
@@ -14,7 +14,7 @@ greatest_falls-requires-clause-falls g c =
     let grouped = g.met.A.Transitions.BackwardTransitions.grouped c.transitions-transitions.result.now in
     let abs = g.met.A.Abstraction.abstracts c.args.abstraction.now in
     let least = c.deref.result.now in
-    let are : AreLeast classes c.args.shares.now least = rw c.deref.ensures.value c.in_ok-least.ensures.least in
+    let are : AreLeast classes c.args.shares.now least = rw c.deref.ensures.value c.in_ok-set_least.ensures.least in
     falls_within_least task a b classes c.args.shares.now least c.args.values.now c.transitions-transitions.ensures abs grouped c.requires.distances c.requires.operators are
 
 IfOk-weaker2 : {X E : Type 0} (r : Result X E) (P Q R : X → Type 0) → ((x : X) → P x → Q x → R x) → IfOk r P → IfOk r Q → IfOk r R
@@ -30,8 +30,8 @@ returns-clause-greatest g c =
     let grouped = g.met.A.Transitions.BackwardTransitions.grouped c.transitions-transitions.result.now in
     let abs = g.met.A.Abstraction.abstracts c.args.abstraction.now in
     let value = value_in c.args.values.now in
-    let found = c.in_ok-greatest.ensures in
-    let numbers = c.in_ok-greatest.greatest.items in
+    let found = c.in_ok-set_greatest.ensures in
+    let numbers = c.set_greatest.new.greatest.items in
     let kept : c.deref-2.result.now ≡ numbers = c.deref-2.ensures.value in
     IfOk-weaker2 c.shares_by_class.result (λ n. length n.items ≡ length c.args.shares.now)
     (λ n. (o : ℕ) → o < length c.args.shares.now → slice_index n.items o ≡ share_by classes c.deref-2.result.now o)

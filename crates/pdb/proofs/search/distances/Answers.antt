@@ -1,70 +1,17 @@
-use Rattle.std.proofs.Common.{◌≡◌, ◌∙◌, ℕ, ◌^◌, ◌<◌, ◌≤◌, length, map, subst, sym, ap, slice_index, arith}
-use Rattle.std.specs.Vec.{with_items}
-use Rattle.std.proofs.lemmas.List.{with_items_is}
+use Rattle.std.proofs.Common.{◌≡◌, ◌∙◌, ◌^◌, map, subst, sym, ap, slice_index}
 use Rattle.std.proofs.lemmas.Result.{IfOk-weaker}
 use Rattle.std.specs.Prelude.{All}
 use Rattle.cost.specs.Distances.{IsWithin}
 use Rattle.cert_value.specs.Kept.{kept_distance}
-use Rattle.abstraction.specs.Abstractions.{Abstraction, IsAbstractionOf}
 use Rattle.pdb_walks.specs.Walks.{AreDistances}
-use Rattle.pdb.specs.Classes.{share_by, AreLeast}
-use Rattle.pdb.specs.Searches.{IsSearch}
-use Rattle.pdb.proofs.Expansion.{shares_small}
-use Rattle.pdb.proofs.ClassLaws.{AreDistances-least}
-use Rattle.pdb.proofs.Totals.{AreDistances-found, values_small}
 use Rattle.pdb.proofs.search.distances.Goals as goal
-
-pub settle-requires-clause-search : goal.settle-requires-clause-search
-settle-requires-clause-search g c =
-    let classes = g.A.Transitions.BackwardTransitions.classes c.transitions-transitions.result.now in
-    let long : length c.add_goals.new.values ≡ c.in_ok-values.values.len = omega (arith, c.add_goals.auto.values, c.deref_mut.ensures.len) in
-    rw (c.deref_mut-2.ensures.value, with_items_is c.in_ok-values.values c.add_goals.new.values long)
-    (subst (λ (a : Abstraction). IsSearch a (share_by classes c.deref.result.now) c.add_goals.new.values c.add_goals.new.queue) (sym c.transitions-transitions.ensures)
-    (c.add_goals.ensures (share_by classes c.deref.result.now)))
-
-pub settle-requires-clause-small : goal.settle-requires-clause-small
-settle-requires-clause-small g c =
-    let low : (p : ℕ) → slice_index c.deref.result.now p ≤ 2147483647 = rw c.deref.ensures.value c.in_ok-least.ensures.small in
-    λ p. omega (arith, low p)
 
 pub returns-clause-distances : goal.returns-clause-distances
 returns-clause-distances g c =
     let a = g.A.Abstraction.abstraction c.args.abstraction.now in
-    let task = g.A.Abstraction.task c.args.abstraction.now in
-    let b = g.A.Transitions.BackwardTransitions.abstraction c.transitions-transitions.result.now in
-    let classes = g.A.Transitions.BackwardTransitions.classes c.transitions-transitions.result.now in
-    let same : b ≡ a = c.transitions-transitions.ensures in
-    let abs : IsAbstractionOf task b = subst (λ (x : Abstraction). IsAbstractionOf task x) (sym same) (g.met.A.Abstraction.abstracts c.args.abstraction.now) in
-    let least = c.deref.result.now in
-    let share = share_by classes least in
-    let low : (p : ℕ) → slice_index least p ≤ 2147483647 = rw c.deref.ensures.value c.in_ok-least.ensures.small in
-    let small : (o : ℕ) → share o < 2 ^ 31 = shares_small classes least (2 ^ 31) (omega arith) (λ p. omega (arith, low p)) in
-    let values = c.settle.new.values in
-    let kept = with_items c.in_ok-values.values c.add_goals.new.values in
-    let long : length values ≡ kept.len = omega (arith, c.settle.auto.values, c.deref_mut-2.ensures.len) in
-    let read : c.deref-2.result.now ≡ values = c.deref-2.ensures.value ∙ with_items_is kept values long in
-    let grouped = g.met.A.Transitions.BackwardTransitions.grouped c.transitions-transitions.result.now in
-    let are : AreLeast classes c.args.shares.now least = rw c.deref.ensures.value c.in_ok-least.ensures.least in
-    let found = AreDistances-found task b share values c.settle.new.queue abs small c.in_ok-settle.ensures.search c.in_ok-settle.ensures.empty in
-    let told = subst (λ (x : Abstraction). AreDistances x (λ o. slice_index c.args.shares.now o) (map kept_distance values)) same
-    (AreDistances-least task b classes c.args.shares.now least abs grouped c.requires.operators are (map kept_distance values) found) in
-    IfOk-weaker _ _ _ (λ d e. subst (AreDistances a (λ o. slice_index c.args.shares.now o)) (sym (e ∙ ap (map kept_distance) read)) told) c.as_distances.ensures
+    IfOk-weaker _ _ _ (λ d e. subst (AreDistances a (λ o. slice_index c.args.shares.now o)) (sym (e ∙ ap (map kept_distance) c.deref.ensures.value)) c.in_ok-search.ensures.distances) c.as_distances.ensures
 
 pub returns-clause-small : goal.returns-clause-small
 returns-clause-small g c =
-    let a = g.A.Abstraction.abstraction c.args.abstraction.now in
-    let task = g.A.Abstraction.task c.args.abstraction.now in
-    let b = g.A.Transitions.BackwardTransitions.abstraction c.transitions-transitions.result.now in
-    let classes = g.A.Transitions.BackwardTransitions.classes c.transitions-transitions.result.now in
-    let same : b ≡ a = c.transitions-transitions.ensures in
-    let abs : IsAbstractionOf task b = subst (λ (x : Abstraction). IsAbstractionOf task x) (sym same) (g.met.A.Abstraction.abstracts c.args.abstraction.now) in
-    let least = c.deref.result.now in
-    let share = share_by classes least in
-    let low : (p : ℕ) → slice_index least p ≤ 2147483647 = rw c.deref.ensures.value c.in_ok-least.ensures.small in
-    let small : (o : ℕ) → share o < 2 ^ 31 = shares_small classes least (2 ^ 31) (omega arith) (λ p. omega (arith, low p)) in
-    let values = c.settle.new.values in
-    let kept = with_items c.in_ok-values.values c.add_goals.new.values in
-    let long : length values ≡ kept.len = omega (arith, c.settle.auto.values, c.deref_mut-2.ensures.len) in
-    let read : c.deref-2.result.now ≡ values = c.deref-2.ensures.value ∙ with_items_is kept values long in
-    let found = values_small task b share values c.settle.new.queue abs small c.in_ok-settle.ensures.search c.in_ok-settle.ensures.empty in
-    IfOk-weaker c.as_distances.result (λ d. d ≡ map kept_distance c.deref-2.result.now) (All (IsWithin (2 ^ 55))) (λ d e. subst (All (IsWithin (2 ^ 55))) (sym (e ∙ ap (map kept_distance) read)) found) c.as_distances.ensures
+    IfOk-weaker c.as_distances.result (λ d. d ≡ map kept_distance c.deref.result.now) (All (IsWithin (2 ^ 55)))
+    (λ d e. subst (All (IsWithin (2 ^ 55))) (sym (e ∙ ap (map kept_distance) c.deref.ensures.value)) c.in_ok-search.ensures.small) c.as_distances.ensures

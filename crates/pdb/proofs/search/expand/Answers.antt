@@ -1,6 +1,6 @@
 use Rattle.std.proofs.Common.{◌≡◌, ℕ, ◌+◌, ◌^◌, ◌<◌, ◌≤◌, slice_index, get_or, below_more, arith}
-use Rattle.pdb_walks.specs.declared.backward.Transition.{Transition}
-use Rattle.pdb_walks.specs.Entrances.{AreEntering}
+use Rattle.abstraction_groups.specs.declared.backward.Transition.{Transition}
+use Rattle.abstraction_groups.specs.Entrances.{AreEntering}
 use Rattle.pdb.specs.Classes.{share_by}
 use Rattle.pdb.proofs.Lowering.{lowered_at_most, lowered_same, lowered_here, IsSearchBut-lowered}
 use Rattle.pdb.proofs.Expansion.{no_transition, share_told, listed_leads, IsSearch-expanded}
@@ -16,8 +16,8 @@ bounds-least-transition g c =
     let w = listed_leads a classes c.args.state items are k c.loop-transition-test.true in
     omega (arith, (g.met.T.BackwardTransitions.grouped c.args.transitions.now).below w.0 (get_or items k no_transition).class w.1, c.requires.classes)
 
-pub lower-requires-clause-state : goal.lower-requires-clause-state
-lower-requires-clause-state g c =
+pub lower-requires : goal.lower-requires
+lower-requires g c =
     let a = g.T.BackwardTransitions.abstraction c.args.transitions.now in
     let classes = g.T.BackwardTransitions.classes c.args.transitions.now in
     let items = c.deref-transition-items.result.now in
@@ -45,7 +45,7 @@ loop-transition-preserved g c =
     let before = c.loop-transition.queue in
     let new = c.lower.new.values in
     let after = c.lower.new.queue in
-    let low = c.lower.ensures in
+    let low = c.in_ok-lower.ensures in
     let told = share_told classes least o t.class w.1 in
     let small : share o < 2 ^ 31 = omega (arith, c.requires.small t.class) in
     let value = slice_index c.args.values.now b + c.from.result in

@@ -2,7 +2,7 @@ use Rattle.std.proofs.Common.{◌∙◌, List, set, ap, sym, refl, subst}
 use Rattle.std.specs.Prelude.{All}
 use Rattle.std.proofs.lemmas.List.{get_or_default}
 use Rattle.abstraction.specs.declared.digit.Digit.{Digit}
-use Rattle.pdb_regression.specs.declared.change.DigitChange.{DigitChange}
+use Rattle.abstraction_groups.specs.declared.change.DigitChange.{DigitChange}
 use Rattle.pdb_regression.specs.Tables.{Place, no_place, IsAdded, IsPositionIn, positions_of, IsAlong}
 use Rattle.pdb_regression.proofs.TableLaws.{positions_kept, indexed_more, indexed_rest, enters_is, row_at}
 use Rattle.pdb_regression.proofs.place.add_classes.Goals as goal

@@ -1,7 +1,7 @@
 use Rattle.std.proofs.Common.{◌≡◌, ◌<◌, List, length, get_or, ap, sym, subst, ◌∙◌, Some}
 use Rattle.std.proofs.lemmas.List.{get_or_default}
 use Rattle.pdb_regression.specs.declared.place.Position.{Position}
-use Rattle.pdb_regression.specs.declared.change.DigitChange.{DigitChange}
+use Rattle.abstraction_groups.specs.declared.change.DigitChange.{DigitChange}
 use Rattle.pdb_regression.specs.Changes.{asked}
 use Rattle.pdb_regression.specs.Tables.{Place, no_place, no_change}
 use Rattle.pdb_regression.proofs.TableLaws.{position_at, key_is}

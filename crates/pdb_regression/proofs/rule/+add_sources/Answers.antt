@@ -3,7 +3,7 @@ use Rattle.std.specs.Prelude.{All}
 use Rattle.std.proofs.lemmas.List.Elements.{All-tail}
 use Rattle.abstraction.specs.declared.digit.Digit.{Digit}
 use Rattle.abstraction.specs.Digits.{IsDigitBelow}
-use Rattle.pdb_walks.specs.declared.backward.Transition.{Transition}
+use Rattle.abstraction_groups.specs.declared.backward.Transition.{Transition}
 use Rattle.pdb_regression.specs.Rules.{IsWith}
 use Rattle.pdb_regression.proofs.Elements.{first_and_rest}
 use Rattle.pdb_regression.proofs.RuleLaws.{with_itself, weighted, value_more, value_all}

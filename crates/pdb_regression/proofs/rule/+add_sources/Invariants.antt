@@ -1,6 +1,6 @@
 use Rattle.std.proofs.Common.{ℕ, ◌≡◌, ◌+◌, ◌*◌, ◌<◌, length}
 use Rattle.std.specs.Prelude.{◌↔◌, ◌⊎◌, Contains}
-use Rattle.pdb_walks.specs.declared.backward.Transition.{Transition}
+use Rattle.abstraction_groups.specs.declared.backward.Transition.{Transition}
 use Rattle.pdb_regression.specs.Rules.{IsWith}
 use Rattle.pdb_regression.proofs.rule.+add_sources.Given as goal
 

@@ -8,4 +8,4 @@ overflow_mul-result t c =
 
 pub overflow_add-result : goal.overflow_add-result
 overflow_add-result t c =
-    let steps = put_steps c.args.changes.now c.in-len1-up.len_at_least c.requires.fit c.requires.small in rw (c.taken_by.ensures, c.taken.ensures) (omega (arith, steps.3))
+    let steps = put_steps c.args.changes.now c.in-len1-up.len_at_least c.requires.fit c.requires.small in rw (c.taken_by.ensures, c.value_taken.ensures) (omega (arith, steps.3))

@@ -16,4 +16,4 @@ overflow_mul-result t c =
 
 pub overflow_add-result : goal.overflow_add-result
 overflow_add-result t c =
-    let steps = mask_steps c.args.changes.now c.in-len1-up.len_at_least c.requires.fit c.requires.small in rw (c.want_by.ensures, c.from.ensures, c.want.ensures, c.room_of-room.ensures) (omega (arith, steps.want_sum))
+    let steps = mask_steps c.args.changes.now c.in-len1-up.len_at_least c.requires.fit c.requires.small in rw (c.want_by.ensures, c.from.ensures, c.value_wanted.ensures, c.room_of-room.ensures) (omega (arith, steps.want_sum))

@@ -3,7 +3,7 @@ use Rattle.std.specs.Prelude.{◌↔◌, ◌⊎◌, Contains, slice_index}
 use Rattle.std.proofs.lemmas.List.{get_or_default}
 use Rattle.std.proofs.lemmas.Nat.{mod_below}
 use Rattle.abstraction.specs.Digits.{value_of}
-use Rattle.pdb_walks.specs.declared.backward.Transition.{Transition}
+use Rattle.abstraction_groups.specs.declared.backward.Transition.{Transition}
 use Rattle.pdb_regression.specs.declared.place.Position.{Position}
 use Rattle.pdb_regression.specs.Tables.{Place, no_place, IsReadAt, LeadsIn, IsUnder, list_at}
 use Rattle.pdb_regression.proofs.TableLaws.{place_read, found_first, found_more}

@@ -1,5 +1,5 @@
 use Rattle.std.specs.Prelude.{◌↔◌, ◌⊎◌, Contains}
-use Rattle.pdb_walks.specs.declared.backward.Transition.{Transition}
+use Rattle.abstraction_groups.specs.declared.backward.Transition.{Transition}
 use Rattle.pdb_regression.specs.Tables.{LeadsIn, IsUnder}
 use Rattle.pdb_regression.proofs.transitions.add_entering.Given as goal
 

@@ -1,9 +1,9 @@
 use Rattle.std.proofs.Common.{◌≡◌, ℕ, ◌<◌, List, get_or, refl, subst, arith}
 use Rattle.std.specs.Prelude.{◌↔◌, ◌⊎◌, Contains}
 use Rattle.std.proofs.lemmas.List.{take_all}
-use Rattle.pdb_walks.specs.declared.backward.Transition.{Transition}
-use Rattle.pdb_regression.specs.declared.change.DigitChange.{DigitChange}
-use Rattle.pdb_regression.specs.Changes.{size_by}
+use Rattle.abstraction_groups.specs.declared.backward.Transition.{Transition}
+use Rattle.abstraction_groups.specs.declared.change.DigitChange.{DigitChange}
+use Rattle.abstraction_groups.specs.Changes.{size_by}
 use Rattle.pdb_regression.specs.Words.{word_by}
 use Rattle.pdb_regression.specs.Tables.{LeadsIn}
 use Rattle.pdb_regression.proofs.TransitionLaws.{all_at}

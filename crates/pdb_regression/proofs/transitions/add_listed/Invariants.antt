@@ -1,6 +1,6 @@
 use Rattle.std.proofs.Common.{take}
 use Rattle.std.specs.Prelude.{◌↔◌, ◌⊎◌, Contains}
-use Rattle.pdb_walks.specs.declared.backward.Transition.{Transition}
+use Rattle.abstraction_groups.specs.declared.backward.Transition.{Transition}
 use Rattle.pdb_regression.specs.Tables.{LeadsIn}
 use Rattle.pdb_regression.proofs.transitions.add_listed.Given as goal
 

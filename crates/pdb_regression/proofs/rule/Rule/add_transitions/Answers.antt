@@ -3,10 +3,10 @@ use Rattle.std.specs.Prelude.{All}
 use Rattle.std.specs.List.{list_all}
 use Rattle.abstraction.specs.declared.digit.Digit.{Digit}
 use Rattle.abstraction.specs.Digits.{IsDigitBelow}
-use Rattle.pdb_walks.specs.declared.backward.Transition.{Transition}
+use Rattle.abstraction_groups.specs.declared.backward.Transition.{Transition}
 use Rattle.pdb_regression.specs.Changes.{enters_digit}
 use Rattle.pdb_regression.specs.Rules.{put_by, taken_by, free_in, IsWith}
-use Rattle.pdb_regression.specs.Tables.{IsRow}
+use Rattle.abstraction_groups.specs.Pairs.{IsRow}
 use Rattle.pdb_regression.proofs.Bounds.{put_small}
 use Rattle.pdb_regression.proofs.RuleLaws.{sources_small, put_at_state, free_fit, rule_told, rule_out}
 use Rattle.pdb_regression.proofs.WordLaws.{entered_told}

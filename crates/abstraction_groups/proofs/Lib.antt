@@ -1,0 +1,13 @@
+pub mod ReadLaws
+pub mod TableLaws
+pub mod FitLaws
+pub mod PairLaws
+pub mod IndexLaws
+pub mod RowSums
+pub mod TargetLaws
+pub mod GroupRows
+pub mod ListLaws
+pub mod CollectLaws
+pub mod AffectingLaws
+pub mod CountLaws
+pub mod MemberLaws

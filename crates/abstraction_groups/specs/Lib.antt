@@ -1,0 +1,13 @@
+pub mod Entrances
+pub mod Changes
+pub mod Hashes
+pub mod Factors
+pub mod ChangeLaws
+pub mod RowLaws
+pub mod FactorLaws
+pub mod GroupLaws
+pub mod Indexes
+pub mod Tables
+pub mod Pairs
+pub mod Collected
+pub mod Lists

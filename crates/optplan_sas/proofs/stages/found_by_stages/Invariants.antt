@@ -1,0 +1,11 @@
+use Rattle.std.proofs.Common.{map}
+use Rattle.cert_value.specs.Views.{kind_of}
+use Rattle.scp.specs.Partitions.{mappings_of}
+use Rattle.scp_orders.specs.Orders.{AreOrders}
+use Rattle.optplan_sas.proofs.KnownByStages.{HaveEnded}
+use Rattle.optplan_sas.proofs.stages.found_by_stages.Given as goal
+
+abbrev pub invariant-loop-stage : goal.invariant-loop-stage
+invariant-loop-stage g l =
+    HaveEnded l.fn.options (g.G.Gate.may_stop l.fn.gate) l.fn.task (kind_of l.fn.kind) l.stage l.known
+    × AreOrders l.fn.task (map mappings_of l.orders.items)

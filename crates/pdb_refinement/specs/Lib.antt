@@ -1,0 +1,2 @@
+pub mod Refinements
+pub mod Classes

@@ -1,0 +1,4 @@
+pub mod ForColumns
+mod Falls
+mod OrderLists
+mod Successors

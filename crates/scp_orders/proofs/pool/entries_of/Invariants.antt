@@ -1,0 +1,7 @@
+use Rattle.std.proofs.Common.{◌≡◌}
+use Rattle.std.specs.Prelude.{All}
+use Rattle.scp_orders.specs.Tasks.{task_of}
+use Rattle.scp_orders.proofs.pool.entries_of.Given as goal
+
+abbrev pub invariant-loop-abstraction : goal.invariant-loop-abstraction
+invariant-loop-abstraction l = All (λ e. task_of e.listed ≡ l.task) l.entries.items

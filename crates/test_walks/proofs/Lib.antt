@@ -1,0 +1,2 @@
+pub mod OperatorLists
+pub mod Entering
