@@ -8,7 +8,7 @@ import tempfile
 import unittest
 
 # The seconds after which a run is ended and fails.
-SECONDS_OF_A_RUN = 60
+SECONDS_OF_A_RUN = 240
 EXAMPLES = os.path.join(os.path.dirname(os.path.dirname(os.path.abspath(__file__))), "examples")
 
 
