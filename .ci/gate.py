@@ -27,6 +27,7 @@ RECORD = f"{TOP}/.ci/refused.txt"
 OUTPUT = "crates/optplan/out"
 USAGE = """usage: .ci/run                 the gate: proofs, tests, programs, and the edits of crates whose state is not recorded
        .ci/run --all           the gate with every edit, recorded or not
+       .ci/run --without-edits the gate without any edit: what it builds is the program, but nothing may land on it alone
        .ci/run --edits [NAME..]  outside the gate: the edits that are not recorded, of these crates or of all
        .ci/run --release       writes release/ from what the gate built from the last commit's sources, and refuses if it has built nothing
 Each takes the last commit, and records in .ci/refused.txt the crates whose edits were all refused. --edits first proves what these crates
@@ -172,7 +173,25 @@ def pages_are_right(copy):
     return not any([subprocess.run([sys.executable, f"{copy}/.ci/{it}"], check=False).returncode for it in scripts])
 
 
-def gate(tries_all):
+def edits_to_try(repository, record, which):
+    """Returns the crates whose edits a run of the gate tries, and whether there is time for these. `which` is "missing",
+    "all" or "none"."""
+    names = repository.with_edits()
+    record.keep_current(repository)
+    if which == "none":
+        say("no must-fail edit is tried, so this run is not the merge gate")
+        return [], True
+    tried = missing_edits(repository, record, names, which == "all")
+    edits, missing = count_of_edits(repository, names), count_of_edits(repository, tried)
+    say(f"of {edits} must-fail edits {edits - missing} are recorded as refused, and {missing}, of {len(tried)} crates, are tried now")
+    most = most_edits(len(os.sched_getaffinity(0)))
+    if missing > most and which != "all":
+        say(f"there is time for {most} at most: first call .ci/run --edits, which records what is refused")
+        return tried, False
+    return tried, True
+
+
+def gate(which):
     record, started = Record(RECORD), time.time()
     take_room()
     if not shutil.which("cc"):
@@ -187,15 +206,8 @@ def gate(tries_all):
         unfit = repository.unfit_edits()
         for it in unfit:
             say(f"must-fail {it}")
-        names = repository.with_edits()
-        record.keep_current(repository)
-        tried = missing_edits(repository, record, names, tries_all)
-        edits, missing = count_of_edits(repository, names), count_of_edits(repository, tried)
-        say(f"of {edits} must-fail edits {edits - missing} are recorded as refused, and {missing}, of {len(tried)} crates, are tried now")
-        most = most_edits(len(os.sched_getaffinity(0)))
-        if unfit or (missing > most and not tries_all):
-            if missing > most:
-                say(f"there is time for {most} at most: first call .ci/run --edits, which records what is refused")
+        tried, has_time = edits_to_try(repository, record, which)
+        if unfit or not has_time:
             print("0 passed, 1 failed")
             return 1
         status, (passed, failed) = try_crates(repository, record, tried)
@@ -304,8 +316,9 @@ def write_release():
 def main(words):
     # Temporary folders are also removed if the gate is ended from outside.
     signal.signal(signal.SIGTERM, lambda *_: sys.exit(143))
-    if not words or words == ["--all"]:
-        return gate(bool(words))
+    runs = {(): "missing", ("--all",): "all", ("--without-edits",): "none"}
+    if tuple(words) in runs:
+        return gate(runs[tuple(words)])
     if words == ["--release"]:
         return write_release()
     if words[0] == "--edits" and not any(it.startswith("-") for it in words[1:]):

@@ -2,7 +2,7 @@
 """Measures how a multi-threaded search scales with its number of workers: in expansions a second, in the time of the
 search, and in the nodes that are expanded again.
 
-    engine.py BENCH_ENGINE [--baseline PROGRAM] FILE..
+    engine.py BENCH_ENGINE [--ties fresh|shallow|deep] [--baseline PROGRAM] FILE..
 
 BENCH_ENGINE is the program that `rt run` in crates/bench_engine has built, and each FILE an output.sas. PROGRAM, if
 given, is another planner. It is called as
@@ -14,11 +14,11 @@ status is 0 with a plan, 4 if there is none, and 5 if it ended after S seconds w
 has lines `expanded N` (nodes), `seconds_search S` (wall time of the search) and, with status 0, `cost N`.
 
 Each task is searched blind and with tables of at most 100,000 abstract states, by 1, 2, 4 and 64 workers, with links
-for 64 messages. If one worker settles a search with at most 2,000,000 expansions in at most 120 seconds, it is run to
-its end with every number of workers. Otherwise 400,000 expansions are divided among the workers, the search ends as
-soon as one of them has done its share, and PROGRAM runs for at most ten seconds. Runs of both programs, and of all
-numbers of workers, alternate. The fastest of three runs counts, by seconds, or by expansions a second if the search is
-stopped. A line for a search has
+for 64 messages, in the order that --ties names (fresh if it is left out). If one worker settles a search with at most
+2,000,000 expansions in at most 120 seconds, it is run to its end with every number of workers. Otherwise 400,000
+expansions are divided among the workers, the search ends as soon as one of them has done its share, and PROGRAM runs
+for at most ten seconds. Runs of both programs, and of all numbers of workers, alternate. The fastest of three runs
+counts, by seconds, or by expansions a second if the search is stopped. A line for a search has
 
     task        the file's name
     tables      whether there are tables
@@ -39,6 +39,7 @@ The status is 1 if a program fails, or if the costs or the ends of two searches 
 are wrong.
 """
 
+import functools
 import os
 import re
 import statistics
@@ -94,9 +95,9 @@ def run(command):
     return ran.returncode, ran.stdout.decode("ascii", "replace"), ran.stderr.decode("ascii", "replace")
 
 
-def run_ours(program, file, workers, with_tables, limit):
-    """Returns one run of BENCH_ENGINE, or None if it was ended by the cap."""
-    ran = run([program, file, str(workers), str(RING), str(TABLE if with_tables else 0), str(limit)])
+def run_ours(program, ties, file, workers, with_tables, limit):
+    """Returns one run of BENCH_ENGINE in this order, or None if it was ended by the cap."""
+    ran = run([program, file, str(workers), str(RING), str(TABLE if with_tables else 0), str(limit), ties])
     if ran is None:
         return None
     status, output, errors = ran
@@ -156,27 +157,27 @@ class Search:
         return f"{head} {self.best.expansions:>11,} {self.best.rate() / 1e3:>8,.0f} {rate:>6} {self.best.seconds:>8.3f} {speed:>6} {more:>11}"
 
 
-def searches_of(program, baseline, file, with_tables, is_settled):
-    """Returns the searches of a task, by program and number of workers."""
+def searches_of(ours, baseline, file, with_tables, is_settled):
+    """Returns the searches of a task, by program and number of workers. `ours` runs BENCH_ENGINE once."""
     limits = {workers: NO_LIMIT if is_settled else SHARED // workers for workers in WORKERS}
     seconds = CAP - SECONDS if is_settled else SECONDS
     searches = {}
     for workers in WORKERS:
-        searches["ours", workers] = Search("ours", workers, lambda n=workers: run_ours(program, file, n, with_tables, limits[n]))
+        searches["ours", workers] = Search("ours", workers, lambda n=workers: ours(file, n, with_tables, limits[n]))
         if baseline:
             searches["baseline", workers] = Search(
                 "baseline", workers, lambda n=workers: run_baseline(baseline, file, n, with_tables, seconds))
     return searches
 
 
-def measure(program, baseline, file, with_tables):
+def measure(ours, baseline, file, with_tables):
     """Returns the searches of a task, none if they are left out. Fails if a program fails, or does not end the search
     as it should."""
-    first = run_ours(program, file, 1, with_tables, MOST)
+    first = ours(file, 1, with_tables, MOST)
     is_settled = first is not None and first.cost is not None
     if is_settled and (first.expansions < FEWEST or first.seconds < LEAST_SECONDS):
         return {}
-    searches = searches_of(program, baseline, file, with_tables, is_settled)
+    searches = searches_of(ours, baseline, file, with_tables, is_settled)
     for _ in range(measuring.RUNS):
         for search in searches.values():
             search.run()
@@ -211,14 +212,16 @@ def print_medians(with_tables, measured):
 
 def main(arguments):
     """Measures each task and prints the lines."""
+    ties = measuring.ties_in(arguments)
     given = measuring.compared("engine.py", "BENCH_ENGINE", False, arguments)
+    ours = functools.partial(run_ours, given.program, ties)
     print(f"{'task':<20} {'tables':>6} {'program':<8} {'workers':>7} {'expanded':>11} {'a second':>8} {'rate':>6} {'seconds':>8} {'speed':>6} {'more':>11}")
     started, failed, costs = time.time(), False, {file: set() for file in given.files}
     for with_tables in (False, True):
         measured = []
         for file in given.files:
             try:
-                searches = measure(given.program, given.baseline, file, with_tables)
+                searches = measure(ours, given.baseline, file, with_tables)
             except (Fault, OSError) as fault:
                 failed = True
                 print(f"engine.py: {file}: {fault}", file=sys.stderr)

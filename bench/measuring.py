@@ -51,6 +51,14 @@ def compared(name, operand, is_required, arguments):
     return given
 
 
+def ties_in(arguments):
+    """Takes `--ties ORDER` out of the arguments, and returns the order, by default that of searches with threads."""
+    if "--ties" not in arguments[:-1]:
+        return "fresh"
+    at = arguments.index("--ties")
+    return (arguments.pop(at), arguments.pop(at))[1]
+
+
 def generate(script, folder, size):
     """Runs a generator of this folder, and returns what it prints.
 

@@ -1,7 +1,7 @@
 #!/usr/bin/env python3
 """Measures searches in stages, beside one search with tables from the goal and beside another planner.
 
-    stages.py BENCH_STAGES [--ties shallow|deep] [--baseline PROGRAM] FILE..
+    stages.py BENCH_STAGES [--ties fresh|shallow|deep] [--baseline PROGRAM] FILE..
 
 BENCH_STAGES is the program that `rt run` in crates/bench_stages has built, and each FILE an output.sas. PROGRAM is another
 planner that searches in stages. It is called as
@@ -115,17 +115,9 @@ def put_line(name, staged, goal, beside, ratios):
           f"{'-' if whole is None else f'{whole:.3f}':>8} {shown[0]:>10} {shown[1]:>8} {shown[2]:>8}", flush=True)
 
 
-def ties_in(arguments):
-    """Takes `--ties ORDER` out of the arguments, and returns the order."""
-    if "--ties" not in arguments[:-1]:
-        return "shallow"
-    at = arguments.index("--ties")
-    return (arguments.pop(at), arguments.pop(at))[1]
-
-
 def main(arguments):
     """Measures each file and prints the lines."""
-    ties = ties_in(arguments)
+    ties = measuring.ties_in(arguments)
     given = measuring.compared("stages.py", "BENCH_STAGES", False, arguments)
     ratios, is_right = collections.defaultdict(list), True
     print(f"{'task':<16} {'stage':>5} {'h':>7} {'expanded':>9} {'before':>9} {'tables':>7} {'seconds':>8} {'goal':>8} "

@@ -5,44 +5,70 @@ from test_planner import solved
 from texts import DRIVE_DOMAIN, DRIVE_PROBLEM
 
 
-def operator(name, old, new):
+def operator(name, old, new, cost):
     """Returns an operator of a finite-domain task of one variable."""
-    return f"begin_operator\n{name}\n0\n1\n0 0 {old} {new}\n1\nend_operator\n"
+    return f"begin_operator\n{name}\n0\n1\n0 0 {old} {new}\n{cost}\nend_operator\n"
+
+
+def task(metric, values, goal, operators):
+    """Returns a finite-domain task of one variable with these many values, which is 0 initially."""
+    return (
+        f"begin_version\n3\nend_version\nbegin_metric\n{metric}\nend_metric\n1\nbegin_variable\nvar0\n-1\n{values}\n"
+        + "".join(f"Atom at({place})\n" for place in range(values))
+        + f"end_variable\n0\nbegin_state\n0\nend_state\nbegin_goal\n1\n0 {goal}\nend_goal\n{len(operators)}\n"
+        + "".join(operators) + "0\n"
+    )
 
 
 # Operators from 0 to 1, 2, 3, 4 and 5, and from 5 to 6, the goal: each costs 1.
-FIVE_WAYS = (
-    "begin_version\n3\nend_version\nbegin_metric\n0\nend_metric\n1\nbegin_variable\nvar0\n-1\n7\n"
-    + "".join(f"Atom at({place})\n" for place in range(7))
-    + "end_variable\n0\nbegin_state\n0\nend_state\nbegin_goal\n1\n0 6\nend_goal\n6\n"
-    + "".join(operator(f"to {place}", 0, place) for place in range(1, 6)) + operator("out", 5, 6) + "0\n"
-)
+FIVE_WAYS = task(0, 7, 6, [*(operator(f"to {place}", 0, place, 1) for place in range(1, 6)), operator("out", 5, 6, 1)])
+# From 0 a way of four operators to 5 (by 2, 3 and 4) and one of three operators (by 1 and 7), which cost nothing; the goal,
+# 8, is reached from 6, a neighbor of 1, at cost 1.
+TWO_WAYS = task(1, 9, 8, [
+    operator("to 1", 0, 1, 0), operator("to 2", 0, 2, 0), operator("to 3", 2, 3, 0), operator("to 4", 3, 4, 0),
+    operator("to 5", 4, 5, 0), operator("to 6", 1, 6, 0), operator("to 7", 1, 7, 0), operator("back to 5", 7, 5, 0),
+    operator("out", 6, 8, 1),
+])
 
 
 class Ties(ProgramTest):
-    """Searches of one worker that may expand two states, and the default."""
+    """Searches of one worker that may expand few states, without tables, so that an f-value is a cost; and the
+    defaults."""
 
-    SCHEDULES = [["--simulate", "1"], ["--simulate", "2"], []]
+    SIMULATED = [["--simulate", "1"], ["--simulate", "2"]]
+    SCHEDULES = [*SIMULATED, []]
 
-    def limited(self, *words):
-        """Returns the outcome of one worker that may expand two states, without tables, so that an f-value is a
-        cost."""
-        return run("solve-sas", "s", "--workers", "1", "--table", "1", "--limit", "2", *words, files={"s": FIVE_WAYS})
+    def limited(self, text, limit, *words):
+        """Returns the outcome of one worker that may expand `limit` states of a task."""
+        return run("solve-sas", "s", "--workers", "1", "--table", "1", "--limit", str(limit), *words, files={"s": text})
 
     def test_shallow(self):
         # The states 1 to 5 are reached at cost 1, and the first of them, 1, has no successor.
-        for words in self.SCHEDULES + [[*words, "--ties", "shallow"] for words in self.SCHEDULES]:
+        for words in self.SIMULATED + [[*words, "--ties", "shallow"] for words in self.SCHEDULES]:
             with self.subTest(words=words):
-                self.assertEqual(self.limited(*words), Outcome(out=b"limit 1\n", status=5))
+                self.assertEqual(self.limited(FIVE_WAYS, 2, *words), Outcome(out=b"limit 1\n", status=5))
 
-    def test_deep(self):
-        # The goal is a successor of the last of them, 5.
-        for words in self.SCHEDULES:
+    def test_deep_and_fresh(self):
+        # The goal is a successor of the last of them, 5. No state is expanded twice.
+        for words in [[*words, "--ties", order] for words in self.SCHEDULES for order in ("deep", "fresh")] + [[]]:
             with self.subTest(words=words):
                 plan = b"(to 5)\n(out)\n; cost = 2 (unit cost)\n"
-                self.assertEqual(self.limited(*words, "--ties", "deep"), Outcome(out=b"limit 1\n" + plan, status=5))
+                self.assertEqual(self.limited(FIVE_WAYS, 2, *words), Outcome(out=b"limit 1\n" + plan, status=5))
 
-    def test_shallow_is_the_default(self):
+    def test_expanded_again(self):
+        # Both orders expand 0, 2, 3, 4, 5, 1 and 7. Then 5 is reached again, over fewer operators: deep expands it again,
+        # since it is reached over three operators and 6 over two; fresh first expands 6, from which the goal is reached.
+        plan = b"(to 1)\n(to 6)\n(out)\n; cost = 1 (general cost)\n"
+        for words in self.SCHEDULES:
+            for order, limit, answer in (("deep", 8, b""), ("deep", 9, plan), ("fresh", 7, b""), ("fresh", 8, plan), ("shallow", 3, b""), ("shallow", 4, plan)):
+                with self.subTest(words=words, order=order, limit=limit):
+                    outcome = self.limited(TWO_WAYS, limit, *words, "--ties", order)
+                    self.assertEqual(outcome, Outcome(out=b"limit 0\n" + answer, status=5))
+
+    def test_defaults(self):
+        # One worker of threads expands in an order that does not depend on the schedule.
+        self.assertEqual(self.limited(TWO_WAYS, 7), Outcome(out=b"limit 0\n", status=5))
+        self.assertEqual(self.limited(TWO_WAYS, 8), Outcome(out=b"limit 0\n" + b"(to 1)\n(to 6)\n(out)\n; cost = 1 (general cost)\n", status=5))
         for seed in range(20):
             with self.subTest(seed=seed):
                 options = {"simulate": seed, "workers": 2, "table": 1}

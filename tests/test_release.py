@@ -70,13 +70,13 @@ class Release(unittest.TestCase):
     def release(self, program):
         release.write(self.top, program, release.description(self.top, program, KIT))
 
-    def start(self, *words, by=None):
-        return subprocess.Popen([by or f"{self.top}/optplan", *words], cwd=self.top, env={"PATH": self.tools}, stdin=subprocess.DEVNULL,
-                                stdout=subprocess.PIPE, stderr=subprocess.PIPE, text=True)
+    def start(self, *words, by=None, environment=()):
+        return subprocess.Popen([by or f"{self.top}/optplan", *words], cwd=self.top, env={"PATH": self.tools, **dict(environment)},
+                                stdin=subprocess.DEVNULL, stdout=subprocess.PIPE, stderr=subprocess.PIPE, text=True)
 
-    def outcome(self, *words, by=None):
+    def outcome(self, *words, by=None, environment=()):
         """What the program printed on its two streams, and its status."""
-        started = self.start(*words, by=by)
+        started = self.start(*words, by=by, environment=environment)
         out, err = started.communicate(timeout=60)
         return out, err, started.returncode
 
@@ -112,6 +112,14 @@ class Release(unittest.TestCase):
     def test_start_through_a_link(self):
         os.symlink(f"{self.top}/optplan", f"{self.tools}/planner")
         self.assertEqual(self.outcome("validate", *GRIPPER, "examples/gripper/plan.txt", by=f"{self.tools}/planner"), ("valid 11\n", UNPACKING, 0))
+
+    def test_large_pages_unless_the_caller_says_otherwise(self):
+        self.release(b'#!/bin/sh\necho "$GLIBC_TUNABLES"\n')
+        large, small, other = "glibc.malloc.hugetlb=1", "glibc.malloc.hugetlb=0", "glibc.malloc.check=0"
+        for given, wanted in ((None, large), ("", large), (other, f"{other}:{large}"), (small, small), (f"{small}:{other}", f"{small}:{other}")):
+            with self.subTest(given=given):
+                environment = {} if given is None else {"GLIBC_TUNABLES": given}
+                self.assertEqual(self.outcome("--version", environment=environment)[::2], (f"{wanted}\n", 0))
 
     def test_two_starts_at_once(self):
         started = [self.start("validate", *GRIPPER, "examples/gripper/plan.txt") for _ in range(2)]

@@ -16,6 +16,53 @@ TASKS = ((ROAD_DOMAIN, ROAD_PROBLEM, 2), (DRIVE_DOMAIN, DRIVE_PROBLEM, 7), (GRIP
 SEARCHES = 50
 
 
+# Two drivers move four packages with two trucks. A search with one worker expands about a thousand states.
+DELIVERY_DOMAIN = """(define (domain delivery) (:requirements :typing)
+ (:types place thing - object driver truck package - thing)
+ (:predicates (at ?t - thing ?p - place) (in ?o - package ?t - truck) (drives ?d - driver ?t - truck) (free ?t - truck)
+  (road ?a ?b - place) (path ?a ?b - place))
+ (:action load :parameters (?o - package ?t - truck ?p - place) :precondition (and (at ?t ?p) (at ?o ?p))
+  :effect (and (not (at ?o ?p)) (in ?o ?t)))
+ (:action unload :parameters (?o - package ?t - truck ?p - place) :precondition (and (at ?t ?p) (in ?o ?t))
+  :effect (and (not (in ?o ?t)) (at ?o ?p)))
+ (:action board :parameters (?d - driver ?t - truck ?p - place) :precondition (and (at ?t ?p) (at ?d ?p) (free ?t))
+  :effect (and (not (at ?d ?p)) (not (free ?t)) (drives ?d ?t)))
+ (:action leave :parameters (?d - driver ?t - truck ?p - place) :precondition (and (at ?t ?p) (drives ?d ?t))
+  :effect (and (not (drives ?d ?t)) (at ?d ?p) (free ?t)))
+ (:action drive :parameters (?d - driver ?t - truck ?a ?b - place) :precondition (and (at ?t ?a) (drives ?d ?t) (road ?a ?b))
+  :effect (and (not (at ?t ?a)) (at ?t ?b)))
+ (:action walk :parameters (?d - driver ?a ?b - place) :precondition (and (at ?d ?a) (path ?a ?b))
+  :effect (and (not (at ?d ?a)) (at ?d ?b))))
+"""
+
+DELIVERY_PROBLEM = """(define (problem delivery) (:domain delivery)
+ (:objects s0 s1 s2 s3 s4 s5 - place d0 d1 - driver t0 t1 - truck o0 o1 o2 o3 - package)
+ (:init (road s0 s1) (road s1 s0) (road s0 s2) (road s2 s0) (road s0 s3) (road s3 s0) (road s1 s4) (road s4 s1)
+  (road s1 s5) (road s5 s1) (road s2 s4) (road s4 s2) (road s2 s5) (road s5 s2)
+  (path s0 s1) (path s1 s0) (path s0 s2) (path s2 s0) (path s1 s3) (path s3 s1) (path s3 s4) (path s4 s3)
+  (path s4 s5) (path s5 s4)
+  (at d0 s2) (at d1 s4) (at t0 s3) (at t1 s4) (at o0 s2) (at o1 s0) (at o2 s0) (at o3 s2) (free t0) (free t1))
+ (:goal (and (at d0 s3) (at t0 s2) (at o0 s3) (at o1 s3) (at o2 s4) (at o3 s1))))
+"""
+
+# A robot fetches a key in another room, and may go from each of these rooms to each other one: a state has as many
+# successors as there are rooms. The cheapest plans go there and take the key.
+ROOMS = 200
+
+ROOMS_DOMAIN = """(define (domain rooms) (:requirements :typing) (:types room key)
+ (:predicates (in ?r - room) (lies ?k - key ?r - room) (has ?k - key))
+ (:action go :parameters (?a ?b - room) :precondition (in ?a) :effect (and (not (in ?a)) (in ?b)))
+ (:action take :parameters (?k - key ?r - room) :precondition (and (in ?r) (lies ?k ?r))
+  :effect (and (not (lies ?k ?r)) (has ?k))))
+"""
+
+ROOMS_PROBLEM = f"""(define (problem fetch) (:domain rooms)
+ (:objects {" ".join(f"r{number}" for number in range(ROOMS))} - room k - key)
+ (:init (in r0) (lies k r1))
+ (:goal (has k)))
+"""
+
+
 def tower(discs):
     """Returns the problem of moving a tower of this many discs from peg a to peg c. Disc 0 is the smallest."""
     names = [f"d{number}" for number in range(discs)]
@@ -50,6 +97,16 @@ class Threads(PlannerTest):
     def test_full_links_of_many_workers(self):
         outcome = solved(GRIP_DOMAIN, GRIP_PROBLEM, workers=64, ring=1)
         self.is_cheapest(GRIP_DOMAIN, GRIP_PROBLEM, outcome, 7)
+
+    def test_messages_are_not_late(self):
+        # Each of two owners expands at most 1,250 states: if messages waited in outboxes while their senders go on, these
+        # would expand states of ever greater f, of which there are millions.
+        outcome = solved(DELIVERY_DOMAIN, DELIVERY_PROBLEM, workers=2, ring=1, limit=1250)
+        self.is_cheapest(DELIVERY_DOMAIN, DELIVERY_PROBLEM, outcome, 21)
+
+    def test_many_successors(self):
+        outcome = solved(ROOMS_DOMAIN, ROOMS_PROBLEM, workers=64, ring=1, table=1)
+        self.is_cheapest(ROOMS_DOMAIN, ROOMS_PROBLEM, outcome, 2)
 
     def test_many_states(self):
         # Nine discs have 3^9 = 19,683 states, and without tables nearly all of them cost less than the 2^9 - 1 moves to

@@ -1,4 +1,5 @@
-//! Searches a task with threads, for the benchmark of the engine: `bench_engine TASK WORKERS RING TABLE LIMIT`.
+//! Searches a task with threads, for the benchmark of the engine: `bench_engine TASK WORKERS RING TABLE LIMIT
+//! ORDER`, with the order `fresh`, `shallow` or `deep` among states of the same f-value.
 #![tactic(auto)]
 
 mod report;
@@ -9,7 +10,7 @@ ghost use Rattle.std.specs.Prelude.{◌≤◌, ◌^◌};
 
 use crate::report::Report;
 use crate::searching::searched_in_smallest_form;
-use bench_input::{MAX_TABLE, columns_within, status_of, task_in, words_of_call};
+use bench_input::{MAX_TABLE, columns_within, status_of, task_in, ties_of, words_of_call};
 use engine::EngineFault;
 use fdr::FdrTask;
 use optplan_device::{Device, ProcessDevice};
@@ -40,6 +41,7 @@ fn searched<'a, R: Threads + Wait + Clock + Sync>(
     alloc: Global,
     task: &'a FdrTask,
     amounts: Amounts,
+    ties: Ties,
 ) -> Result<Report, EngineFault>
     requires table { amounts.table ≤ 2 ^ 24 }
     requires workers { 1 ≤ amounts.workers }
@@ -52,7 +54,7 @@ fn searched<'a, R: Threads + Wait + Clock + Sync>(
         columns,
         spread,
         Some(amounts.limit),
-        Ties::Shallow,
+        ties,
     )?;
     searched_in_smallest_form(rt, alloc, &space, amounts.workers, amounts.ring)
 }
@@ -63,11 +65,12 @@ fn answer<R: Threads + Wait + Clock + Sync>(
     alloc: Global,
     task: &FdrTask,
     amounts: Amounts,
+    ties: Ties,
 ) -> Result<Option<Report>, EngineFault> {
     if amounts.workers < 1 || amounts.workers > MAX_WORKERS || amounts.table > MAX_TABLE {
         return Ok(None);
     }
-    Ok(Some(searched(rt, alloc, task, amounts)?))
+    Ok(Some(searched(rt, alloc, task, amounts, ties)?))
 }
 
 /// Returns the four amounts of the command line.
@@ -86,14 +89,14 @@ fn amounts_of(workers: &str, ring: &str, table: &str, limit: &str) -> Option<Amo
     })
 }
 
-/// Prints the report for a file and four numbers, and returns whether it did.
+/// Prints the report for a file, four numbers and an order, and returns whether it did.
 fn put_answer<D: Device, R: Threads + Wait + Clock + Sync>(
     rt: &R,
     alloc: Global,
     device: &mut D,
     words: &[String],
 ) -> bool {
-    let [_, task, workers, ring, table, limit] = words else {
+    let [_, task, workers, ring, table, limit, order] = words else {
         return false;
     };
     let Some(amounts) = amounts_of(
@@ -104,10 +107,13 @@ fn put_answer<D: Device, R: Threads + Wait + Clock + Sync>(
     ) else {
         return false;
     };
+    let Some(ties) = ties_of(order.as_str()) else {
+        return false;
+    };
     let Some(task) = task_in(alloc, device, task.as_str()) else {
         return false;
     };
-    match answer(rt, alloc, &task, amounts) {
+    match answer(rt, alloc, &task, amounts, ties) {
         Ok(Some(report)) => report.put(device),
         _ => false,
     }

@@ -6,6 +6,7 @@ ghost use Rattle.std.specs.Prelude.{◌≡◌, ◌≤◌, ◌^◌, IfOk};
 
 use fdr::FdrTask;
 use optplan_device::Device;
+use owner_space::Ties;
 use sasfile::read_sas;
 use scp::{Columns, choose_columns, make_columns};
 use std::alloc::{Alloc, AllocError, Global};
@@ -27,6 +28,16 @@ pub fn words_of_call<R: Env + Alloc<A = Global>>(rt: &R) -> Option<Vec<String>> 
 pub fn task_in<D: Device>(alloc: Global, device: &mut D, path: &str) -> Option<FdrTask> {
     let text = device.read(alloc, path).ok()?;
     read_sas(alloc, &text).ok()
+}
+
+/// Returns the order of this name among states of the same f-value.
+pub fn ties_of(name: &str) -> Option<Ties> {
+    match name {
+        "fresh" => Some(Ties::Fresh),
+        "shallow" => Some(Ties::Shallow),
+        "deep" => Some(Ties::Deep),
+        _ => None,
+    }
 }
 
 /// Returns columns with tables of at most `table` abstract states, and no column if that is 0.

@@ -18,7 +18,7 @@ struct Row {
     made: AtomicU64,
     /// When one of its last turns began.
     ended: AtomicU64,
-    /// The number of turns that began with a state to expand.
+    /// The number of turns that were to expand a state.
     expanded: AtomicU64,
     /// The least f-value of an open state at the last of them, and how many of them had a lesser one. With several
     /// workers both are of no use.
@@ -61,7 +61,7 @@ impl Row {
         )
     }
 
-    /// Counts a turn that began with a state to expand, of this f-value.
+    /// Counts a turn that is to expand a state, of this f-value.
     fn count(&self, least: u64) {
         let expanded = self.expanded.fetch_add(1, Ordering::Relaxed);
         if self.initial.load(Ordering::Relaxed) == u64::MAX {
@@ -124,7 +124,7 @@ impl<'a, R: Clock> Gate for Counting<'a, R> {
         let Some(row) = self.rows.get(stage) else {
             return Ok(());
         };
-        if progress.least_open < progress.best {
+        if progress.expands {
             row.count(progress.least_open.get().unwrap_or(u64::MAX));
         }
         if turn % TURNS == 0 {

@@ -1,15 +1,15 @@
 //! Searches a task with threads, for the benchmark of stages: `bench_stages TASK WORKERS TABLES TIES`, with tables
-//! `goal` or `staged` and the order `shallow` or `deep`.
+//! `goal` or `staged` and the order `fresh`, `shallow` or `deep`.
 #![tactic(auto)]
 
 mod counting;
 
 use crate::counting::Counting;
-use bench_input::{status_of, task_in, words_of_call};
+use bench_input::{status_of, task_in, ties_of, words_of_call};
 use cert_value::CertificateKind;
 use fdr::FdrTask;
 use optplan_device::{Device, ProcessDevice};
-use optplan_sas::{Found, MAX_WORKERS, Options, SearchFault, Tables, Ties, found_by_threads};
+use optplan_sas::{Found, MAX_WORKERS, Options, SearchFault, Tables, found_by_threads};
 use std::alloc::{AllocError, Global};
 use std::process::ExitCode;
 use std::sync::Wait;
@@ -57,15 +57,6 @@ fn tables_of(name: &str) -> Option<Tables> {
     match name {
         "goal" => Some(Tables::Goal),
         "staged" => Some(Tables::Staged),
-        _ => None,
-    }
-}
-
-/// Returns the order of this name.
-fn ties_of(name: &str) -> Option<Ties> {
-    match name {
-        "shallow" => Some(Ties::Shallow),
-        "deep" => Some(Ties::Deep),
         _ => None,
     }
 }

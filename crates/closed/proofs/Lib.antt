@@ -4,3 +4,4 @@ pub mod TakingBack
 pub mod Reaching
 pub mod Holding
 pub mod Indexing
+pub mod Ever

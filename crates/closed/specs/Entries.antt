@@ -1,5 +1,5 @@
 -- The reached states, as they are stored, and how writes to them are undone.
-use Rattle.std.specs.Prelude.{◌≡◌, ℕ, zero, suc, if◌then◌else◌, List, [], ◌∷◌, ◌++◌, map, Some, None, slice_get, All}
+use Rattle.std.specs.Prelude.{◌≡◌, ℕ, zero, suc, Bool, if◌then◌else◌, List, [], ◌∷◌, ◌++◌, map, Some, None, slice_get, All}
 use Rattle.owner_theory.specs.Owners.{Node}
 use Rattle.closed.specs.declared.table.Entry.{Entry}
 use Rattle.closed.specs.declared.table.Outcome.{Outcome}
@@ -19,6 +19,10 @@ entry_in e =
 -- the nodes of states with their entries, if `values` returns the values of a form
 abbrev pub nodes_of : {F : Type 0} → (F → List ℕ) → List (F × SmallEntry) → List Node
 nodes_of values entries = map (λ p. node_with (values p.0) (entry_in p.1)) entries
+
+-- for each row whether its state was ever expanded
+abbrev pub ever_of : {F : Type 0} → List (F × SmallEntry) → List Bool
+ever_of entries = map (λ p. p.1.ever) entries
 
 -- the rows with entry `e` at index `i`
 abbrev pub set_entry_at : {F : Type 0} → List (F × SmallEntry) → ℕ → SmallEntry → List (F × SmallEntry)

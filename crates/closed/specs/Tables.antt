@@ -1,6 +1,6 @@
 -- The reached states, each with the least rank at which it was reached (best-first search: Hart, Nilsson and Raphael
 -- 1968).
-use Rattle.std.specs.Prelude.{ℕ, suc, false, if◌then◌else◌, List, [], ◌∷◌, Option, Some}
+use Rattle.std.specs.Prelude.{ℕ, zero, suc, Bool, false, if◌then◌else◌, List, [], ◌∷◌, Option, Some, slice_index_or}
 use Rattle.std.specs.Option.{option_map}
 use Rattle.owner_theory.specs.Owners as machine
 use Rattle.owner_theory.specs.Owners.{Node, same_state, rank_less}
@@ -38,10 +38,22 @@ fresh state rank parent = node_with state (record { rank = rank; parent = parent
 
 -- ---- the table
 
--- the range of each variable, and the nodes of the reached states
+-- the range of each variable, the nodes of the reached states, and for each node whether its state was ever expanded,
+-- at whatever rank
 pub record Table : Type 0 where
   pub ranges : List ℕ
   pub nodes : List Node
+  pub ever : List Bool
+
+-- the list followed by as many `false` as make it `n` long; the list itself if it is longer
+abbrev pub padded : List Bool → ℕ → List Bool
+padded bits zero = bits
+padded [] (suc n) = false ∷ padded [] n
+padded (b ∷ bits) (suc n) = b ∷ padded bits n
+
+-- the state of node `i` was ever expanded
+abbrev pub was_expanded : List Bool → ℕ → Bool
+was_expanded ever i = slice_index_or ever i false
 
 -- the nodes after a state is reached: each state occurs once, with the least rank at which it was reached
 abbrev pub reached : List Node → Node → List Node

@@ -25,13 +25,16 @@ pub(crate) struct SmallEntry {
     has_parent: bool,
     /// Whether the state was expanded at the rank.
     expanded: bool,
+    /// Whether the state was ever expanded, at this rank or a greater one.
+    ever: bool,
 }
 
 impl SmallEntry {
-    /// Returns the entry of a state that is not expanded, or `None` if the rank or the parent has a number that exceeds
-    /// its field.
+    /// Returns the entry of a state that was never expanded, or `None` if the rank or the parent has a number that
+    /// exceeds its field.
     pub(crate) fn of(rank: Rank, parent: Option<Parent>) -> Option<SmallEntry>
         ensures held { IfSome result (λ e. entry_in e ≡ record { rank = rank; parent = parent; expanded = false }) }
+        ensures never { IfSome result (λ e. e.ever ≡ false) }
         ensures past { IfNone result (IsPastEntry rank parent) }
     {
         let Ok(steps) = u32::try_from(rank.steps) else {
@@ -46,6 +49,7 @@ impl SmallEntry {
                 worker: 0,
                 has_parent: false,
                 expanded: false,
+                ever: false,
             });
         };
         let (Ok(index), Ok(operator), Ok(worker)) = (
@@ -63,7 +67,20 @@ impl SmallEntry {
             worker,
             has_parent: true,
             expanded: false,
+            ever: false,
         })
+    }
+
+    /// Returns this entry as the one that replaces `old`, an entry of the same state: whether the state was ever
+    /// expanded stays as it was.
+    pub(crate) fn in_place_of(self, old: SmallEntry) -> SmallEntry
+        ensures entry { entry_in result ≡ entry_in self }
+        ensures ever { result.ever ≡ old.ever }
+    {
+        SmallEntry {
+            ever: old.ever,
+            ..self
+        }
     }
 
     /// Returns the rank.
@@ -92,17 +109,28 @@ impl SmallEntry {
         }
     }
 
-    /// Marks the state as expanded.
-    pub(crate) fn expand(&mut self)
-        ensures { entry_in self.new ≡ record (entry_in self.old) { expanded = true } }
+    /// Returns whether the state was ever expanded.
+    pub(crate) fn was_expanded(&self) -> bool
+        ensures { result ≡ self.now.ever }
     {
-        self.expanded = true;
+        self.ever
     }
 
-    /// Marks the state as not expanded.
-    pub(crate) fn reopen(&mut self)
-        ensures { entry_in self.new ≡ record (entry_in self.old) { expanded = false } }
+    /// Marks the state as expanded.
+    pub(crate) fn expand(&mut self)
+        ensures entry { entry_in self.new ≡ record (entry_in self.old) { expanded = true } }
+        ensures ever { self.new.ever ≡ true }
+    {
+        self.expanded = true;
+        self.ever = true;
+    }
+
+    /// Marks the state as not expanded, and sets whether it was ever expanded.
+    pub(crate) fn reopen(&mut self, ever: bool)
+        ensures entry { entry_in self.new ≡ record (entry_in self.old) { expanded = false } }
+        ensures ever { self.new.ever ≡ ever }
     {
         self.expanded = false;
+        self.ever = ever;
     }
 }

@@ -1,15 +1,15 @@
 //! The table of reached states.
 
-ghost use Rattle.std.specs.Prelude.{◌≡◌, ◌≢◌, IsTrue, ℕ, ◌<◌, ◌≤◌, ◌==◌, ◌⊎◌, false, List, [], take, length, map, fold, Option, slice_get, slice_set, position, Some, None, IfOk, IfSome, IfNone, OnOk, OnErr, All};
+ghost use Rattle.std.specs.Prelude.{◌≡◌, ◌≢◌, IsTrue, ℕ, ◌<◌, ◌≤◌, ◌==◌, ◌⊎◌, true, false, List, [], take, length, map, fold, Option, slice_get, slice_set, position, Some, None, IfOk, IfSome, IfNone, OnOk, OnErr, All};
 ghost use Rattle.std.specs.Map.{keys_of};
 ghost use Rattle.fdr.specs.Tasks as tasks;
 ghost use Rattle.fdr.specs.Tasks.{IsState};
 ghost use Rattle.owner_theory.specs.Owners.{Node, marked};
 ghost use Rattle.closed.specs.declared.message.Parent.{Parent};
 ghost use Rattle.closed.specs.declared.table.Outcome.TheVariants.{New, Better, Kept};
-ghost use Rattle.closed.specs.Tables.{reached, outcome_of, outcomes_of, node_with, fresh, arrival};
+ghost use Rattle.closed.specs.Tables.{padded, was_expanded, reached, outcome_of, outcomes_of, node_with, fresh, arrival};
 ghost use Rattle.closed.specs.Limits.{IsPastEntry};
-ghost use Rattle.closed.specs.Entries.{entry_in, nodes_of, with_entry, taken_back, Notes};
+ghost use Rattle.closed.specs.Entries.{entry_in, nodes_of, ever_of, with_entry, taken_back, Notes};
 
 use crate::message::{Message, Parent};
 use crate::rows::{Lead, Rows};
@@ -43,8 +43,8 @@ pub enum Outcome {
 }
 
 /// The reached states, in the order in which they were first reached, with a hash index of their forms. In contracts
-/// its value is the ranges of the task's variables and a node for each state. A state takes the size of its form, 24
-/// bytes for its entry and 12 to 24 bytes of the index.
+/// its value is the ranges of the task's variables, a node for each state, and for each whether it was ever expanded. A
+/// state takes the size of its form, 24 bytes for its entry and 12 to 24 bytes of the index.
 ///
 /// A table holds at most 2,863,311,530 states; adding another fails like a failed allocation. It holds ranks of at most
 /// 2^32 - 1 steps, and parents whose index and operator are at most 2^32 - 1 and whose worker is at most 255.
@@ -58,11 +58,11 @@ pub struct ClosedTable<F: StateForm + Drop> {
 
 impl<F: StateForm + Drop> Model for ClosedTable<F> {
     ghost use Rattle.closed.specs.Tables.{Table};
-    ghost use Rattle.closed.specs.Entries.{nodes_of, AreForms};
+    ghost use Rattle.closed.specs.Entries.{nodes_of, ever_of, AreForms};
 
     ghost Value = { Table };
 
-    ghost view = { λ t. record { ranges = t.layout; nodes = nodes_of (F.values t.layout) t.rows } };
+    ghost view = { λ t. record { ranges = t.layout; nodes = nodes_of (F.values t.layout) t.rows; ever = ever_of t.rows } };
 
     ghost invariant = { λ t. AreForms F.Fits F.IsForm t.layout t.rows t.sought };
 }
@@ -82,8 +82,9 @@ fn outcome_among<F: StateForm + Drop>(rows: &Rows<F>, form: &F, rank: Rank, lead
     }
 }
 
-/// Applies the outcome of reaching the state of a form. A new state is stored as a copy of the form. It can fail only
-/// for a new state; the entries are then unchanged.
+/// Applies the outcome of reaching the state of a form. A new state is stored as a copy of the form; it was never
+/// expanded. For an improved state, whether it was ever expanded stays as it was. It can fail only for a new state; the
+/// entries are then unchanged.
 fn write<F: StateForm + Drop>(
     rows: &mut Rows<F>,
     form: &F,
@@ -93,12 +94,14 @@ fn write<F: StateForm + Drop>(
     requires form { (ranges : List ℕ) × F.IsForm ranges form.now }
     requires absent { (i : ℕ) → outcome ≡ New i → position (F.eq form.now) (keys_of rows.old) ≡ None }
     requires within { (i : ℕ) → outcome ≡ Better i → i < length rows.old }
+    requires never { entry.ever ≡ false }
     ensures keys { (ranges : List ℕ) → F.IsForm ranges form.now → All (λ p. F.IsForm ranges p.0) rows.old →
         All (λ p. F.IsForm ranges p.0) rows.new }
     ensures nodes { OnOk result ((ranges : List ℕ) → F.IsForm ranges form.now → All (λ p. F.IsForm ranges p.0) rows.old →
         outcome ≡ outcome_of (nodes_of (F.values ranges) rows.old) (node_with (F.values ranges form.now) (entry_in entry)) →
         nodes_of (F.values ranges) rows.new ≡
         reached (nodes_of (F.values ranges) rows.old) (node_with (F.values ranges form.now) (entry_in entry))) }
+    ensures ever { OnOk result (ever_of rows.new ≡ padded (ever_of rows.old) (length rows.new)) }
     ensures unchanged { OnErr result (rows.new ≡ rows.old) }
     ensures refused { OnErr result ((i : ℕ) × (outcome ≡ New i)) }
 {
@@ -107,7 +110,10 @@ fn write<F: StateForm + Drop>(
             let key = form.copy(*rows.allocator())?;
             rows.push(key, entry)?;
         }
-        Outcome::Better(index) => rows.set_entry(index, entry),
+        Outcome::Better(index) => {
+            let replacement = entry.in_place_of(rows.entry(index));
+            rows.set_entry(index, replacement);
+        }
         Outcome::Kept => {}
     }
     Ok(())
@@ -119,6 +125,7 @@ impl<F: StateForm + Drop> ClosedTable<F> {
         requires { F.Fits (tasks.ranges task.now) }
         ensures ranges { IfOk result (λ t. t.ranges ≡ tasks.ranges task.now) }
         ensures none { IfOk result (λ t. t.nodes ≡ []) }
+        ensures none_ever { IfOk result (λ t. t.ever ≡ []) }
     {
         let layout = Layout::new(alloc, task)?;
         let sought = F::pack(alloc, &layout, task.initial())?;
@@ -143,10 +150,11 @@ impl<F: StateForm + Drop> ClosedTable<F> {
         self.len() == 0
     }
 
-    /// Proves, from the type's invariant, that every state in the table is a state of the task, and that states of the
-    /// task have the form. Only for the proof.
+    /// Proves, from the type's invariant, that every state in the table is a state of the task, that states of the task
+    /// have the form, and that as many states as there are were expanded or not. Only for the proof.
     pub fn recall(&self)
         ensures states { All (λ n. IsState self.now.ranges n.state) self.now.nodes }
+        ensures ever { length self.now.ever ≡ length self.now.nodes }
         ensures fits { F.Fits self.now.ranges }
     {
         let _ = self.rows.len();
@@ -178,6 +186,16 @@ impl<F: StateForm + Drop> ClosedTable<F> {
         self.rows.entry(index).entry()
     }
 
+    /// Returns whether the state at the index was ever expanded, at whatever rank; `false` past the last state.
+    pub fn was_expanded(&self, index: usize) -> bool
+        ensures { result ≡ was_expanded self.now.ever index }
+    {
+        match self.rows.get(index) {
+            Some(row) => row.1.was_expanded(),
+            None => false,
+        }
+    }
+
     /// Writes the values of the state at the index into `values`.
     pub fn copy_state(&self, index: usize, values: &mut [u32])
         requires index { index < length self.now.nodes }
@@ -193,6 +211,7 @@ impl<F: StateForm + Drop> ClosedTable<F> {
         requires { index < length self.old.nodes }
         ensures nodes { (n : Node) → slice_get self.old.nodes index ≡ Some n →
             self.new.nodes ≡ slice_set self.old.nodes index (marked n) }
+        ensures ever { self.new.ever ≡ slice_set self.old.ever index true }
         ensures ranges { self.new.ranges ≡ self.old.ranges }
     {
         let mut entry = self.rows.entry(index);
@@ -200,15 +219,17 @@ impl<F: StateForm + Drop> ClosedTable<F> {
         self.rows.set_entry(index, entry);
     }
 
-    /// Marks the state at the index as not expanded.
-    pub fn mark_open(&mut self, index: usize)
+    /// Marks the state at the index as not expanded, and sets whether it was ever expanded. With `ever` as it was
+    /// before, this undoes `mark_expanded`.
+    pub fn mark_open(&mut self, index: usize, ever: bool)
         requires { index < length self.old.nodes }
         ensures nodes { (n : Node) → slice_get self.old.nodes index ≡ Some n →
             self.new.nodes ≡ slice_set self.old.nodes index (record n { expanded = false }) }
+        ensures ever { self.new.ever ≡ slice_set self.old.ever index ever }
         ensures ranges { self.new.ranges ≡ self.old.ranges }
     {
         let mut entry = self.rows.entry(index);
-        entry.reopen();
+        entry.reopen(ever);
         self.rows.set_entry(index, entry);
     }
 
@@ -235,6 +256,7 @@ impl<F: StateForm + Drop> ClosedTable<F> {
         requires state { IsState self.old.ranges state.now }
         requires outcome { outcome ≡ outcome_of self.old.nodes (fresh state.now rank parent) }
         ensures nodes { OnOk result (self.new.nodes ≡ reached self.old.nodes (fresh state.now rank parent)) }
+        ensures ever { OnOk result (self.new.ever ≡ padded self.old.ever (length self.new.nodes)) }
         ensures ranges { self.new.ranges ≡ self.old.ranges }
         ensures unchanged { OnErr result (self.new ≡ self.old) }
         ensures refused { OnErr result ((outcome ≡ New (length self.old.nodes)) ⊎ IsPastEntry rank parent) }
@@ -295,6 +317,7 @@ impl<F: StateForm + Drop> ClosedTable<F> {
         requires form { F.IsForm self.old.ranges form.now }
         requires outcome { outcome ≡ outcome_of self.old.nodes (fresh (F.values self.old.ranges form.now) rank parent) }
         ensures nodes { OnOk result (self.new.nodes ≡ reached self.old.nodes (fresh (F.values self.old.ranges form.now) rank parent)) }
+        ensures ever { OnOk result (self.new.ever ≡ padded self.old.ever (length self.new.nodes)) }
         ensures ranges { self.new.ranges ≡ self.old.ranges }
         ensures unchanged { OnErr result (self.new ≡ self.old) }
         ensures refused { OnErr result ((outcome ≡ New (length self.old.nodes)) ⊎ IsPastEntry rank parent) }
@@ -314,6 +337,7 @@ impl<F: StateForm + Drop> ClosedTable<F> {
     ) -> Result<Outcome, AllocError>
         requires { IsState self.old.ranges state.now }
         ensures nodes { OnOk result (self.new.nodes ≡ reached self.old.nodes (fresh state.now rank parent)) }
+        ensures ever { OnOk result (self.new.ever ≡ padded self.old.ever (length self.new.nodes)) }
         ensures outcome { IfOk result (λ o. o ≡ outcome_of self.old.nodes (fresh state.now rank parent)) }
         ensures ranges { self.new.ranges ≡ self.old.ranges }
         ensures unchanged { OnErr result (self.new ≡ self.old) }
@@ -350,6 +374,8 @@ impl<F: StateForm + Drop> ClosedTable<F> {
     ) -> Result<Outcome, AllocError>
         requires { F.IsForm self.old.ranges message.now.state }
         ensures nodes { OnOk result (self.new.nodes ≡ reached self.old.nodes (arrival (F.values self.old.ranges) message.now)) }
+        ensures ever { OnOk result (self.new.ever ≡ padded self.old.ever (length self.new.nodes)) }
+        ensures same_ever { OnErr result (self.new.ever ≡ self.old.ever) }
         ensures outcome { IfOk result (λ o. o ≡ outcome_of self.old.nodes (arrival (F.values self.old.ranges) message.now)) }
         ensures ranges { self.new.ranges ≡ self.old.ranges }
         ensures no_fewer { length self.old.nodes ≤ length self.new.nodes }
@@ -373,8 +399,11 @@ impl<F: StateForm + Drop> ClosedTable<F> {
         requires forms { All (λ m. F.IsForm self.old.ranges m.state) messages.now }
         requires outcomes { outcomes.old.items ≡ [] }
         requires replaced { replaced.old.items ≡ [] }
+        requires ever { length self.old.ever ≡ length self.old.nodes }
         ensures nodes { OnOk result (self.new.nodes ≡ fold reached self.old.nodes (map (arrival (F.values self.old.ranges)) messages.now)) }
         ensures outcomes { OnOk result (outcomes.new.items ≡ outcomes_of self.old.nodes (map (arrival (F.values self.old.ranges)) messages.now)) }
+        ensures ever { OnOk result (self.new.ever ≡ padded self.old.ever (length self.new.nodes)) }
+        ensures first { take (length self.old.ever) self.new.ever ≡ self.old.ever }
         ensures ranges { self.new.ranges ≡ self.old.ranges }
         ensures taken_back { taken_back replaced.new.items (take (length self.old.nodes) self.new.nodes) ≡ self.old.nodes }
     {
@@ -388,24 +417,28 @@ impl<F: StateForm + Drop> ClosedTable<F> {
     /// Removes the states from index `len` on. If there are any, it takes time linear in the size of the table.
     fn truncate(&mut self, len: usize)
         ensures nodes { self.new.nodes ≡ take len self.old.nodes }
+        ensures ever { self.new.ever ≡ take len self.old.ever }
         ensures ranges { self.new.ranges ≡ self.old.ranges }
     {
         self.rows.truncate(len);
     }
 
-    /// Restores an entry at the index, if there is a state.
+    /// Restores an entry at the index, if there is a state. Whether the state was ever expanded stays as it is.
     fn put_back(&mut self, index: usize, entry: SmallEntry)
         ensures nodes { self.new.nodes ≡ with_entry self.old.nodes index (entry_in entry) }
+        ensures ever { self.new.ever ≡ self.old.ever }
         ensures ranges { self.new.ranges ≡ self.old.ranges }
     {
         if index < self.rows.len() {
-            self.rows.set_entry(index, entry);
+            let restored = entry.in_place_of(self.rows.entry(index));
+            self.rows.set_entry(index, restored);
         }
     }
 
     /// Removes the states from index `len` on, and restores the replaced entries of the others, the last one first.
     fn take_back(&mut self, len: usize, mut replaced: Vec<(usize, SmallEntry)>)
         ensures nodes { self.new.nodes ≡ taken_back replaced.items (take len self.old.nodes) }
+        ensures ever { self.new.ever ≡ take len self.old.ever }
         ensures ranges { self.new.ranges ≡ self.old.ranges }
     {
         self.truncate(len);
@@ -423,10 +456,12 @@ impl<F: StateForm + Drop> ClosedTable<F> {
     ) -> Result<(), AllocError>
         requires { All (λ m. F.IsForm self.old.ranges m.state) messages.now }
         ensures nodes { OnOk result (self.new.nodes ≡ fold reached self.old.nodes (map (arrival (F.values self.old.ranges)) messages.now)) }
+        ensures ever { OnOk result (self.new.ever ≡ padded self.old.ever (length self.new.nodes)) }
         ensures outcomes { OnOk result (outcomes.new.items ≡ outcomes_of self.old.nodes (map (arrival (F.values self.old.ranges)) messages.now)) }
         ensures ranges { self.new.ranges ≡ self.old.ranges }
         ensures unchanged { OnErr result (self.new ≡ self.old) }
     {
+        self.recall(); // as many states as there are were expanded or not
         outcomes.clear();
         let mut replaced = Vec::new(*self.rows.allocator()); // takes memory only where a state is improved
         let len = self.len();

@@ -1,5 +1,5 @@
 -- What the turns of a worker keep, and what they change at its seat.
-use Rattle.std.proofs.Common.{◌≡◌, ℕ, zero, suc, inl, inr, ⊎_elim, false, List, [], ◌∷◌, length, Option, Some, None, refl, sym, ap, ◌∙◌, subst}
+use Rattle.std.proofs.Common.{◌≡◌, ℕ, zero, suc, inl, inr, ⊎_elim, Bool, true, false, List, [], ◌∷◌, length, Option, Some, None, refl, sym, ap, ◌∙◌, subst}
 use Rattle.cost.specs.Distances.{Distance, Infinite, lesser, ◌≤ᵈ◌}
 use Rattle.cost.proofs.DistanceLaws.{lesser_assoc, lesser_left, lesser_right, lesser_at_most_left, at_most_infinite, at_most_through}
 use Rattle.board.specs.declared.views.View.{View}
@@ -9,7 +9,7 @@ use Rattle.owner.specs.declared.fault.OwnerFault.{OwnerFault}
 use Rattle.owner.specs.declared.fault.OwnerFault.TheVariants.{OutOfMemory, TotalTooLarge, LimitReached}
 use Rattle.owner.specs.Owned.{OwnerOf, IsExpansion}
 use Rattle.worker.specs.Workers.{WorkerOf, AreSameOuts, AreSameIns}
-use Rattle.worker.specs.Turns.{chained, ReceivesFrom, SendsTo, HasTaken, HasNothingTaken, HasSent, HasNotSent, HasLooked, HasTurned, HasStopped, HasRefused}
+use Rattle.worker.specs.Turns.{chained, ReceivesFrom, SendsTo, HasTaken, HasNothingTaken, HasSent, HasNotSent, HasLooked, ExpandsUnless, is_congested, HasTurned, HasStopped, HasRefused}
 use Rattle.worker.proofs.Rows.{outs_through, ins_through, outs_same, ins_same}
 use Rattle.engine_round.specs.declared.fault.TurnFault.{TurnFault}
 use Rattle.engine_round.specs.declared.fault.TurnFault.TheVariants.{Owner, Gate}
@@ -67,6 +67,14 @@ module _ {S F : Type 0} where
     expansion_keeps bound o p None e = (ap (λ (q : OwnerOf S). q.space) e.1, ap (λ (q : OwnerOf S). q.worker) e.1)
     expansion_keeps bound o p (Some n) e = (e.space, e.worker)
 
+  -- the expansion of a turn, or none
+  expands_same : (owner : S → List ℕ → ℕ → ℕ) (values : List ℕ → F → List ℕ) (a b : WorkerOf S F) (posted : Option ℕ) (waits : Bool)
+      → ExpandsUnless owner a b posted waits → IsSameWorker a b
+  expands_same owner values a b posted true e = same_worker a b e.0
+  expands_same owner values a b posted false e =
+      let kept = expansion_keeps owner values a.bound a.owner b.owner posted e.expansion in
+      subst (IsSameWorker a) (sym e.worker) (still _ _ kept.0 kept.1 refl refl)
+
   send_same : (values : List ℕ → F → List ℕ) (to : ℕ) (a b : WorkerOf S F) → SendsTo values to a b → IsSameWorker a b
   send_same values to a b has = ⊎_elim
       (λ (t : HasSent values to a b). record {
@@ -93,11 +101,10 @@ module _ {S F : Type 0} where
 
   pub turned_same : (owner : S → List ℕ → ℕ → ℕ) (values : List ℕ → F → List ℕ) (old new : WorkerOf S F) (u v : View) → HasTurned owner values old new u v → IsSameWorker old new
   turned_same owner values old new u v t =
-      let kept = expansion_keeps owner values t.looked.bound t.looked.owner t.expanded.owner t.posted t.expands.expansion in
       same_through old t.received new (receives_same owner values (length old.ins) old t.received t.receives)
       (same_through t.received t.looked new (changed _ _ _ t.looks.worker (still _ _ refl refl refl refl))
       (same_through t.looked t.expanded new
-      (changed _ _ _ t.expands.worker (still _ _ kept.0 kept.1 refl refl))
+      (expands_same owner values t.looked t.expanded t.posted (is_congested t.looked.owner.outboxes) t.expands)
       (same_through t.expanded t.added new (changed _ _ _ t.adds.worker (still _ _ refl refl refl refl))
       (same_through t.added t.offered new (changed _ _ _ t.offers.worker (still _ _ refl refl refl refl))
       (same_through t.offered t.sent new (sends_same values (length t.offered.outs) t.offered t.sent t.sends)
@@ -132,6 +139,16 @@ module _ {S F : Type 0} where
     receives_bounds zero a b e = bounds_of a b a e (record { bound = refl; seen = refl; offered = refl; misfits = refl })
     receives_bounds (suc k) a b (m, before, step) = bounds_through a m b (receives_bounds k a m before) (receive_bounds k m b step)
 
+  expands_bounds : (owner : S → List ℕ → ℕ → ℕ) (a b : WorkerOf S F) (posted : Option ℕ) (waits : Bool)
+      → ExpandsUnless owner a b posted waits → KeepsBounds a b
+  expands_bounds owner a b posted true e = bounds_of a b a e.0 (record { bound = refl; seen = refl; offered = refl; misfits = refl })
+  expands_bounds owner a b posted false e = record {
+    bound = ap (λ (w : WorkerOf S F). w.bound) e.worker;
+    seen = ap (λ (w : WorkerOf S F). w.seen) e.worker;
+    offered = ap (λ (w : WorkerOf S F). w.offered) e.worker;
+    misfits = ap (λ (w : WorkerOf S F). w.misfits) e.worker;
+  }
+
   send_bounds : (values : List ℕ → F → List ℕ) (to : ℕ) (a b : WorkerOf S F) → SendsTo values to a b → KeepsBounds a b
   send_bounds values to a b has = ⊎_elim
       (λ (t : HasSent values to a b). bounds_of a b _ t.worker (record { bound = refl; seen = refl; offered = refl; misfits = refl }))
@@ -146,6 +163,7 @@ module _ {S F : Type 0} where
   turned_seated owner values old new u v t =
       let r : KeepsBounds old t.received = receives_bounds owner values (length old.ins) old t.received t.receives in
       let s : KeepsBounds t.offered t.sent = sends_bounds values (length t.offered.outs) t.offered t.sent t.sends in
+      let e : KeepsBounds t.looked t.expanded = expands_bounds owner t.looked t.expanded t.posted (is_congested t.looked.owner.outboxes) t.expands in
       let w_seen = λ (w : WorkerOf S F). w.seen in
       let w_offered = λ (w : WorkerOf S F). w.offered in
       let v_seen = λ (x : View). x.seen in
@@ -154,10 +172,10 @@ module _ {S F : Type 0} where
       record {
         seen_since = t.looked.bound;
         offered_since = t.added.owner.best;
-        seen = ap w_seen t.counts.worker ∙ (s.seen ∙ (ap w_seen t.offers.worker ∙ (ap w_seen t.adds.worker ∙ (ap w_seen t.expands.worker
+        seen = ap w_seen t.counts.worker ∙ (s.seen ∙ (ap w_seen t.offers.worker ∙ (ap w_seen t.adds.worker ∙ (e.seen
             ∙ (ap w_seen t.looks.worker ∙ ap (λ d. lesser d t.looked.bound) r.seen)))));
         offered = ap w_offered t.counts.worker ∙ (s.offered ∙ (ap w_offered t.offers.worker ∙ ap (λ d. lesser d t.added.owner.best)
-            (ap w_offered t.adds.worker ∙ (ap w_offered t.expands.worker ∙ (ap w_offered t.looks.worker ∙ r.offered)))));
+            (ap w_offered t.adds.worker ∙ (e.offered ∙ (ap w_offered t.looks.worker ∙ r.offered)))));
         view_seen = ap v_seen t.counts.view ∙ (ap v_seen t.offers.view ∙ (ap v_seen t.adds.view ∙ (ap v_seen t.looks.view
             ∙ sym (lesser_right u.seen t.looked.bound t.looks.falls.0))));
         view_offered = ap v_offered t.counts.view ∙ (ap v_offered t.offers.view ∙ ap (λ d. lesser d t.added.owner.best)
@@ -259,15 +277,17 @@ module _ {S F : Type 0} where
     turned_misfits w x u v t =
         let r : KeepsBounds w t.received = receives_bounds owner values (length w.ins) w t.received t.receives in
         let q : KeepsBounds t.offered t.sent = sends_bounds values (length t.offered.outs) t.offered t.sent t.sends in
+        let e : KeepsBounds t.looked t.expanded = expands_bounds owner t.looked t.expanded t.posted (is_congested t.looked.owner.outboxes) t.expands in
         let m = λ (y : WorkerOf S F). y.misfits in
-        ap m t.counts.worker ∙ (q.misfits ∙ (ap m t.offers.worker ∙ (ap m t.adds.worker ∙ (ap m t.expands.worker ∙ (ap m t.looks.worker ∙ r.misfits)))))
+        ap m t.counts.worker ∙ (q.misfits ∙ (ap m t.offers.worker ∙ (ap m t.adds.worker ∙ (e.misfits ∙ (ap m t.looks.worker ∙ r.misfits)))))
 
     turned_bound : (w x : WorkerOf S F) (u v : View) → HasTurned owner values w x u v → x.bound ≤ᵈ u.seen
     turned_bound w x u v t =
         let q : KeepsBounds t.offered t.sent = sends_bounds values (length t.offered.outs) t.offered t.sent t.sends in
+        let e : KeepsBounds t.looked t.expanded = expands_bounds owner t.looked t.expanded t.posted (is_congested t.looked.owner.outboxes) t.expands in
         let d = λ (y : WorkerOf S F). y.bound in
-        let e : x.bound ≡ t.looked.bound = ap d t.counts.worker ∙ (q.bound ∙ (ap d t.offers.worker ∙ (ap d t.adds.worker ∙ ap d t.expands.worker))) in
-        subst (λ y. y ≤ᵈ u.seen) (sym e) t.looks.falls.0
+        let same : x.bound ≡ t.looked.bound = ap d t.counts.worker ∙ (q.bound ∙ (ap d t.offers.worker ∙ (ap d t.adds.worker ∙ e.bound))) in
+        subst (λ y. y ≤ᵈ u.seen) (sym same) t.looks.falls.0
 
     -- a bound that is at most what the seat has seen so far
     told_from : (w : WorkerOf S F) (u v : View) (d : Distance) → IsSeated old w u v → d ≤ᵈ v.seen → d ≤ᵈ u.seen

@@ -19,6 +19,10 @@ const PASSES: u32 = 1024;
 /// together: what other workers write is read from their caches a line at a time.
 const TURNS_A_RELAY: u64 = 16;
 
+/// A worker that knows of at least this many messages in its rings relays messages after the turn: a turn takes at most
+/// one from each link, and messages that wait are expanded late.
+const MANY: u128 = 32;
+
 /// How many times between two turns a worker yields because rings are full. A receiver that does not run at all, or
 /// whose table is growing, delays a sender no longer than that: its messages stay in their outbox.
 const WAITS: u32 = 2;
@@ -82,14 +86,18 @@ fn count_much<'a, S: Spread + Drop, F: StateForm + Drop>(
     }
 }
 
-/// Returns the greatest number of passes over the links after turn `turn`: 0 after most turns of a worker that is not
-/// at rest.
-fn passes_after(turn: u64, is_resting: bool) -> u32 {
-    if is_resting || turn % TURNS_A_RELAY == 0 {
-        PASSES
-    } else {
-        0
-    }
+/// Returns the greatest number of passes over the links after turn `turn`, in which the outboxes were congested or not:
+/// 0 after most turns of a worker that is not at rest and knows of few messages.
+fn passes_after<'a, S: Spread + Drop, F: StateForm + Drop>(
+    worker: &Worker<'a, S, F>,
+    turn: u64,
+    was_congested: bool,
+) -> u32 {
+    let is_due = was_congested
+        || worker.is_resting()
+        || turn % TURNS_A_RELAY == 0
+        || worker.known_messages() >= MANY;
+    if is_due { PASSES } else { 0 }
 }
 
 /// Sends the messages in the outboxes and takes those in the rings, until there are none. If a ring is full it yields,
@@ -131,14 +139,15 @@ fn pass_on<'a, S: Spread + Drop, F: StateForm + Drop>(
     Ok(true)
 }
 
-/// Relays messages after turn `turn`, as `pass_on` does, and counts what was taken. Returns false if a message was set
-/// aside, after which nothing else is done. If allocation fails, the worker holds the message that could not be taken,
-/// and nothing else is done.
+/// Relays messages after turn `turn`, in which the outboxes were congested or not, as `pass_on` does, if that is due,
+/// and counts what was taken. Returns false if a message was set aside, after which nothing else is done. If allocation
+/// fails, the worker holds the message that could not be taken, and nothing else is done.
 pub(crate) fn relay<'a, S: Spread + Drop, F: StateForm + Drop>(
     board: &Board,
     seat: &mut Seat,
     worker: &mut Worker<'a, S, F>,
     turn: u64,
+    was_congested: bool,
 ) -> Result<bool, AllocError>
     requires seat { IsSeatOf board.now seat.old }
     requires none_aside { worker.old.misfits ≡ [] }
@@ -148,7 +157,7 @@ pub(crate) fn relay<'a, S: Spread + Drop, F: StateForm + Drop>(
     ensures held { IfErr result (λ _. HasRelayedBack S.owner F.values board.now seat.old worker.old seat.new worker.new) }
     ensures none_uncounted { worker.new.uncounted ≡ 0 }
 {
-    let passes = passes_after(turn, worker.is_resting());
+    let passes = passes_after(worker, turn, was_congested);
     if !pass_on(board, seat, worker, passes)? {
         return Ok(false);
     }

@@ -86,8 +86,9 @@ fn take_step<'a, S: Spread + Drop, F: StateForm + Drop, G: Gate>(
     ensures fault { IfErr result (λ fault. HasWorked S.owner F.values (G.may_stop gate.now) board.now seat.old worker.old
         (record { worker = worker.new; seat = seat.new; fault = Some fault })) }
 {
+    let was_congested = worker.is_congested();
     match take_turn(board, seat, number, worker, gate, turn) {
-        Ok(Turn::Next) => match relay(board, seat, worker, turn) {
+        Ok(Turn::Next) => match relay(board, seat, worker, turn, was_congested) {
             Ok(true) => Ok(true),
             Ok(false) => {
                 board.halt(seat);

@@ -29,7 +29,7 @@ module _ {S F : Type 0} (owner : S → List ℕ → ℕ → ℕ) where
       let same : new.owner ≡ old.owner = ap (λ (w : WorkerOf S F). w.owner) e in
       record {
         took = λ bound. ap (λ (o : OwnerOf S). under o bound) same;
-        others = same ∙ (λ j. let o : OwnerOf S = sym same j in let after : OwnerOf S = record old.owner { nodes = o.nodes; best = o.best } in after);
+        others = same ∙ (λ j. let o : OwnerOf S = sym same j in let after : OwnerOf S = record old.owner { nodes = o.nodes; ever = o.ever; best = o.best } in after);
         sent = λ values to. ap (λ (w : WorkerOf S F). sent_to values w.outs to) e ∙ sent values to;
         outs = ap (λ (w : WorkerOf S F). length w.outs) e ∙ same_outs;
         ins = ap (λ (w : WorkerOf S F). length w.ins) e ∙ same_ins;
@@ -60,7 +60,7 @@ module _ {S F : Type 0} (owner : S → List ℕ → ℕ → ℕ) where
         ∙ (ap (λ (o : OwnerOf S). took_each (space_of owner o) (under b.owner bound) ns) p.others
         ∙ (ap (λ (o : Owner). took_each (space_of owner a.owner) o ns) (p.took bound)
         ∙ sym (took_more (space_of owner a.owner) (under a.owner bound) ms ns)));
-    others = q.others ∙ ap (λ (o : OwnerOf S). let after : OwnerOf S = record o { nodes = c.owner.nodes; best = c.owner.best } in after) p.others;
+    others = q.others ∙ ap (λ (o : OwnerOf S). let after : OwnerOf S = record o { nodes = c.owner.nodes; ever = c.owner.ever; best = c.owner.best } in after) p.others;
     sent = λ values to. q.sent values to ∙ p.sent values to;
     outs = q.outs ∙ p.outs;
     ins = q.ins ∙ p.ins;

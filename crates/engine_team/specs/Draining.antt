@@ -21,7 +21,7 @@ in_rings sent received (suc n) = in_rings sent received n ++ drop (length (recei
 -- what it knows of its links, and its units
 pub record HasTakenEach {S F : Type 0} (owner : S → List ℕ → ℕ → ℕ) (ms : List Message) (old new : WorkerOf S F) : Type 0 where
   pub took : (bound : Distance) → under new.owner bound ≡ took_each (space_of owner old.owner) (under old.owner bound) ms
-  pub others : new.owner ≡ record old.owner { nodes = new.owner.nodes; best = new.owner.best }
+  pub others : new.owner ≡ record old.owner { nodes = new.owner.nodes; ever = new.owner.ever; best = new.owner.best }
   pub sent : (values : F → List ℕ) (to : ℕ) → sent_to values new.outs to ≡ sent_to values old.outs to
   pub outs : length new.outs ≡ length old.outs
   pub ins : length new.ins ≡ length old.ins

@@ -110,6 +110,18 @@ impl<F: StateForm + Drop> In<F> {
         self.returned.is_none() && self.consumer.cached_slots() == 0
     }
 
+    /// Returns the number of messages that are known to be left to take. Does not poll the sender's counter.
+    pub fn known_len(&self) -> usize
+        ensures { result ≡ length (known self.now) }
+    {
+        let in_ring = self.consumer.cached_slots();
+        if self.returned.is_some() {
+            in_ring + 1
+        } else {
+            in_ring
+        }
+    }
+
     /// Puts back the message that was taken last; it is the next that `pop` returns.
     pub fn give_back(&mut self, message: Message<F>)
         requires last { WasTakenLast self.old message }

@@ -35,9 +35,9 @@ one_fails test (y ∷ ns) zero x at e = and_left _ _ (ap test at ∙ e)
 one_fails test (y ∷ ns) (suc i) x at e = and_right _ _ (one_fails test ns i x at e)
 
 -- what comes first is of least f-value
-first_is_least : (ties : Ties) (space : SearchSpace) (i : ℕ) (n : Node) (j : ℕ) (x : Node) → goes_before ties space i n j x ≡ true
+first_is_least : (ties : Ties) (space : SearchSpace) (ever : List Bool) (i : ℕ) (n : Node) (j : ℕ) (x : Node) → goes_before ties space ever i n j x ≡ true
     → is_at_most (f_value space n.state n.cost) (f_value space x.state x.cost) ≡ true
-first_is_least ties space i n j x h =
+first_is_least ties space ever i n j x h =
     let f = f_value space n.state n.cost in
     let e = f_value space x.state x.cost in
     ⊎_elim
@@ -45,10 +45,10 @@ first_is_least ties space i n j x h =
     (λ (rest : _ ≡ true). (and_parts (is_at_most f e) _ rest).0)
     (or_cases (not (is_at_most e f)) _ h)
 
-past_or_open : (ties : Ties) (space : SearchSpace) (o : Owner) (i : ℕ) (n : Node) (j : ℕ) (x : Node)
-    → (is_open space x ≡ true → goes_before ties space i n j x ≡ true)
+past_or_open : (ties : Ties) (space : SearchSpace) (ever : List Bool) (o : Owner) (i : ℕ) (n : Node) (j : ℕ) (x : Node)
+    → (is_open space x ≡ true → goes_before ties space ever i n j x ≡ true)
     → (x.expanded || is_at_most (f_value space n.state n.cost) (f_value space x.state x.cost)) ≡ true
-past_or_open ties space o i n j x first =
+past_or_open ties space ever o i n j x first =
     let f = f_value space n.state n.cost in
     let e = f_value space x.state x.cost in
     ⊎_elim
@@ -56,21 +56,21 @@ past_or_open ties space o i n j x first =
     (λ (there : x.expanded ≡ false). or_right x.expanded (is_at_most f e) (⊎_elim
     (λ (endless : is_at_most Infinite e ≡ true). is_at_most-from f e
     (at_most_through f Infinite e (at_most_infinite f) (is_at_most-true Infinite e endless)))
-    (λ (finite : is_at_most Infinite e ≡ false). first_is_least ties space i n j x
+    (λ (finite : is_at_most Infinite e ≡ false). first_is_least ties space ever i n j x
     (first (and_from (not x.expanded) (not (is_at_most Infinite e)) (not_from_false x.expanded there) (not_from_false (is_at_most Infinite e) finite))))
     (cases_Bool (is_at_most Infinite e))))
     (cases_Bool x.expanded)
 
-pub next_may : {ties : Ties} (space : SearchSpace) (o : Owner) (i : ℕ) (n : Node) → IsNext ties space o.nodes o.bound i n → may_expand space o n ≡ true
+pub next_may : {ties : Ties} (space : SearchSpace) (ever : List Bool) (o : Owner) (i : ℕ) (n : Node) → IsNext ties space o.nodes ever o.bound i n → may_expand space o n ≡ true
 unfolding may_expand
-next_may {ties = ties} space o i n next =
+next_may {ties = ties} space ever o i n next =
     and_from _ _ (and_parts (not n.expanded) _ next.open_node).0
     (and_from _ _ (not_from_false (is_at_most o.bound (f_value space n.state n.cost)) next.below)
     (all_from (λ x. x.expanded || is_at_most (f_value space n.state n.cost) (f_value space x.state x.cost)) o.nodes
-    (λ j x at. past_or_open ties space o i n j x (next.first j x at))))
+    (λ j x at. past_or_open ties space ever o i n j x (next.first j x at))))
 
-pub next_open : {ties : Ties} (space : SearchSpace) (o : Owner) (i : ℕ) (n : Node) → IsNext ties space o.nodes o.bound i n → no_open space o ≡ false
-next_open space o i n next = one_fails (λ x. x.expanded || is_at_most o.bound (f_value space x.state x.cost)) o.nodes i n next.there
+pub next_open : {ties : Ties} (space : SearchSpace) (ever : List Bool) (o : Owner) (i : ℕ) (n : Node) → IsNext ties space o.nodes ever o.bound i n → no_open space o ≡ false
+next_open space ever o i n next = one_fails (λ x. x.expanded || is_at_most o.bound (f_value space x.state x.cost)) o.nodes i n next.there
     (or_from n.expanded (is_at_most o.bound (f_value space n.state n.cost)) (not-true n.expanded (and_parts (not n.expanded) _ next.open_node).0) next.below)
 
 module _ {S : Type 0} (owner : S → List ℕ → ℕ → ℕ) where
@@ -143,7 +143,7 @@ module _ {S : Type 0} (owner : S → List ℕ → ℕ → ℕ) where
   expand_one old v o p b posted is at seen done =
       let space = space_in owner old in
       let same = owner_space old v o is at in
-      let next : IsNext o.space.ties space o.nodes b done.index done.node = subst (λ s. IsNext o.space.ties s o.nodes b done.index done.node) same done.next in
+      let next : IsNext o.space.ties space o.nodes o.ever b done.index done.node = subst (λ s. IsNext o.space.ties s o.nodes o.ever b done.index done.node) same done.next in
       let after : under p b ≡ expanded_at space v (under o b) done.index (Some done.node) =
       done.after ∙ (ap (λ s. expanded_at s o.worker (under o b) done.index (Some done.node)) same
       ∙ ap (λ k. expanded_at space k (under o b) done.index (Some done.node)) (is.workers v o at)) in
@@ -156,7 +156,7 @@ module _ {S : Type 0} (owner : S → List ℕ → ℕ → ℕ) where
                 done.index,
                 refl,
                 inl (subst (λ w. MayExpandAt space w done.index) (sym x)
-                    (done.node, next.there, next_may space (under o b) done.index done.node next)),
+                    (done.node, next.there, next_may space o.ever (under o b) done.index done.node next)),
               );
               shown = shown owner old (with_owner old v p) world v (happens space v (world.logs v) (Expanding done.index))
                   world.underway world.bound world.resting shows refl (length-set old.owners v p)
@@ -167,7 +167,7 @@ module _ {S : Type 0} (owner : S → List ℕ → ℕ → ℕ) where
                   (λ le. let lt = at_below old.owners v o at in absurd (omega arith))
                   shows.underway shows.bound shows.resting;
             };
-        changed_is = sym (at_owner_here old v o b _ at seen ∙ ap not (next_open space (under o b) done.index done.node next));
+        changed_is = sym (at_owner_here old v o b _ at seen ∙ ap not (next_open space o.ever (under o b) done.index done.node next));
         unchanged = λ e. absurd (true≢false e);
         space = refl;
         owners = length-set old.owners v p;

@@ -3,7 +3,7 @@ use Rattle.std.proofs.Common.{◌≡◌, ℕ, List, [], ap, subst, ◌∙◌}
 use Rattle.std.specs.Prelude.{Option, Some, None, unwrap_or}
 use Rattle.std.specs.Option.{option_map}
 use Rattle.optplan_device.specs.Events.{Event}
-use Rattle.optplan_sas.specs.Choices.{Choices}
+use Rattle.optplan_options.specs.Choices.{Choices}
 use Rattle.optplan_replies.specs.declared.status.Status.{Status}
 use Rattle.optplan_solve.specs.Outputs.{OutputFiles}
 use Rattle.optplan_solve.specs.declared.settings.Schedule.{Schedule}

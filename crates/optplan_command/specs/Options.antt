@@ -2,10 +2,10 @@
 use Rattle.std.specs.Prelude.{◌≡◌, ℕ, ◌≤◌, ◌<◌, ◌^◌, Bool, true, false, ◌||◌, is_some, List, [], ◌∷◌, Option, Some, None, codes}
 use Rattle.std.specs.Str.Parse.{IsNumeral, digits_value}
 use Rattle.owner_space.specs.declared.ties.Ties.{Ties}
-use Rattle.owner_space.specs.declared.ties.Ties.TheVariants.{Shallow, Deep}
-use Rattle.optplan_sas.specs.Choices.{Choices}
-use Rattle.optplan_sas.specs.declared.options.Tables.{Tables}
-use Rattle.optplan_sas.specs.declared.options.Tables.TheVariants.{Goal, Staged}
+use Rattle.owner_space.specs.declared.ties.Ties.TheVariants.{Shallow, Deep, Fresh}
+use Rattle.optplan_options.specs.Choices.{Choices}
+use Rattle.optplan_options.specs.declared.options.Tables.{Tables}
+use Rattle.optplan_options.specs.declared.options.Tables.TheVariants.{Goal, Staged}
 use Rattle.optplan_solve.specs.declared.settings.Schedule.{Schedule}
 use Rattle.optplan_solve.specs.declared.settings.Schedule.TheVariants.{Threads, Drawn}
 use Rattle.optplan_solve.specs.declared.settings.Settings.{Settings}
@@ -32,11 +32,13 @@ IsNumberOr absent least most (Some text) number = IsNumberIn least most text × 
 abbrev pub NamesTies : List ℕ → Ties → Type 0
 NamesTies text Shallow = text ≡ codes "shallow"
 NamesTies text Deep = text ≡ codes "deep"
+NamesTies text Fresh = text ≡ codes "fresh"
 
--- the order of an option with this value, Shallow if it has none
-abbrev pub IsTiesOf : Option (List ℕ) → Ties → Type 0
-IsTiesOf None ties = ties ≡ Shallow
-IsTiesOf (Some text) ties = NamesTies text ties
+-- the order of an option with this value: if it has none, Shallow for a schedule of random steps, and else Fresh
+abbrev pub IsTiesOf : Option (List ℕ) → Bool → Ties → Type 0
+IsTiesOf None true ties = ties ≡ Shallow
+IsTiesOf None false ties = ties ≡ Fresh
+IsTiesOf (Some text) is_simulated ties = NamesTies text ties
 
 -- the text names these tables
 abbrev pub NamesTables : List ℕ → Tables → Type 0
@@ -62,7 +64,7 @@ pub record AreChoicesOf (value : List ℕ → Option (List ℕ)) (choices : Choi
   pub limit : IsNumberOf 0 9223372036854775807 (value (codes "limit")) choices.limit
   pub ring : IsNumberOr 64 1 65536 (value (codes "ring")) choices.ring
   pub steps : IsNumberOr 1000000 0 9223372036854775807 (value (codes "steps")) choices.steps
-  pub ties : IsTiesOf (value (codes "ties")) choices.ties
+  pub ties : IsTiesOf (value (codes "ties")) (is_some (value (codes "simulate"))) choices.ties
   pub tables : IsTablesOf (requires_goal value) (value (codes "tables")) choices.tables
   pub stage_ends : choices.stage_ends ≡ 60000 ∷ 700000 ∷ 15000000 ∷ []
 

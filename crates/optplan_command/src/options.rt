@@ -6,7 +6,7 @@ ghost use Rattle.clap.specs.Matches.{found_of, first_value};
 ghost use Rattle.clap.specs.Words.{kind_of};
 ghost use Rattle.clap.specs.declared.error.kind.ErrorKind.TheVariants.{OutOfMemory, ValueValidation};
 ghost use Rattle.owner_space.specs.declared.ties.Ties.{Ties as TiesOf};
-ghost use Rattle.optplan_sas.specs.declared.options.Tables.{Tables as TablesOf};
+ghost use Rattle.optplan_options.specs.declared.options.Tables.{Tables as TablesOf};
 ghost use Rattle.optplan_command.specs.Options.{IsNumberIn, IsNumberOf, NamesTies, IsTiesOf, NamesTables, IsTablesOf};
 
 use clap::error::ErrorKind;
@@ -51,7 +51,7 @@ impl<'a> RefusedValue<'a> {
                 "invalid value '{value}' for '--{option}': not a number from {least} to {most}"
             ),
             Taken::Ties => format!(in alloc;
-                "invalid value '{value}' for '--{option}': neither shallow nor deep"
+                "invalid value '{value}' for '--{option}': not one of fresh, shallow and deep"
             ),
             Taken::Tables => format!(in alloc;
                 "invalid value '{value}' for '--{option}': neither staged nor goal"
@@ -111,25 +111,33 @@ pub(crate) fn number_for<'a>(
 /// Returns the order that a text names, if it names one.
 fn ties_named(text: &str) -> Option<Ties>
     ensures named { IfSome result (NamesTies text.now) }
-    ensures neither { IfNone result ((text.now ≢ codes "shallow") × (text.now ≢ codes "deep")) }
+    ensures neither { IfNone result ((text.now ≢ codes "fresh") × (text.now ≢ codes "shallow") × (text.now ≢ codes "deep")) }
 {
     match text {
+        "fresh" => Some(Ties::Fresh),
         "shallow" => Some(Ties::Shallow),
         "deep" => Some(Ties::Deep),
         _ => None,
     }
 }
 
-/// Returns the order of the option, `Shallow` if the option is absent. Fails if the value names none.
+/// Returns the order of the option. If the option is absent, it is `Shallow` for a schedule of random steps, and else
+/// `Fresh`. Fails if the value names none.
 pub(crate) fn ties_for<'a>(
     words: &ArgMatches<'a>,
     option: &'a str,
+    is_simulated: bool,
 ) -> Result<Ties, RefusedValue<'a>>
-    ensures taken { IfOk result (IsTiesOf (first_value (found_of words.now) option.entry.now)) }
-    ensures refused { IfErr result (λ _. (ties : TiesOf) → IsTiesOf (first_value (found_of words.now) option.entry.now) ties → ⊥) }
+    ensures taken { IfOk result (IsTiesOf (first_value (found_of words.now) option.entry.now) is_simulated) }
+    ensures refused { IfErr result (λ _. (ties : TiesOf) → IsTiesOf (first_value (found_of words.now) option.entry.now) is_simulated ties → ⊥) }
 {
     let Some(value) = words.get_str(option) else {
-        return Ok(Ties::Shallow);
+        let absent = if is_simulated {
+            Ties::Shallow
+        } else {
+            Ties::Fresh
+        };
+        return Ok(absent);
     };
     match ties_named(value) {
         Some(ties) => Ok(ties),

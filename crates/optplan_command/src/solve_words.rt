@@ -4,7 +4,7 @@ ghost use Rattle.std.specs.Prelude.{◌≡◌, ◌≢◌, ◌≤◌, ◌+◌, �
 ghost use Rattle.clap.specs.Matches.{found_of, first_value};
 ghost use Rattle.clap.specs.Words.{kind_of};
 ghost use Rattle.clap.specs.declared.error.kind.ErrorKind.TheVariants.{OutOfMemory, ValueValidation};
-ghost use Rattle.optplan_sas.specs.Choices.{Choices};
+ghost use Rattle.optplan_options.specs.Choices.{Choices};
 ghost use Rattle.optplan_solve.specs.declared.settings.Schedule.{Schedule as ScheduleOf};
 ghost use Rattle.optplan_device.specs.Events.{Event};
 ghost use Rattle.optplan_command.specs.Options.{AreChoicesOf, IsScheduleOf, AreSettingsOf};
@@ -40,8 +40,9 @@ fn search_options<'a>(words: &ArgMatches<'a>) -> Result<Options, RefusedValue<'a
     let limit = number_for(words, "limit", 0, MAX_NUMBER)?;
     let steps = number_for(words, "steps", 0, MAX_NUMBER)?.unwrap_or(plain.steps());
     let ring = number_for(words, "ring", 1, MAX_RING as u64)?.unwrap_or(plain.ring() as u64);
-    let ties = ties_for(words, "ties")?;
-    let requires_goal = words.get_str("table").is_some() || words.get_str("simulate").is_some();
+    let is_simulated = words.get_str("simulate").is_some();
+    let ties = ties_for(words, "ties", is_simulated)?;
+    let requires_goal = words.get_str("table").is_some() || is_simulated;
     let tables = tables_for(words, "tables", requires_goal)?;
     let options = plain
         .with_workers(workers as usize)

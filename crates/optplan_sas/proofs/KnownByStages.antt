@@ -10,7 +10,7 @@ use Rattle.packed_spread.specs.Spreads.{zobrist_owner}
 use Rattle.extract.specs.Ends.{EndOf}
 use Rattle.extract.specs.Bounds.{least_best, lower_bound}
 use Rattle.engine_round.specs.Turns.{MayStop}
-use Rattle.optplan_sas.specs.Choices.{Choices}
+use Rattle.optplan_options.specs.Choices.{Choices}
 use Rattle.optplan_sas.specs.SearchEnds.{EndsOf, single, least_among, greatest_among}
 use Rattle.optplan_sas.specs.Searches.{IsThreadedEnd, IsStageEnd, stops_in, EndsIn}
 use Rattle.optplan_sas.specs.Findings.{IsPlanAt, IsBestSoFar, IsSoFar, IsFound, IsFinding, IsSettledEnd}
@@ -20,7 +20,7 @@ use Rattle.optplan_sas.specs.declared.found.SoFar.{SoFar}
 use Rattle.optplan_sas.specs.declared.found.Found.{Found}
 use Rattle.optplan_sas.specs.declared.found.Found.TheVariants.{Solved, Unsolvable, Stopped}
 use Rattle.optplan_sas.specs.declared.stages.StageFound.TheVariants.{Answered, Ended}
-use Rattle.optplan_sas.specs.declared.options.Tables.TheVariants.{Goal, Staged}
+use Rattle.optplan_options.specs.declared.options.Tables.TheVariants.{Goal, Staged}
 use Rattle.optplan_sas.proofs.StageEnds.{Orders, callers_end, callers_unlimited}
 
 -- ---- the better of what two searches know

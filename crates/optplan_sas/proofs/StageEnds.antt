@@ -14,7 +14,7 @@ use Rattle.engine.specs.Searches.{IsSearched}
 use Rattle.engine.specs.declared.searched.Cause.{Cause}
 use Rattle.engine.specs.declared.searched.Cause.TheVariants as cause
 use Rattle.engine.specs.declared.searched.Searched.TheVariants.{Stopped}
-use Rattle.optplan_sas.specs.Choices.{Choices}
+use Rattle.optplan_options.specs.Choices.{Choices}
 use Rattle.optplan_sas.specs.Searches.{IsThreadedSpace, IsThreadedEnd, IsStageEnd, IsRefusedByThreads, stops_in}
 use Rattle.optplan_sas.specs.Stages.{IsUnlimited, IsStageFound}
 use Rattle.optplan_sas.specs.declared.found.SoFar.{SoFar}

@@ -12,7 +12,7 @@ use Rattle.engine.specs.Searches.{IsSearched}
 use Rattle.engine.specs.declared.searched.Cause.{Cause}
 use Rattle.engine.specs.declared.searched.Cause.TheVariants as cause
 use Rattle.engine.specs.declared.searched.Searched.TheVariants.{Settled, Stopped}
-use Rattle.optplan_sas.specs.Choices.{Choices}
+use Rattle.optplan_options.specs.Choices.{Choices}
 use Rattle.optplan_sas.specs.Searches.{IsThreadedSpace}
 use Rattle.scp_stages.specs.StageOrders.{AreOrdersOf}
 use Rattle.optplan_sas.specs.Stages.{IsKnownOf, IsFoundAt, IsStageFound}

@@ -9,7 +9,7 @@ use Rattle.owner.specs.declared.fault.OwnerFault.TheVariants as owner_fault
 use Rattle.extract.specs.Ends.{EndOf}
 use Rattle.netcore.specs.declared.step.WorldStep.{WorldStep}
 use Rattle.netcore.specs.Worlds.{WorldOf, IsRun, IsRunRefusal, left_in}
-use Rattle.optplan_sas.specs.Choices.{Choices}
+use Rattle.optplan_options.specs.Choices.{Choices}
 use Rattle.optplan_sas.specs.SearchEnds.{single}
 use Rattle.optplan_sas.specs.Findings.{IsFinding, IsFound}
 use Rattle.optplan_sas.specs.Schedules.{IsSimulated, IsSimulationRefusal}

@@ -1,4 +1,3 @@
-pub mod Choices
 pub mod Faults
 pub mod SearchEnds
 pub mod Searches

@@ -17,10 +17,10 @@ use Rattle.engine.specs.declared.searched.Cause.{Cause}
 use Rattle.engine.specs.declared.searched.Cause.TheVariants as cause
 use Rattle.engine.specs.declared.searched.Searched.TheVariants.{Settled, Stopped}
 use Rattle.engine.specs.declared.fault.EngineFault.TheVariants as engine
-use Rattle.optplan_sas.specs.Choices.{Choices}
+use Rattle.optplan_options.specs.Choices.{Choices}
 use Rattle.optplan_sas.specs.SearchEnds.{EndsOf, single}
-use Rattle.optplan_sas.specs.declared.options.Tables.{Tables}
-use Rattle.optplan_sas.specs.declared.options.Tables.TheVariants.{Goal, Staged}
+use Rattle.optplan_options.specs.declared.options.Tables.{Tables}
+use Rattle.optplan_options.specs.declared.options.Tables.TheVariants.{Goal, Staged}
 use Rattle.optplan_sas.specs.Schedules.{IsSimulated, IsSimulationRefusal}
 use Rattle.optplan_sas.specs.declared.fault.SearchFault.{SearchFault}
 use Rattle.optplan_sas.specs.declared.fault.SearchFault.TheVariants.{OutOfMemory, TotalTooLarge, Gate}

@@ -9,7 +9,7 @@ use Rattle.extract.specs.Ends.{EndOf, IsForm}
 use Rattle.engine_round.specs.Turns.{MayStop}
 use Rattle.engine_round.specs.declared.gate.Stop.TheVariants.{Limit}
 use Rattle.scp.specs.Partitions.{mappings_of}
-use Rattle.optplan_sas.specs.Choices.{Choices}
+use Rattle.optplan_options.specs.Choices.{Choices}
 use Rattle.scp_stages.specs.StageOrders.{AreOrdersOf}
 use Rattle.optplan_sas.specs.SearchEnds.{single, least_among, greatest_among}
 use Rattle.optplan_sas.specs.Searches.{IsThreadedEnd, IsStageEnd}

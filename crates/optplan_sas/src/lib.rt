@@ -8,7 +8,6 @@ mod found;
 mod kinds;
 mod known;
 mod observer;
-mod options;
 mod sas;
 mod schedule;
 mod searching;
@@ -20,8 +19,9 @@ pub use engine::{Gate, Open, Progress, Stop};
 pub use fault::{SasSolveFault, SearchFault};
 pub use found::{Found, FoundPlan, SoFar, Solution, found_by};
 pub use observer::{Observer, Reached, STEPS_BETWEEN_REPORTS, Unobserved};
-pub use options::{MAX_RING, MAX_TABLE, MAX_WORKERS, Options, STAGE_ENDS, STAGES, Tables};
-pub use owner::Ties;
+pub use optplan_options::{
+    MAX_RING, MAX_TABLE, MAX_WORKERS, Options, STAGE_ENDS, STAGES, Tables, Ties,
+};
 pub use sas::{SasAnswer, simulate_sas, solve_sas, solve_sas_steps};
 pub use schedule::simulated;
 pub use searching::{found_after, found_by_seed};

@@ -9,11 +9,11 @@ ghost use Rattle.optplan_sas.specs.Searches.{IsSpaceFor, IsSimulatedSpace, EndsA
 use crate::fault::SearchFault;
 use crate::found::{Found, found_by};
 use crate::observer::Observer;
-use crate::options::Options;
 use crate::schedule::simulated;
 use cert_value::CertificateKind;
 use fdr::FdrTask;
 use netcore::{World, WorldStep};
+use optplan_options::Options;
 use owner::{OwnerFault, Space};
 use packed::{StateForm, in_smallest_form};
 use packed_spread::Zobrist;

@@ -1,6 +1,6 @@
 -- Refusals of the texts of tasks.
 use Rattle.std.proofs.Common.{◌≢◌, ℕ, List}
-use Rattle.optplan_sas.specs.Choices.{Choices}
+use Rattle.optplan_options.specs.Choices.{Choices}
 use Rattle.optplan_replies.specs.declared.status.Status.TheVariants.{DeviceFailed}
 use Rattle.optplan_replies.specs.Faults.{fault_status}
 use Rattle.optplan_replies.specs.declared.fault.Fault.{Fault}

@@ -1,7 +1,7 @@
 -- The command that solves a finite-domain task: what it reads, writes and prints.
 use Rattle.std.specs.Prelude.{◌≡◌, ℕ, List, ◌∷◌, ◌++◌}
 use Rattle.optplan_device.specs.Events.{Event, HasRead}
-use Rattle.optplan_sas.specs.Choices.{Choices}
+use Rattle.optplan_options.specs.Choices.{Choices}
 use Rattle.optplan_sas.specs.SasAnswers.{IsSasAnswer, IsSasRefusal}
 use Rattle.optplan_sas.specs.declared.fault.SasSolveFault.TheVariants as solve
 use Rattle.optplan_replies.specs.declared.status.Status.{Status}

@@ -5,7 +5,7 @@ use Rattle.packed_spread.specs.Spreads as spread
 use Rattle.optplan_sas.specs.SearchEnds.{EndsOf}
 use Rattle.engine_round.specs.Turns.{MayStop}
 use Rattle.engine_round.specs.declared.gate.Stop.TheVariants.{Limit}
-use Rattle.optplan_sas.specs.Choices.{Choices}
+use Rattle.optplan_options.specs.Choices.{Choices}
 use Rattle.optplan_sas.specs.Searches.{EndsByThreads, IsRefusedByThreads, EndsBySeed, IsRefusedBySeed}
 use Rattle.optplan_sas.specs.declared.fault.SearchFault.{SearchFault}
 use Rattle.optplan_solve.specs.declared.settings.Watch.{Watch}

@@ -1,7 +1,7 @@
 -- The command that solves a planning task: what it reads, writes and prints.
 use Rattle.std.specs.Prelude.{◌≡◌, ℕ, List, ◌++◌}
 use Rattle.optplan_device.specs.Events.{Event}
-use Rattle.optplan_sas.specs.Choices.{Choices}
+use Rattle.optplan_options.specs.Choices.{Choices}
 use Rattle.optplan_pddl.specs.Answers.{IsPlanningAnswer, IsPlanningRefusal}
 use Rattle.optplan_pddl.specs.declared.fault.PlanningFault.TheVariants as planning
 use Rattle.optplan_replies.specs.declared.status.Status.{Status}

@@ -2,7 +2,7 @@
 
 ghost use Rattle.std.specs.Prelude.{◌≡◌, ◌≢◌, ◌≤◌, ◌+◌, ℕ, List, Some, IfOk, IfErr};
 ghost use Rattle.optplan_device.specs.Events.{Event};
-ghost use Rattle.optplan_sas.specs.Choices.{Choices};
+ghost use Rattle.optplan_options.specs.Choices.{Choices};
 ghost use Rattle.optplan_sas.specs.SasAnswers.{IsSasAnswer, IsSasRefusal};
 ghost use Rattle.optplan_solve.specs.Outputs.{files_of};
 ghost use Rattle.optplan_solve.specs.Schedules.{EndsBy, IsRefusedBy};

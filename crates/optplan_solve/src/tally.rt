@@ -11,8 +11,8 @@ const INFINITE: u64 = MAX_DISTANCE + 1;
 /// The last report of a worker.
 #[derive(Drop)]
 struct Row {
-    /// The number of turns that it began with a state to expand below the least cost known by then: each is an
-    /// expansion, unless the worker read a lesser cost in that turn.
+    /// The number of turns that were to expand a state: each is an expansion, unless the worker read a lesser bound in
+    /// that turn.
     expanded: AtomicU64,
     /// The number of states that it stores.
     kept: AtomicU64,
@@ -62,11 +62,11 @@ impl Tally {
             return;
         };
         let open = number_of(progress.least_open);
-        let best = number_of(progress.best);
-        let known = self.best.fetch_min(best, Ordering::Relaxed).min(best);
+        self.best
+            .fetch_min(number_of(progress.best), Ordering::Relaxed);
         row.kept.store(progress.states as u64, Ordering::Relaxed);
         row.least_open.store(open, Ordering::Relaxed);
-        if open < known {
+        if progress.expands {
             row.expanded.fetch_add(1, Ordering::Relaxed);
         }
     }

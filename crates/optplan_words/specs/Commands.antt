@@ -28,7 +28,7 @@ flag name = record (new_rule name) { long = Some name; action = Some SetTrue }
 abbrev pub search_options : List Rule
 search_options =
     option (codes "simulate") ∷ option_or (codes "workers") (codes "4") ∷ option_or (codes "ring") (codes "64")
-    ∷ option (codes "tables") ∷ option (codes "table") ∷ option_or (codes "ties") (codes "shallow") ∷ []
+    ∷ option (codes "tables") ∷ option (codes "table") ∷ option (codes "ties") ∷ []
 
 abbrev pub ending_options : List Rule
 ending_options = option (codes "limit") ∷ option (codes "time") ∷ option (codes "memory") ∷ option_or (codes "steps") (codes "1000000") ∷ []

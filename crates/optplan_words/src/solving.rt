@@ -34,9 +34,11 @@ Threads search in stages (--tables staged): first with small tables, which take 
 if that search goes on for long; the last search has no end. With --tables goal there is one search, with tables of at most
 --table abstract states that grow from the variables of the goal. --limit counts within each search.
 
-Among open states of the least f-value (the cost to reach the state plus its heuristic value), --ties shallow expands one
-with the least cost to reach it, and --ties deep one with the greatest. deep usually needs fewer expansions if many states
-have the f-value of a cheapest plan.
+Among open states of the least f-value (the cost to reach the state plus its heuristic value), --ties deep expands one with
+the greatest cost to reach it, --ties shallow one with the least, and --ties fresh one that was never expanded, as deep
+does, and only then those that have been reached more cheaply since they were expanded. fresh is the default of threads: if
+many states have the f-value of a cheapest plan it needs fewer expansions than shallow, and if actions cost nothing it does
+not expand states again and again, as deep does. With --simulate the default is shallow.
 
 With the metric minimize (total-cost) an action costs the sum of its increases of the total cost, without it each action
 costs 1. The command check checks the certificate that --cert writes. A text that cannot be read is refused with one line
@@ -70,9 +72,11 @@ Threads search in stages (--tables staged): first with small tables, which take 
 if that search goes on for long; the last search has no end. With --tables goal there is one search, with tables of at most
 --table abstract states that grow from the variables of the goal. --limit counts within each search.
 
-Among open states of the least f-value (the cost to reach the state plus its heuristic value), --ties shallow expands one
-with the least cost to reach it, and --ties deep one with the greatest. deep usually needs fewer expansions if many states
-have the f-value of a cheapest plan.
+Among open states of the least f-value (the cost to reach the state plus its heuristic value), --ties deep expands one with
+the greatest cost to reach it, --ties shallow one with the least, and --ties fresh one that was never expanded, as deep
+does, and only then those that have been reached more cheaply since they were expanded. fresh is the default of threads: if
+many states have the f-value of a cheapest plan it needs fewer expansions than shallow, and if actions cost nothing it does
+not expand states again and again, as deep does. With --simulate the default is shallow.
 
 The command check-sas checks the certificate that --cert writes. A text that cannot be read is refused with one line on
 standard error, and so is a task that is too large (status 1).";
@@ -143,12 +147,11 @@ fn with_search_options<'a>(alloc: Global, command: Command<'a>) -> Result<Comman
         "N",
         "Greatest number of abstract states of a table with --tables goal, 1 to 16777216 [default: 100000]",
     );
-    let ties = option_or(
+    let ties = option(
         alloc,
         "ties",
         "ORDER",
-        "shallow",
-        "Tie-breaking among states of equal f-value: shallow (least cost to reach it first) or deep (greatest first)",
+        "Tie-breaking among states of equal f-value: fresh (the default), shallow (the default with --simulate) or deep",
     );
     let command = with_arg(command, simulate)?;
     let command = with_arg(command, workers)?;

@@ -100,10 +100,10 @@ module _ {S F : Type 0} (IsForm : List ℕ → F → Type 0) (values : List ℕ 
 -- ---- the node is marked, and the batch is taken
 
 module _ {S F : Type 0} (values : List ℕ → F → List ℕ) (o mid new : OwnerOf S) (b : Batch F) (us vs : List ℕ) (p : ArePosted o mid us vs) where
-  pub taken_pending : (bound : Distance) (i : ℕ) (n : Node) (expansions : ℕ)
-      → new ≡ record mid { nodes = fold improve (slice_set mid.nodes i (marked n)) (map (message_of (values (ranges mid.space.task))) b.own.items); best = b.best; expansions = expansions }
+  pub taken_pending : (bound : Distance) (i : ℕ) (n : Node) (ever : List Bool) (expansions : ℕ)
+      → new ≡ record mid { nodes = fold improve (slice_set mid.nodes i (marked n)) (map (message_of (values (ranges mid.space.task))) b.own.items); ever = ever; best = b.best; expansions = expansions }
       → under new bound ≡ pending values bound (slice_set o.nodes i (marked n)) mid b
-  taken_pending bound i n expansions is =
+  taken_pending bound i n ever expansions is =
       ap (λ (x : OwnerOf S). under x bound) is
       ∙ (λ j. pending values bound (slice_set (p.others j).nodes i (marked n)) mid b)
 

@@ -9,6 +9,7 @@ use Rattle.cost.proofs.DistanceLaws.{at_most_itself, at_most_through, at_most_bo
 use Rattle.owner_theory.specs.Owners.{At, SearchSpace, Node, Owner, f_value, may_expand}
 use Rattle.owner_theory.specs.Worlds.{no_open}
 use Rattle.openlist.specs.declared.entry.OpenEntry.{OpenEntry}
+use Rattle.closed.specs.Tables.{was_expanded}
 use Rattle.owner_space.specs.declared.ties.Ties.{Ties}
 use Rattle.owner.specs.Queues.{IsLeast, HasNoneOpen}
 use Rattle.owner.specs.Owned.{IsNext, least_open, ties_first}
@@ -54,25 +55,25 @@ below_or_tied a b tied h = grind (arith, nat_tests)
 not_above : (a b : ℕ) (tied : Bool) → (nat_lt a b || ((a == b) && tied)) ≡ true → (not (nat_le b a) || (nat_le a b && tied)) ≡ true
 not_above a b tied h = grind (arith, nat_tests)
 
-least_passes : {ties : Ties} (space : SearchSpace) (ns : List Node) (e : OpenEntry) (bound : Distance) → IsLeast ties space.heuristic ns e
+least_passes : {ties : Ties} (space : SearchSpace) (ever : List Bool) (ns : List Node) (e : OpenEntry) (bound : Distance) → IsLeast ties space.heuristic ns ever e
     → bound ≤ᵈ Finite e.f → PassesFrom space bound ns
-least_passes {ties = ties} space ns e bound l le i n f at waits is =
+least_passes {ties = ties} space ever ns e bound l le i n f at waits is =
     is_at_most-from bound (Finite f)
-    (at_most_through bound (Finite e.f) (Finite f) le (below_or_tied e.f f (ties_first ties e.index l.node i n) (l.first i n f at waits is)))
+    (at_most_through bound (Finite e.f) (Finite f) le (below_or_tied e.f f (ties_first ties (was_expanded ever e.index) e.index l.node (was_expanded ever i) i n) (l.first i n f at waits is)))
 
 -- ---- what the first entry tells
 
 pub no_open_none : (space : SearchSpace) (o : Owner) → HasNoneOpen space.heuristic o.nodes → no_open space o ≡ true
 no_open_none space o h = all_pass space o.bound o.nodes (λ i n f at waits is. absurd (h i n f at waits is))
 
-pub no_open_past : {ties : Ties} (space : SearchSpace) (o : Owner) (e : OpenEntry) → IsLeast ties space.heuristic o.nodes e
+pub no_open_past : {ties : Ties} (space : SearchSpace) (ever : List Bool) (o : Owner) (e : OpenEntry) → IsLeast ties space.heuristic o.nodes ever e
     → is_at_most o.bound (Finite e.f) ≡ true → no_open space o ≡ true
-no_open_past space o e l past =
-    all_pass space o.bound o.nodes (least_passes space o.nodes e o.bound l (is_at_most-true o.bound (Finite e.f) past))
+no_open_past space ever o e l past =
+    all_pass space o.bound o.nodes (least_passes space ever o.nodes e o.bound l (is_at_most-true o.bound (Finite e.f) past))
 
-pub no_open_some : {ties : Ties} (space : SearchSpace) (o : Owner) (e : OpenEntry) → IsLeast ties space.heuristic o.nodes e
+pub no_open_some : {ties : Ties} (space : SearchSpace) (ever : List Bool) (o : Owner) (e : OpenEntry) → IsLeast ties space.heuristic o.nodes ever e
     → is_at_most o.bound (Finite e.f) ≡ false → no_open space o ≡ false
-no_open_some space o e l below =
+no_open_some space ever o e l below =
     one_fails (λ n. n.expanded || is_at_most o.bound (f_value space n.state n.cost)) o.nodes e.index l.node l.there
     ((λ j. l.waits j || is_at_most o.bound (l.f j)) ∙ below)
 
@@ -81,26 +82,26 @@ finite_or true d h = absurd (true≢false (sym h))
 finite_or false Infinite h = absurd (true≢false (sym h))
 finite_or false (Finite f) h = (refl, (f, refl))
 
-pub is_next : {ties : Ties} (space : SearchSpace) (ns : List Node) (bound : Distance) (e : OpenEntry) → (l : IsLeast ties space.heuristic ns e)
-    → is_at_most bound (Finite e.f) ≡ false → IsNext ties space ns bound e.index l.node
-is_next {ties = ties} space ns bound e l below = record {
+pub is_next : {ties : Ties} (space : SearchSpace) (ever : List Bool) (ns : List Node) (bound : Distance) (e : OpenEntry) → (l : IsLeast ties space.heuristic ns ever e)
+    → is_at_most bound (Finite e.f) ≡ false → IsNext ties space ns ever bound e.index l.node
+is_next {ties = ties} space ever ns bound e l below = record {
   there = l.there;
   open_node = (λ j. not (l.waits j) && not (is_at_most Infinite (l.f j)));
   below = ap (is_at_most bound) l.f ∙ below;
   first = λ j x at opened.
       let (waits, (f, is)) = finite_or x.expanded (f_value space x.state x.cost) opened in
-      (λ k. not (is_at_most (is k) (l.f k)) || (is_at_most (l.f k) (is k) && ties_first ties e.index l.node j x))
-      ∙ not_above e.f f (ties_first ties e.index l.node j x) (l.first j x f at waits is);
+      (λ k. not (is_at_most (is k) (l.f k)) || (is_at_most (l.f k) (is k) && ties_first ties (was_expanded ever e.index) e.index l.node (was_expanded ever j) j x))
+      ∙ not_above e.f f (ties_first ties (was_expanded ever e.index) e.index l.node (was_expanded ever j) j x) (l.first j x f at waits is);
 }
 
-pub may_be_expanded : {ties : Ties} (space : SearchSpace) (o : Owner) (e : OpenEntry) → (l : IsLeast ties space.heuristic o.nodes e)
+pub may_be_expanded : {ties : Ties} (space : SearchSpace) (ever : List Bool) (o : Owner) (e : OpenEntry) → (l : IsLeast ties space.heuristic o.nodes ever e)
     → is_at_most o.bound (Finite e.f) ≡ false → may_expand space o l.node ≡ true
 unfolding may_expand
-may_be_expanded space o e l below =
+may_be_expanded space ever o e l below =
     and_from (not l.node.expanded) _ (ap not l.waits)
     (and_from (not (is_at_most o.bound (f_value space l.node.state l.node.cost))) _ (ap not (ap (is_at_most o.bound) l.f ∙ below))
     (all_pass space (f_value space l.node.state l.node.cost) o.nodes
-    (least_passes space o.nodes e (f_value space l.node.state l.node.cost) l
+    (least_passes space ever o.nodes e (f_value space l.node.state l.node.cost) l
     (subst (λ (d : Distance). d ≤ᵈ Finite e.f) (sym l.f) (at_most_itself (Finite e.f))))))
 
 -- ---- the least f-value
@@ -141,9 +142,9 @@ least_open_above space (n ∷ ns) bound h =
     one false Infinite h = tt
     one false (Finite f) h = is_at_most-true bound (Finite f) (h refl f refl)
 
-pub least_open_first : {ties : Ties} (space : SearchSpace) (ns : List Node) (e : OpenEntry) → IsLeast ties space.heuristic ns e
+pub least_open_first : {ties : Ties} (space : SearchSpace) (ever : List Bool) (ns : List Node) (e : OpenEntry) → IsLeast ties space.heuristic ns ever e
     → least_open space ns ≡ Finite e.f
-least_open_first space ns e l =
+least_open_first space ever ns e l =
     at_most_both (least_open space ns) (Finite e.f)
     (subst (λ (d : Distance). least_open space ns ≤ᵈ d) l.f (least_open_below space ns e.index l.node l.there l.waits))
-    (least_open_above space ns (Finite e.f) (least_passes space ns e (Finite e.f) l (at_most_itself (Finite e.f))))
+    (least_open_above space ns (Finite e.f) (least_passes space ever ns e (Finite e.f) l (at_most_itself (Finite e.f))))

@@ -1,5 +1,5 @@
 -- Entries of an open list: their order, and lists of them up to the order.
-use Rattle.std.proofs.Common.{◌≡◌, ◌⊎◌, ℕ, zero, suc, true, List, [], ◌∷◌, length, get_or, All, refl, ap, subst, inl, inr, ⊎_elim, arith}
+use Rattle.std.proofs.Common.{◌≡◌, ◌⊎◌, ℕ, zero, suc, true, List, [], ◌∷◌, length, get_or, All, refl, ap, inl, inr, ⊎_elim, arith}
 use Rattle.std.specs.Prelude.{Contains, map}
 use Rattle.std.proofs.lemmas.Bool.Decides.{nat_tests}
 use Rattle.std.proofs.lemmas.List.Elements.{All-contains, Contains-get_or}
@@ -22,12 +22,7 @@ not_in_none x xs e h = let lt = h.1 in omega (arith, ap length e)
 pub all_contained : {X : Type 0} (P : X → Type 0) (xs : List X) → ((x : X) → Contains xs x → P x) → All P xs
 all_contained P xs h = λ k d lt. h (get_or xs k d) (Contains-get_or xs k d lt)
 
--- what a function makes of an element is among what it makes of all, and all of that is made of an element
-pub contains_map : {X Y : Type 0} (f : X → Y) (xs : List X) (x : X) → Contains xs x → Contains (map f xs) (f x)
-contains_map f [] x h = absurd (not_in_none x [] refl h)
-contains_map f (y ∷ xs) x h = ⊎_elim (λ (p : y ≡ x). subst (λ z. Contains (map f (y ∷ xs)) (f z)) p (in_front_of (f y) (map f xs)))
-    (λ (p : Contains xs x). in_rest (f x) (f y) (map f xs) (contains_map f xs x p)) (first_or_rest x y xs h)
-
+-- what is among all that a function makes of elements is made of one of them
 pub contains_back : {X Y : Type 0} (f : X → Y) (xs : List X) (y : Y) → Contains (map f xs) y → (x : X) × Contains xs x × (f x ≡ y)
 contains_back f [] y h = absurd (not_in_none y [] refl h)
 contains_back f (x ∷ xs) y h = ⊎_elim (λ (p : f x ≡ y). (x, in_front_of x xs, p))

@@ -1,28 +1,30 @@
 -- What the expansion of the next node comes to.
 use Rattle.std.proofs.Common.{◌≡◌, ◌⊎◌, ℕ, zero, suc, ◌+◌, ◌<◌, ◌≤◌, ◌^◌, Bool, true, false, ◌||◌, List, [], ◌∷◌, length, Some, None, All, refl, sym, ap, ◌∙◌, subst, inl, inr, ⊎_elim, arith, true≢false, cond, add-one}
-use Rattle.std.specs.Prelude.{filter, filter_map, nat_lt, is_some, Result, Ok, Err, IfErr, IsErrAnd}
+use Rattle.std.specs.Prelude.{not, slice_set, filter, filter_map, nat_lt, is_some, Result, Ok, Err, IfErr, IsErrAnd}
 use Rattle.std.specs.List.{list_any, range_with_len}
-use Rattle.std.proofs.lemmas.Bool.{or_parts, or_cases}
+use Rattle.std.proofs.lemmas.Bool.{or_parts, or_cases, not-false}
 use Rattle.std.proofs.lemmas.Bool.Decides.{nat_tests}
 use Rattle.std.proofs.lemmas.List.Elements.{All-nil, All-cons}
 use Rattle.cost.specs.Distances.{Distance, Finite, is_at_most}
 use Rattle.fdr.specs.Tasks.{FiniteDomainTask, ranges, IsState, applies_at, cost_of}
 use Rattle.fdr_successors.specs.Applicable.{applicable_operators}
-use Rattle.owner_theory.specs.Owners.{At, Node, mark_node, treat_all, successor_by, successors}
+use Rattle.owner_theory.specs.Owners.{At, Node, marked, mark_node, treat_all, successor_by, successors, expanded_at}
 use Rattle.owner_theory.specs.Worlds.{waiting}
 use Rattle.owner_theory.proofs.Lists.{in_range}
 use Rattle.owner_theory.proofs.States.{step_there}
 use Rattle.owner_theory.proofs.Successors.{successors_by_applicable}
 use Rattle.openlist.specs.declared.entry.Rank.{Rank}
 use Rattle.openlist.specs.declared.entry.OpenEntry.{OpenEntry}
-use Rattle.closed.specs.Tables.{fresh}
+use Rattle.closed.specs.Tables.{padded, fresh}
 use Rattle.owner.specs.declared.fault.OwnerFault.{OwnerFault}
 use Rattle.owner.specs.declared.fault.OwnerFault.TheVariants.{OutOfMemory}
 use Rattle.owner.specs.Owned.{OwnerOf, space_of, under, max_total, HasSmallSuccessors, HasLargeSuccessor, Expands, IsRefusal}
 use Rattle.owner.specs.Queues.{IsLeast, h_of}
 use Rattle.owner.specs.Held.{IsOwner, IsSmallStep}
+use Rattle.owner.specs.Late.{is_late, all_are_late}
 use Rattle.owner.proofs.Outcomes.{at_below}
 use Rattle.owner.proofs.Choosing.{is_next, may_be_expanded}
+use Rattle.owner.proofs.LateSuccessors.{late_dropped, late_by, late_small, late_treated}
 use Rattle.owner_space.proofs.Applying.{applied_step}
 
 -- ---- tests of the operators that apply
@@ -130,7 +132,7 @@ successors_are task me i s os rank n is same cost steps =
 
 -- ---- the next node
 
-module _ {S : Type 0} (owner : S → List ℕ → ℕ → ℕ) (o : OwnerOf S) (e : OpenEntry) (l : IsLeast o.space.ties (h_of o.space) o.nodes e) where
+module _ {S : Type 0} (owner : S → List ℕ → ℕ → ℕ) (o : OwnerOf S) (e : OpenEntry) (l : IsLeast o.space.ties (h_of o.space) o.nodes o.ever e) where
   pub least_index : e.index < length o.nodes
   least_index = at_below o.nodes e.index l.node l.there
 
@@ -143,29 +145,70 @@ module _ {S : Type 0} (owner : S → List ℕ → ℕ → ℕ) (o : OwnerOf S) (
   pub least_state : (s : List ℕ) → IsOwner owner o → s ≡ l.node.state → IsState (ranges o.space.task) s
   least_state s h same = subst (IsState (ranges o.space.task)) (sym same) ((h.nodes e.index l.node l.there).state)
 
-  pub expands : (bound : Distance) (s : List ℕ) (os : List ℕ) (posted : ℕ) (new : OwnerOf S)
+  may_expand_here : (bound : Distance) → is_at_most bound (Finite e.f) ≡ false
+      → treat_all (space_of owner o) o.worker (mark_node (under o bound) e.index l.node) (successors o.space.task o.worker e.index l.node)
+      ≡ expanded_at (space_of owner o) o.worker (under o bound) e.index (Some l.node)
+  may_expand_here bound below =
+      sym (ap (λ b. cond b (treat_all (space_of owner o) o.worker (mark_node (under o bound) e.index l.node)
+      (successors o.space.task o.worker e.index l.node)) (under o bound))
+      (may_be_expanded (space_of owner o) o.ever (under o bound) e l below))
+
+  pub expands : (bound : Distance) (s : List ℕ) (os kept : List ℕ) (posted : ℕ) (new : OwnerOf S)
       → is_at_most bound (Finite e.f) ≡ false → (o.space.limit ≡ Some o.expansions → ⊥) → s ≡ l.node.state
       → os ≡ applicable_operators o.space.task s → list_any (is_large o.space.task e.rank) os ≡ false
+      → kept ≡ filter (λ k. not (is_late o.space.task bound e.rank k)) os
       → under new bound ≡ treat_all (space_of owner o) o.worker (mark_node (under o bound) e.index l.node)
-      (filter_map (successor_by o.space.task o.worker e.index (fresh s e.rank None)) os)
+      (filter_map (successor_by o.space.task o.worker e.index (fresh s e.rank None)) kept)
+      → new.ever ≡ padded (slice_set o.ever e.index true) (length new.nodes)
       → waiting new.outboxes ≡ waiting o.outboxes + posted → new.space ≡ o.space → new.worker ≡ o.worker
       → new.expansions ≡ cond (is_some o.space.limit) (suc o.expansions) o.expansions → Expands owner bound o posted new
-  expands bound s os posted new below allowed same is none after put space worker count = record {
+  expands bound s os kept posted new below allowed same is none kept_is after ever put space worker count =
+      let marked_owner = mark_node (under o bound) e.index l.node in
+      let by = successor_by o.space.task o.worker e.index (fresh s e.rank None) in
+      let dropped = late_dropped (space_of owner o) o.worker by (λ k. not (is_late o.space.task bound e.rank k)) bound
+      (λ k m out leads. late_by (space_of owner o) o.worker e.index (fresh s e.rank None) bound k m (not-false (is_late o.space.task bound e.rank k) out) leads)
+      os marked_owner refl in
+      record {
+        index = e.index;
+        node = l.node;
+        next = is_next (space_of owner o) o.ever o.nodes bound e l below;
+        allowed = allowed;
+        small = small_successors o.space.task s os e.rank l.node is same l.cost l.steps none;
+        after = after
+            ∙ (ap (λ (ks : List ℕ). treat_all (space_of owner o) o.worker marked_owner (filter_map by ks)) kept_is
+            ∙ (dropped
+            ∙ (ap (treat_all (space_of owner o) o.worker marked_owner)
+            (successors_are o.space.task o.worker e.index s os e.rank l.node is same l.cost l.steps)
+            ∙ may_expand_here bound below)));
+        ever = ever;
+        put_out = put;
+        space = space;
+        worker = worker;
+        counted = count;
+      }
+
+  -- no successor is generated, since all are late
+  pub expands_alone : (bound : Distance) (new : OwnerOf S) → is_at_most bound (Finite e.f) ≡ false → (o.space.limit ≡ Some o.expansions → ⊥)
+      → all_are_late o.space.task bound e.rank ≡ true
+      → new ≡ record o {
+        nodes = slice_set o.nodes e.index (marked l.node);
+        ever = padded (slice_set o.ever e.index true) (length new.nodes);
+        expansions = cond (is_some o.space.limit) (suc o.expansions) o.expansions;
+      } → Expands owner bound o 0 new
+  expands_alone bound new below allowed late is = record {
     index = e.index;
     node = l.node;
-    next = is_next (space_of owner o) o.nodes bound e l below;
+    next = is_next (space_of owner o) o.ever o.nodes bound e l below;
     allowed = allowed;
-    small = small_successors o.space.task s os e.rank l.node is same l.cost l.steps none;
-    after = after
-        ∙ (ap (treat_all (space_of owner o) o.worker (mark_node (under o bound) e.index l.node))
-        (successors_are o.space.task o.worker e.index s os e.rank l.node is same l.cost l.steps)
-        ∙ sym (ap (λ b. cond b (treat_all (space_of owner o) o.worker (mark_node (under o bound) e.index l.node)
-        (successors o.space.task o.worker e.index l.node)) (under o bound))
-        (may_be_expanded (space_of owner o) (under o bound) e l below)));
-    put_out = put;
-    space = space;
-    worker = worker;
-    counted = count;
+    small = late_small o.space.task bound e.rank l.node late l.cost l.steps;
+    after = ap (λ (x : OwnerOf S). under x bound) is
+        ∙ (sym (late_treated (space_of owner o) o.worker e.index l.node e.rank bound (mark_node (under o bound) e.index l.node) refl late l.cost)
+        ∙ may_expand_here bound below);
+    ever = ap (λ (x : OwnerOf S). x.ever) is;
+    put_out = let same = ap (λ (x : OwnerOf S). waiting x.outboxes) is in omega arith;
+    space = ap (λ (x : OwnerOf S). x.space) is;
+    worker = ap (λ (x : OwnerOf S). x.worker) is;
+    counted = ap (λ (x : OwnerOf S). x.expansions) is;
   }
 
 -- a call that is refused since memory is missing

@@ -10,4 +10,5 @@ pub mod Choosing
 pub mod Owning
 pub mod Stepping
 pub mod Batching
+pub mod LateSuccessors
 pub mod Expanding

@@ -18,7 +18,7 @@ use Rattle.openlist.specs.declared.entry.OpenEntry.{OpenEntry}
 use Rattle.closed.specs.declared.message.Parent.{Parent}
 use Rattle.closed.specs.declared.message.Message.{Message}
 use Rattle.closed.specs.declared.table.Outcome.TheVariants.{Kept}
-use Rattle.closed.specs.Tables.{reached, outcome_of, fresh, message_of, arrival}
+use Rattle.closed.specs.Tables.{padded, reached, outcome_of, fresh, message_of, arrival}
 use Rattle.owner_space.specs.declared.ties.Ties.{Ties}
 use Rattle.owner_space.specs.Spaces.{SpaceOf, searched}
 use Rattle.owner.specs.Owned.{OwnerOf, space_of, under, IsMessageTo, IsKept}
@@ -39,23 +39,24 @@ boxes_in values boxes space = shown (values (ranges space.task)) boxes
 
 module _ {S : Type 0} (owner : S → List ℕ → ℕ → ℕ) (o : OwnerOf S) where
   -- the owner with other nodes and another best cost
-  abbrev pub with_nodes : SpaceOf S → List Node → List (List machine.Message) → Distance → OwnerOf S
-  with_nodes space nodes boxes best = record {
+  abbrev pub with_nodes : SpaceOf S → List Node → List Bool → List (List machine.Message) → Distance → OwnerOf S
+  with_nodes space nodes ever boxes best = record {
     space = space;
     worker = o.worker;
     nodes = nodes;
+    ever = ever;
     outboxes = boxes;
     best = best;
     expansions = o.expansions;
   }
 
-  pub taken_kept : (space : SpaceOf S) (nodes : List Node) (boxes : List (List machine.Message)) (best : Distance) (state : List ℕ) (rank : Rank)
+  pub taken_kept : (space : SpaceOf S) (nodes : List Node) (ever : List Bool) (boxes : List (List machine.Message)) (best : Distance) (state : List ℕ) (rank : Rank)
       (parent : Parent) → IsOwner owner o → IsMessageTo (space_of owner o) o.worker (message_at state rank parent) → space ≡ o.space
-      → nodes ≡ reached o.nodes (fresh state rank (Some parent)) → boxes ≡ o.outboxes → IsOwner owner (with_nodes space nodes boxes best)
-  taken_kept space nodes boxes best state rank parent h m same is boxes_same =
-      subst (λ (s : SpaceOf S). IsOwner owner (with_nodes s nodes boxes best)) (sym same)
-      (subst (λ (bs : List (List machine.Message)). IsOwner owner (with_nodes o.space nodes bs best)) (sym boxes_same)
-      (subst (λ (ns : List Node). IsOwner owner (with_nodes o.space ns o.outboxes best))
+      → nodes ≡ reached o.nodes (fresh state rank (Some parent)) → boxes ≡ o.outboxes → IsOwner owner (with_nodes space nodes ever boxes best)
+  taken_kept space nodes ever boxes best state rank parent h m same is boxes_same =
+      subst (λ (s : SpaceOf S). IsOwner owner (with_nodes s nodes ever boxes best)) (sym same)
+      (subst (λ (bs : List (List machine.Message)). IsOwner owner (with_nodes o.space nodes ever bs best)) (sym boxes_same)
+      (subst (λ (ns : List Node). IsOwner owner (with_nodes o.space ns ever o.outboxes best))
       (sym (is ∙ reached_improves o.nodes (message_at state rank parent)))
       (record {
         owners = h.owners;
@@ -71,11 +72,11 @@ module _ {S : Type 0} (owner : S → List ℕ → ℕ → ℕ) (o : OwnerOf S) w
         counted = h.counted;
       })))
 
-  pub taken_is : (space : SpaceOf S) (nodes : List Node) (boxes : List (List machine.Message)) (best bound : Distance) (state : List ℕ) (rank : Rank)
+  pub taken_is : (space : SpaceOf S) (nodes : List Node) (ever : List Bool) (boxes : List (List machine.Message)) (best bound : Distance) (state : List ℕ) (rank : Rank)
       (parent : Parent) → nodes ≡ reached o.nodes (fresh state rank (Some parent)) → boxes ≡ o.outboxes
       → best ≡ cond (is_goal_state o.space.task state) (lesser o.best (Finite rank.cost)) o.best
-      → under (with_nodes space nodes boxes best) bound ≡ took (space_of owner o) (under o bound) (message_at state rank parent)
-  taken_is space nodes boxes best bound state rank parent is boxes_same b =
+      → under (with_nodes space nodes ever boxes best) bound ≡ took (space_of owner o) (under o bound) (message_at state rank parent)
+  taken_is space nodes ever boxes best bound state rank parent is boxes_same b =
       let ns = is ∙ reached_improves o.nodes (message_at state rank parent) in
       λ j. record { nodes = ns j; outboxes = boxes_same j; bound = bound; best = b j }
 
@@ -86,6 +87,7 @@ module _ {S : Type 0} (owner : S → List ℕ → ℕ → ℕ) (o : OwnerOf S) w
     space = o.space;
     worker = o.worker;
     nodes = o.nodes;
+    ever = o.ever;
     outboxes = boxes;
     best = o.best;
     expansions = o.expansions;
@@ -204,9 +206,10 @@ posted_treats space me to o boxes m below mine other is =
 
 -- the owner after its next node is marked and these messages are taken
 abbrev pub IsExpandedAs : {S : Type 0} → OwnerOf S → List machine.Message → Distance → OwnerOf S → Type 0
-IsExpandedAs old own best new = (e : OpenEntry) (n : Node) → IsLeast old.space.ties (h_of old.space) old.nodes e → At old.nodes e.index n
+IsExpandedAs old own best new = (e : OpenEntry) (n : Node) → IsLeast old.space.ties (h_of old.space) old.nodes old.ever e → At old.nodes e.index n
     → new ≡ record old {
       nodes = fold improve (slice_set old.nodes e.index (marked n)) own;
+      ever = padded (slice_set old.ever e.index true) (length new.nodes);
       best = best;
       expansions = cond (is_some old.space.limit) (suc old.expansions) old.expansions;
     }
@@ -237,24 +240,25 @@ all_mapped f P (x ∷ xs) h =
     All-cons P (f x) (map f xs) (All-head (λ y. P (f y)) x xs h) (all_mapped f P xs (All-tail (λ y. P (f y)) x xs h))
 
 module _ {S : Type 0} (owner : S → List ℕ → ℕ → ℕ) (o : OwnerOf S) where
-  abbrev pub with_expanded : SpaceOf S → List Node → List (List machine.Message) → Distance → ℕ → OwnerOf S
-  with_expanded space nodes boxes best expansions = record {
+  abbrev pub with_expanded : SpaceOf S → List Node → List Bool → List (List machine.Message) → Distance → ℕ → OwnerOf S
+  with_expanded space nodes ever boxes best expansions = record {
     space = space;
     worker = o.worker;
     nodes = nodes;
+    ever = ever;
     outboxes = boxes;
     best = best;
     expansions = expansions;
   }
 
-  pub expanded_kept : (space : SpaceOf S) (nodes : List Node) (boxes : List (List machine.Message)) (best : Distance) (expansions : ℕ) (i : ℕ) (n : Node)
+  pub expanded_kept : (space : SpaceOf S) (nodes : List Node) (ever : List Bool) (boxes : List (List machine.Message)) (best : Distance) (expansions : ℕ) (i : ℕ) (n : Node)
       (own : List machine.Message) → IsOwner owner o → space ≡ o.space → boxes ≡ o.outboxes → At o.nodes i n
       → nodes ≡ fold improve (slice_set o.nodes i (marked n)) own → All (IsMessageTo (space_of owner o) o.worker) own
-      → IfSome o.space.limit (λ limit. expansions ≤ limit) → IsOwner owner (with_expanded space nodes boxes best expansions)
-  expanded_kept space nodes boxes best expansions i n own h same boxes_same there is fits few =
-      subst (λ (s : SpaceOf S). IsOwner owner (with_expanded s nodes boxes best expansions)) (sym same)
-      (subst (λ (bs : List (List machine.Message)). IsOwner owner (with_expanded o.space nodes bs best expansions)) (sym boxes_same)
-      (subst (λ (ns : List Node). IsOwner owner (with_expanded o.space ns o.outboxes best expansions)) (sym is)
+      → IfSome o.space.limit (λ limit. expansions ≤ limit) → IsOwner owner (with_expanded space nodes ever boxes best expansions)
+  expanded_kept space nodes ever boxes best expansions i n own h same boxes_same there is fits few =
+      subst (λ (s : SpaceOf S). IsOwner owner (with_expanded s nodes ever boxes best expansions)) (sym same)
+      (subst (λ (bs : List (List machine.Message)). IsOwner owner (with_expanded o.space nodes ever bs best expansions)) (sym boxes_same)
+      (subst (λ (ns : List Node). IsOwner owner (with_expanded o.space ns ever o.outboxes best expansions)) (sym is)
       (record {
         owners = h.owners;
         nodes = all_kept (space_of owner o) o.worker (slice_set o.nodes i (marked n)) own marked_kept fits;
@@ -274,15 +278,25 @@ module _ {S : Type 0} (owner : S → List ℕ → ℕ → ℕ) (o : OwnerOf S) w
           (λ (p : At o.nodes j x). h.nodes j x p)
           (mark_at o.nodes i (marked n) j x at)
 
-  pub expanded_as : (space : SpaceOf S) (nodes : List Node) (boxes : List (List machine.Message)) (best : Distance) (expansions : ℕ) (own : List machine.Message)
+  pub expanded_as : (space : SpaceOf S) (nodes : List Node) (ever : List Bool) (boxes : List (List machine.Message)) (best : Distance) (expansions : ℕ) (own : List machine.Message)
       → space ≡ o.space → boxes ≡ o.outboxes
-      → ((e : OpenEntry) (n : Node) → IsLeast o.space.ties (h_of o.space) o.nodes e → At o.nodes e.index n
+      → ((e : OpenEntry) (n : Node) → IsLeast o.space.ties (h_of o.space) o.nodes o.ever e → At o.nodes e.index n
       → nodes ≡ fold improve (slice_set o.nodes e.index (marked n)) own)
+      → ((e : OpenEntry) → IsLeast o.space.ties (h_of o.space) o.nodes o.ever e → ever ≡ padded (slice_set o.ever e.index true) (length nodes))
       → expansions ≡ cond (is_some o.space.limit) (suc o.expansions) o.expansions
-      → IsExpandedAs o own best (with_expanded space nodes boxes best expansions)
-  expanded_as space nodes boxes best expansions own same boxes_same is count e n least at =
+      → IsExpandedAs o own best (with_expanded space nodes ever boxes best expansions)
+  expanded_as space nodes ever boxes best expansions own same boxes_same is bits count e n least at =
       let ns = is e n least at in
-      λ j. record { space = same j; worker = o.worker; nodes = ns j; outboxes = boxes_same j; best = best; expansions = count j }
+      let bs = bits e least in
+      λ j. record {
+        space = same j;
+        worker = o.worker;
+        nodes = ns j;
+        ever = bs j;
+        outboxes = boxes_same j;
+        best = best;
+        expansions = count j;
+      }
 
   -- messages are withdrawn
   pub withdrawn_kept : (vs : List ℕ) (boxes : List (List machine.Message)) → IsOwner owner o → boxes ≡ withdrawn vs o.outboxes
@@ -304,10 +318,10 @@ pub all_from_at : {X : Type 0} (P : X → Type 0) (xs : List X) → ((i : ℕ) (
 all_from_at P [] h = All-nil P
 all_from_at P (x ∷ xs) h = All-cons P x xs (h 0 x refl) (all_from_at P xs (λ i y at. h (suc i) y at))
 
-pub idle_not : (ties : Ties) (r : Option OpenEntry) (space : SearchSpace) (o : Owner) → is_some r ≡ true
-    → IfSome r (λ e. IsLeast ties space.heuristic o.nodes e × (is_at_most o.bound (Finite e.f) ≡ false)) → false ≡ idle space o
-idle_not ties None space o some h = absurd (true≢false (sym some))
-idle_not ties (Some e) space o some h = sym (both_false (no_open space o) (list_all is_empty o.outboxes) (no_open_some space o e h.0 h.1))
+pub idle_not : (ties : Ties) (ever : List Bool) (r : Option OpenEntry) (space : SearchSpace) (o : Owner) → is_some r ≡ true
+    → IfSome r (λ e. IsLeast ties space.heuristic o.nodes ever e × (is_at_most o.bound (Finite e.f) ≡ false)) → false ≡ idle space o
+idle_not ties ever None space o some h = absurd (true≢false (sym some))
+idle_not ties ever (Some e) space o some h = sym (both_false (no_open space o) (list_all is_empty o.outboxes) (no_open_some space ever o e h.0 h.1))
 
 pub none_from : {X : Type 0} (r : Option X) → is_some r ≡ false → r ≡ None
 none_from None h = refl
@@ -330,10 +344,10 @@ none_counted (Some l) = omega arith
 -- an owner at the beginning keeps what every owner does, where its nodes are its own
 pub start_kept : {S : Type 0} (owner : S → List ℕ → ℕ → ℕ) (space : SpaceOf S) (r : ReachedOf S) (worker n : ℕ) (boxes : List (List machine.Message)) (best : Distance)
     → worker < n → boxes ≡ replicate n [] → r.space ≡ space → ((i : ℕ) (m : Node) → At r.nodes i m → IsKept (searched owner space n) worker m)
-    → IsOwner owner (record { space = r.space; worker = worker; nodes = r.nodes; outboxes = boxes; best = best; expansions = 0 })
+    → IsOwner owner (record { space = r.space; worker = worker; nodes = r.nodes; ever = r.ever; outboxes = boxes; best = best; expansions = 0 })
 start_kept {S = S} owner space r worker n boxes best lt empty same kept =
-    subst (λ (bs : List (List machine.Message)). IsOwner owner (record { space = r.space; worker = worker; nodes = r.nodes; outboxes = bs; best = best; expansions = 0 })) (sym empty)
-    (subst (λ (s : SpaceOf S). IsOwner owner (record { space = s; worker = worker; nodes = r.nodes; outboxes = replicate n []; best = best; expansions = 0 })) (sym same)
+    subst (λ (bs : List (List machine.Message)). IsOwner owner (record { space = r.space; worker = worker; nodes = r.nodes; ever = r.ever; outboxes = bs; best = best; expansions = 0 })) (sym empty)
+    (subst (λ (s : SpaceOf S). IsOwner owner (record { space = s; worker = worker; nodes = r.nodes; ever = r.ever; outboxes = replicate n []; best = best; expansions = 0 })) (sym same)
     (record {
       owners = let long = length-replicate {A = List machine.Message} n [] in omega (arith, lt, long);
       nodes = λ i m at. subst (λ k. IsKept (searched owner space k) worker m) (sym (length-replicate {A = List machine.Message} n [])) (kept i m at);
@@ -343,7 +357,7 @@ start_kept {S = S} owner space r worker n boxes best lt empty same kept =
     }))
 
 -- the first state of an owner is its own
-pub first_kept : {S : Type 0} (owner : S → List ℕ → ℕ → ℕ) (space : SpaceOf S) (worker n : ℕ) (state : List ℕ) (old r : ReachedOf S) → old ≡ record { space = space; nodes = [] }
+pub first_kept : {S : Type 0} (owner : S → List ℕ → ℕ → ℕ) (space : SpaceOf S) (worker n : ℕ) (state : List ℕ) (old r : ReachedOf S) → old ≡ record { space = space; nodes = []; ever = [] }
     → r.nodes ≡ reached old.nodes (fresh state (record { cost = 0; steps = 0 }) None) → IsState (ranges space.task) state → owner space.spread state n ≡ worker
     → (i : ℕ) (m : Node) → At r.nodes i m → IsKept (searched owner space n) worker m
 first_kept {S = S} owner space worker n state old r is nodes known own i m at =
@@ -354,13 +368,13 @@ first_kept {S = S} owner space worker n state old r is nodes known own i m at =
     go (suc i) same = absurd same
 
 -- an owner without states has none that is not its own
-pub none_kept : {S : Type 0} (owner : S → List ℕ → ℕ → ℕ) (space : SpaceOf S) (worker n : ℕ) (r : ReachedOf S) → r ≡ record { space = space; nodes = [] }
+pub none_kept : {S : Type 0} (owner : S → List ℕ → ℕ → ℕ) (space : SpaceOf S) (worker n : ℕ) (r : ReachedOf S) → r ≡ record { space = space; nodes = []; ever = [] }
     → (i : ℕ) (m : Node) → At r.nodes i m → IsKept (searched owner space n) worker m
 none_kept {S = S} owner space worker n r is i m at = absurd (subst (λ (o : ReachedOf S). At o.nodes i m) is at)
 
 -- the owner of the initial state starts with it, and others without a state
 pub started_own : {S : Type 0} (owner : S → List ℕ → ℕ → ℕ) (space : SpaceOf S) (worker n : ℕ) (state : List ℕ) (old : ReachedOf S) (nodes : List Node)
-    (boxes : List (List machine.Message)) (best : Distance) → old ≡ record { space = space; nodes = [] }
+    (boxes : List (List machine.Message)) (best : Distance) → old ≡ record { space = space; nodes = []; ever = [] }
     → nodes ≡ reached old.nodes (fresh state (record { cost = 0; steps = 0 }) None) → state ≡ space.task.initial → boxes ≡ replicate n []
     → best ≡ cond (is_goal_state space.task space.task.initial) (Finite 0) Infinite → owner space.spread space.task.initial n ≡ worker
     → record { nodes = nodes; outboxes = boxes; bound = Infinite; best = best } ≡ start_owner (searched owner space n) (owner space.spread space.task.initial n == worker)
@@ -372,7 +386,7 @@ started_own {S = S} owner space worker n state old nodes boxes best was is at em
         ∙ ap (λ st. fresh st (record { cost = 0; steps = 0 }) None ∷ []) at)
 
 pub started_none : {S : Type 0} (owner : S → List ℕ → ℕ → ℕ) (space : SpaceOf S) (worker n : ℕ) (old : ReachedOf S) (boxes : List (List machine.Message))
-    (best : Distance) → old ≡ record { space = space; nodes = [] } → boxes ≡ replicate n [] → best ≡ Infinite
+    (best : Distance) → old ≡ record { space = space; nodes = []; ever = [] } → boxes ≡ replicate n [] → best ≡ Infinite
     → (owner space.spread space.task.initial n ≡ worker → ⊥)
     → record { nodes = old.nodes; outboxes = boxes; bound = Infinite; best = best } ≡ start_owner (searched owner space n) (owner space.spread space.task.initial n == worker)
 started_none {S = S} owner space worker n old boxes best was empty found other =

@@ -3,5 +3,6 @@ pub mod Owned
 pub mod Queues
 pub mod Held
 pub mod Successors
+pub mod Late
 pub mod Outboxes
 pub mod Batches

@@ -1,22 +1,26 @@
 -- One owner of states as it is stored, and the expansion of its next node (hash distributed A*: Kishimoto, Fukunaga and
 -- Botea 2013).
-use Rattle.std.specs.Prelude.{◌≡◌, ◌≢◌, ℕ, suc, ◌+◌, ◌<◌, ◌≤◌, ◌^◌, ◌⊎◌, Bool, true, false, ◌&&◌, ◌||◌, not, ◌==◌, nat_le, if◌then◌else◌, List, [], ◌∷◌, length, Option, Some, None, is_some}
+use Rattle.std.specs.Prelude.{◌≡◌, ◌≢◌, ℕ, suc, ◌+◌, ◌<◌, ◌≤◌, ◌⊎◌, Bool, true, false, ◌&&◌, ◌||◌, not, ◌==◌, nat_le, if◌then◌else◌, List, [], ◌∷◌, length, slice_set, Option, Some, None, is_some}
 use Rattle.cost.specs.Distances.{Distance, Infinite, is_at_most, lesser}
 use Rattle.fdr.specs.Tasks.{FiniteDomainTask, ranges, IsState, applies_at, cost_of}
 use Rattle.owner_theory.specs.Owners.{At, SearchSpace, Message, Node, Owner, f_value, rank_less, expanded_at}
 use Rattle.owner_theory.specs.Worlds.{no_open, waiting}
+use Rattle.closed.specs.Tables.{padded, was_expanded}
 use Rattle.owner.specs.declared.fault.OwnerFault.{OwnerFault}
 use Rattle.owner.specs.declared.fault.OwnerFault.TheVariants.{OutOfMemory, TotalTooLarge, LimitReached}
 use Rattle.owner_space.specs.declared.ties.Ties.{Ties}
-use Rattle.owner_space.specs.declared.ties.Ties.TheVariants.{Shallow, Deep}
+use Rattle.owner_space.specs.declared.ties.Ties.TheVariants.{Shallow, Deep, Fresh}
+pub use Rattle.owner_space.specs.Keyed.{max_total}
 use Rattle.owner_space.specs.Spaces.{SpaceOf, searched}
 
--- the space and the owner's number; its nodes; an outbox for each owner, the oldest message first; the least cost at
--- which a goal state was taken; and, under a limit, the number of nodes that it has expanded
+-- the space and the owner's number; its nodes, and for each whether it was ever expanded, at whatever rank; an outbox
+-- for each owner, the oldest message first; the least cost at which a goal state was taken; and, under a limit, the
+-- number of nodes that it has expanded
 pub record OwnerOf (S : Type 0) : Type 0 where
   pub space : SpaceOf S
   pub worker : ℕ
   pub nodes : List Node
+  pub ever : List Bool
   pub outboxes : List (List Message)
   pub best : Distance
   pub expansions : ℕ
@@ -29,10 +33,6 @@ space_of owner o = searched owner o.space (length o.outboxes)
 abbrev pub under : {S : Type 0} → OwnerOf S → Distance → Owner
 under o bound = record { nodes = o.nodes; outboxes = o.outboxes; bound = bound; best = o.best }
 
--- the greatest cost of a path, and the greatest number of operators on it
-abbrev pub max_total : ℕ
-max_total = 2 ^ 62
-
 -- a message that owner `to` may receive: its state is a state of the task and belongs to this owner, and its cost and
 -- number of operators are at most 2^62
 pub record IsMessageTo (space : SearchSpace) (to : ℕ) (m : Message) : Type 0 where
@@ -43,30 +43,44 @@ pub record IsMessageTo (space : SearchSpace) (to : ℕ) (m : Message) : Type 0 w
 
 -- ---- the next node
 
--- the tie-breaking rule, the order of expansion among nodes of the same f-value: lesser ranks first, then lower
--- indices; or greater ranks first, then higher indices
-abbrev pub ties_first : Ties → ℕ → Node → ℕ → Node → Bool
-ties_first Shallow i m j n =
+-- lesser ranks first, then lower indices
+abbrev pub shallow_first : ℕ → Node → ℕ → Node → Bool
+shallow_first i m j n =
     rank_less m.cost m.steps n.cost n.steps || ((m.cost == n.cost) && ((m.steps == n.steps) && nat_le i j))
-ties_first Deep i m j n =
+
+-- greater ranks first, then higher indices
+abbrev pub deep_first : ℕ → Node → ℕ → Node → Bool
+deep_first i m j n =
     rank_less n.cost n.steps m.cost m.steps || ((m.cost == n.cost) && ((m.steps == n.steps) && nat_le j i))
 
+-- the tie-breaking rule, the order of expansion among nodes of the same f-value; `a` and `b` are whether the first and
+-- the second node were ever expanded
+abbrev pub ties_first : Ties → Bool → ℕ → Node → Bool → ℕ → Node → Bool
+ties_first Shallow a i m b j n = shallow_first i m j n
+ties_first Deep a i m b j n = deep_first i m j n
+ties_first Fresh false i m false j n = deep_first i m j n
+ties_first Fresh false i m true j n = true
+ties_first Fresh true i m false j n = false
+ties_first Fresh true i m true j n = shallow_first i m j n
+
 -- the order of expansion: by f, then by the tie-breaking rule
-abbrev pub goes_before : Ties → SearchSpace → ℕ → Node → ℕ → Node → Bool
-goes_before ties space i m j n =
+abbrev pub goes_before : Ties → SearchSpace → List Bool → ℕ → Node → ℕ → Node → Bool
+goes_before ties space ever i m j n =
     not (is_at_most (f_value space n.state n.cost) (f_value space m.state m.cost))
-    || (is_at_most (f_value space m.state m.cost) (f_value space n.state n.cost) && ties_first ties i m j n)
+    || (is_at_most (f_value space m.state m.cost) (f_value space n.state n.cost)
+    && ties_first ties (was_expanded ever i) i m (was_expanded ever j) j n)
 
 -- an open node: it is not expanded, and its f-value is finite
 abbrev pub is_open : SearchSpace → Node → Bool
 is_open space n = not n.expanded && not (is_at_most Infinite (f_value space n.state n.cost))
 
 -- node `i` is open, its f-value is below the bound, and it is the first of all open nodes
-pub record IsNext (ties : Ties) (space : SearchSpace) (nodes : List Node) (bound : Distance) (i : ℕ) (n : Node) : Type 0 where
+pub record IsNext (ties : Ties) (space : SearchSpace) (nodes : List Node) (ever : List Bool) (bound : Distance) (i : ℕ) (n : Node)
+    : Type 0 where
   pub there : At nodes i n
   pub open_node : is_open space n ≡ true
   pub below : is_at_most bound (f_value space n.state n.cost) ≡ false
-  pub first : (j : ℕ) (x : Node) → At nodes j x → is_open space x ≡ true → goes_before ties space i n j x ≡ true
+  pub first : (j : ℕ) (x : Node) → At nodes j x → is_open space x ≡ true → goes_before ties space ever i n j x ≡ true
 
 -- the cost and the number of operators of each successor of the node are at most 2^62
 abbrev pub HasSmallSuccessors : FiniteDomainTask → Node → Type 0
@@ -86,10 +100,11 @@ pub record Expands {S : Type 0} (owner : S → List ℕ → ℕ → ℕ) (bound 
     : Type 0 where
   pub index : ℕ
   pub node : Node
-  pub next : IsNext old.space.ties (space_of owner old) old.nodes bound index node
+  pub next : IsNext old.space.ties (space_of owner old) old.nodes old.ever bound index node
   pub allowed : old.space.limit ≢ Some old.expansions
   pub small : HasSmallSuccessors old.space.task node
   pub after : under new bound ≡ expanded_at (space_of owner old) old.worker (under old bound) index (Some node)
+  pub ever : new.ever ≡ padded (slice_set old.ever index true) (length new.nodes)
   pub put_out : waiting new.outboxes ≡ waiting old.outboxes + posted
   pub space : new.space ≡ old.space
   pub worker : new.worker ≡ old.worker
@@ -108,7 +123,7 @@ IsRefusal owner bound old new OutOfMemory =
 IsRefusal owner bound old new LimitReached =
     (no_open (space_of owner old) (under old bound) ≡ false) × (old.space.limit ≡ Some old.expansions) × (new ≡ old)
 IsRefusal owner bound old new TotalTooLarge =
-    (i : ℕ) × (n : Node) × IsNext old.space.ties (space_of owner old) old.nodes bound i n × (old.space.limit ≢ Some old.expansions)
+    (i : ℕ) × (n : Node) × IsNext old.space.ties (space_of owner old) old.nodes old.ever bound i n × (old.space.limit ≢ Some old.expansions)
     × HasLargeSuccessor old.space.task n × (new ≡ old)
 
 -- ---- the owner's invariant

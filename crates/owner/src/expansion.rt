@@ -1,10 +1,11 @@
 //! The expansion of a node.
 
-ghost use Rattle.std.specs.Prelude.{◌≡◌, ◌≢◌, ◌+◌, suc, [], length, Some, None, true, filter_map, is_some, if◌then◌else◌, All, IfOk, OnOk, OnErr};
+ghost use Rattle.std.specs.Prelude.{◌≡◌, ◌≢◌, ◌+◌, suc, [], length, slice_set, Some, None, true, filter_map, is_some, if◌then◌else◌, All, IfOk, OnOk, OnErr};
 ghost use Rattle.fdr.specs.Tasks.{ranges, IsState, applies_at};
-ghost use Rattle.owner_theory.specs.Owners.{At, Node, treat_all, successor_by, mark_node};
+ghost use Rattle.owner_theory.specs.Owners.{At, Node, treat_all, successor_by, marked, mark_node};
 ghost use Rattle.owner_theory.specs.Worlds.{waiting};
-ghost use Rattle.closed.specs.Tables.{fresh};
+ghost use Rattle.openlist.specs.declared.entry.OpenEntry.{OpenEntry as EntryOf};
+ghost use Rattle.closed.specs.Tables.{padded, fresh};
 ghost use Rattle.owner.specs.Owned.{space_of, under};
 ghost use Rattle.owner.specs.Queues.{h_of, IsLeast};
 ghost use Rattle.owner.specs.Held.{IsSmallStep, places_in};
@@ -63,13 +64,14 @@ fn try_to_expand<S: Spread + Drop, F: StateForm + Drop>(
     buffers: &mut Buffers<F>,
 ) -> Result<(), AllocError>
     requires allowed { holdings.old.space.limit ≢ Some holdings.old.expansions }
-    requires least { IsLeast holdings.old.space.ties (h_of holdings.old.space) holdings.old.nodes next }
+    requires least { IsLeast holdings.old.space.ties (h_of holdings.old.space) holdings.old.nodes holdings.old.ever next }
     requires state { IsState (ranges holdings.old.space.task) places.old.state }
     requires places { places.old ≡ places_in holdings.old.space places.old.state }
     requires buffer { length buffers.old.values.items ≡ length places.old.state }
     requires apply { All (λ o. applies_at holdings.old.space.task o places.old.state ≡ true) operators.now }
     requires small { All (IsSmallStep holdings.old.space.task next.rank) operators.now }
     ensures treated { OnOk result ((n : Node) → At holdings.old.nodes next.index n → under holdings.new bound ≡ treat_all (space_of S.owner holdings.old) holdings.old.worker (mark_node (under holdings.old bound) next.index n) (filter_map (successor_by holdings.old.space.task holdings.old.worker next.index (fresh places.old.state next.rank None)) operators.now)) }
+    ensures ever { OnOk result (holdings.new.ever ≡ padded (slice_set holdings.old.ever next.index true) (length holdings.new.nodes)) }
     ensures put_out { OnOk result (waiting holdings.new.outboxes ≡ waiting holdings.old.outboxes + length buffers.new.batch.receivers.items) }
     ensures owners { OnOk result (length holdings.new.outboxes ≡ length holdings.old.outboxes) }
     ensures space { OnOk result (holdings.new.space ≡ holdings.old.space) }
@@ -122,13 +124,14 @@ pub(crate) fn expand_node<S: Spread + Drop, F: StateForm + Drop>(
     buffers: &mut Buffers<F>,
 ) -> Result<usize, AllocError>
     requires allowed { holdings.old.space.limit ≢ Some holdings.old.expansions }
-    requires least { IsLeast holdings.old.space.ties (h_of holdings.old.space) holdings.old.nodes next }
+    requires least { IsLeast holdings.old.space.ties (h_of holdings.old.space) holdings.old.nodes holdings.old.ever next }
     requires state { IsState (ranges holdings.old.space.task) places.old.state }
     requires places { places.old ≡ places_in holdings.old.space places.old.state }
     requires buffer { length buffers.old.values.items ≡ length places.old.state }
     requires apply { All (λ o. applies_at holdings.old.space.task o places.old.state ≡ true) operators.now }
     requires small { All (IsSmallStep holdings.old.space.task next.rank) operators.now }
     ensures treated { OnOk result ((n : Node) → At holdings.old.nodes next.index n → under holdings.new bound ≡ treat_all (space_of S.owner holdings.old) holdings.old.worker (mark_node (under holdings.old bound) next.index n) (filter_map (successor_by holdings.old.space.task holdings.old.worker next.index (fresh places.old.state next.rank None)) operators.now)) }
+    ensures ever { OnOk result (holdings.new.ever ≡ padded (slice_set holdings.old.ever next.index true) (length holdings.new.nodes)) }
     ensures posted { IfOk result (λ posted. waiting holdings.new.outboxes ≡ waiting holdings.old.outboxes + posted) }
     ensures owners { length holdings.new.outboxes ≡ length holdings.old.outboxes }
     ensures space { holdings.new.space ≡ holdings.old.space }
@@ -145,4 +148,28 @@ pub(crate) fn expand_node<S: Spread + Drop, F: StateForm + Drop>(
             Err(error)
         }
     }
+}
+
+/// Expands the owner's next node, whose successors are all to be dropped: the node is marked and counted, and nothing
+/// else changes. On failure the owner is unchanged.
+pub(crate) fn expand_alone<S: Spread + Drop, F: StateForm + Drop>(
+    holdings: &mut Holdings<'_, S, F>,
+    buffers: &mut Buffers<F>,
+) -> Result<(), AllocError>
+    requires allowed { holdings.old.space.limit ≢ Some holdings.old.expansions }
+    requires some { (e : EntryOf) × IsLeast holdings.old.space.ties (h_of holdings.old.space) holdings.old.nodes holdings.old.ever e }
+    ensures expanded { OnOk result ((e : EntryOf) (n : Node) → IsLeast holdings.old.space.ties (h_of holdings.old.space) holdings.old.nodes holdings.old.ever e →
+        At holdings.old.nodes e.index n → holdings.new ≡ record holdings.old {
+          nodes = slice_set holdings.old.nodes e.index (marked n);
+          ever = padded (slice_set holdings.old.ever e.index true) (length holdings.new.nodes);
+          expansions = if is_some holdings.old.space.limit then suc holdings.old.expansions else holdings.old.expansions;
+        }) }
+    ensures owners { length holdings.new.outboxes ≡ length holdings.old.outboxes }
+    ensures space { holdings.new.space ≡ holdings.old.space }
+    ensures worker { holdings.new.worker ≡ holdings.old.worker }
+    ensures unchanged { OnErr result (holdings.new ≡ holdings.old) }
+    ensures buffer { length buffers.new.values.items ≡ length buffers.old.values.items }
+{
+    buffers.batch.clear(holdings.best);
+    holdings.expand_next(&mut buffers.batch)
 }

@@ -9,7 +9,7 @@ ghost use Rattle.owner_theory.specs.Worlds.{idle, no_open, waiting};
 ghost use Rattle.openlist.specs.declared.entry.OpenEntry.{OpenEntry as EntryOf};
 ghost use Rattle.closed.specs.declared.message.Parent.{Parent};
 ghost use Rattle.closed.specs.declared.table.Outcome.TheVariants.{Kept};
-ghost use Rattle.closed.specs.Tables.{message_of, outcome_of, fresh, arrival};
+ghost use Rattle.closed.specs.Tables.{padded, message_of, outcome_of, fresh, arrival};
 ghost use Rattle.owner_space.specs.Spaces.{searched};
 ghost use Rattle.owner.specs.Owned.{space_of, under, IsMessageTo, least_open};
 ghost use Rattle.owner.specs.Queues.{h_of, message_at, IsLeast};
@@ -54,6 +54,7 @@ impl<'a, S: Spread + Drop, F: StateForm + Drop> Model for Holdings<'a, S, F> {
       space = o.reached.space;
       worker = o.worker;
       nodes = o.reached.nodes;
+      ever = o.reached.ever;
       outboxes = shown (F.values (ranges o.reached.space.task)) o.outboxes;
       best = o.best;
       expansions = o.expansions;
@@ -63,6 +64,7 @@ impl<'a, S: Spread + Drop, F: StateForm + Drop> Model for Holdings<'a, S, F> {
       space = o.reached.space;
       worker = o.worker;
       nodes = o.reached.nodes;
+      ever = o.reached.ever;
       outboxes = shown (F.values (ranges o.reached.space.task)) o.outboxes;
       best = o.best;
       expansions = o.expansions;
@@ -77,7 +79,7 @@ pub(crate) fn is_within(distance: Dist, other: Dist) -> bool
 }
 
 /// Returns the distance of a number that is at most 2^63.
-fn finite(value: u64) -> Dist
+pub(crate) fn finite(value: u64) -> Dist
     requires { value ≤ 2 ^ 63 }
     ensures { result ≡ Finite value }
 {
@@ -108,6 +110,7 @@ impl<'a, S: Spread + Drop, F: StateForm + Drop> Holdings<'a, S, F> {
         requires worker { worker < owners }
         requires fits { F.Fits (ranges space.now.task) }
         ensures started { IfOk result (λ o. under o Infinite ≡ start_owner (searched S.owner space.now owners) (S.owner space.now.spread space.now.task.initial owners == worker)) }
+        ensures ever { IfOk result (λ o. o.ever ≡ padded [] (length o.nodes)) }
         ensures space { IfOk result (λ o. o.space ≡ space.now) }
         ensures worker { IfOk result (λ o. o.worker ≡ worker) }
         ensures expansions { IfOk result (λ o. o.expansions ≡ 0) }
@@ -140,6 +143,7 @@ impl<'a, S: Spread + Drop, F: StateForm + Drop> Holdings<'a, S, F> {
     ) -> Result<(), AllocError>
         requires { IsMessageTo (space_of S.owner self.old) self.old.worker (message_at state.now rank parent) }
         ensures taken { OnOk result ((bound : Distance) → under self.new bound ≡ took (space_of S.owner self.old) (under self.old bound) (message_at state.now rank parent)) }
+        ensures ever { OnOk result (self.new.ever ≡ padded self.old.ever (length self.new.nodes)) }
         ensures space { self.new.space ≡ self.old.space }
         ensures worker { self.new.worker ≡ self.old.worker }
         ensures expansions { self.new.expansions ≡ self.old.expansions }
@@ -210,7 +214,7 @@ impl<'a, S: Spread + Drop, F: StateForm + Drop> Holdings<'a, S, F> {
 
     /// Returns the entry of the open node that is to be expanded next, if its f-value is below the bound.
     pub(crate) fn next(&self, bound: Dist) -> Option<OpenEntry>
-        ensures some { IfSome result (λ e. IsLeast self.now.space.ties (h_of self.now.space) self.now.nodes e × (is_at_most bound (Finite e.f) ≡ false)) }
+        ensures some { IfSome result (λ e. IsLeast self.now.space.ties (h_of self.now.space) self.now.nodes self.now.ever e × (is_at_most bound (Finite e.f) ≡ false)) }
         ensures none { result ≡ None → no_open (space_of S.owner self.now) (under self.now bound) ≡ true }
     {
         let entry = self.reached.least()?;
@@ -231,11 +235,12 @@ impl<'a, S: Spread + Drop, F: StateForm + Drop> Holdings<'a, S, F> {
     /// unchanged.
     pub(crate) fn expand_next(&mut self, batch: &mut Batch<F>) -> Result<(), AllocError>
         requires allowed { self.old.space.limit ≢ Some self.old.expansions }
-        requires some { (e : EntryOf) × IsLeast self.old.space.ties (h_of self.old.space) self.old.nodes e }
+        requires some { (e : EntryOf) × IsLeast self.old.space.ties (h_of self.old.space) self.old.nodes self.old.ever e }
         requires batch { IsBatch F.IsForm F.values S.owner self.old batch.old }
-        ensures expanded { OnOk result ((e : EntryOf) (n : Node) → IsLeast self.old.space.ties (h_of self.old.space) self.old.nodes e → At self.old.nodes e.index n →
+        ensures expanded { OnOk result ((e : EntryOf) (n : Node) → IsLeast self.old.space.ties (h_of self.old.space) self.old.nodes self.old.ever e → At self.old.nodes e.index n →
             self.new ≡ record self.old {
               nodes = fold improve (slice_set self.old.nodes e.index (marked n)) (map (message_of (F.values (ranges self.old.space.task))) batch.old.own.items);
+              ever = padded (slice_set self.old.ever e.index true) (length self.new.nodes);
               best = batch.old.best;
               expansions = if is_some self.old.space.limit then suc self.old.expansions else self.old.expansions;
             }) }
@@ -314,6 +319,7 @@ impl<'a, S: Spread + Drop, F: StateForm + Drop> Holdings<'a, S, F> {
     /// Proves the type's invariant, which holds of every owner. Only for the proof.
     pub(crate) fn recall(&self)
         ensures owner { IsOwner S.owner self.now }
+        ensures ever { length self.now.ever ≡ length self.now.nodes }
         ensures fits { F.Fits (ranges self.now.space.task) }
     {
         self.reached.recall();

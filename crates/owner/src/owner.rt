@@ -8,14 +8,15 @@ ghost use Rattle.owner_theory.specs.Owners.{Node, list_at, took, start_owner};
 ghost use Rattle.owner_theory.specs.Worlds.{idle, waiting};
 ghost use Rattle.owner_theory.specs.Families.{IsSearchSpace, IsLowerBound};
 ghost use Rattle.closed.specs.declared.table.Outcome.TheVariants.{Kept};
-ghost use Rattle.closed.specs.Tables.{message_of, node_with, outcome_of, arrival};
+ghost use Rattle.closed.specs.Tables.{padded, message_of, node_with, outcome_of, arrival};
 ghost use Rattle.owner_space.specs.Spaces.{searched};
 ghost use Rattle.owner.specs.Outboxes.{count_in_use};
 ghost use Rattle.owner.specs.Owned.{space_of, under, IsMessageTo, IsExpansion, IsRefusal, IsKept, least_open};
 
-use crate::expansion::{Buffers, expand_node};
+use crate::expansion::{Buffers, expand_alone, expand_node};
 use crate::fault::OwnerFault;
 use crate::holdings::Holdings;
+use crate::late::{all_are_late, drop_late};
 use crate::successors::has_large_successor;
 use closed::{Entry, Message};
 use cost::Dist;
@@ -95,6 +96,7 @@ impl<'a, S: Spread + Drop, F: StateForm + Drop> Owner<'a, S, F> {
         requires worker { worker < owners }
         requires fits { F.Fits (ranges space.now.task) }
         ensures started { IfOk result (λ o. under o Infinite ≡ start_owner (searched S.owner space.now owners) (S.owner space.now.spread space.now.task.initial owners == worker)) }
+        ensures ever { IfOk result (λ o. o.ever ≡ padded [] (length o.nodes)) }
         ensures space { IfOk result (λ o. o.space ≡ space.now) }
         ensures worker { IfOk result (λ o. o.worker ≡ worker) }
         ensures expansions { IfOk result (λ o. o.expansions ≡ 0) }
@@ -118,6 +120,7 @@ impl<'a, S: Spread + Drop, F: StateForm + Drop> Owner<'a, S, F> {
     pub fn take(&mut self, message: Message<F>) -> Result<(), (Message<F>, AllocError)>
         requires { IsMessageTo (space_of S.owner self.old) self.old.worker (message_of (F.values (ranges self.old.space.task)) message) }
         ensures taken { OnOk result ((bound : Distance) → under self.new bound ≡ took (space_of S.owner self.old) (under self.old bound) (message_of (F.values (ranges self.old.space.task)) message)) }
+        ensures ever { OnOk result (self.new.ever ≡ padded self.old.ever (length self.new.nodes)) }
         ensures space { self.new.space ≡ self.old.space }
         ensures worker { self.new.worker ≡ self.old.worker }
         ensures expansions { self.new.expansions ≡ self.old.expansions }
@@ -169,11 +172,16 @@ impl<'a, S: Spread + Drop, F: StateForm + Drop> Owner<'a, S, F> {
         }
         self.holdings.recall(); // the node is of a state of the task, and its rank is not too great
         let space = self.holdings.space();
+        if all_are_late(space, bound, next.rank) {
+            expand_alone(&mut self.holdings, &mut self.buffers)?;
+            return Ok(Some(0));
+        }
         read_state(&self.holdings, next.index, &mut self.state);
         space.applicable(&self.state, &mut self.applicable)?;
         if has_large_successor(space.task(), &self.applicable, next.rank) {
             return Err(OwnerFault::TotalTooLarge);
         }
+        drop_late(space.task(), bound, next.rank, &mut self.applicable);
         self.places.enter(&self.state);
         let posted = expand_node(
             self.alloc,
@@ -289,13 +297,14 @@ impl<'a, S: Spread + Drop, F: StateForm + Drop> Owner<'a, S, F> {
 
     /// Proves the type's invariant, which holds of every owner: the space is a search space whose heuristic is a lower
     /// bound, nodes have states of the task that belong to this owner, messages have states of the task that belong to
-    /// their receiver, costs and numbers of operators are at most 2^62, and states of the task have the form. Only for
-    /// the proof.
+    /// their receiver, costs and numbers of operators are at most 2^62, states of the task have the form, and as many
+    /// states as there are were expanded or not. Only for the proof.
     pub fn recall(&self)
         ensures space { IsSearchSpace (space_of S.owner self.now) }
         ensures lower { IsLowerBound self.now.space.task (space_of S.owner self.now).heuristic }
         ensures owners { self.now.worker < length self.now.outboxes }
         ensures nodes { All (IsKept (space_of S.owner self.now) self.now.worker) self.now.nodes }
+        ensures ever { length self.now.ever ≡ length self.now.nodes }
         ensures messages { (to : ℕ) → to < length self.now.outboxes →
             All (IsMessageTo (space_of S.owner self.now) to) (list_at self.now.outboxes to) }
         ensures fits { F.Fits (ranges self.now.space.task) }

@@ -1,6 +1,6 @@
 //! The states that an owner has reached, and the order in which it expands them.
 
-ghost use Rattle.std.specs.Prelude.{◌≡◌, ◌≢◌, false, ℕ, ◌<◌, ◌≤◌, ◌^◌, ◌++◌, ◌∷◌, [], length, map, fold, slice_get, slice_set, Some, List, All, Option, IfOk, OnOk, OnErr, IfSome, IfNone, IsTrue};
+ghost use Rattle.std.specs.Prelude.{◌≡◌, ◌≢◌, true, false, ℕ, ◌<◌, ◌≤◌, ◌^◌, ◌++◌, ◌∷◌, [], length, map, fold, slice_get, slice_set, Some, List, All, Option, IfOk, OnOk, OnErr, IfSome, IfNone, IsTrue};
 ghost use Rattle.std.specs.List.Sorted.{IsPermutation};
 ghost use Rattle.cost.specs.Distances.{Distance, Finite, ◌+ᵈ◌};
 ghost use Rattle.fdr.specs.Tasks.{ranges, IsState};
@@ -8,9 +8,9 @@ ghost use Rattle.owner_theory.specs.Owners.{At, Node, marked};
 ghost use Rattle.openlist.specs.declared.entry.OpenEntry.{OpenEntry as EntryOf};
 ghost use Rattle.closed.specs.declared.message.Parent.{Parent};
 ghost use Rattle.closed.specs.declared.table.Outcome.TheVariants.{Kept};
-ghost use Rattle.closed.specs.Tables.{reached, outcome_of, outcomes_of, fresh, node_with, arrival};
-ghost use Rattle.owner_space.specs.Turned.{turned};
-ghost use Rattle.owner.specs.Queues.{added, HasWords, h_of, IsCurrent, AreQueued, IsQueue, IsLeast, HasNoneOpen};
+ghost use Rattle.closed.specs.Tables.{padded, reached, outcome_of, outcomes_of, fresh, node_with, arrival};
+ghost use Rattle.owner_space.specs.Keyed.{max_total, IsSmall, IsKeyed, denoted};
+ghost use Rattle.owner.specs.Queues.{added, keyed_in, h_of, IsCurrent, AreQueued, IsQueue, IsLeast, HasNoneOpen};
 
 use closed::{ClosedTable, Entry, Lead, Message, Outcome, Parent};
 use cost::Dist;
@@ -22,13 +22,14 @@ use std::alloc::{AllocError, Global};
 use std::marker::Model;
 
 /// The reached states, and the open ones in the order in which they are to be expanded. In contracts its value is the
-/// space and a node for each state.
+/// space, a node for each state, and for each whether it was ever expanded.
 #[derive(Drop)]
 pub(crate) struct Reached<'a, S: Spread + Drop, F: StateForm + Drop> {
     space: &'a Space<'a, S>,
     table: ClosedTable<F>,
     /// The open nodes, and stale entries: nodes as they were before they were improved or expanded. Each entry is keyed
-    /// by the space's tie-breaking rule, so that the list pops entries in that order.
+    /// by the space's tie-breaking rule and by whether its node was ever expanded, so that the list pops entries in the
+    /// order of the rule.
     queue: Buckets,
 }
 
@@ -40,9 +41,9 @@ impl<'a, S: Spread + Drop, F: StateForm + Drop> Model for Reached<'a, S, F> {
 
     ghost Value = { ReachedOf S };
 
-    ghost view = { λ r. record { space = r.space.now; nodes = r.table.nodes } };
+    ghost view = { λ r. record { space = r.space.now; nodes = r.table.nodes; ever = r.table.ever } };
 
-    ghost invariant = { λ r. (r.table.ranges ≡ ranges r.space.now.task) × IsQueue r.space.now.ties (h_of r.space.now) r.table.nodes (all_entries r.queue) };
+    ghost invariant = { λ r. (r.table.ranges ≡ ranges r.space.now.task) × IsQueue r.space.now.ties (h_of r.space.now) r.table.nodes r.table.ever (all_entries r.queue) };
 }
 
 /// Makes room for an entry of this f-value, if it is finite.
@@ -56,23 +57,35 @@ fn make_room<L: OpenList>(list: &mut L, f: Option<u64>) -> Result<(), AllocError
     }
 }
 
-/// Pushes an open entry, keyed by the tie-breaking rule, if the state is new or improved and f is finite.
-fn put_in<L: OpenList>(list: &mut L, ties: Ties, f: Option<u64>, rank: Rank, outcome: Outcome)
-    requires { IfSome f (λ f. (fs : List ℕ) × L.HasRoom list.old (f ∷ fs)) }
-    ensures entries { IsPermutation (map (turned ties) (added f rank outcome) ++ L.entries list.old) (L.entries list.new) }
-    ensures words { All HasWords (added f rank outcome) }
+/// Pushes an open entry, keyed by the tie-breaking rule, if the state is new or improved and f is finite. `table` has
+/// the state.
+fn put_in<L: OpenList, F: StateForm + Drop>(
+    list: &mut L,
+    table: &ClosedTable<F>,
+    ties: Ties,
+    f: Option<u64>,
+    rank: Rank,
+    outcome: Outcome,
+)
+    requires room { IfSome f (λ f. (fs : List ℕ) × L.HasRoom list.old (f ∷ fs)) }
+    requires cost { rank.cost ≤ max_total }
+    requires steps { rank.steps ≤ max_total }
+    ensures entries { IsPermutation (map (keyed_in ties table.now.ever) (added f rank outcome) ++ L.entries list.old) (L.entries list.new) }
+    ensures small { All IsSmall (added f rank outcome) }
     ensures room { IfSome f (λ f. (fs : List ℕ) → L.HasRoom list.old (f ∷ fs) → L.HasRoom list.new fs) }
 {
     if let (Some(f), Outcome::New(index) | Outcome::Better(index)) = (f, outcome) {
-        let pushed = list.push(ties.turned(OpenEntry { f, rank, index }));
+        let ever = table.was_expanded(index);
+        let pushed = list.push(ties.keyed(OpenEntry { f, rank, index }, ever));
         let _ = pushed; // there is room
     }
 }
 
 /// Pushes open entries, keyed by the tie-breaking rule, for the states of messages that were reached, each with its
-/// f-value and its outcome.
+/// f-value and its outcome. `table` has these states.
 fn put_all_in<L: OpenList, F: StateForm + Drop>(
     list: &mut L,
+    table: &ClosedTable<F>,
     ties: Ties,
     messages: &[Message<F>],
     fs: &[u64],
@@ -81,37 +94,43 @@ fn put_all_in<L: OpenList, F: StateForm + Drop>(
     requires fs { length fs.now ≡ length messages.now }
     requires outcomes { length outcomes.now ≡ length messages.now }
     requires room { L.HasRoom list.old fs.now }
-    ensures words { All HasWords (L.entries list.old) → All HasWords (L.entries list.new) }
+    requires small { All (λ m. (m.rank.cost ≤ max_total) × (m.rank.steps ≤ max_total)) messages.now }
+    ensures stored { All (IsKeyed ties) (L.entries list.old) → All (IsKeyed ties) (L.entries list.new) }
     ensures queued { (values : F → List ℕ) (h : List ℕ → Distance) (nodes : List Node) →
         map (λ m. Finite m.rank.cost +ᵈ h (values m.state)) messages.now ≡ map Finite fs.now → All (λ f. f ≤ 2 ^ 63) fs.now →
         outcomes.now ≡ outcomes_of nodes (map (arrival values) messages.now) →
-        AreQueued h nodes (map (turned ties) (L.entries list.old)) →
-        AreQueued h (fold reached nodes (map (arrival values) messages.now)) (map (turned ties) (L.entries list.new)) }
+        AreQueued ties h nodes table.now.ever (L.entries list.old) →
+        AreQueued ties h (fold reached nodes (map (arrival values) messages.now)) table.now.ever (L.entries list.new) }
 {
     for (place, message) in messages.iter().enumerate() {
-        put_in(list, ties, Some(fs[place]), message.rank, outcomes[place]);
+        let (f, outcome) = (Some(fs[place]), outcomes[place]);
+        put_in(list, table, ties, f, message.rank, outcome);
     }
 }
 
-/// Returns whether the entry's node is not expanded and has the entry's rank.
-fn is_current<F: StateForm + Drop>(table: &ClosedTable<F>, entry: OpenEntry) -> bool
-    requires { entry.index < length table.now.nodes }
-    ensures current { IsTrue result → IsCurrent table.now.nodes entry }
-    ensures stale { IsCurrent table.now.nodes entry → IsTrue result }
+/// Returns whether a stored entry is that of its node as it is: the node is not expanded, has the entry's rank, and the
+/// entry is keyed by whether the node was ever expanded.
+fn is_current<F: StateForm + Drop>(table: &ClosedTable<F>, ties: Ties, stored: OpenEntry) -> bool
+    requires stored { IsKeyed ties stored }
+    requires within { (denoted ties stored).index < length table.now.nodes }
+    ensures current { IsTrue result → IsCurrent ties table.now.nodes table.now.ever stored }
+    ensures stale { IsCurrent ties table.now.nodes table.now.ever stored → IsTrue result }
 {
+    let entry = ties.denoted(stored);
     let node = table.entry(entry.index);
-    !node.expanded && node.rank == entry.rank
+    let ever = table.was_expanded(entry.index);
+    !node.expanded && node.rank == entry.rank && ties.keyed(entry, ever) == stored
 }
 
 /// Pops stale entries until the first entry is current or none is left.
 fn drop_stale<F: StateForm + Drop, L: OpenList>(table: &ClosedTable<F>, ties: Ties, list: &mut L)
-    requires { All (λ e. e.index < length table.now.nodes) (map (turned ties) (L.entries list.old)) }
-    ensures { (h : List ℕ → Distance) → All HasWords (L.entries list.old) →
-        AreQueued h table.now.nodes (map (turned ties) (L.entries list.old)) →
-        IsQueue ties h table.now.nodes (L.entries list.new) }
+    requires stored { All (IsKeyed ties) (L.entries list.old) }
+    requires within { All (λ e. (denoted ties e).index < length table.now.nodes) (L.entries list.old) }
+    ensures { (h : List ℕ → Distance) → AreQueued ties h table.now.nodes table.now.ever (L.entries list.old) →
+        IsQueue ties h table.now.nodes table.now.ever (L.entries list.new) }
 {
     while let Some(entry) = list.least() {
-        if is_current(table, ties.turned(entry)) {
+        if is_current(table, ties, entry) {
             return;
         }
         let _ = list.pop();
@@ -125,7 +144,7 @@ impl<'a, S: Spread + Drop, F: StateForm + Drop> Reached<'a, S, F> {
         space: &'a Space<'a, S>,
     ) -> Result<Reached<'a, S, F>, AllocError>
         requires { F.Fits (ranges space.now.task) }
-        ensures { IfOk result (λ r. r ≡ record { space = space.now; nodes = [] }) }
+        ensures { IfOk result (λ r. r ≡ record { space = space.now; nodes = []; ever = [] }) }
     {
         Ok(Reached {
             space,
@@ -134,9 +153,11 @@ impl<'a, S: Spread + Drop, F: StateForm + Drop> Reached<'a, S, F> {
         })
     }
 
-    /// Proves, from the type's invariant, that states of the task have the form. Only for the proof.
+    /// Proves, from the type's invariant, that states of the task have the form, and that as many states as there are
+    /// were expanded or not. Only for the proof.
     pub(crate) fn recall(&self)
-        ensures { F.Fits (ranges self.now.space.task) }
+        ensures fits { F.Fits (ranges self.now.space.task) }
+        ensures ever { length self.now.ever ≡ length self.now.nodes }
     {
         self.table.recall();
     }
@@ -170,7 +191,10 @@ impl<'a, S: Spread + Drop, F: StateForm + Drop> Reached<'a, S, F> {
         requires state { IsState (ranges self.old.space.task) state.now }
         requires outcome { outcome ≡ outcome_of self.old.nodes (fresh state.now rank parent) }
         requires f { f ≡ Finite rank.cost +ᵈ h_of self.old.space state.now }
+        requires cost { rank.cost ≤ max_total }
+        requires steps { rank.steps ≤ max_total }
         ensures nodes { OnOk result (self.new.nodes ≡ reached self.old.nodes (fresh state.now rank parent)) }
+        ensures ever { OnOk result (self.new.ever ≡ padded self.old.ever (length self.new.nodes)) }
         ensures space { self.new.space ≡ self.old.space }
         ensures unchanged { OnErr result (self.new ≡ self.old) }
     {
@@ -178,7 +202,7 @@ impl<'a, S: Spread + Drop, F: StateForm + Drop> Reached<'a, S, F> {
         make_room(&mut self.queue, f)?;
         self.table.reach(state, rank, parent, outcome)?;
         let ties = self.space.ties();
-        put_in(&mut self.queue, ties, f, rank, outcome);
+        put_in(&mut self.queue, &self.table, ties, f, rank, outcome);
         if let Outcome::Better(_) = outcome {
             drop_stale(&self.table, ties, &mut self.queue); // the old entry of the state may be on top
         }
@@ -194,11 +218,14 @@ impl<'a, S: Spread + Drop, F: StateForm + Drop> Reached<'a, S, F> {
         parent: Option<Parent>,
     ) -> Result<(), AllocError>
         requires state { IsState (ranges self.old.space.task) state.now }
-        requires cost { rank.cost ≤ 2 ^ 62 }
+        requires cost { rank.cost ≤ max_total }
+        requires steps { rank.steps ≤ max_total }
         ensures nodes { OnOk result (self.new.nodes ≡ reached self.old.nodes (fresh state.now rank parent)) }
+        ensures ever { OnOk result (self.new.ever ≡ padded self.old.ever (length self.new.nodes)) }
         ensures space { self.new.space ≡ self.old.space }
         ensures unchanged { OnErr result (self.new ≡ self.old) }
     {
+        self.recall(); // there is a bit for each state
         match self.look(state, rank) {
             Outcome::Kept => Ok(()),
             outcome => {
@@ -210,11 +237,11 @@ impl<'a, S: Spread + Drop, F: StateForm + Drop> Reached<'a, S, F> {
 
     /// Returns the entry of the open node that is to be expanded next, or `None` if no node is open.
     pub(crate) fn least(&self) -> Option<OpenEntry>
-        ensures some { IfSome result (IsLeast self.now.space.ties (h_of self.now.space) self.now.nodes) }
+        ensures some { IfSome result (IsLeast self.now.space.ties (h_of self.now.space) self.now.nodes self.now.ever) }
         ensures none { IfNone result (HasNoneOpen (h_of self.now.space) self.now.nodes) }
     {
-        let entry = self.queue.least()?;
-        Some(self.space.ties().turned(entry))
+        let stored = self.queue.least()?;
+        Some(self.space.ties().denoted(stored))
     }
 
     /// Expands the node that is to be expanded next: marks it, and records that the states of these messages, with
@@ -225,12 +252,15 @@ impl<'a, S: Spread + Drop, F: StateForm + Drop> Reached<'a, S, F> {
         fs: &[u64],
         outcomes: &mut Vec<Outcome>,
     ) -> Result<(), AllocError>
-        requires some { (e : EntryOf) × IsLeast self.old.space.ties (h_of self.old.space) self.old.nodes e }
+        requires some { (e : EntryOf) × IsLeast self.old.space.ties (h_of self.old.space) self.old.nodes self.old.ever e }
         requires forms { All (λ m. F.IsForm (ranges self.old.space.task) m.state) messages.now }
         requires fs { map (λ m. Finite m.rank.cost +ᵈ h_of self.old.space (F.values (ranges self.old.space.task) m.state)) messages.now ≡ map Finite fs.now }
         requires bound { All (λ f. f ≤ 2 ^ 63) fs.now }
-        ensures nodes { OnOk result ((e : EntryOf) (n : Node) → IsLeast self.old.space.ties (h_of self.old.space) self.old.nodes e → At self.old.nodes e.index n →
+        requires small { All (λ m. (m.rank.cost ≤ max_total) × (m.rank.steps ≤ max_total)) messages.now }
+        ensures nodes { OnOk result ((e : EntryOf) (n : Node) → IsLeast self.old.space.ties (h_of self.old.space) self.old.nodes self.old.ever e → At self.old.nodes e.index n →
             self.new.nodes ≡ fold reached (slice_set self.old.nodes e.index (marked n)) (map (arrival (F.values (ranges self.old.space.task))) messages.now)) }
+        ensures ever { OnOk result ((e : EntryOf) → IsLeast self.old.space.ties (h_of self.old.space) self.old.nodes self.old.ever e →
+            self.new.ever ≡ padded (slice_set self.old.ever e.index true) (length self.new.nodes)) }
         ensures space { self.new.space ≡ self.old.space }
         ensures unchanged { OnErr result (self.new ≡ self.old) }
     {
@@ -238,14 +268,15 @@ impl<'a, S: Spread + Drop, F: StateForm + Drop> Reached<'a, S, F> {
             return Ok(()); // there is one
         };
         self.queue.reserve(fs)?;
+        let ever = self.table.was_expanded(next.index);
         self.table.mark_expanded(next.index);
         if let Err(error) = self.table.improve_all(messages, outcomes) {
-            self.table.mark_open(next.index);
+            self.table.mark_open(next.index, ever);
             return Err(error);
         }
         let _ = self.queue.pop();
         let ties = self.space.ties();
-        put_all_in(&mut self.queue, ties, messages, fs, outcomes);
+        put_all_in(&mut self.queue, &self.table, ties, messages, fs, outcomes);
         drop_stale(&self.table, ties, &mut self.queue);
         Ok(())
     }

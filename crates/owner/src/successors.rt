@@ -15,13 +15,10 @@ use crate::holdings::Holdings;
 use closed::{Lead, Outcome};
 use fdr::FdrTask;
 use openlist::{OpenEntry, Rank};
-use owner_space::{effect_of, is_goal_form};
+use owner_space::{MAX_TOTAL, effect_of, is_goal_form};
 use packed::StateForm;
 use packed_spread::Spread;
 use std::alloc::{AllocError, Global};
-
-/// The greatest cost of a path, and the greatest number of operators on it: 2^62.
-pub const MAX_TOTAL: u64 = 4_611_686_018_427_387_904;
 
 /// Returns whether the successor by one of these operators would have a cost or a number of operators above 2^62.
 pub(crate) fn has_large_successor(task: &FdrTask, operators: &[usize], rank: Rank) -> bool

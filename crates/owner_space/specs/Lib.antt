@@ -1,3 +1,4 @@
 pub mod Spaces
-pub mod Turned
+pub mod Keyed
+pub mod Costs
 pub mod Steps

@@ -7,7 +7,10 @@ ghost use Rattle.fdr.specs.Tasks as tasks;
 ghost use Rattle.fdr.specs.Tasks.{IsState, IsTask, IsAssignment, step, with_values};
 ghost use Rattle.owner_theory.specs.Families.{IsLowerBound};
 ghost use Rattle.fdr_successors.specs.Applicable.{applicable_operators};
+ghost use Rattle.owner_space.specs.Costs as costs;
+ghost use Rattle.cost.specs.declared.TheConstants.{MAX_COST};
 
+use crate::costs::{greatest_cost, least_cost};
 use crate::ties::Ties;
 use cost::Dist;
 use fdr::{Fact, FdrTask};
@@ -30,10 +33,18 @@ pub struct Space<'a, S: Spread + Drop> {
     ties: Ties,
     generator: SuccessorGenerator<'a>,
     layout: Layout,
+    /// The least cost of an operator.
+    least_cost: u64,
+    /// The greatest cost of an operator.
+    greatest_cost: u64,
     ghost columns_are_of_task: { columns.task ≡ task.now },
     ghost spread_is_of_task: { S.ranges spread ≡ tasks.ranges task.now },
     ghost generator_is_of_task: { generator ≡ task.now },
     ghost layout_is_of_task: { layout ≡ tasks.ranges task.now },
+    ghost least_cost_is_of_task: { least_cost ≡ costs.least_cost task.now },
+    ghost least_cost_is_small: { least_cost ≤ MAX_COST },
+    ghost greatest_cost_is_of_task: { greatest_cost ≡ costs.greatest_cost task.now },
+    ghost greatest_cost_is_small: { greatest_cost ≤ MAX_COST },
 }
 
 impl<'a, S: Spread + Drop> Model for Space<'a, S> {
@@ -91,6 +102,8 @@ impl<'a, S: Spread + Drop> Space<'a, S> {
             ties,
             generator,
             layout,
+            least_cost: least_cost(task),
+            greatest_cost: greatest_cost(task),
         })
     }
 
@@ -113,6 +126,22 @@ impl<'a, S: Spread + Drop> Space<'a, S> {
         ensures { result.now ≡ tasks.ranges self.now.task }
     {
         &self.layout
+    }
+
+    /// Returns the least cost of an operator. Without operators it is the greatest cost there is.
+    pub fn least_cost(&self) -> u64
+        ensures value { result ≡ costs.least_cost self.now.task }
+        ensures bound { result ≤ MAX_COST }
+    {
+        self.least_cost
+    }
+
+    /// Returns the greatest cost of an operator, 0 without operators.
+    pub fn greatest_cost(&self) -> u64
+        ensures value { result ≡ costs.greatest_cost self.now.task }
+        ensures bound { result ≤ MAX_COST }
+    {
+        self.greatest_cost
     }
 
     /// Returns the f-value of a state that was reached at this cost, which is at most 2^62: the cost plus the state's

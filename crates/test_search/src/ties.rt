@@ -29,6 +29,18 @@ const SHORTER_WAY: &[(u32, u32, u64)] = &[
     (3, 5, 1),
 ];
 
+/// From 0 to 6, to 4 and to 1; from there to 3: over 1 and 2, and over 4 by one operator less, which is found after 3
+/// was expanded. From 3 to 5, which is the goal. Only the last operator has a cost.
+const REOPENED: &[(u32, u32, u64)] = &[
+    (0, 6, 0),
+    (0, 4, 0),
+    (0, 1, 0),
+    (1, 2, 0),
+    (2, 3, 0),
+    (4, 3, 0),
+    (3, 5, 1),
+];
+
 /// Expands the next node, and checks that it is the one at this index.
 fn expands_at<S: Spread + Drop, F: StateForm + Drop>(
     rt: &impl Abort,
@@ -140,4 +152,27 @@ fn a_node_improved_at_the_same_cost(rt: HostRuntime) -> Result<(), Fail> {
     let places = [0, 1, 3, 2, 4, 5];
     by_cost(&rt, rt.alloc(), &task, Ties::Shallow, &places, last)?;
     by_cost(&rt, rt.alloc(), &task, Ties::Deep, &places, last)
+}
+
+#[test]
+fn a_node_that_is_reopened(rt: HostRuntime) -> Result<(), Fail> {
+    let task = walk(rt.alloc(), 7, 5, REOPENED)?.ok_or("a task")?;
+    let last = Rank { cost: 1, steps: 3 };
+    // 3 has index 5, and is expanded at two ranks; 6 has index 1, and fewer operators than 3 at each of them
+    by_cost(
+        &rt,
+        rt.alloc(),
+        &task,
+        Ties::Deep,
+        &[0, 3, 4, 5, 2, 5, 1, 6],
+        last,
+    )?;
+    by_cost(
+        &rt,
+        rt.alloc(),
+        &task,
+        Ties::Fresh,
+        &[0, 3, 4, 5, 2, 1, 5, 6],
+        last,
+    )
 }

@@ -12,7 +12,7 @@ use Rattle.worker.specs.declared.outcome.Received.TheVariants.{Taken, Nothing, S
 use Rattle.worker.specs.declared.outcome.Turn.{Turn}
 use Rattle.worker.specs.declared.outcome.Turn.TheVariants.{Next, Last, Misfit}
 use Rattle.worker.specs.Workers.{WorkerOf}
-use Rattle.worker.specs.Turns.{chained, HasReceived, ReceivesFrom, SendsOrNot, SendsTo, HasTaken, HasNothingTaken, HasSent, HasNotSent, HasLooked, HasExpanded, IsExpandRefusal, HasOffered, HasCounted, HasTurned, HasStopped, HasHeldBack, HasRefused, IsTurn, IsTurnRefusal, wakes, comes_to_rest, one_if}
+use Rattle.worker.specs.Turns.{chained, HasReceived, ReceivesFrom, SendsOrNot, SendsTo, HasTaken, HasNothingTaken, HasSent, HasNotSent, HasLooked, HasExpanded, ExpandsUnless, IsExpandRefusal, is_congested, HasOffered, HasCounted, HasTurned, HasStopped, HasHeldBack, HasRefused, IsTurn, IsTurnRefusal, wakes, comes_to_rest, one_if}
 use Rattle.worker.specs.Counts.{HasBalanced, HasRested}
 
 pub one_more : {W : Type 0} (R : ℕ → W → W → Type 0) (k : ℕ) (a b c : W) → chained R k a b → R k b c → chained R (k + 1) a c
@@ -145,7 +145,8 @@ module _ {S F : Type 0} (owner : S → List ℕ → ℕ → ℕ) (values : List 
       }
 
   pub turned : (old received looked expanded added offered sent new : WorkerOf S F) (posted : Option ℕ) (u v x y z : View)
-      → chained (ReceivesFrom owner values) (length old.ins) old received → HasLooked received looked u v → HasExpanded owner looked expanded posted
+      → chained (ReceivesFrom owner values) (length old.ins) old received → HasLooked received looked u v
+      → ExpandsUnless owner looked expanded posted (is_congested looked.owner.outboxes)
       → HasBalanced expanded added v x → HasOffered added offered x y → chained (SendsTo values) (length offered.outs) offered sent → HasRested owner sent new y z
       → HasTurned owner values old new u z
   turned old received looked expanded added offered sent new posted u v x y z receives looks expands balances offers sends rests =
@@ -177,23 +178,25 @@ module _ {S F : Type 0} (owner : S → List ℕ → ℕ → ℕ) (values : List 
   -- nothing was done after the bound was read
   refused_after : (old received looked new : WorkerOf S F) (u v : View) (fault : OwnerFault)
       → chained (ReceivesFrom owner values) (length old.ins) old received → HasLooked received looked u v
-      → IsRefusal owner looked.bound looked.owner new.owner fault → new ≡ looked → HasRefused owner values fault old new u v
-  refused_after old received looked new u v fault receives looks refusal same = record {
+      → is_congested looked.owner.outboxes ≡ false → IsRefusal owner looked.bound looked.owner new.owner fault → new ≡ looked
+      → HasRefused owner values fault old new u v
+  refused_after old received looked new u v fault receives looks uncongested refusal same = record {
     received = received;
     receives = receives;
     looks = subst (λ (w : WorkerOf S F). HasLooked received w u v) (sym same) looks;
+    uncongested = ap (λ (w : WorkerOf S F). is_congested w.owner.outboxes) same ∙ uncongested;
     refusal = subst (λ (w : WorkerOf S F). IsRefusal owner w.bound w.owner new.owner fault) (sym same) refusal;
   }
 
   pub refused_turn : (old received looked new : WorkerOf S F) (u v : View) (fault : OwnerFault)
       → chained (ReceivesFrom owner values) (length old.ins) old received → HasLooked received looked u v
-      → IsExpandRefusal owner looked new fault → IsTurnRefusal owner values old new u v fault
-  refused_turn old received looked new u v OutOfMemory receives looks e =
-      inr (refused_after old received looked new u v OutOfMemory receives looks e.0 e.1)
-  refused_turn old received looked new u v LimitReached receives looks e =
-      refused_after old received looked new u v LimitReached receives looks e.0 e.1
-  refused_turn old received looked new u v TotalTooLarge receives looks e =
-      refused_after old received looked new u v TotalTooLarge receives looks e.0 e.1
+      → is_congested looked.owner.outboxes ≡ false → IsExpandRefusal owner looked new fault → IsTurnRefusal owner values old new u v fault
+  refused_turn old received looked new u v OutOfMemory receives looks uncongested e =
+      inr (refused_after old received looked new u v OutOfMemory receives looks uncongested e.0 e.1)
+  refused_turn old received looked new u v LimitReached receives looks uncongested e =
+      refused_after old received looked new u v LimitReached receives looks uncongested e.0 e.1
+  refused_turn old received looked new u v TotalTooLarge receives looks uncongested e =
+      refused_after old received looked new u v TotalTooLarge receives looks uncongested e.0 e.1
 
   -- the owner could not take a message
   pub held_turn : (old new : WorkerOf S F) (u : View) (fault : OwnerFault) → fault ≡ OutOfMemory → HasHeldBack owner values old new

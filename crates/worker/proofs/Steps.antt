@@ -98,6 +98,7 @@ module _ {S F : Type 0} (values : List ℕ → F → List ℕ) where
       space = same_space j;
       worker = same_number j;
       nodes = p.nodes;
+      ever = p.ever;
       outboxes = (taken Infinite j).outboxes;
       best = p.best;
       expansions = same_expansions j;

@@ -1,9 +1,10 @@
 -- The effects of single steps and of a turn of a worker: a pass of the loop of hash distributed A* (Kishimoto, Fukunaga
 -- and Botea 2013).
-use Rattle.std.specs.Prelude.{◌≡◌, ◌≢◌, ℕ, zero, suc, ◌+◌, ◌<◌, ◌≤◌, ◌⊎◌, Bool, true, false, ◌&&◌, ◌||◌, not, ◌==◌, List, [], ◌∷◌, ◌++◌, length, slice_get, slice_set, Option, Some, None, pos, ◌+ℤ◌, ◌-ℤ◌}
-use Rattle.cost.specs.Distances.{Distance, ◌≤ᵈ◌, lesser}
+use Rattle.std.specs.Prelude.{◌≡◌, ◌≢◌, ℕ, zero, suc, ◌+◌, ◌<◌, ◌≤◌, ◌⊎◌, Bool, true, false, ◌&&◌, ◌||◌, not, ◌==◌, nat_le, List, [], ◌∷◌, ◌++◌, length, slice_get, slice_set, Option, Some, None, pos, ◌+ℤ◌, ◌-ℤ◌}
+use Rattle.std.specs.List.{list_any}
+use Rattle.cost.specs.Distances.{Distance, ◌≤ᵈ◌, is_below, lesser}
 use Rattle.owner_theory.specs.Owners.{Message, list_at, put, took, fits}
-use Rattle.owner_theory.specs.Worlds.{idle}
+use Rattle.owner_theory.specs.Worlds.{waiting, idle}
 use Rattle.board.specs.declared.views.View.{View}
 use Rattle.board.specs.Rule.{with_seen, with_offered, with_share}
 use Rattle.links.specs.declared.ends.Out.{Out}
@@ -11,7 +12,7 @@ use Rattle.links.specs.declared.ends.In.{In}
 use Rattle.links.specs.Ends.{room, known}
 use Rattle.owner.specs.declared.fault.OwnerFault.{OwnerFault}
 use Rattle.owner.specs.declared.fault.OwnerFault.TheVariants.{OutOfMemory, TotalTooLarge, LimitReached}
-use Rattle.owner.specs.Owned.{space_of, under, IsExpansion, IsRefusal}
+use Rattle.owner.specs.Owned.{space_of, under, IsExpansion, IsRefusal, least_open}
 use Rattle.worker.specs.declared.outcome.Received.{Received}
 use Rattle.worker.specs.declared.outcome.Received.TheVariants.{Taken, Nothing, SetAside}
 use Rattle.worker.specs.declared.outcome.Turn.{Turn}
@@ -49,6 +50,35 @@ pub record HasExpanded {S F : Type 0} (owner : S → List ℕ → ℕ → ℕ) (
 -- the reason why no node is expanded; the worker is unchanged
 abbrev pub IsExpandRefusal : {S F : Type 0} → (S → List ℕ → ℕ → ℕ) → WorkerOf S F → WorkerOf S F → OwnerFault → Type 0
 IsExpandRefusal owner old new fault = IsRefusal owner old.bound old.owner new.owner fault × (new ≡ old)
+
+-- ---- flow control
+
+-- the number of messages that wait for one link, and for all links together, from which on a worker expands nothing
+abbrev pub link_congestion : ℕ
+link_congestion = 32
+
+abbrev pub congestion : ℕ
+congestion = 1024
+
+-- that many messages wait for some link
+abbrev pub has_congested_link : List (List Message) → Bool
+has_congested_link outboxes = list_any (λ box. nat_le link_congestion (length box)) outboxes
+
+-- that many messages wait for some link, or for all links together
+abbrev pub is_congested : List (List Message) → Bool
+is_congested outboxes = has_congested_link outboxes || nat_le congestion (waiting outboxes)
+
+-- the expansion of a turn: none if the outboxes are congested, and the worker is unchanged; otherwise that of the next
+-- node, if there is one
+abbrev pub ExpandsUnless : {S F : Type 0} → (S → List ℕ → ℕ → ℕ) → WorkerOf S F → WorkerOf S F → Option ℕ → Bool → Type 0
+ExpandsUnless owner old new posted true = (new ≡ old) × (posted ≡ None)
+ExpandsUnless owner old new posted false = HasExpanded owner old new posted
+
+-- the outboxes are not congested, and the least f-value of an open node is below the bound read last
+abbrev pub is_to_expand : {S F : Type 0} → (S → List ℕ → ℕ → ℕ) → WorkerOf S F → Bool
+is_to_expand owner w = not (is_congested w.owner.outboxes) && is_below (least_open (space_of owner w.owner) w.owner.nodes) w.bound
+
+-- ---- counting, sending and receiving
 
 -- the messages in outboxes that are not yet added to the units are added
 pub record HasAdded {S F : Type 0} (old new : WorkerOf S F) (before after : View) : Type 0 where
@@ -89,7 +119,7 @@ pub record HasTaken {S F : Type 0} (owner : S → List ℕ → ℕ → ℕ) (val
   pub message : Message
   pub popped : HasPopped values from message old new
   pub took : (bound : Distance) → under new.owner bound ≡ took (space_of owner old.owner) (under old.owner bound) message
-  pub others : new.owner ≡ record old.owner { nodes = new.owner.nodes; best = new.owner.best }
+  pub others : new.owner ≡ record old.owner { nodes = new.owner.nodes; ever = new.owner.ever; best = new.owner.best }
   pub worker : new ≡ record old { owner = new.owner; ins = new.ins; taken = suc old.taken }
 
 -- the link was not known to hold a message, and nothing is taken
@@ -151,8 +181,8 @@ pub record HasCounted {S F : Type 0} (owner : S → List ℕ → ℕ → ℕ) (o
   pub worker : new ≡ record old { taken = 0; resting = (old.resting && not (wakes old)) || comes_to_rest owner old }
 
 -- one turn, in this order: at most one message is taken from each link, the bound is read, at most one node is
--- expanded, its messages are added to the units, the best goal is offered, at most one message is sent over each link,
--- and the messages taken and the worker's own unit are counted
+-- expanded, and none if the outboxes are congested, its messages are added to the units, the best goal is offered, at
+-- most one message is sent over each link, and the messages taken and the worker's own unit are counted
 pub record HasTurned {S F : Type 0} (owner : S → List ℕ → ℕ → ℕ) (values : List ℕ → F → List ℕ) (old new : WorkerOf S F) (before after : View) : Type 0 where
   pub received : WorkerOf S F
   pub receives : chained (ReceivesFrom owner values) (length old.ins) old received
@@ -161,7 +191,7 @@ pub record HasTurned {S F : Type 0} (owner : S → List ℕ → ℕ → ℕ) (va
   pub looks : HasLooked received looked before view_looked
   pub expanded : WorkerOf S F
   pub posted : Option ℕ
-  pub expands : HasExpanded owner looked expanded posted
+  pub expands : ExpandsUnless owner looked expanded posted (is_congested looked.owner.outboxes)
   pub added : WorkerOf S F
   pub view_added : View
   pub adds : HasAdded expanded added view_looked view_added
@@ -195,11 +225,13 @@ abbrev pub HasReceivedEach : {S F : Type 0} → (S → List ℕ → ℕ → ℕ)
 HasReceivedEach owner values old new true = chained (ReceivesFrom owner values) (length old.ins) old new
 HasReceivedEach owner values old new false = HasStopped owner values old new
 
--- a turn in which the owner refused to expand: nothing was done after the bound was read
+-- a turn in which the owner refused to expand: the outboxes were not congested, and nothing was done after the bound
+-- was read
 pub record HasRefused {S F : Type 0} (owner : S → List ℕ → ℕ → ℕ) (values : List ℕ → F → List ℕ) (fault : OwnerFault) (old new : WorkerOf S F) (before after : View) : Type 0 where
   pub received : WorkerOf S F
   pub receives : chained (ReceivesFrom owner values) (length old.ins) old received
   pub looks : HasLooked received new before after
+  pub uncongested : is_congested new.owner.outboxes ≡ false
   pub refusal : IsRefusal owner new.bound new.owner new.owner fault
 
 -- the reason why a turn is refused: allocation failed for a message, and the worker holds it; or the owner refused to

@@ -1,5 +1,6 @@
 -- The value of a worker, and its invariant: a run of its owner, what went over its links, what it has seen and offered.
 use Rattle.std.specs.Prelude.{◌≡◌, ℕ, Bool, false, List, [], ◌∷◌, map, length, slice_get, Option, Some, None}
+use Rattle.std.specs.List.{sum_by}
 use Rattle.fdr.specs.Tasks.{ranges}
 use Rattle.cost.specs.Distances.{Distance, Infinite}
 use Rattle.owner_theory.specs.Owners.{Log, Message, Packet, list_at}
@@ -47,6 +48,10 @@ received_from values ins u = list_at (map (λ i. map (message_of values) (receiv
 -- the messages that are known to be left to take from worker `u`
 abbrev pub known_from : {F : Type 0} → (F → List ℕ) → List (In F) → ℕ → List Message
 known_from values ins u = list_at (map (λ i. map (message_of values) (known i)) ins) u
+
+-- the number of messages that are known to be left to take from all workers
+abbrev pub known_in : {F : Type 0} → List (In F) → ℕ
+known_in ins = sum_by (λ i. length (known i)) ins
 
 -- the log records a run of the owner, what went over the links and what was seen and offered
 pub record IsWorking {S F : Type 0} (owner : S → List ℕ → ℕ → ℕ) (values : List ℕ → F → List ℕ) (w : WorkerOf S F) (log : Log) : Type 0 where

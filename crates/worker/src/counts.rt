@@ -12,11 +12,6 @@ use board::{Board, Seat};
 use packed::StateForm;
 use packed_spread::Spread;
 
-/// At most this many counting steps pass between two polls of the incoming rings. A worker counts in each turn, and in
-/// a round once more after it, so it polls in one of eight turns. What others write is read from another processor's
-/// cache, a line at a time, so several messages of one sender cost as much as one.
-const MOST_TURNS: usize = 16;
-
 /// Returns 1 if the flag is set, and 0 if not.
 fn one_if(flag: bool) -> u64
     ensures { result ≡ one_if flag }
@@ -46,23 +41,6 @@ impl<'a, S: Spread + Drop, F: StateForm + Drop> Worker<'a, S, F> {
         self.resting = false;
         self.uncounted = 0;
         self.taken = 0;
-    }
-
-    /// Returns the number of counting steps between two polls of the incoming rings. It depends on the capacity because
-    /// rings must not fill up between polls; a node rarely has more than one successor for each worker.
-    fn turns_a_look(&self) -> u32
-        ensures { 0 < result }
-    {
-        match self.ins.get(0) {
-            Some(link) => (link.capacity() / 4).min(MOST_TURNS).max(1) as u32,
-            None => 1,
-        }
-    }
-
-    /// Returns whether this turn polls for messages sent since the last poll: always if the worker is at rest,
-    /// otherwise in one of several turns.
-    pub(crate) fn looks(&self) -> bool {
-        self.resting || self.turns == 0
     }
 
     /// Returns whether the worker is at rest and has taken a message, so that it counts among the units again.
@@ -100,7 +78,7 @@ impl<'a, S: Spread + Drop, F: StateForm + Drop> Worker<'a, S, F> {
     }
 
     /// Ends the counting, after the messages that were taken are subtracted: subtracts the worker from the units if it
-    /// comes to rest, and counts one step towards the next poll.
+    /// comes to rest.
     pub(crate) fn rest(&mut self, board: &Board, seat: &mut Seat)
         requires { IsSeatOf board.now seat.old }
         ensures seat { IsSeatOf board.now seat.new }
@@ -108,11 +86,9 @@ impl<'a, S: Spread + Drop, F: StateForm + Drop> Worker<'a, S, F> {
     {
         let wakes = self.wakes();
         let rests = self.comes_to_rest();
-        let interval = self.turns_a_look();
         change_units(board, seat, 0, one_if(rests));
         self.taken = 0;
         self.resting = (self.resting && !wakes) || rests;
-        self.turns = self.turns.wrapping_add(1) % interval;
     }
 
     /// Subtracts the messages that were taken from the units, and counts this worker among them exactly if it is not at

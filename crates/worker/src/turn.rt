@@ -39,7 +39,7 @@ impl<'a, S: Spread + Drop, F: StateForm + Drop> Worker<'a, S, F> {
         ensures received { IfOk result (HasReceivedEach S.owner F.values self.old self.new) }
         ensures refused { IfErr result (λ _. HasHeldBack S.owner F.values self.old self.new) }
     {
-        let looks = self.looks();
+        let looks = self.begin_polling();
         for from in 0..self.workers() {
             if !looks && knows_none(&self.ins, from) {
                 continue;
@@ -83,7 +83,7 @@ impl<'a, S: Spread + Drop, F: StateForm + Drop> Worker<'a, S, F> {
             return Ok(Turn::Misfit);
         }
         self.look(board, seat);
-        let _posted = self.expand()?;
+        let _posted = self.expand_unless_congested()?;
         self.balance(board, seat);
         self.offer(board, seat);
         self.send_each();

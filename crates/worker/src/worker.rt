@@ -44,7 +44,7 @@ pub struct Worker<'a, S: Spread + Drop, F: StateForm + Drop> {
     pub(crate) uncounted: u64,
     /// The number of messages that it has taken and not yet subtracted from the units.
     pub(crate) taken: u64,
-    /// The number of counting steps, in turns and after them, since the last turn that polls; 0 if this turn polls.
+    /// The number of turns since the last one that polled, which counts itself; 0 if this turn polls.
     pub(crate) turns: u32,
 }
 

@@ -10,7 +10,7 @@ use Rattle.optplan_sas.specs.Findings.{IsFinding}
 use Rattle.optplan_sas.specs.Searches.{EndsIn, stops_in}
 use Rattle.scp_orders.specs.Orders.{IsOrder, AreOrders}
 use Rattle.optplan_sas.specs.Stages.{IsStageFound}
-use Rattle.optplan_sas.specs.declared.options.Tables.TheVariants.{Staged}
+use Rattle.optplan_options.specs.declared.options.Tables.TheVariants.{Staged}
 use Rattle.optplan_sas.proofs.KnownByStages.{HaveEnded, none_ended, one_more_ended, found_after_stages, found_in_stage}
 use Rattle.optplan_sas.proofs.stages.found_by_stages.Goals as goal
 

@@ -5,8 +5,8 @@ use Rattle.cert_value.specs.Views.{kind_of}
 use Rattle.optplan_sas.specs.Findings.{IsFinding}
 use Rattle.optplan_sas.specs.Searches.{EndsIn}
 use Rattle.optplan_sas.specs.Stages.{IsSearchFound}
-use Rattle.optplan_sas.specs.declared.options.Tables.{Tables}
-use Rattle.optplan_sas.specs.declared.options.Tables.TheVariants.{Goal}
+use Rattle.optplan_options.specs.declared.options.Tables.{Tables}
+use Rattle.optplan_options.specs.declared.options.Tables.TheVariants.{Goal}
 use Rattle.optplan_sas.proofs.KnownByStages.{found_alone as as_one_search}
 use Rattle.optplan_sas.proofs.stages.found_by_threads.Goals as goal
 

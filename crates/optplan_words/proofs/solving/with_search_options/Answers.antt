@@ -13,5 +13,5 @@ returns c =
     let s2 = adds_one_more c.args.command c.in_ok-command-2.command c.in_ok-command-3.command (spec.option (codes "simulate") ∷ spec.option_or (codes "workers") (codes "4") ∷ []) (spec.option_or (codes "ring") (codes "64")) c.option_or-ring.result s1 c.option_or-ring.ensures c.in_ok-command-3.ensures in
     let s3 = adds_one_more c.args.command c.in_ok-command-3.command c.in_ok-command-4.command (spec.option (codes "simulate") ∷ spec.option_or (codes "workers") (codes "4") ∷ spec.option_or (codes "ring") (codes "64") ∷ []) (spec.option (codes "tables")) c.option-tables.result s2 c.option-tables.ensures c.in_ok-command-4.ensures in
     let s4 = adds_one_more c.args.command c.in_ok-command-4.command c.in_ok-command-5.command (spec.option (codes "simulate") ∷ spec.option_or (codes "workers") (codes "4") ∷ spec.option_or (codes "ring") (codes "64") ∷ spec.option (codes "tables") ∷ []) (spec.option (codes "table")) c.option-table.result s3 c.option-table.ensures c.in_ok-command-5.ensures in
-    IfOk-weaker c.with_arg-6.result (AddsRules c.in_ok-command-5.command (rule_of c.option_or-ties.result ∷ [])) (AddsRules c.args.command spec.search_options)
-    (λ d h. adds_one_more c.args.command c.in_ok-command-5.command d (spec.option (codes "simulate") ∷ spec.option_or (codes "workers") (codes "4") ∷ spec.option_or (codes "ring") (codes "64") ∷ spec.option (codes "tables") ∷ spec.option (codes "table") ∷ []) (spec.option_or (codes "ties") (codes "shallow")) c.option_or-ties.result s4 c.option_or-ties.ensures h) c.with_arg-6.ensures
+    IfOk-weaker c.with_arg-6.result (AddsRules c.in_ok-command-5.command (rule_of c.option-ties.result ∷ [])) (AddsRules c.args.command spec.search_options)
+    (λ d h. adds_one_more c.args.command c.in_ok-command-5.command d (spec.option (codes "simulate") ∷ spec.option_or (codes "workers") (codes "4") ∷ spec.option_or (codes "ring") (codes "64") ∷ spec.option (codes "tables") ∷ spec.option (codes "table") ∷ []) (spec.option (codes "ties")) c.option-ties.result s4 c.option-ties.ensures h) c.with_arg-6.ensures

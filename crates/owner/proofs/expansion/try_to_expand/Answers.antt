@@ -1,10 +1,10 @@
-use Rattle.std.proofs.Common.{◌≡◌, ◌+◌, ℕ, suc, Bool, List, length, map, All, None, sym, ap, ◌∙◌, subst, arith, cond}
+use Rattle.std.proofs.Common.{◌≡◌, ◌+◌, ℕ, suc, Bool, true, List, length, map, All, None, sym, ap, ◌∙◌, subst, arith, cond}
 use Rattle.std.specs.Prelude.{filter_map, fold, is_some, slice_set}
 use Rattle.fdr.specs.Tasks.{ranges}
 use Rattle.owner_theory.specs.Owners.{At, Node, improve, marked, mark_node, treat_all, successor_by}
 use Rattle.owner_theory.specs.Worlds.{waiting}
 use Rattle.closed.specs.declared.message.Message.{Message}
-use Rattle.closed.specs.Tables.{fresh, message_of}
+use Rattle.closed.specs.Tables.{padded, fresh, message_of}
 use Rattle.owner.specs.declared.successors.Successor.{Successor}
 use Rattle.owner.specs.Owned.{OwnerOf, space_of, under}
 use Rattle.owner.specs.Queues.{IsLeast, h_of}
@@ -30,7 +30,7 @@ place_unknown-requires-clause-small g c =
 pub expand_next-requires-clause-some : goal.expand_next-requires-clause-some
 expand_next-requires-clause-some g c = (
   c.args.next,
-  subst (λ (o : OwnerOf g.row.S.Denot). IsLeast o.space.ties (h_of o.space) o.nodes c.args.next) (sym c.place_unknown.ensures.posted.others)
+  subst (λ (o : OwnerOf g.row.S.Denot). IsLeast o.space.ties (h_of o.space) o.nodes o.ever c.args.next) (sym c.place_unknown.ensures.posted.others)
       c.requires.least,
 )
 
@@ -39,17 +39,19 @@ module _ (g : _) (c : In_ok-expand_next g) where
   new_is : (n : Node) → At c.args.holdings.now.nodes c.args.next.index n → c.expand_next.new.self ≡ record c.place_unknown.new.holdings {
     nodes = fold improve (slice_set c.place_unknown.new.holdings.nodes c.args.next.index (marked n))
         (map (message_of (g.F.StateForm.values (ranges c.place_unknown.new.holdings.space.task))) c.place_unknown.new.batch.own.items);
+    ever = padded (slice_set c.place_unknown.new.holdings.ever c.args.next.index true) (length c.expand_next.new.self.nodes);
     best = c.place_unknown.new.batch.best;
     expansions = cond (is_some c.place_unknown.new.holdings.space.limit) (suc c.place_unknown.new.holdings.expansions) c.place_unknown.new.holdings.expansions;
   }
   new_is n at =
       c.in_ok-expand_next.ensures.expanded c.args.next n
-      (subst (λ (o : OwnerOf g.row.S.Denot). IsLeast o.space.ties (h_of o.space) o.nodes c.args.next) (sym c.place_unknown.ensures.posted.others) c.requires.least)
+      (subst (λ (o : OwnerOf g.row.S.Denot). IsLeast o.space.ties (h_of o.space) o.nodes o.ever c.args.next) (sym c.place_unknown.ensures.posted.others) c.requires.least)
       (subst (λ (o : OwnerOf g.row.S.Denot). At o.nodes c.args.next.index n) (sym c.place_unknown.ensures.posted.others) at)
 
   is : c.expand_next.new.self ≡ record c.place_unknown.new.holdings {
     nodes = fold improve (slice_set c.place_unknown.new.holdings.nodes c.args.next.index (marked c.requires.least.node))
         (map (message_of (g.F.StateForm.values (ranges c.place_unknown.new.holdings.space.task))) c.place_unknown.new.batch.own.items);
+    ever = padded (slice_set c.place_unknown.new.holdings.ever c.args.next.index true) (length c.expand_next.new.self.nodes);
     best = c.place_unknown.new.batch.best;
     expansions = cond (is_some c.place_unknown.new.holdings.space.limit) (suc c.place_unknown.new.holdings.expansions) c.place_unknown.new.holdings.expansions;
   }
@@ -70,6 +72,12 @@ pub returns-clause-counted : goal.returns-clause-counted
 returns-clause-counted g c =
     ap (λ (o : OwnerOf g.row.S.Denot). o.expansions) (is g c)
     ∙ ap (λ (o : OwnerOf g.row.S.Denot). cond (is_some o.space.limit) (suc o.expansions) o.expansions) c.place_unknown.ensures.posted.others
+
+pub returns-clause-ever : goal.returns-clause-ever
+returns-clause-ever g c =
+    ap (λ (o : OwnerOf g.row.S.Denot). o.ever) (is g c)
+    ∙ ap (λ (o : OwnerOf g.row.S.Denot). padded (slice_set o.ever c.args.next.index true) (length c.expand_next.new.self.nodes))
+    c.place_unknown.ensures.posted.others
 
 pub returns-clause-put_out : goal.returns-clause-put_out
 returns-clause-put_out g c =
@@ -100,7 +108,7 @@ returns-clause-treated g c = λ n at.
     let known = subst (λ (l : List (Message g.row.F.Denot)).
     AreKnown space me i x (fold improve nodes (map (message_of (values (ranges h0.space.task))) l)) os c.deref-3.result.now) (sym c.clear.ensures.own)
     (known_marked space me i x n h0.nodes i os c.deref-3.result.now at found) in
-    taken_pending values h0 c.place_unknown.new.holdings c.expand_next.new.self c.place_unknown.new.batch _ _ c.place_unknown.ensures.posted bound i n _ (new_is g c n at)
+    taken_pending values h0 c.place_unknown.new.holdings c.expand_next.new.self c.place_unknown.new.batch _ _ c.place_unknown.ensures.posted bound i n _ _ (new_is g c n at)
     ∙ (c.in_ok-place_unknown.ensures.treated nodes known
     ∙ (ap (λ o. treat_all space me o (filter_map by os))
     (empty_pending values h0 c.clear.new.self bound i n c.clear.ensures.own (c.clear.ensures.best ∙ ap (λ h. h.best) c.holdings.view_is))

@@ -1,15 +1,39 @@
-use Rattle.owner.proofs.Currents.{current_from, current_rank, current_not}
+use Rattle.std.proofs.Common.{◌≡◌, Some, sym, ap, ◌∙◌, subst, true≢false}
+use Rattle.std.specs.Prelude.{not, slice_get}
+use Rattle.owner_theory.specs.Owners.{Node}
+use Rattle.openlist.specs.declared.entry.OpenEntry.{OpenEntry}
+use Rattle.closed.specs.Tables.{node_with}
+use Rattle.owner_space.specs.Keyed.{keyed}
+use Rattle.owner.specs.Queues.{keyed_in}
+use Rattle.owner.proofs.Currents.{has_rank, is_entry-true, current_from, current_rank, current_not}
 use Rattle.owner.proofs.reached.is_current.Goals as goal
+use Rattle.owner.proofs.reached.is_current.Goals.{then-not-node, else-not-node}
 
-pub returns-then-not-node-clause-current : goal.returns-then-not-node-clause-current
-returns-then-not-node-clause-current g c = λ same.
-    current_from c.args.table.now.nodes c.args.entry c.entry-node.result c.entry-node.ensures c.requires c.if-not-node.true
-    (rw (← c.eq.ensures) same)
+pub returns-then-eq-clause-current : goal.returns-then-eq-clause-current
+returns-then-eq-clause-current g c = λ same.
+    let nodes = c.args.table.now.nodes in
+    let ever = c.args.table.now.ever in
+    let e = c.args.stored in
+    let k = c.entry-node.result in
+    let is = subst (λ (x : OpenEntry). (n : Node) → slice_get nodes x.index ≡ Some n → n ≡ node_with n.state k) c.denoted-entry.ensures
+    c.entry-node.ensures in
+    let bit = sym (is_entry-true c.keyed.result e (sym c.eq-then-eq.ensures ∙ same)) ∙ (c.keyed.ensures
+    ∙ (ap (λ b. keyed c.args.ties b c.denoted-entry.result) c.was_expanded-ever.ensures ∙ ap (keyed_in c.args.ties ever) c.denoted-entry.ensures)) in
+    elim c.if-not-node.branch [
+      | then-not-node w ↦ current_from c.args.ties nodes ever e k is c.requires.within w.if-not-node.true
+          (ap (has_rank k) (sym c.denoted-entry.ensures) ∙ (sym w.eq.ensures ∙ (sym w.value-is ∙ c.if-eq.true))) bit
+      | else-not-node w ↦ absurd (true≢false (sym c.if-eq.true ∙ (w.value-is ∙ ap not w.if-not-node.false)))
+    ]
 
-pub returns-then-not-node-clause-stale : goal.returns-then-not-node-clause-stale
-returns-then-not-node-clause-stale g c = λ is.
-    rw c.eq.ensures (current_rank c.args.table.now.nodes c.args.entry c.entry-node.result c.entry-node.ensures is)
-
-pub returns-else-not-node-clause-stale : goal.returns-else-not-node-clause-stale
-returns-else-not-node-clause-stale g c = λ is.
-    absurd (current_not c.args.table.now.nodes c.args.entry c.entry-node.result c.entry-node.ensures c.if-not-node.false is)
+pub returns-else-eq-clause-stale : goal.returns-else-eq-clause-stale
+returns-else-eq-clause-stale g c = λ current.
+    let nodes = c.args.table.now.nodes in
+    let ever = c.args.table.now.ever in
+    let e = c.args.stored in
+    let k = c.entry-node.result in
+    let is = subst (λ (x : OpenEntry). (n : Node) → slice_get nodes x.index ≡ Some n → n ≡ node_with n.state k) c.denoted-entry.ensures
+    c.entry-node.ensures in
+    elim c.if-not-node.branch [
+      | then-not-node w ↦ w.value-is ∙ (w.eq.ensures ∙ (ap (has_rank k) c.denoted-entry.ensures ∙ current_rank c.args.ties nodes ever e k is current))
+      | else-not-node w ↦ absurd (current_not c.args.ties nodes ever e k is w.if-not-node.false current)
+    ]

@@ -1,11 +1,12 @@
-use Rattle.std.proofs.Common.{List, ◌≡◌, false, Some, slice_get, slice_set, sym, ap, ◌∙◌, subst}
+use Rattle.std.proofs.Common.{Bool, List, ◌≡◌, false, Some, slice_get, slice_set, sym, ap, ◌∙◌, subst}
 use Rattle.owner_theory.specs.Owners.{Node}
 use Rattle.closed.specs.declared.table.Entry.{Entry}
 use Rattle.std.specs.Prelude.{All}
 use Rattle.closed.specs.declared.small_entry.SmallEntry.{SmallEntry}
 use Rattle.closed.specs.Tables.{Table, node_with}
-use Rattle.closed.specs.Entries.{entry_in, nodes_of}
+use Rattle.closed.specs.Entries.{entry_in, nodes_of, ever_of}
 use Rattle.closed.proofs.Entries.{nodes_of-set_entry_at, with_entry-at, node_at-value, All-set_entry_at}
+use Rattle.closed.proofs.Ever.{ever_of-set_entry_at}
 use Rattle.closed.proofs.table.ClosedTable.mark_open.Goals as goal
 
 pub invariant_of-self : goal.invariant_of-self
@@ -28,6 +29,14 @@ returns-clause-nodes g c n at =
     ap (λ (rs : List (g.row.F.Denot × SmallEntry)). nodes_of values rs) c.set_entry.ensures
     ∙ nodes_of-set_entry_at values entries c.args.index c.reopen.new.self
     ∙ with_entry-at nodes c.args.index n (entry_in c.reopen.new.self) here
-    ∙ ap (λ (e : Entry). slice_set nodes c.args.index (node_with n.state e)) c.reopen.ensures
+    ∙ ap (λ (e : Entry). slice_set nodes c.args.index (node_with n.state e)) c.reopen.ensures.entry
     ∙ ap (λ (x : Node). slice_set nodes c.args.index (record x { expanded = false })) (sym is)
     ∙ ap (λ (t : Table). slice_set t.nodes c.args.index (record n { expanded = false })) c.self.view_is
+
+pub returns-clause-ever : goal.returns-clause-ever
+returns-clause-ever g c =
+    let rows = c.self.inside.rows in
+    ap (λ (rs : List (g.row.F.Denot × SmallEntry)). ever_of rs) c.set_entry.ensures
+    ∙ ever_of-set_entry_at rows c.args.index c.reopen.new.self
+    ∙ ap (λ (b : Bool). slice_set (ever_of rows) c.args.index b) c.reopen.ensures.ever
+    ∙ ap (λ (t : Table). slice_set t.ever c.args.index c.args.ever) c.self.view_is

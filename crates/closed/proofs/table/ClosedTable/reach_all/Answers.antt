@@ -1,6 +1,10 @@
-use Rattle.std.proofs.Common.{◌≡◌, ℕ, List, length, ◌∙◌, subst, arith}
-use Rattle.closed.specs.Tables.{reached, arrival, outcome_of}
+use Rattle.std.proofs.Common.{◌≡◌, ℕ, Bool, List, length, take, sym, ap, ◌∙◌, subst, arith, rules}
+use Rattle.std.proofs.lemmas.List.{take_all}
+use Rattle.closed.specs.declared.small_entry.SmallEntry.{SmallEntry}
+use Rattle.closed.specs.Entries.{taken_back}
+use Rattle.closed.specs.Tables.{padded, reached, arrival, outcome_of}
 use Rattle.closed.proofs.Reaching.{one_reached, one_outcome}
+use Rattle.closed.proofs.Ever.{padded_same, padded_more, take_padded}
 use Rattle.closed.proofs.table.ClosedTable.reach_all.Goals as goal
 
 pub loop-message-preserved : goal.loop-message-preserved
@@ -22,6 +26,42 @@ loop-message-preserved g c =
       outcomes = one_outcome values ms i m before after c.loop-message-test.true c.message-item.is step c.loop-message.outcomes.items c.push.new.self.items
           c.in_ok-outcome.outcome _ c.in_ok-push.ensures.items was c.loop-message.invariant.outcomes;
       ranges = c.reach_noting.ensures.ranges ∙ c.loop-message.invariant.ranges;
+      ever = c.in_ok-outcome.ensures.ever
+          ∙ ap (λ (bits : List Bool). padded bits (length after)) c.loop-message.invariant.ever
+          ∙ padded_more c.args.self.now.ever (length before) (length after) c.reach_noting.ensures.no_fewer;
       no_fewer = omega (arith, c.reach_noting.ensures.no_fewer, c.loop-message.invariant.no_fewer);
       taken_back = c.reach_noting.ensures.taken_back (length c.args.self.now.nodes) c.loop-message.invariant.no_fewer ∙ c.loop-message.invariant.taken_back;
     }
+
+pub returns-in_err-outcome-clause-first : goal.returns-in_err-outcome-clause-first
+returns-in_err-outcome-clause-first g c =
+    let bits = c.args.self.now.ever in
+    ap (take (length bits)) (c.in_err-outcome.ensures.same_ever ∙ c.loop-message.invariant.ever)
+    ∙ take_padded bits (length c.loop-message.self.nodes)
+
+pub returns-in_err-push-clause-first : goal.returns-in_err-push-clause-first
+returns-in_err-push-clause-first g c =
+    let bits = c.args.self.now.ever in
+    let before = c.loop-message.self.nodes in
+    let after = c.reach_noting.new.self.nodes in
+    ap (take (length bits)) (c.in_ok-outcome.ensures.ever
+    ∙ ap (λ (bs : List Bool). padded bs (length after)) c.loop-message.invariant.ever
+    ∙ padded_more bits (length before) (length after) c.reach_noting.ensures.no_fewer)
+    ∙ take_padded bits (length after)
+
+pub returns-clause-first : goal.returns-clause-first
+returns-clause-first g c =
+    let bits = c.args.self.now.ever in
+    ap (take (length bits)) c.loop-message.invariant.ever ∙ take_padded bits (length c.loop-message.self.nodes)
+
+pub loop-message-init : goal.loop-message-init
+loop-message-init g c = record {
+  nodes = search rules;
+  outcomes = search rules;
+  ranges = search rules;
+  ever = sym (padded_same c.args.self.now.ever (length c.args.self.now.nodes) (omega (arith, c.requires.ever)));
+  no_fewer = search rules;
+  taken_back =
+      ap (λ (ps : List (ℕ × SmallEntry)). taken_back ps (take (length c.args.self.now.nodes) c.args.self.now.nodes)) c.requires.replaced
+      ∙ take_all (length c.args.self.now.nodes) c.args.self.now.nodes (omega arith);
+}

@@ -12,6 +12,7 @@ loop-index-preserved g c = record {
       ∙ sym (taken_back-push c.pop.new.self.items (c.in-Some.index, c.in-Some.entry) c.loop-index.self.nodes)
       ∙ ap (λ (ps : List (ℕ × SmallEntry)). taken_back ps c.loop-index.self.nodes) (sym c.in-Some.ensures.items)
       ∙ c.loop-index.invariant.nodes;
+  ever = c.put_back.ensures.ever ∙ c.loop-index.invariant.ever;
   ranges = c.put_back.ensures.ranges ∙ c.loop-index.invariant.ranges;
 }
 

@@ -17,5 +17,5 @@ returns-then-is_none g c =
 pub returns-else-is_none : goal.returns-else-is_none
 returns-else-is_none g c =
     c.if-is_none.false
-    ∙ idle_not c.args.self.now.space.ties c.next.result (space_of g.S.Spread.owner c.args.self.now) (under c.args.self.now c.args.bound) c.if-is_none.ensures
+    ∙ idle_not c.args.self.now.space.ties c.args.self.now.ever c.next.result (space_of g.S.Spread.owner c.args.self.now) (under c.args.self.now c.args.bound) c.if-is_none.ensures
     c.next.ensures.some

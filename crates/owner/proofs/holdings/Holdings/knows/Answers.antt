@@ -1,8 +1,7 @@
-use Rattle.std.proofs.Common.{◌≡◌, ◌≢◌, ◌⊎◌, inl, inr, true, false, ℕ, List, Some, sym, ap, ◌∙◌, subst, true≢false}
+use Rattle.std.proofs.Common.{◌≡◌, inl, inr, Some, sym, ap, ◌∙◌, subst}
 use Rattle.std.proofs.lemmas.Bool.{not-true, not-false}
 use Rattle.fdr.specs.Tasks.{FiniteDomainTask, ranges, is_goal_state}
-use Rattle.closed.specs.declared.table.Outcome.TheVariants.{Kept}
-use Rattle.closed.specs.Tables.{outcome_of, fresh, arrival, message_of}
+use Rattle.closed.specs.Tables.{outcome_of, arrival, message_of}
 use Rattle.owner_space.specs.Spaces.{SpaceOf}
 use Rattle.owner.specs.Owned.{OwnerOf, space_of}
 use Rattle.owner.specs.Successors.{ChangesNothing}
@@ -17,7 +16,7 @@ is_goal_form-requires-clause-form g c =
 pub is_goal_form-requires-clause-fits : goal.is_goal_form-requires-clause-fits
 is_goal_form-requires-clause-fits g c =
     let task = c.task.ensures ∙ ap (λ (s : SpaceOf g.row.S.Denot). s.task) c.space-space.ensures in
-    subst (λ (t : FiniteDomainTask). g.F.StateForm.Fits (ranges t)) (sym task) c.recall.ensures
+    subst (λ (t : FiniteDomainTask). g.F.StateForm.Fits (ranges t)) (sym task) c.recall.ensures.fits
 
 pub is_goal_form-requires-clause-layout : goal.is_goal_form-requires-clause-layout
 is_goal_form-requires-clause-layout g c = c.layout.ensures ∙ ap (λ (t : FiniteDomainTask). ranges t) (sym c.task.ensures)
@@ -28,6 +27,7 @@ returns-clause-known g c known =
       space = c.self.inside.reached.space;
       worker = c.self.inside.worker;
       nodes = c.self.inside.reached.nodes;
+      ever = c.self.inside.reached.ever;
       outboxes = boxes_in g.F.StateForm.values c.self.inside.outboxes c.self.inside.reached.space;
       best = c.self.inside.best;
       expansions = c.self.inside.expansions;

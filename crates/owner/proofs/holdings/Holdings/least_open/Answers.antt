@@ -13,5 +13,5 @@ returns-in-None g c =
 pub returns-in-Some : goal.returns-in-Some
 returns-in-Some g c =
     c.finite.ensures
-    ∙ sym (least_open_first (space_of g.S.Spread.owner c.args.self.now) c.args.self.now.nodes c.in-Some.entry
-    (subst (λ (o : OwnerOf g.row.S.Denot). IsLeast o.space.ties (h_of o.space) o.nodes c.in-Some.entry) c.self.view_is c.in-Some.ensures.some))
+    ∙ sym (least_open_first (space_of g.S.Spread.owner c.args.self.now) c.args.self.now.ever c.args.self.now.nodes c.in-Some.entry
+    (subst (λ (o : OwnerOf g.row.S.Denot). IsLeast o.space.ties (h_of o.space) o.nodes o.ever c.in-Some.entry) c.self.view_is c.in-Some.ensures.some))

@@ -12,6 +12,6 @@ returns-in_err-entry-clause-none g c = λ _.
 
 pub returns-then-is_within-clause-none : goal.returns-then-is_within-clause-none
 returns-then-is_within-clause-none g c = λ _.
-    no_open_past (space_of g.S.Spread.owner c.args.self.now) (under c.args.self.now c.args.bound) c.in_ok-entry.entry
-    (subst (λ (o : OwnerOf g.row.S.Denot). IsLeast o.space.ties (h_of o.space) o.nodes c.in_ok-entry.entry) c.self.view_is c.in_ok-entry.ensures.some)
+    no_open_past (space_of g.S.Spread.owner c.args.self.now) c.args.self.now.ever (under c.args.self.now c.args.bound) c.in_ok-entry.entry
+    (subst (λ (o : OwnerOf g.row.S.Denot). IsLeast o.space.ties (h_of o.space) o.nodes o.ever c.in_ok-entry.entry) c.self.view_is c.in_ok-entry.ensures.some)
     (sym (ap (is_at_most c.args.bound) c.finite.ensures) ∙ sym c.if-is_within.ensures)

@@ -52,6 +52,7 @@ returns-clause-others g c =
       space = c.self.inside.reached.space;
       worker = c.self.inside.worker;
       nodes = c.self.inside.reached.nodes;
+      ever = c.self.inside.reached.ever;
       outboxes = boxes;
       best = c.self.inside.best;
       expansions = c.self.inside.expansions;

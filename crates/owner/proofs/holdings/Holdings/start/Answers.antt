@@ -1,7 +1,8 @@
-use Rattle.std.proofs.Common.{rules, ◌≡◌, ◌==◌, [], replicate, subst, sym, ap, ◌∙◌}
+use Rattle.std.proofs.Common.{rules, ◌≡◌, ◌==◌, [], length, replicate, refl, subst, sym, ap, ◌∙◌}
 use Rattle.cost.specs.Distances.{Infinite}
 use Rattle.fdr.specs.Tasks.{FiniteDomainTask, ranges, IsState}
 use Rattle.owner_theory.specs.Owners.{start_owner}
+use Rattle.closed.specs.Tables.{padded}
 use Rattle.owner_space.specs.Spaces.{searched}
 use Rattle.owner.specs.Queues.{ReachedOf}
 use Rattle.owner.specs.Held.{IsOwner}
@@ -13,7 +14,7 @@ use Rattle.owner.proofs.holdings.Holdings.start.Goals.{then-owner_of-worker+in_o
 
 pub invariant_of-result-2 : goal.invariant_of-result-2
 invariant_of-result-2 g c =
-    let P : ReachedOf g.row.S.Denot → Type 0 = λ r. IsOwner g.S.Spread.owner (record { space = r.space; worker = c.args.worker; nodes = r.nodes; outboxes = boxes_in g.F.StateForm.values c.in_ok-empty.field-0 r.space; best = c.if-owner_of-worker.best; expansions = 0 }) in
+    let P : ReachedOf g.row.S.Denot → Type 0 = λ r. IsOwner g.S.Spread.owner (record { space = r.space; worker = c.args.worker; nodes = r.nodes; ever = r.ever; outboxes = boxes_in g.F.StateForm.values c.in_ok-empty.field-0 r.space; best = c.if-owner_of-worker.best; expansions = 0 }) in
     subst P (sym c.reached-2.view_is)
     (elim c.if-owner_of-worker.branch [
       | then-owner_of-worker+in_ok-reach+then-is_goal w ↦ subst P (sym w.reached-is)
@@ -77,4 +78,16 @@ returns-clause-started g c =
           c.if-owner_of-worker.best c.in_ok-reached.ensures (empty c.in_ok-reached.reached)
           (search rules)
           (λ own. w.if-owner_of-worker.false (sym owner_at ∙ own)))
+    ])
+
+pub returns-clause-ever : goal.returns-clause-ever
+returns-clause-ever g c =
+    let P : ReachedOf g.row.S.Denot → Type 0 = λ r. r.ever ≡ padded [] (length r.nodes) in
+    subst P (sym c.reached-2.view_is)
+    (elim c.if-owner_of-worker.branch [
+      | then-owner_of-worker+in_ok-reach+then-is_goal w ↦ subst P (sym w.reached-is)
+          (w.in_ok-reach.ensures.ever ∙ ap (λ (r : ReachedOf g.row.S.Denot). padded r.ever (length w.reach.new.self.nodes)) c.in_ok-reached.ensures)
+      | then-owner_of-worker+in_ok-reach+else-is_goal w ↦ subst P (sym w.reached-is)
+          (w.in_ok-reach.ensures.ever ∙ ap (λ (r : ReachedOf g.row.S.Denot). padded r.ever (length w.reach.new.self.nodes)) c.in_ok-reached.ensures)
+      | else-owner_of-worker w ↦ subst P (sym w.reached-is) (subst P (sym c.in_ok-reached.ensures) refl)
     ])

@@ -1,7 +1,8 @@
-use Rattle.std.proofs.Common.{sym, ap, ◌∙◌, subst, cond}
+use Rattle.std.proofs.Common.{length, sym, ap, ◌∙◌, subst, cond}
 use Rattle.cost.specs.Distances.{Finite, lesser}
 use Rattle.fdr.specs.Tasks.{FiniteDomainTask, is_goal_state}
 use Rattle.owner_theory.specs.Owners.{took}
+use Rattle.closed.specs.Tables.{padded}
 use Rattle.owner_space.specs.Spaces.{SpaceOf}
 use Rattle.owner.specs.Owned.{OwnerOf, space_of, under, IsMessageTo}
 use Rattle.owner.specs.Queues.{ReachedOf, message_at}
@@ -15,6 +16,7 @@ invariant_of-self g c =
       space = r.space;
       worker = c.self.inside.worker;
       nodes = r.nodes;
+      ever = r.ever;
       outboxes = boxes_in g.F.StateForm.values c.self.inside.outboxes r.space;
       best = c.self.inside.best;
       expansions = c.self.inside.expansions;
@@ -23,7 +25,7 @@ invariant_of-self g c =
 
 pub invariant_of-self-2 : goal.invariant_of-self-2
 invariant_of-self-2 g c =
-    taken_kept g.S.Spread.owner _ c.reach.new.self.space c.reach.new.self.nodes
+    taken_kept g.S.Spread.owner _ c.reach.new.self.space c.reach.new.self.nodes c.reach.new.self.ever
     (boxes_in g.F.StateForm.values c.self.inside.outboxes c.reach.new.self.space) c.best_with-self-inside.result c.args.state.now c.args.rank c.args.parent
     c.self.invariant
     (subst (λ (o : OwnerOf g.row.S.Denot). IsMessageTo (space_of g.S.Spread.owner o) o.worker (message_at c.args.state.now c.args.rank c.args.parent))
@@ -36,6 +38,7 @@ returns-clause-taken g c = λ bound.
       space = c.self.inside.reached.space;
       worker = c.self.inside.worker;
       nodes = c.self.inside.reached.nodes;
+      ever = c.self.inside.reached.ever;
       outboxes = boxes_in g.F.StateForm.values c.self.inside.outboxes c.self.inside.reached.space;
       best = c.self.inside.best;
       expansions = c.self.inside.expansions;
@@ -44,8 +47,13 @@ returns-clause-taken g c = λ bound.
     let best = c.best_with-self-inside.ensures
     ∙ ap (λ b. cond b (lesser o.best (Finite c.args.rank.cost)) o.best)
     (c.is_goal-is_goal.ensures ∙ ap (λ (t : FiniteDomainTask). is_goal_state t c.args.state.now) task) in
-    taken_is g.S.Spread.owner o c.reach.new.self.space c.reach.new.self.nodes
+    taken_is g.S.Spread.owner o c.reach.new.self.space c.reach.new.self.nodes c.reach.new.self.ever
     (boxes_in g.F.StateForm.values c.self.inside.outboxes c.reach.new.self.space) c.best_with-self-inside.result bound c.args.state.now c.args.rank
     c.args.parent c.in_ok-reach.ensures.nodes (ap (boxes_in g.F.StateForm.values c.self.inside.outboxes) c.in_ok-reach.ensures.space) best
     ∙ ap (λ (x : OwnerOf g.row.S.Denot). took (space_of g.S.Spread.owner x) (under x bound) (message_at c.args.state.now c.args.rank c.args.parent))
     c.self.view_is
+
+pub returns-clause-ever : goal.returns-clause-ever
+returns-clause-ever g c =
+    c.in_ok-reach.ensures.ever
+    ∙ ap (λ (o : OwnerOf g.row.S.Denot). padded o.ever (length c.reach.new.self.nodes)) c.self.view_is

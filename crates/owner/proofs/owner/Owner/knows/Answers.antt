@@ -1,5 +1,5 @@
-use Rattle.std.proofs.Common.{◌≡◌, ap, ◌∙◌, subst}
-use Rattle.fdr.specs.Tasks.{ranges, IsState}
+use Rattle.std.proofs.Common.{◌≡◌, subst}
+use Rattle.fdr.specs.Tasks.{ranges}
 use Rattle.owner_theory.specs.Owners.{took}
 use Rattle.closed.specs.Tables.{message_of}
 use Rattle.owner.specs.Owned.{OwnerOf, space_of, under}

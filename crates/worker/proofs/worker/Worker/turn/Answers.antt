@@ -25,8 +25,8 @@ returns-in_err-receive_each-clause-none_uncounted g c =
     held_uncounted g.S.Spread.owner g.F.StateForm.values c.args.self.now c.receive_each.new.self c.in_err-receive_each.ensures.refused
     ∙ c.requires.none_uncounted
 
-pub expand-requires : goal.expand-requires
-expand-requires g c =
+pub expand_unless_congested-requires : goal.expand_unless_congested-requires
+expand_unless_congested-requires g c =
     ap (λ (w : WorkerOf g.row.S.Denot g.row.F.Denot). w.uncounted) c.look.ensures.looked.worker
     ∙ ((receives_keep g.S.Spread.owner g.F.StateForm.values _ _ _
     (subst (λ (all : Bool). HasReceivedEach g.S.Spread.owner g.F.StateForm.values c.args.self.now c.receive_each.new.self all) c.if-not-branch.false
@@ -36,14 +36,14 @@ expand-requires g c =
 pub returns-in_err-_posted-clause-refused : goal.returns-in_err-_posted-clause-refused
 returns-in_err-_posted-clause-refused g c =
     let p = err_from_is_err_and c.from_residual-in_err-_posted.result c.from_residual-in_err-_posted.ensures.1 in
-    rw (p.1, p.2) (refused_turn g.S.Spread.owner g.F.StateForm.values c.args.self.now c.receive_each.new.self c.look.new.self c.expand.new.self _ _ c.in_err-_posted.field-0.0
+    rw (p.1, p.2) (refused_turn g.S.Spread.owner g.F.StateForm.values c.args.self.now c.receive_each.new.self c.look.new.self c.expand_unless_congested.new.self _ _ c.in_err-_posted.field-0.0
     (subst (λ (all : Bool). HasReceivedEach g.S.Spread.owner g.F.StateForm.values c.args.self.now c.receive_each.new.self all) c.if-not-branch.false
     c.in_ok-receive_each.ensures.received)
-    c.look.ensures.looked c.in_err-_posted.ensures.refused)
+    c.look.ensures.looked c.in_err-_posted.ensures.refused.0 c.in_err-_posted.ensures.refused.1)
 
 pub returns-in_err-_posted-clause-none_uncounted : goal.returns-in_err-_posted-clause-none_uncounted
 returns-in_err-_posted-clause-none_uncounted g c =
-    refused_uncounted g.S.Spread.owner g.F.StateForm.values c.look.new.self c.expand.new.self c.in_err-_posted.field-0.0 c.in_err-_posted.ensures.refused
+    refused_uncounted g.S.Spread.owner g.F.StateForm.values c.look.new.self c.expand_unless_congested.new.self c.in_err-_posted.field-0.0 c.in_err-_posted.ensures.refused.1
     ∙ (ap (λ (w : WorkerOf g.row.S.Denot g.row.F.Denot). w.uncounted) c.look.ensures.looked.worker
     ∙ ((receives_keep g.S.Spread.owner g.F.StateForm.values _ _ _
     (subst (λ (all : Bool). HasReceivedEach g.S.Spread.owner g.F.StateForm.values c.args.self.now c.receive_each.new.self all) c.if-not-branch.false
@@ -53,7 +53,7 @@ returns-in_err-_posted-clause-none_uncounted g c =
 pub returns-clause-turned : goal.returns-clause-turned
 returns-clause-turned g c =
     as_turn g.S.Spread.owner g.F.StateForm.values _ _ _ _ c.next_turn.result c.next_turn.ensures.turn
-    (turned g.S.Spread.owner g.F.StateForm.values _ c.receive_each.new.self c.look.new.self c.expand.new.self c.balance.new.self c.offer.new.self c.send_each.new.self _
+    (turned g.S.Spread.owner g.F.StateForm.values _ c.receive_each.new.self c.look.new.self c.expand_unless_congested.new.self c.balance.new.self c.offer.new.self c.send_each.new.self _
     c.in_ok-_posted._posted _ (view c.look.new.seat) (view c.balance.new.seat) (view c.offer.new.seat) _
     (subst (λ (all : Bool). HasReceivedEach g.S.Spread.owner g.F.StateForm.values c.args.self.now c.receive_each.new.self all) c.if-not-branch.false
     c.in_ok-receive_each.ensures.received)

@@ -1,7 +1,7 @@
 -- Options of the solver.
 use Rattle.std.specs.Prelude.{ℕ, List, Option}
 use Rattle.owner_space.specs.declared.ties.Ties.{Ties}
-use Rattle.optplan_sas.specs.declared.options.Tables.{Tables}
+use Rattle.optplan_options.specs.declared.options.Tables.{Tables}
 
 -- the number of owners, the greatest number of abstract states of a table, the greatest number of nodes that each owner
 -- may expand in a search, if there is a limit, the capacity of a link between two workers in messages, the greatest

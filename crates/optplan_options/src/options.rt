@@ -2,7 +2,7 @@
 
 ghost use Rattle.std.specs.Prelude.{◌≡◌, ◌≤◌, ◌^◌, ◌∷◌, [], Some, None};
 
-use owner::Ties;
+use owner_space::Ties;
 use std::marker::Model;
 
 /// The greatest number of owners.
@@ -49,7 +49,7 @@ pub struct Options {
 
 impl Model for Options {
     ghost use Rattle.std.specs.Prelude.{◌≤◌, ◌^◌};
-    ghost use Rattle.optplan_sas.specs.Choices.{Choices};
+    ghost use Rattle.optplan_options.specs.Choices.{Choices};
 
     ghost Value = { Choices };
 
@@ -61,7 +61,7 @@ impl Model for Options {
 impl Options {
     /// Returns the defaults: 4 owners, tables of at most 100,000 abstract states, no limit on expansions, links with
     /// room for 64 messages, 1,000,000 steps of a simulation, the order `Shallow`, one search, and stages that end at
-    /// 100,000, 1,000,000 and 20,000,000 states.
+    /// 60,000, 700,000 and 15,000,000 states.
     pub fn new() -> Options
         ensures { result ≡ record {
           workers = 4;
