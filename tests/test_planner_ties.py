@@ -50,7 +50,7 @@ class Ties(ProgramTest):
 
     def test_deep_and_fresh(self):
         # The goal is a successor of the last of them, 5. No state is expanded twice.
-        for words in [[*words, "--ties", order] for words in self.SCHEDULES for order in ("deep", "fresh")] + [[]]:
+        for words in [[], *([*words, "--ties", order] for words in self.SCHEDULES for order in ("deep", "fresh"))]:
             with self.subTest(words=words):
                 plan = b"(to 5)\n(out)\n; cost = 2 (unit cost)\n"
                 self.assertEqual(self.limited(FIVE_WAYS, 2, *words), Outcome(out=b"limit 1\n" + plan, status=5))
@@ -58,17 +58,24 @@ class Ties(ProgramTest):
     def test_expanded_again(self):
         # Both orders expand 0, 2, 3, 4, 5, 1 and 7. Then 5 is reached again, over fewer operators: deep expands it again,
         # since it is reached over three operators and 6 over two; fresh first expands 6, from which the goal is reached.
+        # Nine expansions are all there are, and each state of cost 0 is expanded then.
         plan = b"(to 1)\n(to 6)\n(out)\n; cost = 1 (general cost)\n"
+        none, known, settled = Outcome(out=b"limit 0\n", status=5), Outcome(out=b"limit 0\n" + plan, status=5), Outcome(out=plan)
+        rows = [
+            ("deep", 8, none), ("deep", 9, settled),
+            ("fresh", 7, none), ("fresh", 8, known), ("fresh", 9, settled),
+            ("shallow", 3, none), ("shallow", 4, known),
+        ]
         for words in self.SCHEDULES:
-            for order, limit, answer in (("deep", 8, b""), ("deep", 9, plan), ("fresh", 7, b""), ("fresh", 8, plan), ("shallow", 3, b""), ("shallow", 4, plan)):
+            for order, limit, wanted in rows:
                 with self.subTest(words=words, order=order, limit=limit):
-                    outcome = self.limited(TWO_WAYS, limit, *words, "--ties", order)
-                    self.assertEqual(outcome, Outcome(out=b"limit 0\n" + answer, status=5))
+                    self.assertEqual(self.limited(TWO_WAYS, limit, *words, "--ties", order), wanted)
 
     def test_defaults(self):
         # One worker of threads expands in an order that does not depend on the schedule.
-        self.assertEqual(self.limited(TWO_WAYS, 7), Outcome(out=b"limit 0\n", status=5))
-        self.assertEqual(self.limited(TWO_WAYS, 8), Outcome(out=b"limit 0\n" + b"(to 1)\n(to 6)\n(out)\n; cost = 1 (general cost)\n", status=5))
+        for limit in (7, 8, 9):
+            with self.subTest(limit=limit):
+                self.assertEqual(self.limited(TWO_WAYS, limit), self.limited(TWO_WAYS, limit, "--ties", "fresh"))
         for seed in range(20):
             with self.subTest(seed=seed):
                 options = {"simulate": seed, "workers": 2, "table": 1}
