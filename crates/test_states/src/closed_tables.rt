@@ -70,12 +70,27 @@ fn expands<F: StateForm + Drop>(rt: &impl Abort, table: &mut ClosedTable<F>, ind
     table.mark_expanded(index);
 }
 
-/// Marks the state at an index as not expanded.
-fn reopens<F: StateForm + Drop>(rt: &impl Abort, table: &mut ClosedTable<F>, index: usize)
+/// Marks the state at an index as not expanded, and sets whether it was ever expanded.
+fn reopens<F: StateForm + Drop>(
+    rt: &impl Abort,
+    table: &mut ClosedTable<F>,
+    index: usize,
+    ever: bool,
+)
     ensures { table.new.ranges ≡ table.old.ranges }
 {
     assert!(rt; index < table.len(), "an index");
-    table.mark_open(index);
+    table.mark_open(index, ever);
+}
+
+/// Checks whether the state at an index was ever expanded.
+fn was_expanded<F: StateForm + Drop>(
+    rt: &impl Abort,
+    table: &ClosedTable<F>,
+    index: usize,
+    expected: bool,
+) {
+    assert_eq!(rt; table.was_expanded(index), expected);
 }
 
 /// Checks whether a state is a duplicate at a rank.
@@ -131,8 +146,10 @@ fn keeps_the_least_rank_in<F: StateForm + Drop, R: Abort>(
     keeps(rt, &table, 0, rank(5, 3), 0, false);
     expands(rt, &mut table, 0);
     keeps(rt, &table, 0, rank(5, 3), 0, true);
-    reopens(rt, &mut table, 0);
+    was_expanded(rt, &table, 0, true);
+    reopens(rt, &mut table, 0, false);
     keeps(rt, &table, 0, rank(5, 3), 0, false);
+    was_expanded(rt, &table, 0, false);
     expands(rt, &mut table, 0);
     // fewer steps
     reaches(
@@ -146,6 +163,9 @@ fn keeps_the_least_rank_in<F: StateForm + Drop, R: Abort>(
     );
     keeps(rt, &table, 0, rank(5, 2), 8, false);
     keeps(rt, &table, 1, rank(1, 1), 4, false);
+    was_expanded(rt, &table, 0, true);
+    was_expanded(rt, &table, 1, false);
+    was_expanded(rt, &table, 2, false);
     is_known(rt, alloc, &table, layout, &state, rank(5, 2), true);
     is_known(rt, alloc, &table, layout, &state, rank(5, 1), false);
     is_known(rt, alloc, &table, layout, &[0, 0], rank(9, 9), false);
