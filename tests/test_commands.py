@@ -4,8 +4,9 @@ hand."""
 import dataclasses
 
 from program import Outcome, ProgramTest, checked, checked_sas, run, wanted
-from texts import (DOOR_DOMAIN, DRIVE_DOMAIN, DRIVE_PROBLEM, GRIP_DOMAIN, GRIP_PROBLEM, ROAD_CERTIFICATE, ROAD_DOMAIN, ROAD_PROBLEM,
-                   ROAD_PROBLEM_AT_ITS_GOAL, ROAD_SAS)
+from texts import (DOOR_DOMAIN, DRIVE_DOMAIN, DRIVE_PROBLEM, GRIP_DOMAIN, GRIP_PROBLEM, HALF_A_ROAD, LOCKED_DOOR,
+                   OPEN_DOOR, ROAD_CERTIFICATE, ROAD_DOMAIN, ROAD_PROBLEM, ROAD_PROBLEM_AT_ITS_GOAL, ROAD_SAS,
+                   ROAD_TO_BE_MADE)
 
 # A road from each of two places to the third; no road ends at the goal.
 ROAD_PROBLEM_WITHOUT_WAY = """(define (problem r1) (:domain road)
@@ -217,7 +218,11 @@ class Files(ProgramTest):
         (["solve", "d", "gone", "--simulate", "1"], unread("problem")),
         (["validate", "d", "p", "gone"], unread("plan")),
         (["solve-sas", "gone", "--simulate", "1"], unread("sas")),
+        (["check", "gone", "p", "c"], unread("domain")),
+        (["check", "d", "gone", "gone"], unread("problem")),
         (["check", "d", "p", "gone"], unread("cert")),
+        (["translate", "gone", "p"], unread("domain")),
+        (["translate", "d", "gone"], unread("problem")),
         (["solve", "d", "p", "--simulate", "1", "--plan", "gone/l"], unwritten("plan")),
         (["solve", "d", "p", "--simulate", "1", "--cert", "gone/c"], unwritten("cert")),
     ]
@@ -362,20 +367,6 @@ class Answers(SolverTest):
 class SmallTasks(SolverTest):
     """Small tasks, with what is printed for them, worked out by hand."""
 
-    # The road without its second half.
-    HALF_A_ROAD = """(define (problem r1) (:domain road)
- (:objects a b c - loc)
- (:init (at a) (road a b))
- (:goal (at c)))
-"""
-
-    # The road with a goal that is another road, which no action adds.
-    A_ROAD_TO_BE_MADE = """(define (problem r1) (:domain road)
- (:objects a b c - loc)
- (:init (at a) (road a b) (road b c))
- (:goal (road c a)))
-"""
-
     # Nothing to do, with a road from a place to itself.
     NOTHING_TO_DO = """(define (problem r1) (:domain road)
  (:objects a - loc)
@@ -383,16 +374,12 @@ class SmallTasks(SolverTest):
  (:goal (at a)))
 """
 
-    OPEN_DOOR = "(define (problem p) (:objects d) (:init) (:goal (in)))"
-
-    LOCKED_DOOR = "(define (problem p) (:objects d) (:init (locked d)) (:goal (in)))"
-
     # The texts of a task, by the number of workers that solve it.
     ROWS = {
         "4": [
             (DRIVE_DOMAIN, DRIVE_PROBLEM, Answer("(go a b)\n(go b c)\n; cost = 7 (general cost)\n")),
             (ROAD_DOMAIN, HALF_A_ROAD, UNSOLVABLE),
-            (ROAD_DOMAIN, A_ROAD_TO_BE_MADE, UNSOLVABLE),
+            (ROAD_DOMAIN, ROAD_TO_BE_MADE, UNSOLVABLE),
             (ROAD_DOMAIN, NOTHING_TO_DO, Answer("; cost = 0 (unit cost)\n")),
             (DOOR_DOMAIN, OPEN_DOOR, Answer("(enter d)\n; cost = 1 (unit cost)\n")),
             (DOOR_DOMAIN, LOCKED_DOOR, UNSOLVABLE),
@@ -426,63 +413,3 @@ class SmallTasks(SolverTest):
         for old, new, outcome in self.CHANGED_ROADS:
             with self.subTest(new=new):
                 self.assertEqual(run("solve-sas", "s", "--simulate", "1", files={"s": ROAD_SAS.replace(old, new)}), outcome)
-
-
-class Seeds(SolverTest):
-    """Seeds: the random steps of each determine the plan that is found, and the number of steps.
-
-    The rows come from a model of the owners in another language, with its own generator, in which the owner of a state
-    is computed from published outputs of SplitMix64.
-    """
-
-    # Four places: from a to b and to c, and from each of these to d, the goal; each step costs 1.
-    SQUARE_SAS = (
-        "begin_version\n3\nend_version\nbegin_metric\n0\nend_metric\n1\n"
-        "begin_variable\nvar0\n-1\n4\nAtom at(a)\nAtom at(b)\nAtom at(c)\nAtom at(d)\nend_variable\n"
-        "0\nbegin_state\n0\nend_state\nbegin_goal\n1\n0 3\nend_goal\n4\n"
-        "begin_operator\ngo a b\n0\n1\n0 0 0 1\n1\nend_operator\n"
-        "begin_operator\ngo a c\n0\n1\n0 0 0 2\n1\nend_operator\n"
-        "begin_operator\ngo b d\n0\n1\n0 0 1 3\n1\nend_operator\n"
-        "begin_operator\ngo c d\n0\n1\n0 0 2 3\n1\nend_operator\n0\n"
-    )
-
-    # By the number of owners: the seed, the place through which the plan goes, and the number of steps until no work is
-    # left.
-    ROWS = {
-        3: [
-            (0, "b", 23),
-            (1, "b", 20),
-            (2, "b", 23),
-            (3, "b", 21),
-            (4, "b", 19),
-            (5, "c", 22),
-            (6, "b", 22),
-            (7, "c", 19),
-            (8, "c", 23),
-            (9223372036854775807, "c", 23),
-        ],
-        4: [
-            (0, "b", 22),
-            (1, "b", 20),
-            (5, "c", 18),
-            (6, "c", 17),
-            (9, "b", 20),
-            (9223372036854775807, "c", 20),
-        ],
-    }
-
-    def stopped(self, workers, seed, steps):
-        """Returns the outcome for a seed if the simulation may take this many steps."""
-        words = ["solve-sas", "s", "--table", "1", "--workers", str(workers), "--simulate", str(seed), "--steps", str(steps)]
-        return run(*words, files={"s": self.SQUARE_SAS})
-
-    def test_steps_of_seeds(self):
-        for workers, rows in self.ROWS.items():
-            for seed, place, steps in rows:
-                plan = f"(go a {place})\n(go {place} d)\n; cost = 2 (unit cost)\n".encode()
-                with self.subTest(workers=workers, seed=seed):
-                    self.assertEqual(self.stopped(workers, seed, steps), Outcome(out=plan))
-                    # Without the last step the search may be settled too: that step may only inform an owner.
-                    self.assertIn(self.stopped(workers, seed, steps - 1), [Outcome(out=plan), Outcome(out=b"limit 2\n", status=5)])
-                    # The goal is two expansions away, and the only open state has the f-value 0 at first.
-                    self.assertEqual(self.stopped(workers, seed, 0), Outcome(out=b"limit 0\n", status=5))

@@ -4,12 +4,16 @@ clauses.
 
 import itertools
 
-from program import Outcome, ProgramTest, checked, example, run
+from damages import damaged_lines
+from program import Outcome, ProgramTest, checked, checked_sas, example, run
 from second_reading import check_sas, certificate_fault
 from test_checks_sas import FiniteDomainTest, edited
 
 DRIVE, DRIVE_PROBLEM = example("drive", "domain.pddl"), example("drive", "problem.pddl")
 DRIVE_BY_CLASSES = example("drive", "classes.cert")
+
+# Edits of the road's planning certificate: the table of the distances in place of the closed states.
+WITH_TABLE = "12=columns 1|column 1|table 1 0|shares 2 0 1 1 1|values 3 2 1 0;13=closed 0;14=;15="
 
 
 def migrated(cert):
@@ -84,17 +88,68 @@ class Migration(ProgramTest):
                 self.assertTrue(cert.startswith("optplan-cert 1\n"))
                 self.assertEqual(migrated(cert), Outcome(out=cert.replace("cert 1\n", "cert 2\n", 1).encode()))
 
+    # Edits of the road's certificate and then of the edited one, and the answer.
+    VERDICT_ROWS = [
+        ("", "", "accepted 2"),
+        ("", "3=bound 1", "accepted 1"),
+        ("", "4=atoms 4;7=;11=0 2 0 1", "rejected C1 atom (at c)"),
+        ("", "4=atoms 4;9=", "rejected C1 atom (road b c)"),
+        ("", "11=1 2 0 1", "rejected C2 atom (at c)"),
+        ("", "10=vars 2;11=0 3 0 1 2|1 1 3", "rejected C2 var 1"),
+        ("", "14=0 3", "rejected C5 state 0"),
+        ("", "14=1 1;15=0 0", "rejected C5 state 1"),
+        ("", "14=1 0", "rejected C6"),
+        ("", "3=bound 3;13=closed 3;15=1 1|2 2", "rejected C7 state 2"),
+        ("", "3=bound 3", "rejected C8 state 1 op 1"),
+        ("", "3=bound inf", "rejected C8 state 1 op 1"),
+        (WITH_TABLE, "", "accepted 2"),
+        (WITH_TABLE, "3=bound 3", "rejected C6"),
+        (WITH_TABLE, "15=shares 2 0 1 1 2", "rejected C3 column 0 op 1"),
+        (WITH_TABLE, "14=table 1 1", "rejected C4 column 0 table 0"),
+        (WITH_TABLE, "16=values 3 2 1 1", "rejected C4 column 0 table 0 state 2"),
+        (WITH_TABLE, "16=values 3 3 1 0", "rejected C4 column 0 table 0 state 0 op 0"),
+    ]
+
+    def migrates(self, cert):
+        """Fails unless the certificate's migration changes its first line alone, and returns the new text."""
+        later = cert.replace("cert 1\n", "cert 2\n", 1)
+        self.assertEqual(migrated(cert), Outcome(out=later.encode()))
+        self.assertNotEqual(cert, later)
+        return later
+
+    def test_verdicts_of_a_planning_task(self):
+        domain, problem = example("road", "domain.pddl"), example("road", "problem.pddl")
+        for first, second, answer in self.VERDICT_ROWS:
+            cert = edited(edited(example("road", "planning.cert"), first), second)
+            self.is_answered(checked(domain, problem, cert), answer, first=first, second=second)
+            self.is_answered(checked(domain, problem, self.migrates(cert)), answer, first=first, second=second)
+
+    def test_verdicts_of_a_finite_domain_task(self):
+        sas, answers = example("road", "task.sas"), set()
+        for name in ("closed.cert", "table.cert"):
+            for text in damaged_lines(example("road", name).encode()):
+                if certificate_fault(text) is None and text.startswith(b"optplan-cert 1\n"):
+                    cert, answer = text.decode(), check_sas(sas.encode(), text)
+                    self.is_answered(checked_sas(sas, cert), answer, cert=cert)
+                    self.is_answered(checked_sas(sas, self.migrates(cert)), answer, cert=cert)
+                    answers.add(" ".join(answer.split()[:2]))
+        clauses = {f"rejected {it}" for it in ("C3", "C4", "C5", "C6", "C8")}
+        self.assertLessEqual({"accepted 1", *clauses}, answers)
+
     def test_of_version_2(self):
         self.assertEqual(migrated(DRIVE_BY_CLASSES), Outcome(out=DRIVE_BY_CLASSES.encode()))
 
-    def test_same_verdict(self):
+    def test_same_fault(self):
         domain, problem, cert = example("road", "domain.pddl"), example("road", "problem.pddl"), example("road", "planning.cert")
         lines = cert.count("\n")
         for line in range(2, lines + 1):
             damaged = edited(cert, f"{line}=")
             later = edited(cert, f"1=optplan-cert 2;{line}=")
-            with self.subTest(line=line):
-                self.assertEqual(checked(domain, problem, damaged), checked(domain, problem, later))
+            fault = certificate_fault(damaged.encode())
+            self.assertIsNotNone(fault)
+            self.is_answered(migrated(damaged), fault, line=line)
+            self.is_answered(checked(domain, problem, damaged), fault, line=line)
+            self.is_answered(checked(domain, problem, later), fault, line=line)
 
     def test_faults(self):
         self.is_answered(migrated("optplan-cert 0\n"), "F50 Header cert")

@@ -2,10 +2,13 @@
 bound."""
 
 from program import Outcome, ProgramTest, checked, checked_sas, example, run
+from second_reading import check_sas
 from test_threads import HANOI, tower
 
-# Examples that are solved, or found unsolvable, after few states.
-SMALL_TASKS = ("blocks", "door", "drive", "grip", "gripper", "lamp", "noop", "road")
+# Examples that are solved after few states, with the costs of their cheapest plans: three blocks picked up and stacked;
+# a step; the way over b; two balls carried by one hand; four balls picked up and dropped by two hands, with two moves
+# there and one back; a lamp and a road; a step at cost 5; two roads.
+SMALL_TASKS = {"blocks": 6, "door": 1, "drive": 7, "grip": 7, "gripper": 11, "lamp": 2, "noop": 5, "road": 2}
 
 STOPPED = 5
 
@@ -72,17 +75,18 @@ class StoppedTest(ProgramTest):
 class LimitTest(StoppedTest):
     def test_bound_before_a_plan_is_found(self):
         # the tables are exact, so the least open f is 2 from the first state on, and after one step of any owner too
-        for words in (("--workers", "1", "--limit", "1"), ("--workers", "1", "--limit", "0"), ("--steps", "1"), ("--steps", "0")):
-            outcome = solved(ROAD, ROAD_PROBLEM, *words)
-            self.is_solved(outcome, b"limit 2\n", STOPPED, words=words)
-            self.is_certified(ROAD, ROAD_PROBLEM, outcome, words=words)
+        limits = [(("--workers", "1", "--limit", limit), seed) for limit in "01" for seed in (1, None)]
+        for words, seed in [*limits, (("--steps", "1"), 1), (("--steps", "0"), 1)]:
+            outcome = solved(ROAD, ROAD_PROBLEM, *words, seed=seed)
+            self.is_solved(outcome, b"limit 2\n", STOPPED, words=words, seed=seed)
+            self.is_answered(checked(ROAD, ROAD_PROBLEM, outcome.files["cert"]), "accepted 2", words=words, seed=seed)
 
     def test_what_is_settled_is_solved_all_the_same(self):
         plan = b"; cost = 0 (unit cost)\n"
-        for words in (("--workers", "1", "--limit", "0"), ("--workers", "1", "--steps", "0")):
-            outcome = solved(ROAD, ROAD_PROBLEM_AT_A, *words)
-            self.is_solved(outcome, plan, 0, plan, words=words)
-            self.is_certified(ROAD, ROAD_PROBLEM_AT_A, outcome, words=words)
+        for words, seed in ((("--limit", "0"), 1), (("--limit", "0"), None), (("--steps", "0"), 1)):
+            outcome = solved(ROAD, ROAD_PROBLEM_AT_A, "--workers", "1", *words, seed=seed)
+            self.is_solved(outcome, plan, 0, plan, words=words, seed=seed)
+            self.is_certified(ROAD, ROAD_PROBLEM_AT_A, outcome, words=words, seed=seed)
 
     def test_best_plan_so_far(self):
         plan = b"(go a c)\n; cost = 8 (general cost)\n"
@@ -96,33 +100,57 @@ class LimitTest(StoppedTest):
         self.is_answered(checked(DRIVE, DRIVE_PROBLEM, DRIVE_CERTIFICATE.replace("bound 3", "bound 4")), "rejected C8 state 0 op 0")
 
     def test_no_state_expanded(self):
-        outcome = solved(DRIVE, DRIVE_PROBLEM, *DRIVE_WITHOUT_TABLES, "--limit", "0")
-        self.is_solved(outcome, b"limit 0\n", STOPPED)
-        self.is_certified(DRIVE, DRIVE_PROBLEM, outcome)
+        for seed in (1, None):
+            outcome = solved(DRIVE, DRIVE_PROBLEM, *DRIVE_WITHOUT_TABLES, "--limit", "0", seed=seed)
+            self.is_solved(outcome, b"limit 0\n", STOPPED, seed=seed)
+            self.is_certified(DRIVE, DRIVE_PROBLEM, outcome, seed=seed)
 
     def test_limit_that_is_never_met(self):
         # the second expansion, of b, reaches c at 7, and nothing is open below that
         plan = b"(go a b)\n(go b c)\n; cost = 7 (general cost)\n"
-        outcome = solved(DRIVE, DRIVE_PROBLEM, *DRIVE_WITHOUT_TABLES, "--limit", "2")
-        self.is_solved(outcome, plan, 0, plan)
-        self.is_certified(DRIVE, DRIVE_PROBLEM, outcome)
+        for seed in (1, None):
+            outcome = solved(DRIVE, DRIVE_PROBLEM, *DRIVE_WITHOUT_TABLES, "--limit", "2", seed=seed)
+            self.is_solved(outcome, plan, 0, plan, seed=seed)
+            self.is_certified(DRIVE, DRIVE_PROBLEM, outcome, seed=seed)
 
     def test_finite_domain_task(self):
-        sas = example("road", "task.sas")
-        words = ["solve-sas", "s", "--simulate", "1", "--workers", "1", "--limit", "1", "--plan", "plan", "--cert", "cert"]
-        outcome = run(*words, files={"s": sas})
-        self.is_solved(outcome, b"limit 2\n", STOPPED)
-        self.is_answered(checked_sas(sas, outcome.files["cert"]), "accepted 2")
+        # f is 2 at each place; the second expansion reaches the goal, and then nothing is open below 2
+        sas, plan = example("road", "task.sas"), b"(go a b)\n(go b c)\n; cost = 2 (unit cost)\n"
+        by_seed = [("--simulate", "1", option, number) for option in ("--limit", "--steps") for number in "012"]
+        for words in [*by_seed, *(("--limit", number) for number in "012")]:
+            given = ("solve-sas", "s", "--workers", "1", *words, "--plan", "plan", "--cert", "cert")
+            outcome = run(*given, files={"s": sas})
+            answer = (plan, 0, plan) if words[-1] == "2" else (b"limit 2\n", STOPPED)
+            self.is_solved(outcome, *answer, words=words)
+            self.is_answered(checked_sas(sas, outcome.files["cert"]), "accepted 2", words=words)
+            self.assertEqual(check_sas(sas.encode(), outcome.files["cert"]), "accepted 2")
 
     def test_certificates_are_accepted_for_what_is_answered(self):
-        for name in SMALL_TASKS:
+        # the table of some goal has all variables of its task, which has fewer than 100,000 states: so the bound is the
+        # cost from the first state on
+        for name, cost in SMALL_TASKS.items():
             domain, problem = example(name, "domain.pddl"), example(name, "problem.pddl")
             for limit in range(0, 41, 4):
                 for workers in range(1, 5):
+                    words = ("--tables", "goal", "--limit", str(limit), "--workers", str(workers))
                     for seed in ((limit + workers) % 20, None):
                         row = {"name": name, "limit": limit, "workers": workers, "seed": seed}
-                        outcome = solved(domain, problem, "--limit", str(limit), "--workers", str(workers), seed=seed)
+                        outcome = solved(domain, problem, *words, seed=seed)
+                        with self.subTest(**row):
+                            self.assertEqual((bound_of(outcome), outcome.err), (str(cost), b""))
                         self.is_certified(domain, problem, outcome, **row)
+
+    def test_bounds_of_stages(self):
+        # at first some goal does not hold, and no step is free: a bound above 0 needs a table alone
+        for name, cost in SMALL_TASKS.items():
+            domain, problem = example(name, "domain.pddl"), example(name, "problem.pddl")
+            for limit in range(0, 41, 8):
+                for workers in (1, 4):
+                    outcome = solved(domain, problem, "--limit", str(limit), "--workers", str(workers), seed=None)
+                    bounds = range(1, cost + 1) if outcome.status == STOPPED else (cost,)
+                    with self.subTest(name=name, limit=limit, workers=workers):
+                        self.assertIn(int(bound_of(outcome)), bounds)
+                    self.is_certified(domain, problem, outcome, name=name, limit=limit, workers=workers)
 
     def test_bound_never_falls_as_the_limit_rises(self):
         # with one seed, the steps of a lesser limit are a prefix of those of a greater one

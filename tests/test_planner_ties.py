@@ -1,8 +1,6 @@
 """The order of expansion among states of the same f-value."""
 
 from program import Outcome, ProgramTest, run
-from test_planner import solved
-from texts import DRIVE_DOMAIN, DRIVE_PROBLEM
 
 
 def operator(name, old, new, cost):
@@ -32,8 +30,7 @@ TWO_WAYS = task(1, 9, 8, [
 
 
 class Ties(ProgramTest):
-    """Searches of one worker that may expand few states, without tables, so that an f-value is a cost; and the
-    defaults."""
+    """Searches of one worker that may expand few states, without tables, so that an f-value is a cost."""
 
     SIMULATED = [["--simulate", "1"], ["--simulate", "2"]]
     SCHEDULES = [*SIMULATED, []]
@@ -66,17 +63,10 @@ class Ties(ProgramTest):
             ("fresh", 7, none), ("fresh", 8, known), ("fresh", 9, settled),
             ("shallow", 3, none), ("shallow", 4, known),
         ]
+        # Simulations are shallow by default, and threads fresh.
         for words in self.SCHEDULES:
+            default = "shallow" if words else "fresh"
             for order, limit, wanted in rows:
-                with self.subTest(words=words, order=order, limit=limit):
-                    self.assertEqual(self.limited(TWO_WAYS, limit, *words, "--ties", order), wanted)
-
-    def test_defaults(self):
-        # One worker of threads expands in an order that does not depend on the schedule.
-        for limit in (7, 8, 9):
-            with self.subTest(limit=limit):
-                self.assertEqual(self.limited(TWO_WAYS, limit), self.limited(TWO_WAYS, limit, "--ties", "fresh"))
-        for seed in range(20):
-            with self.subTest(seed=seed):
-                options = {"simulate": seed, "workers": 2, "table": 1}
-                self.assertEqual(solved(DRIVE_DOMAIN, DRIVE_PROBLEM, **options), solved(DRIVE_DOMAIN, DRIVE_PROBLEM, ties="shallow", **options))
+                for ties in [["--ties", order]] + ([[]] if order == default else []):
+                    with self.subTest(words=words, order=order, ties=ties, limit=limit):
+                        self.assertEqual(self.limited(TWO_WAYS, limit, *words, *ties), wanted)

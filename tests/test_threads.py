@@ -2,16 +2,30 @@
 states, and searches that a limit or their time ends.
 """
 
-from program import run
+from program import Outcome, run
+from second_reading import check_sas
 from test_planner import PlannerTest, solved
 from test_planner_hanoi import DOMAIN as HANOI
-from texts import DRIVE_DOMAIN, DRIVE_PROBLEM, GRIP_DOMAIN, GRIP_PROBLEM, ROAD_DOMAIN, ROAD_PROBLEM, ROAD_TO_NOWHERE
+from texts import (DOOR_DOMAIN, DRIVE_DOMAIN, DRIVE_PROBLEM, GRIP_DOMAIN, GRIP_PROBLEM, HALF_A_ROAD, LOCKED_DOOR,
+                   OPEN_DOOR, ROAD_DOMAIN, ROAD_PROBLEM, ROAD_PROBLEM_AT_ITS_GOAL, ROAD_SAS, ROAD_TO_BE_MADE,
+                   ROAD_TO_NOWHERE)
 
 WORKERS = (1, 2, 4, 64)
 
 # Tasks with the costs of their cheapest plans: two roads; a detour that is cheaper; and, with one hand, two moves there
 # and one back, and each ball picked up and dropped.
 TASKS = ((ROAD_DOMAIN, ROAD_PROBLEM, 2), (DRIVE_DOMAIN, DRIVE_PROBLEM, 7), (GRIP_DOMAIN, GRIP_PROBLEM, 7))
+
+# Tasks with at most one cheapest plan: what is printed for them, and what the certificate is accepted for.
+SMALL_TASKS = (
+    (ROAD_DOMAIN, ROAD_PROBLEM, b"(go a b)\n(go b c)\n; cost = 2 (unit cost)\n", 2),
+    (DRIVE_DOMAIN, DRIVE_PROBLEM, b"(go a b)\n(go b c)\n; cost = 7 (general cost)\n", 7),
+    (ROAD_DOMAIN, ROAD_PROBLEM_AT_ITS_GOAL, b"; cost = 0 (unit cost)\n", 0),
+    (ROAD_DOMAIN, HALF_A_ROAD, b"unsolvable\n", "unsolvable"),
+    (ROAD_DOMAIN, ROAD_TO_BE_MADE, b"unsolvable\n", "unsolvable"),
+    (DOOR_DOMAIN, OPEN_DOOR, b"(enter d)\n; cost = 1 (unit cost)\n", 1),
+    (DOOR_DOMAIN, LOCKED_DOOR, b"unsolvable\n", "unsolvable"),
+)
 
 SEARCHES = 50
 
@@ -83,6 +97,27 @@ class Threads(PlannerTest):
         for domain, problem, cost in TASKS:
             self.costs_by([{"workers": workers} for workers in WORKERS], domain, problem, cost)
 
+    def is_solved(self, domain, problem, text, bound, **options):
+        """Fails, and shows the options, unless exactly this is printed, written as the plan if it is one, and
+        certified."""
+        with self.subTest(problem=problem, **options):
+            outcome = solved(domain, problem, **options)
+            cert = outcome.files.get("c", b"")
+            files, status = ({"c": cert}, 4) if bound == "unsolvable" else ({"c": cert, "l": text}, 0)
+            self.assertEqual(outcome, Outcome(out=text, status=status, files=files))
+            self.certifies(domain, problem, cert, bound)
+
+    def test_small_tasks(self):
+        for task in SMALL_TASKS:
+            for workers in WORKERS:
+                self.is_solved(*task, workers=workers)
+
+    def test_small_tasks_with_a_limit_that_is_not_reached(self):
+        # Each task has at most six states, and the cost of a state improves at most once.
+        for task in SMALL_TASKS:
+            for workers in WORKERS:
+                self.is_solved(*task, workers=workers, limit=1000)
+
     def test_no_plan(self):
         for workers in WORKERS:
             with self.subTest(workers=workers):
@@ -144,3 +179,15 @@ class Threads(PlannerTest):
                 self.assertEqual((outcome.out.splitlines()[-1], outcome.status), (b"; cost = 7 (unit cost)", 0))
                 verdict = run("check-sas", "s", "c", files={"s": sas, "c": outcome.files["c"]})
                 self.assertEqual(verdict.out, b"accepted 7\n")
+
+    def test_costs_without_the_metric(self):
+        # Each operator costs 1, whatever its line says.
+        sas = ROAD_SAS.replace("1\nend_operator", "5\nend_operator")
+        plan = b"(go a b)\n(go b c)\n; cost = 2 (unit cost)\n"
+        for workers in WORKERS:
+            words = ("solve-sas", "s", "--workers", str(workers), "--plan", "l", "--cert", "c")
+            with self.subTest(workers=workers):
+                outcome = run(*words, files={"s": sas})
+                cert = outcome.files.get("c", b"")
+                self.assertEqual(outcome, Outcome(out=plan, files={"c": cert, "l": plan}))
+                self.assertEqual(check_sas(sas.encode(), cert), "accepted 2")

@@ -27,6 +27,20 @@ ROAD_PROBLEM_AT_ITS_GOAL = """(define (problem r1) (:domain road)
  (:goal (at a)))
 """
 
+# The roads of `ROAD_PROBLEM` without the one to the goal.
+HALF_A_ROAD = """(define (problem r1) (:domain road)
+ (:objects a b c - loc)
+ (:init (at a) (road a b))
+ (:goal (at c)))
+"""
+
+# The roads of `ROAD_PROBLEM`, with a goal that is another road, which no action adds.
+ROAD_TO_BE_MADE = """(define (problem r1) (:domain road)
+ (:objects a b c - loc)
+ (:init (at a) (road a b) (road b c))
+ (:goal (road c a)))
+"""
+
 # A step goes along a road, at the cost of the road's length.
 DRIVE_DOMAIN = """(define (domain drive)
  (:requirements :typing)
@@ -53,6 +67,10 @@ DOOR_DOMAIN = """(define (domain door)
   :precondition (not (locked ?d)) :effect (in)))
 """
 
+OPEN_DOOR = "(define (problem p) (:objects d) (:init) (:goal (in)))"
+
+LOCKED_DOOR = "(define (problem p) (:objects d) (:init (locked d)) (:goal (in)))"
+
 # Balls are picked up and dropped in two rooms.
 GRIP_DOMAIN = """(define (domain grip)
  (:predicates (room ?r) (ball ?b) (here ?r) (in ?b ?r) (free) (held ?b))
@@ -72,6 +90,28 @@ GRIP_PROBLEM = """(define (problem g1) (:domain grip) (:objects p q x y)
  (:init (room p) (room q) (ball x) (ball y) (here p) (in x p) (in y p) (free))
  (:goal (and (in x q) (in y q))))
 """
+
+# `GRIP_PROBLEM` as a finite-domain task: the room, the place of each ball, and whether the hand is free.
+GRIP_SAS = (
+    "begin_version\n3\nend_version\nbegin_metric\n0\nend_metric\n4\n"
+    "begin_variable\nvar0\n-1\n2\nAtom here(p)\nAtom here(q)\nend_variable\n"
+    "begin_variable\nvar1\n-1\n3\nAtom in(x, p)\nAtom in(x, q)\nAtom held(x)\nend_variable\n"
+    "begin_variable\nvar2\n-1\n3\nAtom in(y, p)\nAtom in(y, q)\nAtom held(y)\nend_variable\n"
+    "begin_variable\nvar3\n-1\n2\nAtom free()\nNegatedAtom free()\nend_variable\n"
+    "3\nbegin_mutex_group\n2\n0 0\n0 1\nend_mutex_group\nbegin_mutex_group\n3\n1 0\n1 1\n1 2\nend_mutex_group\n"
+    "begin_mutex_group\n3\n2 0\n2 1\n2 2\nend_mutex_group\nbegin_state\n0\n0\n0\n0\nend_state\n"
+    "begin_goal\n2\n1 1\n2 1\nend_goal\n10\n"
+    "begin_operator\nmove p q\n0\n1\n0 0 0 1\n1\nend_operator\n"
+    "begin_operator\nmove q p\n0\n1\n0 0 1 0\n1\nend_operator\n"
+    "begin_operator\npick x p\n1\n0 0\n2\n0 1 0 2\n0 3 0 1\n1\nend_operator\n"
+    "begin_operator\npick x q\n1\n0 1\n2\n0 1 1 2\n0 3 0 1\n1\nend_operator\n"
+    "begin_operator\npick y p\n1\n0 0\n2\n0 2 0 2\n0 3 0 1\n1\nend_operator\n"
+    "begin_operator\npick y q\n1\n0 1\n2\n0 2 1 2\n0 3 0 1\n1\nend_operator\n"
+    "begin_operator\ndrop x p\n1\n0 0\n2\n0 1 2 0\n0 3 -1 0\n1\nend_operator\n"
+    "begin_operator\ndrop x q\n1\n0 1\n2\n0 1 2 1\n0 3 -1 0\n1\nend_operator\n"
+    "begin_operator\ndrop y p\n1\n0 0\n2\n0 2 2 0\n0 3 -1 0\n1\nend_operator\n"
+    "begin_operator\ndrop y q\n1\n0 1\n2\n0 2 2 1\n0 3 -1 0\n1\nend_operator\n0\n"
+)
 
 # `ROAD_PROBLEM` as Fast Downward's translator writes it, in 45 lines: one variable, whose values are the places.
 ROAD_SAS = (
