@@ -267,7 +267,6 @@ class Gripper(PlanningTest):
         self.assertEqual(translated(GRIP_DOMAIN, GRIP_PROBLEM), Outcome(out=GRIP_SAS.encode()))
 
 
-
 class Proposals(PlanningTest):
     """Only the first 4,096 candidates of mutex groups are tried. With thirty predicates of one object there are 30
     candidates of one part, then 435 of two, then those of three, in order: candidate 4,096 is that of predicates 16, 19

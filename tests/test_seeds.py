@@ -32,7 +32,7 @@ class Square(ProgramTest):
     TASK, NAMES = Task(SAS.encode()), operator_names(SAS)
 
     # By the number of owners: the seed, the place through which the plan goes, and the number of steps until no work is
-    # left. These rows come from a third machine, in another language.
+    # left. These rows come from another model of the owners, in another language and with its own generator.
     ROWS = {
         3: [
             (0, "b", 23),
