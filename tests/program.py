@@ -26,18 +26,30 @@ def as_bytes(text):
     return text.encode() if isinstance(text, str) else text
 
 
-def run(*words, files=None, memory=None, environment=None, descriptors=()):
+def limiting(memory, processors):
+    """Returns what a process does before it becomes the program: it takes at most `memory` bytes of address space, and only
+    the first `processors` of the processors that it may use, if these are given."""
+
+    def limit():
+        if memory:
+            resource.setrlimit(resource.RLIMIT_AS, (memory, memory))
+        if processors:
+            os.sched_setaffinity(0, sorted(os.sched_getaffinity(0))[:processors])
+
+    return limit
+
+
+def run(*words, files=None, memory=None, processors=None, environment=None, descriptors=()):
     """Returns the outcome of the program with these arguments, in a folder with these files: texts or bytes by their
-    names. Its address space has at most `memory` bytes, if given. `environment` is added to the environment's
-    variables, and these descriptors are inherited."""
+    names. Its address space has at most `memory` bytes and it uses at most `processors` processors, if given.
+    `environment` is added to the environment's variables, and these descriptors are inherited."""
     given = {name: as_bytes(text) for name, text in (files or {}).items()}
     with tempfile.TemporaryDirectory(prefix="optplan-test-") as folder:
         for name, text in given.items():
             with open(os.path.join(folder, name), "wb") as file:
                 file.write(text)
-        cap = memory and (lambda: resource.setrlimit(resource.RLIMIT_AS, (memory, memory)))
         ended = subprocess.run([os.environ["OPTPLAN"], *words], cwd=folder, stdin=subprocess.DEVNULL, stdout=subprocess.PIPE,
-                               stderr=subprocess.PIPE, timeout=SECONDS_OF_A_RUN, check=False, preexec_fn=cap,
+                               stderr=subprocess.PIPE, timeout=SECONDS_OF_A_RUN, check=False, preexec_fn=limiting(memory, processors),
                                env=os.environ | (environment or {}), pass_fds=descriptors)
         return Outcome(ended.stdout, ended.stderr, ended.returncode, written(folder, given))
 

@@ -70,7 +70,7 @@ class Pages(unittest.TestCase):
     def test_commands_of_readme(self):
         with open(os.path.join(TOP, "README.md"), encoding="utf-8") as file:
             found = COMMAND_OF_TABLE.findall(file.read())
-        self.assertEqual(len(found), 7)
+        self.assertEqual(len(found), 8)
         for command in found:
             with self.subTest(command=command):
                 ended = self.run_command(command)

@@ -41,6 +41,18 @@ class Stages(PlannerTest):
         self.assertEqual([int(it[1]) for it in found], list(range(2, len(found) + 2)))
         self.assertTrue(all(0 < int(it[2]) <= int(it[3]) for it in found))
 
+    def test_same_tables_on_any_processors(self):
+        """With one worker the states are stored in one order, so the whole certificates are equal. Tables of the second
+        stage are made by as many threads as there are processors."""
+        files = {"d": HANOI, "p": tower(DISCS)}
+        words = ("solve", "d", "p", "--workers", "1", "--progress", "--plan", "l", "--cert", "c")
+        found = [run(*words, files=files, processors=count) for count in (1, 2, 4)]
+        for outcome in found:
+            self.assertEqual(outcome.status, 0)
+            self.assertIn(b"optplan: stage 2, ", outcome.err)
+            self.assertIn(b"\ntable ", outcome.files["c"])
+            self.assertEqual(outcome.files, found[0].files)
+
     def test_one_search_tells_of_no_stage(self):
         told = run("solve", "d", "p", "--tables", "goal", "--progress", files={"d": HANOI, "p": tower(DISCS)})
         self.assertEqual((told.status, b"stage" in told.err), (0, False))

@@ -11,3 +11,4 @@ pub mod CollectLaws
 pub mod AffectingLaws
 pub mod CountLaws
 pub mod MemberLaws
+pub mod ShiftLaws

@@ -1,10 +1,10 @@
 -- The listed transitions of all groups, and the lists by the abstract state that they enter.
-use Rattle.std.proofs.Common.{◌≡◌, ℕ, ◌+◌, ◌<◌, ◌≤◌, Bool, true, false, List, [], ◌∷◌, ◌++◌, length, get_or, cond, eqb, eq-eqb, refl, sym, ap, ◌∙◌, subst, arith, Some, ⊎_elim}
-use Rattle.std.specs.Prelude.{◌↔◌, Contains, slice_index_or}
+use Rattle.std.proofs.Common.{◌≡◌, ℕ, ◌+◌, ◌<◌, ◌≤◌, Bool, true, false, List, [], ◌∷◌, ◌++◌, length, get_or, cond, eqb, eq-eqb, refl, sym, ap, ◌∙◌, subst, arith, Some, None, ⊎_elim}
+use Rattle.std.specs.Prelude.{◌↔◌, Contains, slice_get, slice_index_or}
 use Rattle.std.proofs.lemmas.Bool.{cases_lt, eqb-true}
 use Rattle.std.proofs.lemmas.List.Elements.{All-contains_itself, Contains-append_left, Contains-append_right, Contains-append_cases}
 use Rattle.std.proofs.lemmas.List.FromFn.{length-map-range_with_len, get_or-map-range_with_len}
-use Rattle.std.proofs.lemmas.Option.{slice_get_within, get_or_from_slice_get}
+use Rattle.std.proofs.lemmas.Option.{none-some, slice_get_within, get_or_from_slice_get}
 use Rattle.keyed_lists.specs.declared.lists.Keyed.{Keyed}
 use Rattle.keyed_lists.specs.Lists.{items_with, lists_by}
 use Rattle.fdr.specs.Tasks.{FiniteDomainTask}
@@ -16,7 +16,7 @@ use Rattle.abstraction_groups.specs.Changes.{at_digits, size_by, LeadsBy}
 use Rattle.abstraction_groups.specs.Entrances.{Classes, IsEntering}
 use Rattle.abstraction_groups.specs.Factors.{Factors, IsFactored, digits_of, changes_of, group_changes, groups_of}
 use Rattle.abstraction_groups.specs.GroupLaws.{steps_told, member_told}
-use Rattle.abstraction_groups.specs.Lists.{AreEntries, AreLists}
+use Rattle.abstraction_groups.specs.Lists.{AreEntries, AreGoals, AreLists}
 use Rattle.abstraction_groups.specs.Pairs.{group_entries}
 use Rattle.abstraction_groups.proofs.PairLaws.{Contains-cons_cases, Contains-here, Contains-there, group_leads, group_lists}
 use Rattle.abstraction_groups.proofs.GroupRows.{group_operator, operator_row, group_row, operator_size, group_size}
@@ -129,3 +129,8 @@ module _ (task : FiniteDomainTask) (a : Abstraction) (f : Factors) (is : IsFacto
         keys = λ k d l. (made_entering (get_or entries k d) (All-contains_itself entries k d l)).0;
         exactly = λ e l. (λ h. (made_entering e h).1, λ h. entering_made e l h);
       }
+
+-- ---- the abstract goals
+
+pub no_goals : (a : Abstraction) → AreGoals a []
+no_goals a j b e = absurd (none-some b e)

@@ -53,6 +53,13 @@ is_free (Required c) = false
 is_free (Moved from to) = false
 is_free (Assigned e) = true
 
+-- whether there is an effect alone, so that the variable may have any value before, whatever it has after
+abbrev pub is_assigned : Change → Bool
+is_assigned Kept = false
+is_assigned (Required c) = false
+is_assigned (Moved from to) = false
+is_assigned (Assigned e) = true
+
 -- the change with a condition or an effect on the value, if there is none yet
 abbrev pub with_condition : Change → ℕ → Change
 with_condition Kept x = Required x

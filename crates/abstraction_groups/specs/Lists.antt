@@ -1,5 +1,5 @@
 -- The transitions of an abstraction, listed by the abstract state that they enter.
-use Rattle.std.specs.Prelude.{◌≡◌, ℕ, ◌<◌, ◌↔◌, List, [], length, All, Contains, slice_index_or}
+use Rattle.std.specs.Prelude.{◌≡◌, ℕ, ◌<◌, ◌↔◌, Bool, List, [], length, All, Contains, Some, slice_get, slice_index_or}
 use Rattle.keyed_lists.specs.declared.lists.Keyed.{Keyed}
 use Rattle.abstraction.specs.Abstractions.{Abstraction}
 use Rattle.abstraction_groups.specs.declared.backward.Transition.{Transition}
@@ -14,3 +14,7 @@ pub record AreEntries (a : Abstraction) (classes : Classes) (entries : List (Key
 pub record AreLists (a : Abstraction) (classes : Classes) (lists : List (List Transition)) : Type 0 where
   pub as_long : length lists ≡ a.size
   pub entering : (j : ℕ) → j < a.size → AreEntering a classes j (slice_index_or lists j [])
+
+-- each element says whether the abstract state with its index is a goal
+abbrev pub AreGoals : Abstraction → List Bool → Type 0
+AreGoals a goals = (j : ℕ) (b : Bool) → slice_get goals j ≡ Some b → a.is_goal j ≡ b

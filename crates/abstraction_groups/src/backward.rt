@@ -16,7 +16,7 @@ pub struct Transition {
 /// transitions can share a class, so that a transition of all of them is listed once. The classes are the numbers below
 /// `class_count`.
 pub trait BackwardTransitions {
-    ghost use Rattle.std.specs.Prelude.{◌≡◌, ℕ, ◌<◌, ◌↔◌, Some, OnOk, Contains};
+    ghost use Rattle.std.specs.Prelude.{◌≡◌, ℕ, ◌<◌, ◌↔◌, Some, IfSome, OnOk, Contains};
     ghost use Rattle.std.specs.List.Sorted.{IsStrictlyIncreasing};
     ghost use Rattle.abstraction.specs.Abstractions as abstractions;
     ghost use Rattle.abstraction_groups.specs.Entrances as spec;
@@ -36,6 +36,13 @@ pub trait BackwardTransitions {
         requires { class < (classes self.now).count }
         ensures increasing { IsStrictlyIncreasing result.now }
         ensures operators { (o : ℕ) → Contains result.now o ↔ ((classes self.now).class o ≡ Some class) };
+
+    /// Returns the transitions into this abstract state of all operators that have a class, if they are stored as a
+    /// list. The order is not specified, and a transition may occur more than once.
+    fn stored(&self, abstract_state: usize) -> Option<&[Transition]>
+        requires { abstract_state < (abstraction self.now).size }
+        ensures { IfSome result (λ transitions.
+            spec.AreEntering (abstraction self.now) (classes self.now) abstract_state transitions.now) };
 
     /// Replaces the content of `transitions` by the transitions into this abstract state of all operators that have a
     /// class. The order is not specified, and a transition may occur more than once. `digits` is a buffer. On failure

@@ -76,6 +76,16 @@ impl Change {
         }
     }
 
+    /// Returns whether there is an effect alone, so that the variable may have any value before the change.
+    pub fn sets_any_value(self) -> bool
+        ensures { result ≡ spec.is_assigned self }
+    {
+        match self {
+            Change::Assigned(_) => true,
+            Change::Kept | Change::Required(_) | Change::Moved { .. } => false,
+        }
+    }
+
     /// Returns whether it is the same change.
     pub(crate) fn is_same(self, other: Change) -> bool
         ensures { result ≡ spec.same_at self other }

@@ -10,6 +10,7 @@ mod index;
 mod listed;
 mod pairs;
 mod read;
+mod shift;
 mod table;
 
 pub use backward::{BackwardAbstraction, BackwardTransitions, Transition};
@@ -18,3 +19,4 @@ pub use factored::FactoredAbstraction;
 pub use groups::Groups;
 pub use index::OperatorIndex;
 pub use listed::Listed;
+pub use shift::{Shift, shift_of};

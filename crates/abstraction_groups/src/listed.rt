@@ -20,6 +20,8 @@ use std::marker::Model;
 pub struct Listed<'a, A: FactoredAbstraction> {
     groups: Groups<'a, A>,
     lists: Lists<Transition>,
+    /// Whether each abstract state is an abstract goal, in order; empty if that is not stored.
+    goals: Vec<bool>,
 }
 
 impl<'a, A: FactoredAbstraction> Model for Listed<'a, A> {
@@ -30,7 +32,9 @@ impl<'a, A: FactoredAbstraction> Model for Listed<'a, A> {
 
     ghost view = { λ l. l.groups };
 
-    ghost invariant = { λ l. spec.AreLists (A.abstraction l.groups) (groups_of (A.task l.groups) (A.factors l.groups)) l.lists };
+    ghost invariant = { λ l.
+        spec.AreLists (A.abstraction l.groups) (groups_of (A.task l.groups) (A.factors l.groups)) l.lists ×
+        spec.AreGoals (A.abstraction l.groups) l.goals.items };
 }
 
 /// Returns the transitions of all groups, each with the abstract state that it enters as its key.
@@ -51,16 +55,57 @@ fn entries_of<A: FactoredAbstraction>(
     Ok(entries)
 }
 
+/// Returns for each abstract state the transitions into it.
+fn lists_of<A: FactoredAbstraction>(
+    alloc: Global,
+    groups: &Groups<'_, A>,
+) -> Result<Lists<Transition>, AllocError>
+    ensures { IfOk result (λ lists.
+        spec.AreLists (A.abstraction groups.now) (groups_of (A.task groups.now) (A.factors groups.now)) lists) }
+{
+    let entries = entries_of(alloc, groups)?;
+    let size = groups.abstraction().size();
+    let lists = Lists::new(alloc, size, &entries)?;
+    Ok(lists)
+}
+
+/// Returns for each abstract state whether it is an abstract goal.
+fn goals_of<A: Abstraction>(alloc: Global, abstraction: &A) -> Result<Vec<bool>, AllocError>
+    ensures { IfOk result (λ goals. spec.AreGoals (A.abstraction abstraction.now) goals.items) }
+{
+    let mut goals = Vec::with_capacity(alloc, abstraction.size())?;
+    for state in 0..abstraction.size() {
+        goals.push(abstraction.is_goal(state))?;
+    }
+    Ok(goals)
+}
+
 impl<'a, A: FactoredAbstraction> Listed<'a, A> {
     /// Lists the transitions of the groups. Time and memory are linear in the number of transitions and of abstract
     /// states.
     pub fn new(alloc: Global, groups: Groups<'a, A>) -> Result<Listed<'a, A>, AllocError>
         ensures { IfOk result (λ l. l ≡ groups.entry) }
     {
-        let entries = entries_of(alloc, &groups)?;
-        let size = groups.abstraction().size();
-        let lists = Lists::new(alloc, size, &entries)?;
-        Ok(Listed { groups, lists })
+        let lists = lists_of(alloc, &groups)?;
+        Ok(Listed {
+            groups,
+            lists,
+            goals: Vec::new(alloc),
+        })
+    }
+
+    /// Lists the transitions of the groups as `new` does, and stores which abstract states are goals, a byte for each:
+    /// for an abstraction that is searched many times.
+    pub fn with_goals(alloc: Global, groups: Groups<'a, A>) -> Result<Listed<'a, A>, AllocError>
+        ensures { IfOk result (λ l. l ≡ groups.entry) }
+    {
+        let lists = lists_of(alloc, &groups)?;
+        let goals = goals_of(alloc, groups.abstraction())?;
+        Ok(Listed {
+            groups,
+            lists,
+            goals,
+        })
     }
 
     /// Returns the groups.
@@ -107,7 +152,10 @@ impl<'a, A: FactoredAbstraction> Abstraction for Listed<'a, A> {
     }
 
     fn is_goal(&self, abstract_state: usize) -> bool {
-        self.groups.abstraction().is_goal(abstract_state)
+        match self.goals.get(abstract_state) {
+            Some(is_goal) => *is_goal,
+            None => self.groups.abstraction().is_goal(abstract_state),
+        }
     }
 }
 
@@ -127,6 +175,10 @@ impl<'a, A: FactoredAbstraction> BackwardTransitions for Listed<'a, A> {
 
     fn operators_of(&self, class: usize) -> &[u32] {
         self.groups.operators_of(class)
+    }
+
+    fn stored(&self, abstract_state: usize) -> Option<&[Transition]> {
+        Some(self.lists.get(abstract_state))
     }
 
     fn entering(

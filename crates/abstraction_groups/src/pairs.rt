@@ -67,7 +67,7 @@ fn repeat(
 }
 
 /// Returns the transition of the group with the least source.
-fn first_entry(digits: &[Digit], changes: &[Change], class: u32) -> Keyed<Transition>
+pub(crate) fn first_entry(digits: &[Digit], changes: &[Change], class: u32) -> Keyed<Transition>
     requires long { length changes.now ≡ length digits.now }
     requires row { IsRow (at_digits digits.now changes.now) }
     ensures { result ≡ spec.first_entry class (at_digits digits.now changes.now) }

@@ -81,9 +81,9 @@ fn answer<R: AllocGlobal + Threads + Sync>(
     }
 }
 
-/// Returns the verdict on the text of a certificate for a task. Fails with the first fault of the certificate's text,
-/// if a limit is exceeded, or if allocation fails.
-fn answer_to<R: AllocGlobal + Threads + Sync>(
+/// Returns the verdict on the text of a certificate for a task that was read, as `check_pddl` does for texts that spell
+/// this task. Fails with the first fault of the certificate's text, if a limit is exceeded, or if allocation fails.
+pub fn check_for_task<R: AllocGlobal + Threads + Sync>(
     rt: &R,
     task: &Task,
     cert: &[u8],
@@ -120,5 +120,5 @@ pub fn check_pddl<R: AllocGlobal + Threads + Sync>(
         IfOk result (λ verdict. verdict ≡ Accepted Infinite → HasNoValidPlan task) }
 {
     let task = read_planning_task(rt.alloc(), domain, problem)?;
-    answer_to(rt, &task, cert)
+    check_for_task(rt, &task, cert)
 }

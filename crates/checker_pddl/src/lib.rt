@@ -10,7 +10,7 @@ mod laws;
 mod naming;
 mod verdict;
 
-pub use checking::check_pddl;
+pub use checking::{check_for_task, check_pddl};
 pub use fault::PlanningCheckFault;
 pub use judging::judge;
 pub use laws::one_answer;

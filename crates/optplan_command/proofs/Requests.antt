@@ -11,6 +11,7 @@ use Rattle.std.specs.Box.{box_value}
 use Rattle.clap.proofs.WalkLemmas.{first_value-rows}
 use Rattle.optplan_device.specs.Events.{Event}
 use Rattle.optplan_replies.specs.declared.status.Status.{Status}
+use Rattle.optplan_optimal.specs.Running.{JudgesOptimality}
 use Rattle.optplan_command.specs.Validation.{Validates}
 use Rattle.optplan_command.specs.Checking.{Checks}
 use Rattle.optplan_command.specs.PlanningChecking.{ChecksPlanning}
@@ -23,7 +24,7 @@ use Rattle.optplan_command.specs.declared.solve_words.SolvingCommand.TheVariants
 use Rattle.optplan_command.specs.FileCommands.{IsNamed, DoesCommand}
 use Rattle.optplan_command.specs.Requests.{DoesRequest, IsRefusedRequest, value_in}
 use Rattle.optplan_command.specs.declared.file_command.FileCommand.{FileCommand}
-use Rattle.optplan_command.specs.declared.file_command.FileCommand.TheVariants.{Validate, Check, CheckSas, Translate, MigrateCert}
+use Rattle.optplan_command.specs.declared.file_command.FileCommand.TheVariants.{Validate, Check, CheckSas, Optimal, Translate, MigrateCert}
 
 -- ---- the names of the commands
 
@@ -61,6 +62,7 @@ module _ (name : List ℕ) (value : List ℕ → Option (List ℕ)) (old new : L
     validates = λ e. absurd (apart (codes "solve") (codes "validate") (λ m. omega (arith, m)) (sym is ∙ e));
     checks = λ e. absurd (apart (codes "solve") (codes "check") (λ m. omega (arith, m)) (sym is ∙ e));
     checks_sas = λ e. absurd (apart (codes "solve") (codes "check-sas") (λ m. omega (arith, m)) (sym is ∙ e));
+    judges = λ e. absurd (apart (codes "solve") (codes "optimal") (λ m. omega (arith, m)) (sym is ∙ e));
     translates = λ e. absurd (apart (codes "solve") (codes "translate") (λ m. omega (arith, m)) (sym is ∙ e));
     migrates = λ e. absurd (apart (codes "solve") (codes "migrate-cert") (λ m. omega (arith, m)) (sym is ∙ e));
     solves = λ e. solved;
@@ -72,6 +74,7 @@ module _ (name : List ℕ) (value : List ℕ → Option (List ℕ)) (old new : L
     validates = λ e. absurd (apart (codes "solve-sas") (codes "validate") (λ m. omega (arith, m)) (sym is ∙ e));
     checks = λ e. absurd (apart (codes "solve-sas") (codes "check") (λ m. omega (arith, m)) (sym is ∙ e));
     checks_sas = λ e. absurd (apart (codes "solve-sas") (codes "check-sas") (λ m. omega (arith, m)) (sym is ∙ e));
+    judges = λ e. absurd (apart (codes "solve-sas") (codes "optimal") (λ m. omega (arith, m)) (sym is ∙ e));
     translates = λ e. absurd (apart (codes "solve-sas") (codes "translate") (λ m. omega (arith, m)) (sym is ∙ e));
     migrates = λ e. absurd (apart (codes "solve-sas") (codes "migrate-cert") (λ m. omega (arith, m)) (sym is ∙ e));
     solves = λ e. absurd (apart (codes "solve-sas") (codes "solve") (λ m. omega (arith, m)) (sym is ∙ e));
@@ -91,6 +94,7 @@ module _ (name : List ℕ) (value : List ℕ → Option (List ℕ)) (old new : L
         (subst (λ x. Validates old new domain.now problem.now x status) l done));
     checks = λ e. absurd (apart (codes "validate") (codes "check") (λ m. omega (arith, m)) (sym is ∙ e));
     checks_sas = λ e. absurd (apart (codes "validate") (codes "check-sas") (λ m. omega (arith, m)) (sym is ∙ e));
+    judges = λ e. absurd (apart (codes "validate") (codes "optimal") (λ m. omega (arith, m)) (sym is ∙ e));
     translates = λ e. absurd (apart (codes "validate") (codes "translate") (λ m. omega (arith, m)) (sym is ∙ e));
     migrates = λ e. absurd (apart (codes "validate") (codes "migrate-cert") (λ m. omega (arith, m)) (sym is ∙ e));
     solves = λ e. absurd (apart (codes "validate") (codes "solve") (λ m. omega (arith, m)) (sym is ∙ e));
@@ -102,6 +106,7 @@ module _ (name : List ℕ) (value : List ℕ → Option (List ℕ)) (old new : L
         (subst (λ x. ChecksPlanning old new domain.now x (operand value (codes "CERT")) status) p
         (subst (λ x. ChecksPlanning old new domain.now problem.now x status) c done));
     checks_sas = λ e. absurd (apart (codes "check") (codes "check-sas") (λ m. omega (arith, m)) (sym is ∙ e));
+    judges = λ e. absurd (apart (codes "check") (codes "optimal") (λ m. omega (arith, m)) (sym is ∙ e));
     translates = λ e. absurd (apart (codes "check") (codes "translate") (λ m. omega (arith, m)) (sym is ∙ e));
     migrates = λ e. absurd (apart (codes "check") (codes "migrate-cert") (λ m. omega (arith, m)) (sym is ∙ e));
     solves = λ e. absurd (apart (codes "check") (codes "solve") (λ m. omega (arith, m)) (sym is ∙ e));
@@ -111,15 +116,30 @@ module _ (name : List ℕ) (value : List ℕ → Option (List ℕ)) (old new : L
     validates = λ e. absurd (apart (codes "check-sas") (codes "validate") (λ m. omega (arith, m)) (sym is ∙ e));
     checks = λ e. absurd (apart (codes "check-sas") (codes "check") (λ m. omega (arith, m)) (sym is ∙ e));
     checks_sas = λ e. subst (λ x. Checks old new x (operand value (codes "CERT")) status) s (subst (λ x. Checks old new sas.now x status) c done);
+    judges = λ e. absurd (apart (codes "check-sas") (codes "optimal") (λ m. omega (arith, m)) (sym is ∙ e));
     translates = λ e. absurd (apart (codes "check-sas") (codes "translate") (λ m. omega (arith, m)) (sym is ∙ e));
     migrates = λ e. absurd (apart (codes "check-sas") (codes "migrate-cert") (λ m. omega (arith, m)) (sym is ∙ e));
     solves = λ e. absurd (apart (codes "check-sas") (codes "solve") (λ m. omega (arith, m)) (sym is ∙ e));
     solves_sas = λ e. absurd (apart (codes "check-sas") (codes "solve-sas") (λ m. omega (arith, m)) (sym is ∙ e));
   }
+  does_files (Optimal domain problem plan cert) (is, d, p, l, c) done = record {
+    validates = λ e. absurd (apart (codes "optimal") (codes "validate") (λ m. omega (arith, m)) (sym is ∙ e));
+    checks = λ e. absurd (apart (codes "optimal") (codes "check") (λ m. omega (arith, m)) (sym is ∙ e));
+    checks_sas = λ e. absurd (apart (codes "optimal") (codes "check-sas") (λ m. omega (arith, m)) (sym is ∙ e));
+    judges = λ e. subst (λ x. JudgesOptimality old new x (operand value (codes "PROBLEM")) (operand value (codes "PLAN")) (operand value (codes "CERT")) status) d
+        (subst (λ x. JudgesOptimality old new domain.now x (operand value (codes "PLAN")) (operand value (codes "CERT")) status) p
+        (subst (λ x. JudgesOptimality old new domain.now problem.now x (operand value (codes "CERT")) status) l
+        (subst (λ x. JudgesOptimality old new domain.now problem.now plan.now x status) c done)));
+    translates = λ e. absurd (apart (codes "optimal") (codes "translate") (λ m. omega (arith, m)) (sym is ∙ e));
+    migrates = λ e. absurd (apart (codes "optimal") (codes "migrate-cert") (λ m. omega (arith, m)) (sym is ∙ e));
+    solves = λ e. absurd (apart (codes "optimal") (codes "solve") (λ m. omega (arith, m)) (sym is ∙ e));
+    solves_sas = λ e. absurd (apart (codes "optimal") (codes "solve-sas") (λ m. omega (arith, m)) (sym is ∙ e));
+  }
   does_files (Translate domain problem) (is, d, p) done = record {
     validates = λ e. absurd (apart (codes "translate") (codes "validate") (λ m. omega (arith, m)) (sym is ∙ e));
     checks = λ e. absurd (apart (codes "translate") (codes "check") (λ m. omega (arith, m)) (sym is ∙ e));
     checks_sas = λ e. absurd (apart (codes "translate") (codes "check-sas") (λ m. omega (arith, m)) (sym is ∙ e));
+    judges = λ e. absurd (apart (codes "translate") (codes "optimal") (λ m. omega (arith, m)) (sym is ∙ e));
     translates = λ e. subst (λ x. Translates old new x (operand value (codes "PROBLEM")) status) d (subst (λ x. Translates old new domain.now x status) p done);
     migrates = λ e. absurd (apart (codes "translate") (codes "migrate-cert") (λ m. omega (arith, m)) (sym is ∙ e));
     solves = λ e. absurd (apart (codes "translate") (codes "solve") (λ m. omega (arith, m)) (sym is ∙ e));
@@ -129,6 +149,7 @@ module _ (name : List ℕ) (value : List ℕ → Option (List ℕ)) (old new : L
     validates = λ e. absurd (apart (codes "migrate-cert") (codes "validate") (λ m. omega (arith, m)) (sym is ∙ e));
     checks = λ e. absurd (apart (codes "migrate-cert") (codes "check") (λ m. omega (arith, m)) (sym is ∙ e));
     checks_sas = λ e. absurd (apart (codes "migrate-cert") (codes "check-sas") (λ m. omega (arith, m)) (sym is ∙ e));
+    judges = λ e. absurd (apart (codes "migrate-cert") (codes "optimal") (λ m. omega (arith, m)) (sym is ∙ e));
     translates = λ e. absurd (apart (codes "migrate-cert") (codes "translate") (λ m. omega (arith, m)) (sym is ∙ e));
     migrates = λ e. subst (λ x. Migrates old new x status) c done;
     solves = λ e. absurd (apart (codes "migrate-cert") (codes "solve") (λ m. omega (arith, m)) (sym is ∙ e));

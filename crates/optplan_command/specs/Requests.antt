@@ -7,6 +7,7 @@ use Rattle.clap.specs.declared.error.kind.ErrorKind.{ErrorKind}
 use Rattle.clap.specs.declared.error.kind.ErrorKind.TheVariants.{DisplayHelp, DisplayVersion}
 use Rattle.optplan_device.specs.Events.{Event}
 use Rattle.optplan_replies.specs.declared.status.Status.{Status}
+use Rattle.optplan_optimal.specs.Running.{JudgesOptimality}
 use Rattle.optplan_command.specs.Validation.{Validates}
 use Rattle.optplan_command.specs.Checking.{Checks}
 use Rattle.optplan_command.specs.PlanningChecking.{ChecksPlanning}
@@ -23,6 +24,7 @@ pub record DoesRequest (name : List ℕ) (value : List ℕ → Option (List ℕ)
   pub validates : name ≡ codes "validate" → Validates old new (operand value (codes "DOMAIN")) (operand value (codes "PROBLEM")) (operand value (codes "PLAN")) status
   pub checks : name ≡ codes "check" → ChecksPlanning old new (operand value (codes "DOMAIN")) (operand value (codes "PROBLEM")) (operand value (codes "CERT")) status
   pub checks_sas : name ≡ codes "check-sas" → Checks old new (operand value (codes "SAS")) (operand value (codes "CERT")) status
+  pub judges : name ≡ codes "optimal" → JudgesOptimality old new (operand value (codes "DOMAIN")) (operand value (codes "PROBLEM")) (operand value (codes "PLAN")) (operand value (codes "CERT")) status
   pub translates : name ≡ codes "translate" → Translates old new (operand value (codes "DOMAIN")) (operand value (codes "PROBLEM")) status
   pub migrates : name ≡ codes "migrate-cert" → Migrates old new (operand value (codes "CERT")) status
   pub solves : name ≡ codes "solve" → SolvesByWords value old new status

@@ -8,6 +8,7 @@ ghost use Rattle.clap.specs.declared.error.kind.ErrorKind.TheVariants.{DisplayHe
 ghost use Rattle.pddl_names.specs.Names.{texts_of};
 ghost use Rattle.optplan_words.specs.Commands.{program};
 ghost use Rattle.optplan_device.specs.Events.{Event};
+ghost use Rattle.optplan_optimal.specs.Running.{AskForOptimality, JudgesOptimality};
 ghost use Rattle.optplan_command.specs.Validation.{AskForValidation, Validates};
 ghost use Rattle.optplan_command.specs.Checking.{AskForCheck, Checks};
 ghost use Rattle.optplan_command.specs.PlanningChecking.{AskForPlanningCheck, ChecksPlanning};
@@ -100,6 +101,9 @@ pub fn run<D: Device, R: Threads + Wait + Clock + Eprint + Sync + AllocGlobal>(
     ensures checks_planning { (h : List Event) (domain problem cert : List ℕ) → D.history device.old ≡ Some h →
         AskForPlanningCheck (texts_of words.now) domain problem cert → D.failure_count device.new ≡ D.failure_count device.old → result ≢ Status.OutOfMemory →
         (new : List Event) × (D.history device.new ≡ Some new) × ChecksPlanning h new domain problem cert result }
+    ensures judges { (h : List Event) (domain problem plan cert : List ℕ) → D.history device.old ≡ Some h →
+        AskForOptimality (texts_of words.now) domain problem plan cert → D.failure_count device.new ≡ D.failure_count device.old → result ≢ Status.OutOfMemory →
+        (new : List Event) × (D.history device.new ≡ Some new) × JudgesOptimality h new domain problem plan cert result }
     ensures translates { (h : List Event) (domain problem : List ℕ) → D.history device.old ≡ Some h →
         AskForTranslation (texts_of words.now) domain problem → D.failure_count device.new ≡ D.failure_count device.old → result ≢ Status.OutOfMemory →
         (new : List Event) × (D.history device.new ≡ Some new) × Translates h new domain problem result }

@@ -12,6 +12,7 @@ use crate::planning_check::run_planning_check;
 use crate::translation::run_translation;
 use crate::validation::run_validation;
 use optplan_device::Device;
+use optplan_optimal::run_optimality;
 use optplan_replies::Status;
 use std::thread::Threads;
 
@@ -35,6 +36,13 @@ pub(crate) enum FileCommand<'a> {
         sas: &'a str,
         cert: &'a str,
     },
+    /// Judges whether a plan is optimal.
+    Optimal {
+        domain: &'a str,
+        problem: &'a str,
+        plan: &'a str,
+        cert: &'a str,
+    },
     /// Translates a planning task.
     Translate {
         domain: &'a str,
@@ -53,6 +61,30 @@ fn is_operand(word: &str) -> bool
     match word.as_bytes() {
         [b'-', ..] => false,
         _ => true,
+    }
+}
+
+/// Returns the command of this name on four files, none of which starts with a hyphen, if there is one.
+fn plain_on_four<'a>(
+    command: &str,
+    first: &'a str,
+    second: &'a str,
+    third: &'a str,
+    fourth: &'a str,
+) -> Option<FileCommand<'a>>
+    ensures { (program : List ℕ) → IsRequested (program ∷ command.now ∷ first.now ∷ second.now ∷ third.now ∷ fourth.now ∷ []) result }
+{
+    if !is_operand(first) || !is_operand(second) || !is_operand(third) || !is_operand(fourth) {
+        return None;
+    }
+    match command {
+        "optimal" => Some(FileCommand::Optimal {
+            domain: first,
+            problem: second,
+            plan: third,
+            cert: fourth,
+        }),
+        _ => None,
     }
 }
 
@@ -120,6 +152,15 @@ pub(crate) fn plain_command(words: &[String]) -> Option<FileCommand<'_>>
     ensures { IsRequested (texts_of words.now) result }
 {
     match words {
+        [_, command, first, second, third, fourth] => {
+            plain_on_four(
+                command.as_str(),
+                first.as_str(),
+                second.as_str(),
+                third.as_str(),
+                fourth.as_str(),
+            )
+        }
         [_, command, first, second, third] => {
             plain_on_three(
                 command.as_str(),
@@ -158,6 +199,12 @@ pub(crate) fn run_files<D: Device, R: AllocGlobal + Threads + Sync>(
             cert,
         } => run_planning_check(rt, device, domain, problem, cert),
         FileCommand::CheckSas { sas, cert } => run_check(rt, device, sas, cert),
+        FileCommand::Optimal {
+            domain,
+            problem,
+            plan,
+            cert,
+        } => run_optimality(rt, device, domain, problem, plan, cert),
         FileCommand::Translate { domain, problem } => {
             run_translation(rt.alloc(), device, domain, problem)
         }

@@ -35,6 +35,12 @@ pub(crate) fn file_command<'a>(name: &str, words: &ArgMatches<'a>) -> Option<Fil
             sas: named(words, "SAS"),
             cert: named(words, "CERT"),
         }),
+        "optimal" => Some(FileCommand::Optimal {
+            domain: named(words, "DOMAIN"),
+            problem: named(words, "PROBLEM"),
+            plan: named(words, "PLAN"),
+            cert: named(words, "CERT"),
+        }),
         "translate" => Some(FileCommand::Translate {
             domain: named(words, "DOMAIN"),
             problem: named(words, "PROBLEM"),

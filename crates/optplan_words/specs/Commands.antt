@@ -55,6 +55,9 @@ check = command (codes "check") (operand (codes "DOMAIN") ∷ operand (codes "PR
 abbrev pub check_sas : Shape
 check_sas = command (codes "check-sas") (operand (codes "SAS") ∷ operand (codes "CERT") ∷ [])
 
+abbrev pub optimal : Shape
+optimal = command (codes "optimal") (operand (codes "DOMAIN") ∷ operand (codes "PROBLEM") ∷ operand (codes "PLAN") ∷ operand (codes "CERT") ∷ [])
+
 abbrev pub translate : Shape
 translate = command (codes "translate") (operand (codes "DOMAIN") ∷ operand (codes "PROBLEM") ∷ [])
 
@@ -81,7 +84,7 @@ bare_program = record (new_shape (codes "optplan")) {
 abbrev pub program : App
 program = record {
   top = record bare_program { is_leaf = false };
-  subs = validate ∷ check_sas ∷ check ∷ translate ∷ solve (codes "solve") ∷ solve_sas (codes "solve-sas") ∷ migrate_cert ∷ [];
+  subs = validate ∷ check_sas ∷ check ∷ optimal ∷ translate ∷ solve (codes "solve") ∷ solve_sas (codes "solve-sas") ∷ migrate_cert ∷ [];
 }
 
 -- ---- properties of commands and arguments

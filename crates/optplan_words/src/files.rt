@@ -55,6 +55,30 @@ for them, and prints one line:
 Variables, columns, tables, states and operators count from 0. A text that cannot be read is refused with one line on
 standard error (status 1).";
 
+const OPTIMAL_ABOUT: &str =
+    "Validates a plan, and checks that a certificate proves that no valid plan is cheaper";
+
+const OPTIMAL_LONG: &str =
+    "Validates a plan, and checks that a certificate proves that no valid plan is cheaper, whoever wrote the two.
+
+Reads a domain and a problem in PDDL 2.1 level 1 with types, negative preconditions and action costs, a plan with one
+(name arguments) a step, and a certificate for the domain and the problem, and prints one line:
+
+  optimal N                   the plan is valid and costs N, and every valid plan costs at least N (status 0)
+  valid N, at least B         the plan is valid and costs N, and every valid plan costs at least B, which is less (status 3)
+  valid N, rejected CLAUSE PLACE
+                              the plan is valid and costs N, and the certificate fails in this clause, C1 to C8, at this
+                              place (status 3)
+
+A plan that is not valid has the line that validate prints (status 3), and the certificate is not judged. A plan file that
+consists of the line unsolvable claims that there is no valid plan. Then the line is one of these:
+
+  unsolvable                  there is no valid plan (status 4)
+  at least B                  every valid plan costs at least B (status 3)
+  rejected CLAUSE PLACE       the certificate fails in this clause, C1 to C8, at this place (status 3)
+
+A text that cannot be read is refused with one line on standard error (status 1).";
+
 const TRANSLATE_ABOUT: &str =
     "Translates a planning task to a finite-domain task with the same plans";
 
@@ -106,6 +130,19 @@ pub(crate) fn check_sas_command<'a>(alloc: Global) -> Result<Command<'a>, AllocE
         .about(CHECK_SAS_ABOUT)
         .long_about(CHECK_SAS_LONG);
     let command = with_arg(command, file(alloc, "SAS", "The task's file"))?;
+    with_arg(command, file(alloc, "CERT", "The certificate's file"))
+}
+
+/// Returns the command `optimal`.
+pub(crate) fn optimal_command<'a>(alloc: Global) -> Result<Command<'a>, AllocError>
+    ensures { IfOk result (IsCommand spec.optimal) }
+{
+    let command = Command::new(alloc, "optimal")
+        .about(OPTIMAL_ABOUT)
+        .long_about(OPTIMAL_LONG);
+    let command = with_arg(command, file(alloc, "DOMAIN", "The domain's file"))?;
+    let command = with_arg(command, file(alloc, "PROBLEM", "The problem's file"))?;
+    let command = with_arg(command, file(alloc, "PLAN", "The plan's file"))?;
     with_arg(command, file(alloc, "CERT", "The certificate's file"))
 }
 

@@ -7,7 +7,8 @@ ghost use Rattle.optplan_words.specs.Commands as spec;
 ghost use Rattle.optplan_words.specs.Commands.{program, IsCommand};
 
 use crate::files::{
-    check_command, check_sas_command, migrate_cert_command, translate_command, validate_command,
+    check_command, check_sas_command, migrate_cert_command, optimal_command, translate_command,
+    validate_command,
 };
 use crate::solving::{solve_command, solve_sas_command};
 use clap::{ArgMatches, Command, Error};
@@ -39,6 +40,7 @@ fn program_command<'a>(alloc: Global) -> Result<Command<'a>, AllocError>
     let program = program.subcommand(validate_command(alloc)?)?;
     let program = program.subcommand(check_sas_command(alloc)?)?;
     let program = program.subcommand(check_command(alloc)?)?;
+    let program = program.subcommand(optimal_command(alloc)?)?;
     let program = program.subcommand(translate_command(alloc)?)?;
     let program = program.subcommand(solve_command(alloc, "solve")?)?;
     let program = program.subcommand(solve_sas_command(alloc, "solve-sas")?)?;

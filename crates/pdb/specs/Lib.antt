@@ -3,3 +3,4 @@ pub mod Queues
 pub mod Saturations
 pub mod Searches
 pub mod Jobs
+pub mod Numbers

@@ -5,6 +5,7 @@
 #![tactic(auto)]
 
 mod jobs;
+mod kept;
 mod least;
 mod queue;
 mod saturation;

@@ -4,31 +4,62 @@ ghost use Rattle.std.specs.Prelude.{◌≡◌, ℕ, ◌^◌, ◌<◌, ◌≤◌,
 ghost use Rattle.cost.specs.Distances.{Finite};
 ghost use Rattle.fdr.specs.Tasks.{FiniteDomainTask};
 ghost use Rattle.pdb_walks.specs.Walks.{AreDistances, IsGreatestFall, value_in, fall};
-ghost use Rattle.abstraction_groups.specs.Entrances.{LeadsTo};
+ghost use Rattle.abstraction_groups.specs.Entrances.{AreEntering, LeadsTo};
 ghost use Rattle.pdb.specs.Saturations.{AreFalls, AreFull, AreWithin, IsCoveredAt};
+ghost use Rattle.pdb.specs.Numbers.{distance_in};
 
+use crate::kept::{as_numbers, distance_of};
 use crate::least::{set_least, shares_by_class};
 use abstraction_groups::{BackwardAbstraction, BackwardTransitions, Transition};
 use cert_value::Values;
 use std::alloc::{AllocError, Global};
 
 /// Returns by how much `value` is below the value of a state, and 0 if it is not below or that value is infinite.
-fn fall_from(values: &Values, state: usize, value: u64) -> u32
+fn fall_from(values: &[u64], state: usize, value: u64) -> u32
     requires state { state < length values.now }
-    requires small { fall (value_in values.now state) (Finite value) < 2 ^ 32 }
-    ensures { result ≡ fall (value_in values.now state) (Finite value) }
+    requires small { fall (distance_in values.now state) (Finite value) < 2 ^ 32 }
+    ensures { result ≡ fall (distance_in values.now state) (Finite value) }
 {
-    match values.get(state).get() {
+    match distance_of(values[state]).get() {
         Some(from) => from.saturating_sub(value) as u32,
         None => 0,
     }
 }
 
+/// Raises the numbers of the classes to the decreases of the values over these transitions, which are those into a
+/// state with this value.
+fn raise<T: BackwardTransitions>(
+    transitions: &T,
+    values: &[u64],
+    state: usize,
+    value: u64,
+    entering: &[Transition],
+    greatest: &mut [u32],
+)
+    requires len { length greatest.old ≡ (T.classes transitions.now).count }
+    requires values { length values.now ≡ (T.abstraction transitions.now).size }
+    requires state { state < (T.abstraction transitions.now).size }
+    requires value { distance_in values.now state ≡ Finite value }
+    requires entering { AreEntering (T.abstraction transitions.now) (T.classes transitions.now) state entering.now }
+    requires falls { (o i c : ℕ) → (T.classes transitions.now).class o ≡ Some c → LeadsTo (T.abstraction transitions.now) o i state →
+        fall (distance_in values.now i) (distance_in values.now state) < 2 ^ 32 }
+    requires reached { AreFalls (T.abstraction transitions.now) (T.classes transitions.now) (distance_in values.now) greatest.old }
+    ensures reached { AreFalls (T.abstraction transitions.now) (T.classes transitions.now) (distance_in values.now) greatest.new }
+    ensures kept { (c : ℕ) → slice_index greatest.old c ≤ slice_index greatest.new c }
+    ensures covered { IsCoveredAt (T.abstraction transitions.now) (T.classes transitions.now) (distance_in values.now) state greatest.new }
+{
+    for transition in entering {
+        let class = transition.class as usize;
+        let fall = fall_from(values, transition.source as usize, value);
+        greatest[class] = greatest[class].max(fall);
+    }
+}
+
 /// Raises the numbers of the classes to the decreases of the values over the transitions into one state. `digits` and
-/// `entering` are buffers.
+/// `entering` are buffers, for transitions that are not stored.
 fn cover<T: BackwardTransitions>(
     transitions: &T,
-    values: &Values,
+    values: &[u64],
     state: usize,
     greatest: &mut [u32],
     digits: &mut Vec<u32>,
@@ -38,23 +69,23 @@ fn cover<T: BackwardTransitions>(
     requires values { length values.now ≡ (T.abstraction transitions.now).size }
     requires state { state < (T.abstraction transitions.now).size }
     requires falls { (o i c : ℕ) → (T.classes transitions.now).class o ≡ Some c → LeadsTo (T.abstraction transitions.now) o i state →
-        fall (value_in values.now i) (value_in values.now state) < 2 ^ 32 }
-    requires reached { AreFalls (T.abstraction transitions.now) (T.classes transitions.now) (value_in values.now) greatest.old }
+        fall (distance_in values.now i) (distance_in values.now state) < 2 ^ 32 }
+    requires reached { AreFalls (T.abstraction transitions.now) (T.classes transitions.now) (distance_in values.now) greatest.old }
     ensures reached { OnOk result
-        (AreFalls (T.abstraction transitions.now) (T.classes transitions.now) (value_in values.now) greatest.new) }
+        (AreFalls (T.abstraction transitions.now) (T.classes transitions.now) (distance_in values.now) greatest.new) }
     ensures kept { OnOk result ((c : ℕ) → slice_index greatest.old c ≤ slice_index greatest.new c) }
     ensures covered { OnOk result
-        (IsCoveredAt (T.abstraction transitions.now) (T.classes transitions.now) (value_in values.now) state greatest.new) }
+        (IsCoveredAt (T.abstraction transitions.now) (T.classes transitions.now) (distance_in values.now) state greatest.new) }
 {
-    let Some(value) = values.get(state).get() else {
+    let Some(value) = distance_of(values[state]).get() else {
         return Ok(());
     };
-    transitions.entering(state, digits, entering)?;
-    for transition in &*entering {
-        let class = transition.class as usize;
-        let fall = fall_from(values, transition.source as usize, value);
-        greatest[class] = greatest[class].max(fall);
+    if let Some(stored) = transitions.stored(state) {
+        raise(transitions, values, state, value, stored, greatest);
+        return Ok(());
     }
+    transitions.entering(state, digits, entering)?;
+    raise(transitions, values, state, value, entering, greatest);
     Ok(())
 }
 
@@ -81,7 +112,7 @@ fn first_below(greatest: &[u32], least: &[u32], first: usize) -> usize
 /// buffers for `cover`.
 fn cover_all<T: BackwardTransitions>(
     transitions: &T,
-    values: &Values,
+    values: &[u64],
     least: &[u32],
     greatest: &mut [u32],
     digits: &mut Vec<u32>,
@@ -90,12 +121,12 @@ fn cover_all<T: BackwardTransitions>(
     requires len { length greatest.old ≡ (T.classes transitions.now).count }
     requires least_len { length least.now ≡ (T.classes transitions.now).count }
     requires values { length values.now ≡ (T.abstraction transitions.now).size }
-    requires falls { AreWithin (T.abstraction transitions.now) (T.classes transitions.now) (value_in values.now) least.now }
-    requires reached { AreFalls (T.abstraction transitions.now) (T.classes transitions.now) (value_in values.now) greatest.old }
+    requires falls { AreWithin (T.abstraction transitions.now) (T.classes transitions.now) (distance_in values.now) least.now }
+    requires reached { AreFalls (T.abstraction transitions.now) (T.classes transitions.now) (distance_in values.now) greatest.old }
     ensures reached { OnOk result
-        (AreFalls (T.abstraction transitions.now) (T.classes transitions.now) (value_in values.now) greatest.new) }
+        (AreFalls (T.abstraction transitions.now) (T.classes transitions.now) (distance_in values.now) greatest.new) }
     ensures covered { OnOk result ((j : ℕ) → j < (T.abstraction transitions.now).size →
-        IsCoveredAt (T.abstraction transitions.now) (T.classes transitions.now) (value_in values.now) j greatest.new) }
+        IsCoveredAt (T.abstraction transitions.now) (T.classes transitions.now) (distance_in values.now) j greatest.new) }
 {
     let mut first = 0;
     for state in 0..values.len() {
@@ -113,7 +144,7 @@ fn cover_all<T: BackwardTransitions>(
 /// `digits` and the list of transitions are buffers.
 pub(crate) fn set_greatest<T: BackwardTransitions>(
     transitions: &T,
-    values: &Values,
+    values: &[u64],
     least: &[u32],
     greatest: &mut Vec<u32>,
     digits: &mut Vec<u32>,
@@ -121,12 +152,12 @@ pub(crate) fn set_greatest<T: BackwardTransitions>(
 ) -> Result<(), AllocError>
     requires least_len { length least.now ≡ (T.classes transitions.now).count }
     requires values { length values.now ≡ (T.abstraction transitions.now).size }
-    requires falls { AreWithin (T.abstraction transitions.now) (T.classes transitions.now) (value_in values.now) least.now }
+    requires falls { AreWithin (T.abstraction transitions.now) (T.classes transitions.now) (distance_in values.now) least.now }
     ensures len { OnOk result (length greatest.new.items ≡ (T.classes transitions.now).count) }
     ensures reached { OnOk result
-        (AreFalls (T.abstraction transitions.now) (T.classes transitions.now) (value_in values.now) greatest.new.items) }
+        (AreFalls (T.abstraction transitions.now) (T.classes transitions.now) (distance_in values.now) greatest.new.items) }
     ensures covered { OnOk result ((j : ℕ) → j < (T.abstraction transitions.now).size →
-        IsCoveredAt (T.abstraction transitions.now) (T.classes transitions.now) (value_in values.now) j greatest.new.items) }
+        IsCoveredAt (T.abstraction transitions.now) (T.classes transitions.now) (distance_in values.now) j greatest.new.items) }
 {
     greatest.clear();
     greatest.resize(least.len(), 0)?;
@@ -152,12 +183,13 @@ pub fn saturate<A: BackwardAbstraction>(
     let transitions = abstraction.transitions();
     let mut least = Vec::new(alloc);
     set_least(transitions, shares, u32::MAX, &mut least)?;
+    let numbers = as_numbers(alloc, values)?;
     let mut greatest = Vec::new(alloc);
     let mut digits = Vec::new(alloc);
     let mut entering = Vec::new(alloc);
     set_greatest(
         transitions,
-        values,
+        &numbers,
         &least,
         &mut greatest,
         &mut digits,

@@ -1,7 +1,13 @@
 //! Memory that is reused from one table to the next.
 
+ghost use Rattle.std.specs.Prelude.{◌≡◌, ◌<◌, ◌==◌, length, slice_get, Some, IfOk};
+ghost use Rattle.pdb.specs.Numbers.{distances_in};
+
+use crate::kept::{as_distances, distance_of};
 use crate::queue::Queue;
 use abstraction_groups::Transition;
+use cert_value::Values;
+use cost::Dist;
 use std::alloc::{AllocError, Global};
 
 /// Memory that computations of tables reuse, one after another. No result depends on its content. It grows with the
@@ -34,5 +40,34 @@ impl Scratch {
             digits: Vec::new(alloc),
             entering: Vec::new(alloc),
         })
+    }
+
+    /// Returns the number of abstract states of the last search.
+    pub fn len(&self) -> usize
+        ensures { result ≡ length (distances_in self.now) }
+    {
+        self.values.len()
+    }
+
+    /// Returns whether there was no search yet.
+    pub fn is_empty(&self) -> bool
+        ensures { result ≡ (length (distances_in self.now) == 0) }
+    {
+        self.values.is_empty()
+    }
+
+    /// Returns the distance of an abstract state that the last search found.
+    pub fn distance(&self, state: usize) -> Dist
+        requires { state < length (distances_in self.now) }
+        ensures { slice_get (distances_in self.now) state ≡ Some result }
+    {
+        distance_of(self.values[state])
+    }
+
+    /// Returns the distances that the last search found, in the order of the abstract states.
+    pub fn distances(&self, alloc: Global) -> Result<Values, AllocError>
+        ensures { IfOk result (λ values. values ≡ distances_in self.now) }
+    {
+        as_distances(alloc, &self.values)
     }
 }

@@ -4,16 +4,17 @@ ghost use Rattle.std.specs.Prelude.{◌≡◌, [], ℕ, ◌+◌, ◌^◌, ◌<�
 ghost use Rattle.cost.specs.Distances.{IsWithin};
 ghost use Rattle.fdr.specs.Tasks.{FiniteDomainTask};
 ghost use Rattle.cert_value.specs.Kept.{kept_distance};
+ghost use Rattle.abstraction_groups.specs.Entrances.{AreEntering};
 ghost use Rattle.pdb_walks.specs.Walks.{AreDistances};
 ghost use Rattle.pdb.specs.Classes.{share_by, AreLeast};
 ghost use Rattle.pdb.specs.Searches.{IsSearch, IsSearchBut, HasLowered, work};
 
+use crate::kept::as_distances;
 use crate::least::set_least;
 use crate::queue::Queue;
 use crate::scratch::Scratch;
 use abstraction_groups::{BackwardAbstraction, BackwardTransitions, Transition};
 use cert_value::Values;
-use cost::Dist;
 use std::alloc::{AllocError, Global};
 
 /// The greatest share of an operator.
@@ -68,8 +69,34 @@ fn lower(values: &mut [u64], queue: &mut Queue, state: u32, value: u64) -> Resul
     Ok(())
 }
 
-/// Relaxes all transitions into a state: lowers the values of the states that they come from. `least` has the share of
-/// each class of operators. `digits` and `entering` are buffers.
+/// Relaxes these transitions, which are those into a state: lowers the values of the states that they come from.
+/// `least` has the share of each class of operators.
+fn relax<T: BackwardTransitions>(
+    transitions: &T,
+    least: &[u32],
+    values: &mut [u64],
+    queue: &mut Queue,
+    state: usize,
+    entering: &[Transition],
+) -> Result<(), AllocError>
+    requires classes { length least.now ≡ (T.classes transitions.now).count }
+    requires small { (c : ℕ) → slice_index least.now c < 2 ^ 31 }
+    requires entering { AreEntering (T.abstraction transitions.now) (T.classes transitions.now) state entering.now }
+    requires search { IsSearchBut (T.abstraction transitions.now) (share_by (T.classes transitions.now) least.now)
+        values.old queue.old state }
+    ensures search { OnOk result (IsSearch (T.abstraction transitions.now) (share_by (T.classes transitions.now) least.now)
+        values.new queue.new) }
+    ensures work { OnOk result (work values.new queue.new ≤ work values.old queue.old) }
+{
+    let value = values[state];
+    for transition in entering {
+        let total = value + u64::from(least[transition.class as usize]);
+        lower(values, queue, transition.source, total)?;
+    }
+    Ok(())
+}
+
+/// Relaxes all transitions into a state. `digits` and `entering` are buffers, for transitions that are not stored.
 fn expand<T: BackwardTransitions>(
     transitions: &T,
     least: &[u32],
@@ -87,13 +114,11 @@ fn expand<T: BackwardTransitions>(
         values.new queue.new) }
     ensures work { OnOk result (work values.new queue.new ≤ work values.old queue.old) }
 {
-    transitions.entering(state, digits, entering)?;
-    let value = values[state];
-    for transition in &*entering {
-        let total = value + u64::from(least[transition.class as usize]);
-        lower(values, queue, transition.source, total)?;
+    if let Some(stored) = transitions.stored(state) {
+        return relax(transitions, least, values, queue, state, stored);
     }
-    Ok(())
+    transitions.entering(state, digits, entering)?;
+    relax(transitions, least, values, queue, state, entering)
 }
 
 /// Removes entries from the queue and relaxes the transitions into their states until the queue is empty. An entry is
@@ -121,17 +146,6 @@ fn settle<T: BackwardTransitions>(
         }
     }
     Ok(())
-}
-
-/// Returns the values as distances.
-pub(crate) fn as_distances(alloc: Global, values: &[u64]) -> Result<Values, AllocError>
-    ensures { IfOk result (λ distances. distances ≡ map kept_distance values.now) }
-{
-    let mut distances = Values::new(alloc);
-    for value in values {
-        distances.push(Dist::fin(*value).unwrap_or(Dist::inf()))?;
-    }
-    Ok(distances)
 }
 
 /// Finds the distance of each abstract state under `shares`, which has a share below 2^31 for each operator of the

@@ -2,41 +2,21 @@
 use Rattle.std.proofs.Common.{◌≡◌, ℕ, ◌*◌, ◌^◌, ◌<◌, ◌≤◌, List, [], ◌∷◌, map, refl, ap, ◌∙◌, arith}
 use Rattle.std.specs.Prelude.{All, slice_index}
 use Rattle.std.proofs.lemmas.List.Elements.{All-head, All-tail, All-cons, All-nil}
-use Rattle.std.proofs.lemmas.Nat.{mul-le}
 use Rattle.fdr.specs.Tasks.{ranges}
 use Rattle.abstraction.specs.Projections.{Projection, size_of}
 use Rattle.abstraction.specs.Digits.{IsDigitBelow, digits_from}
 use Rattle.abstraction_groups.specs.declared.change.DigitChange.{DigitChange}
 use Rattle.abstraction_groups.specs.Changes.{size_by}
 use Rattle.abstraction_groups.specs.FactorLaws.{projection_factored}
+use Rattle.abstraction_groups.proofs.FitLaws.{digit_below, next_weight}
 use Rattle.pdb_regression.specs.Tables.{IsAlong}
 
 module _ (rs : List ℕ) where
-  size_positive : (ps : List ℕ) → All (λ p. 0 < slice_index rs p) ps → 0 < size_of rs ps
-  size_positive [] all = omega arith
-  size_positive (p ∷ ps) all =
-      let some = All-head (λ p. 0 < slice_index rs p) p ps all in
-      let rest = size_positive ps (All-tail (λ p. 0 < slice_index rs p) p ps all) in
-      omega (arith, mul-le 1 1 (slice_index rs p) (size_of rs ps) (omega arith) (omega arith))
-
-  digit_below : (w p : ℕ) (ps : List ℕ) → 0 < w → All (λ p. 0 < slice_index rs p) (p ∷ ps) → w * size_of rs (p ∷ ps) ≤ 2 ^ 24 → IsDigitBelow (2 ^ 24) (record { weight = w; range = slice_index rs p })
-  digit_below w p ps l all small =
-      let rest = size_positive ps (All-tail (λ p. 0 < slice_index rs p) p ps all) in
-      record {
-        weight = l;
-        range = All-head (λ p. 0 < slice_index rs p) p ps all;
-        within = omega (arith, mul-le (slice_index rs p * w) 1 (slice_index rs p * w) (size_of rs ps) (omega arith) (omega arith));
-      }
-
-  next_weight : (w p : ℕ) (ps : List ℕ) → 0 < w → All (λ p. 0 < slice_index rs p) (p ∷ ps) → 0 < w * slice_index rs p
-  next_weight w p ps l all =
-      let some = All-head (λ p. 0 < slice_index rs p) p ps all in omega (arith, mul-le 1 1 w (slice_index rs p) (omega arith) (omega arith))
-
   pub digits_fit : (w : ℕ) (ps : List ℕ) → 0 < w → All (λ p. 0 < slice_index rs p) ps → w * size_of rs ps ≤ 2 ^ 24 → All (IsDigitBelow (2 ^ 24)) (digits_from rs w ps)
   digits_fit w [] l all small = All-nil (IsDigitBelow (2 ^ 24))
   digits_fit w (p ∷ ps) l all small =
-      All-cons (IsDigitBelow (2 ^ 24)) (record { weight = w; range = slice_index rs p }) (digits_from rs (w * slice_index rs p) ps) (digit_below w p ps l all small)
-      (digits_fit (w * slice_index rs p) ps (next_weight w p ps l all) (All-tail (λ p. 0 < slice_index rs p) p ps all) (omega arith))
+      All-cons (IsDigitBelow (2 ^ 24)) (record { weight = w; range = slice_index rs p }) (digits_from rs (w * slice_index rs p) ps) (digit_below rs w p ps l all small)
+      (digits_fit (w * slice_index rs p) ps (next_weight rs w p ps l all) (All-tail (λ p. 0 < slice_index rs p) p ps all) (omega arith))
 
 pub projection_digits : (p : Projection) → All (IsDigitBelow (2 ^ 24)) (digits_from (ranges p.task) 1 p.pattern)
 projection_digits p = let small = p.small in digits_fit (ranges p.task) 1 p.pattern (omega arith) (projection_factored p).positive (omega arith)

@@ -14,8 +14,8 @@ use Rattle.abstraction.specs.ProjectionLaws.{quotient, remainder}
 use Rattle.abstraction_groups.specs.declared.change.Change.{Change}
 use Rattle.abstraction_groups.specs.declared.change.Change.TheVariants.{Kept, Required, Moved, Assigned}
 use Rattle.abstraction_groups.specs.declared.change.DigitChange.{DigitChange}
-use Rattle.abstraction_groups.specs.Changes.{LeadsAt, LeadsBy, FitsIn, IsFit, size_by}
-use Rattle.pdb_regression.specs.Changes.{enters_at, enters_digit, put_at, taken_at, is_assigned}
+use Rattle.abstraction_groups.specs.Changes.{LeadsAt, LeadsBy, FitsIn, IsFit, size_by, is_assigned}
+use Rattle.pdb_regression.specs.Changes.{enters_at, enters_digit, put_at, taken_at}
 use Rattle.abstraction_groups.specs.Pairs.{IsChain, IsRow}
 use Rattle.pdb_regression.specs.Rules.{unpacked, put_by, taken_by, free_in, IsWith}
 use Rattle.abstraction_groups.specs.declared.backward.Transition.{Transition}

@@ -1,5 +1,5 @@
 -- What the change of a value says of the abstract states that an operator enters.
-use Rattle.std.specs.Prelude.{ℕ, Bool, true, false, ◌==◌, Option, Some, None}
+use Rattle.std.specs.Prelude.{ℕ, Bool, true, ◌==◌, Option, Some, None}
 use Rattle.abstraction.specs.Digits.{value_of}
 use Rattle.abstraction_groups.specs.declared.change.Change.{Change}
 use Rattle.abstraction_groups.specs.declared.change.Change.TheVariants.{Kept, Required, Moved, Assigned}
@@ -34,10 +34,3 @@ taken_at Kept = 0
 taken_at (Required c) = 0
 taken_at (Moved from to) = from
 taken_at (Assigned e) = 0
-
--- whether there is an effect alone, so that the variable may have any value before, whatever it has after
-abbrev pub is_assigned : Change → Bool
-is_assigned Kept = false
-is_assigned (Required c) = false
-is_assigned (Moved from to) = false
-is_assigned (Assigned e) = true

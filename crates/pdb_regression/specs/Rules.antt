@@ -2,7 +2,8 @@
 use Rattle.std.specs.Prelude.{◌≡◌, ℕ, ◌+◌, ◌*◌, ◌/◌, ◌%◌, ◌<◌, if◌then◌else◌, List, [], ◌∷◌}
 use Rattle.abstraction.specs.declared.digit.Digit.{Digit}
 use Rattle.abstraction_groups.specs.declared.change.DigitChange.{DigitChange}
-use Rattle.pdb_regression.specs.Changes.{put_at, taken_at, is_assigned}
+use Rattle.abstraction_groups.specs.Changes.{is_assigned}
+use Rattle.pdb_regression.specs.Changes.{put_at, taken_at}
 use Rattle.pdb_regression.specs.Words.{mask_by, want_by}
 use Rattle.abstraction_groups.specs.Pairs.{IsRow}
 

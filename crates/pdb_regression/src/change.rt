@@ -58,13 +58,3 @@ pub(crate) fn value_taken(change: Change) -> u32
         Change::Kept | Change::Required(_) | Change::Assigned(_) => 0,
     }
 }
-
-/// Returns whether there is an effect alone, so that the variable may have any value before the change.
-pub(crate) fn sets_any_value(change: Change) -> bool
-    ensures { result ≡ spec.is_assigned change }
-{
-    match change {
-        Change::Assigned(_) => true,
-        Change::Kept | Change::Required(_) | Change::Moved { .. } => false,
-    }
-}

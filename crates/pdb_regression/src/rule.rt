@@ -13,7 +13,7 @@ ghost use Rattle.pdb_regression.specs.Words.{word_by};
 ghost use Rattle.abstraction_groups.specs.Pairs.{IsRow};
 ghost use Rattle.pdb_regression.specs.Tables.{no_change};
 
-use crate::change::{mask_of, sets_any_value, value_asked, value_put, value_taken, value_wanted};
+use crate::change::{mask_of, value_asked, value_put, value_taken, value_wanted};
 use crate::word::room_of;
 use abstraction::Digit;
 use abstraction_groups::{DigitChange, Transition};
@@ -81,7 +81,7 @@ fn add_free(changes: &[DigitChange], free: &mut Vec<Digit>) -> Result<(), AllocE
     let [change, others @ ..] = changes else {
         return Ok(());
     };
-    if sets_any_value(change.change) {
+    if change.change.sets_any_value() {
         free.push(change.digit)?;
     }
     add_free(others, free)

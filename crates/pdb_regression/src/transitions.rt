@@ -163,6 +163,10 @@ impl<'a> BackwardTransitions for ProjectionTransitions<'a> {
         self.groups.operators_of(class)
     }
 
+    fn stored(&self, _: usize) -> Option<&[Transition]> {
+        None
+    }
+
     fn entering(
         &self,
         abstract_state: usize,

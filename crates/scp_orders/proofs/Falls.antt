@@ -1,6 +1,6 @@
 -- The greatest decrease of a value over an operator's transitions, and costs from which it is subtracted.
 use Rattle.std.proofs.Common.{◌≡◌, ℕ, zero, suc, ◌-◌, ◌<◌, ◌≤◌, ◌^◌, List, Option, Some, None, Result, Ok, Err, refl, subst, inl, inr, ⊎_elim, arith}
-use Rattle.std.specs.Prelude.{◌⊎◌, IfSome, IsSomeAnd, IfOk, OnErr, slice_index}
+use Rattle.std.specs.Prelude.{◌⊎◌, IfSome, IsSomeAnd, OnOk, OnErr, slice_index}
 use Rattle.std.proofs.lemmas.Bool.{cases_lt}
 use Rattle.cost.specs.Distances.{Distance}
 use Rattle.abstraction.specs.Abstractions.{Abstraction}
@@ -65,9 +65,9 @@ module _ (a : Abstraction) (value : ℕ → Distance) (o : ℕ) where
       omega (arith, each g.most (record { upper = g.upper; reached = g.reached }))
 
 -- costs from which saturated shares are subtracted, or that are unchanged, stay small
-pub still_small : {E : Type 0} (a : Abstraction) (before after : List ℕ) (result : Result (List Distance) E)
-    → IfOk result (λ values. (o n : ℕ) → IsGreatestFall a (value_in values) o n → slice_index after o ≡ slice_index before o - n)
+pub still_small : {T E : Type 0} (a : Abstraction) (values : List Distance) (before after : List ℕ) (result : Result T E)
+    → OnOk result ((o n : ℕ) → IsGreatestFall a (value_in values) o n → slice_index after o ≡ slice_index before o - n)
     → OnErr result (after ≡ before) → ((o : ℕ) → slice_index before o < 2 ^ 31) → (o : ℕ) → slice_index after o < 2 ^ 31
-still_small a before after (Ok values) less same small o =
+still_small a values before after (Ok made) less same small o =
     omega (arith, left_at_most a (value_in values) o (slice_index before o) (slice_index after o) (less o), small o)
-still_small a before after (Err e) less same small o = rw same (small o)
+still_small a values before after (Err e) less same small o = rw same (small o)

@@ -1,4 +1,5 @@
 pub mod ForColumns
 mod Falls
 mod OrderLists
+mod Prepared
 mod Successors

@@ -41,8 +41,11 @@ pub(crate) fn evaluate_all<R: Threads + Sync>(
             candidate.evaluate(setting);
         }
     } else {
-        par_for_each_mut(rt, batch, |_: usize, candidate: &mut Candidate| {
-            candidate.evaluate(setting);
+        // a thread for each, since some take much longer than others
+        par_chunks_mut_for_each(rt, batch, 1, |_: usize, candidates: &mut [Candidate]| {
+            for candidate in candidates.iter_mut() {
+                candidate.evaluate(setting);
+            }
         });
     }
 }

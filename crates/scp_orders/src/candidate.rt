@@ -2,11 +2,9 @@
 
 ghost use Rattle.std.specs.Prelude.{◌≡◌, ℕ, ◌<◌, ◌^◌, length, slice_index, OnOk};
 
-use crate::entry::value_at;
 use crate::orders::MAX_TABLES;
 use crate::pool::Pool;
 use crate::samples::Samples;
-use cert_value::Values;
 use pdb::Scratch;
 use std::alloc::{AllocError, Global};
 
@@ -43,21 +41,28 @@ pub(crate) struct Candidate {
     scratch: Scratch,
 }
 
-/// Returns whether a finite value is positive.
-fn has_positive(values: &Values) -> bool {
-    for state in 0..values.len() {
-        if values.get(state).get().is_some_and(|value| value > 0) {
+/// Returns whether a finite distance is positive.
+fn has_positive(scratch: &Scratch) -> bool {
+    for state in 0..scratch.len() {
+        if scratch
+            .distance(state)
+            .get()
+            .is_some_and(|distance| distance > 0)
+        {
             return true;
         }
     }
     false
 }
 
-/// Adds the values of a table to those of the samples, which have these abstract states.
-fn add_values(sums: &mut [u64], values: &Values, abstract_states: &[u32]) {
-    for sample in 0..sums.len().min(abstract_states.len()) {
-        let value = value_at(values, abstract_states[sample]).unwrap_or(0);
-        sums[sample] = sums[sample].saturating_add(value);
+/// Adds the distances to the values of the samples, which have these abstract states.
+fn add_distances(values: &mut [u64], scratch: &Scratch, abstract_states: &[u32]) {
+    for (value, state) in values.iter_mut().zip(abstract_states) {
+        let state = *state as usize;
+        if state < scratch.len() {
+            let distance = scratch.distance(state).get().unwrap_or(0);
+            *value = value.saturating_add(distance);
+        }
     }
 }
 
@@ -89,12 +94,12 @@ impl Column {
         if !entry.listed.has_cost(left) {
             return Ok(());
         }
-        let values = entry.listed.table(setting.alloc, left, scratch)?;
+        entry.listed.take_table(left, scratch)?;
         self.steps = self.steps.saturating_add(entry.steps);
-        if has_positive(&values) {
+        if has_positive(scratch) {
             self.order.push(index)?;
             if let Some(abstract_states) = setting.samples.abstract_states.get(index) {
-                add_values(&mut self.values, &values, abstract_states);
+                add_distances(&mut self.values, scratch, abstract_states);
             }
         }
         Ok(())

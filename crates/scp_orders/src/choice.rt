@@ -8,7 +8,7 @@ ghost use Rattle.scp_orders.specs.Orders.{AreOrders, IsChoice, mappings_of};
 use crate::candidate::{Candidate, Column, Setting};
 use crate::dead_ends::{append_dead_ends, first_dead_end};
 use crate::diversifier::{Diversifier, Effort, positive_entries, raise};
-use crate::greedy::greedy_order;
+use crate::greedy::set_greedy_order;
 use crate::orders::{MAX_COLUMNS, orders_or_first};
 use crate::pool::{Pool, abstractions_by};
 use crate::samples::Samples;
@@ -95,7 +95,9 @@ fn estimated_length(setting: Setting<'_>) -> Result<usize, AllocError>
 {
     let positive = positive_entries(setting.alloc, setting.pool)?;
     let mut candidate = Candidate::new(setting.alloc)?;
-    candidate.order = greedy_order(setting, 0, Score::Quotient, &positive)?;
+    let mut scored = Vec::new(setting.alloc);
+    let order = &mut candidate.order;
+    set_greedy_order(setting, 0, Score::Quotient, &positive, &mut scored, order)?;
     candidate.evaluate(setting);
     let value = candidate.column()?.values.first().copied().unwrap_or(0);
     Ok(plan_length(setting.pool.task, value))
@@ -131,7 +133,7 @@ fn chosen_indices<R: Threads + Sync>(
     if entries == 0 {
         return Ok(Vec::new(alloc));
     }
-    let mut samples = Samples::new(alloc, entries)?;
+    let mut samples = Samples::new(alloc, entries, effort.samples)?;
     let mut abstract_states = Vec::new(alloc);
     samples.add(pool, pool.task.initial(), &mut abstract_states)?;
     if samples.count == 0 {
@@ -153,20 +155,19 @@ fn chosen_indices<R: Threads + Sync>(
 }
 
 /// Chooses at most 8 orders of mappings of the pool, of at most 64 each, for columns by saturated cost partitioning
-/// (Seipp, Keller and Helmert 2020). If the pool is not empty, there is an order. The mappings must be those of the
-/// task that retain something of a variable, with at most 2^24 abstract states. `earlier` has orders as indices into
-/// the pool, which are evaluated first; other indices and repetitions in them are passed over.
+/// (Seipp, Keller and Helmert 2020); there is one unless the pool is empty. The mappings must be those of the task that
+/// retain something of a variable, with at most 2^24 abstract states. `earlier` has orders as indices into the pool,
+/// which are evaluated first; other indices and repetitions in them are passed over.
 ///
-/// The states that orders are compared by are the initial state and the ends of random walks. For each of them there
-/// are greedy orders by three scores. An order is stored if its column improves the value of a state. Of these the one
-/// with the greatest value of the initial state is chosen, and then always the one that raises the sum of the values
-/// most. An order has no abstraction without a positive distance under the remaining costs, but abstractions in which
-/// the end of a walk has an infinite distance are appended. If the initial state has an infinite distance in an
-/// abstraction, the only order is that abstraction alone. The contract does not specify which mappings are chosen.
+/// Orders are compared by the initial state and the ends of random walks; for each of these states there are greedy
+/// orders by three scores. An order is stored if its column improves the value of a state. Of these the one with the
+/// greatest value of the initial state is chosen, and then always the one that raises the sum of the values most. An
+/// order has no abstraction without a positive distance under the remaining costs, but abstractions in which the end of
+/// a walk has an infinite distance are appended. If the initial state has an infinite distance in an abstraction, the
+/// only order is that abstraction alone. The contract does not specify which mappings are chosen.
 ///
-/// The result depends only on the other arguments, and not on the number of threads of `rt`. It takes 16 bytes for each
-/// abstract state of the pool, 8 for each transition, and 4 for each abstraction and sampled state, besides the memory
-/// of 8 tables.
+/// The result does not depend on the number of threads of `rt`. It takes 17 bytes for each abstract state of the pool,
+/// 8 for each transition, and 4 for each abstraction and sampled state, besides the memory of 8 tables.
 pub fn choose_orders<R: Threads + Sync>(
     rt: &R,
     alloc: Global,
@@ -182,7 +183,7 @@ pub fn choose_orders<R: Threads + Sync>(
     ensures some { IfOk result (λ orders. pool.now ≢ [] → orders.items ≢ []) }
 {
     let abstractions = abstractions_by(alloc, task, pool)?;
-    let prepared = Pool::new(alloc, task, &abstractions)?;
+    let prepared = Pool::new(rt, alloc, task, &abstractions)?;
     let indices = chosen_indices(rt, alloc, &prepared, earlier, effort, words)?;
     orders_or_first(alloc, pool, &indices)
 }

@@ -3,12 +3,13 @@
 
 use crate::batch::{BATCH, evaluate_all, new_batch};
 use crate::candidate::{Candidate, Column, Setting};
-use crate::greedy::greedy_order;
+use crate::greedy::set_greedy_order;
 use crate::pool::Pool;
 use crate::scores::score_of;
 use crate::walks::below;
 use rand_xoshiro::SplitMix64;
 use std::alloc::{AllocError, Global};
+use std::cmp::Reverse;
 use std::thread::Threads;
 
 /// The number of samples that Seipp, Keller and Helmert use.
@@ -50,6 +51,8 @@ pub(crate) struct Diversifier {
     pub(crate) stored: Stored,
     /// The candidates of a batch. Those that are not used have an empty order.
     batch: Vec<Candidate>,
+    /// The scored entries of the pool. This is a buffer.
+    scored: Vec<(Reverse<u128>, usize)>,
 }
 
 /// Raises the greatest values to these values. Returns whether one was raised.
@@ -62,15 +65,6 @@ pub(crate) fn raise(best: &mut [u64], values: &[u64]) -> bool {
         }
     }
     is_raised
-}
-
-/// Marks the elements with these indices.
-fn mark(flags: &mut [bool], indices: &[usize]) {
-    for index in indices {
-        if *index < flags.len() {
-            flags[*index] = true;
-        }
-    }
 }
 
 /// For each entry of the pool, whether a distance under full costs is finite and positive.
@@ -109,7 +103,11 @@ impl Stored {
         self.steps = self.steps.saturating_add(column.steps);
         let is_first = self.columns.is_empty() && !column.order.is_empty();
         if raise(&mut self.best, &column.values) || is_first {
-            mark(&mut self.is_used, &column.order);
+            for index in &column.order {
+                if *index < self.is_used.len() {
+                    self.is_used[*index] = true;
+                }
+            }
             self.columns.push(column.copied(alloc)?)?;
         }
         Ok(())
@@ -134,6 +132,7 @@ impl Diversifier {
                 steps: 0,
             },
             batch: new_batch(alloc)?,
+            scored: Vec::new(alloc),
         })
     }
 
@@ -170,8 +169,7 @@ impl Diversifier {
         Ok(())
     }
 
-    /// Sets the orders of the batch to the greedy orders of the new candidates from number `first` to before `end`. The
-    /// first of them may have the entries that are positive.
+    /// Sets the orders of the batch to the greedy orders of the new candidates from number `first` to before `end`.
     fn set_greedy(
         &mut self,
         setting: Setting<'_>,
@@ -183,11 +181,13 @@ impl Diversifier {
         for (number, candidate) in (first..end).zip(self.batch.iter_mut()) {
             let sample = sample_of(number, setting.samples.count, words);
             let score = score_of(number);
-            candidate.order = if number < WITH_ALL {
-                greedy_order(setting, sample, score, positive)?
+            let (scored, order) = (&mut self.scored, &mut candidate.order);
+            if number < WITH_ALL {
+                set_greedy_order(setting, sample, score, positive, scored, order)?;
             } else {
-                greedy_order(setting, sample, score, &self.stored.is_used)?
-            };
+                let used = &self.stored.is_used;
+                set_greedy_order(setting, sample, score, used, scored, order)?;
+            }
         }
         Ok(())
     }

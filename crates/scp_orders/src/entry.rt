@@ -62,7 +62,8 @@ impl<'a> PoolEntry<'a> {
     {
         let listed = ListedAbstraction::new(alloc, abstraction, index)?;
         let mut left = Vec::from_slice(alloc, costs)?;
-        let values = listed.table(alloc, &mut left, scratch)?;
+        listed.take_table(&mut left, scratch)?;
+        let values = scratch.distances(alloc)?;
         let shares = positive_shares(alloc, costs, &left)?;
         let steps = listed.steps();
         Ok(PoolEntry {
@@ -73,18 +74,14 @@ impl<'a> PoolEntry<'a> {
         })
     }
 
-    /// Returns the distance of an abstract state under full costs, or `None` if it is infinite.
+    /// Returns the distance of an abstract state under full costs, or `None` if it is infinite or there is no state.
     pub(crate) fn height(&self, abstract_state: u32) -> Option<u64> {
-        value_at(&self.values, abstract_state)
-    }
-}
-
-/// Returns the value of an abstract state, or `None` if it is infinite or there is no such abstract state.
-pub(crate) fn value_at(values: &Values, abstract_state: u32) -> Option<u64> {
-    let index = abstract_state as usize;
-    if index < values.len() {
-        values.get(index).get()
-    } else {
-        None
+        let index = abstract_state as usize;
+        let values = &self.values;
+        if index < values.len() {
+            values.get(index).get()
+        } else {
+            None
+        }
     }
 }

@@ -9,7 +9,6 @@ use abstraction::{Abstraction, Projection};
 use abstraction_domain::DomainAbstraction;
 use abstraction_groups::{BackwardTransitions, FactoredAbstraction, Groups, Listed, OperatorIndex};
 use abstraction_mapping::TableAbstraction;
-use cert_value::Values;
 use pdb::{Scratch, take_table};
 use std::alloc::{AllocError, Global};
 
@@ -20,7 +19,7 @@ pub(crate) enum ListedAbstraction<'a> {
     Domain(Listed<'a, DomainAbstraction<'a>>),
 }
 
-/// Lists the transitions of an abstraction of the indexed task.
+/// Lists the transitions and goals of an abstraction of the indexed task.
 fn list<'a, A: FactoredAbstraction>(
     alloc: Global,
     abstraction: &'a A,
@@ -29,7 +28,7 @@ fn list<'a, A: FactoredAbstraction>(
     requires { index.now ≡ A.task abstraction.now }
     ensures { IfOk result (λ l. l ≡ abstraction.now) }
 {
-    Listed::new(alloc, Groups::new(alloc, abstraction, index)?)
+    Listed::with_goals(alloc, Groups::new(alloc, abstraction, index)?)
 }
 
 /// Returns the number of abstract states and transitions.
@@ -112,21 +111,20 @@ impl<'a> ListedAbstraction<'a> {
         }
     }
 
-    /// Returns the distances under the costs that are left, of which there is one below 2^31 for each operator of the
-    /// task, and subtracts the saturated shares from these.
-    pub(crate) fn table(
+    /// Finds the distances under the costs that are left, which `scratch` has then, and subtracts the saturated shares
+    /// from these costs, of which there is one below 2^31 for each operator of the task.
+    pub(crate) fn take_table(
         &self,
-        alloc: Global,
         left: &mut [u32],
         scratch: &mut Scratch,
-    ) -> Result<Values, AllocError>
+    ) -> Result<(), AllocError>
         requires operators { length left.old ≡ length (task_of self.now).operators }
         requires small { (o : ℕ) → slice_index left.old o < 2 ^ 31 }
         ensures { (o : ℕ) → slice_index left.new o < 2 ^ 31 }
     {
         match self {
-            ListedAbstraction::Projection(listed) => take_table(alloc, listed, left, scratch),
-            ListedAbstraction::Domain(listed) => take_table(alloc, listed, left, scratch),
+            ListedAbstraction::Projection(listed) => take_table(listed, left, scratch),
+            ListedAbstraction::Domain(listed) => take_table(listed, left, scratch),
         }
     }
 }

@@ -8,11 +8,14 @@ ghost use Rattle.scp_orders.specs.Tasks.{task_of};
 
 use crate::entry::PoolEntry;
 use crate::scores::stolen_costs;
+use abstraction::Abstraction;
 use abstraction_groups::OperatorIndex;
 use abstraction_mapping::{Mapping, TableAbstraction};
 use fdr::FdrTask;
 use pdb::Scratch;
+use rayon::prelude::*;
 use std::alloc::{AllocError, Global};
+use std::thread::Threads;
 
 /// The pool of abstractions of a task.
 #[derive(Drop)]
@@ -59,8 +62,78 @@ fn costs_of(alloc: Global, task: &FdrTask) -> Result<Vec<u32>, AllocError>
     Ok(costs)
 }
 
-/// Prepares the abstractions.
-fn entries_of<'a>(
+/// The number of abstractions that are prepared at a time. Large ones are side by side in a pool, so longer batches
+/// would leave most of the work to few threads.
+const BATCH: usize = 8;
+
+/// The number of abstract states of a pool from which on its abstractions are prepared in parallel.
+const STATES_FOR_THREADS: usize = 20_000;
+
+/// Returns whether the abstractions are too small for threads.
+fn are_small(abstractions: &[TableAbstraction<'_>]) -> bool {
+    let mut states: usize = 0;
+    for abstraction in abstractions {
+        states = states.saturating_add(abstraction.size());
+    }
+    states < STATES_FOR_THREADS
+}
+
+/// Prepares an abstraction, if there is memory to compute its table in.
+fn entry_of<'a>(
+    alloc: Global,
+    abstraction: &'a TableAbstraction<'a>,
+    index: &OperatorIndex<'_>,
+    costs: &[u32],
+    scratch: &mut Result<Scratch, AllocError>,
+) -> Result<PoolEntry<'a>, AllocError>
+    requires index { index.now ≡ task_in abstraction.now }
+    requires operators { length costs.now ≡ length (task_in abstraction.now).operators }
+    requires small { (o : ℕ) → slice_index costs.now o < 2 ^ 31 }
+    ensures { IfOk result (λ e. task_of e.listed ≡ task_in abstraction.now) }
+{
+    match scratch {
+        Ok(scratch) => PoolEntry::new(alloc, abstraction, index, costs, scratch),
+        Err(_) => Err(AllocError),
+    }
+}
+
+/// Prepares abstractions, at least as many of them in a thread as `least`.
+fn prepared<'a, R: Threads + Sync>(
+    rt: &R,
+    alloc: Global,
+    task: &FdrTask,
+    abstractions: &'a [TableAbstraction<'a>],
+    index: &OperatorIndex<'_>,
+    costs: &[u32],
+    least: usize,
+) -> Result<Vec<PoolEntry<'a>>, AllocError>
+    requires of_task { All (λ a. task_in a ≡ task.now) abstractions.now }
+    requires index { index.now ≡ task.now }
+    requires operators { length costs.now ≡ length task.now.operators }
+    requires small { (o : ℕ) → slice_index costs.now o < 2 ^ 31 }
+    ensures { IfOk result (λ entries. All (λ e. task_of e.listed ≡ task.now) entries.items) }
+{
+    let _ = task.operator_count(); // the task is only for the proof
+    abstractions
+        .par_iter()
+        .with_min_len(least)
+        .map_init(
+            || Scratch::new(alloc),
+            |scratch: &mut Result<Scratch, AllocError>, abstraction: &TableAbstraction<
+                '_,
+            >| -> Result<PoolEntry<'_>, AllocError>
+                requires index { index.now ≡ task_in abstraction.now }
+                requires operators { length costs.now ≡ length (task_in abstraction.now).operators }
+                requires small { (o : ℕ) → slice_index costs.now o < 2 ^ 31 }
+                ensures { IfOk result (λ e. task_of e.listed ≡ task_in abstraction.entry.now) }
+            { entry_of(alloc, abstraction, index, costs, scratch) },
+        )
+        .collect::<Result<Vec<PoolEntry<'a>>, AllocError>>(rt, alloc)?
+}
+
+/// Prepares the abstractions, in parallel batches unless they are small.
+fn entries_of<'a, R: Threads + Sync>(
+    rt: &R,
     alloc: Global,
     task: &FdrTask,
     abstractions: &'a [TableAbstraction<'a>],
@@ -72,17 +145,25 @@ fn entries_of<'a>(
     ensures { IfOk result (λ entries. All (λ e. task_of e.listed ≡ task.now) entries.items) }
 {
     let index = OperatorIndex::new(alloc, task)?;
-    let mut scratch = Scratch::new(alloc)?;
-    let mut entries = Vec::with_capacity(alloc, abstractions.len())?;
-    for abstraction in abstractions {
-        entries.push(PoolEntry::new(alloc, abstraction, &index, costs, &mut scratch)?)?;
+    let count = abstractions.len();
+    if are_small(abstractions) {
+        return prepared(rt, alloc, task, abstractions, &index, costs, count);
+    }
+    let mut entries = Vec::with_capacity(alloc, count)?;
+    for number in 0..count.div_ceil(BATCH) {
+        let first = number.saturating_mul(BATCH).min(count);
+        let end = first.saturating_add(BATCH).min(count);
+        let batch = &abstractions[first..end];
+        let mut made = prepared(rt, alloc, task, batch, &index, costs, 1)?;
+        entries.append(&mut made)?;
     }
     Ok(entries)
 }
 
 impl<'a> Pool<'a> {
-    /// Prepares the abstractions of a task.
-    pub(crate) fn new(
+    /// Prepares the abstractions of a task. The result does not depend on the number of threads.
+    pub(crate) fn new<R: Threads + Sync>(
+        rt: &R,
         alloc: Global,
         task: &'a FdrTask,
         abstractions: &'a [TableAbstraction<'a>],
@@ -91,7 +172,7 @@ impl<'a> Pool<'a> {
         ensures { IfOk result (λ pool. pool.task.now ≡ task.now) }
     {
         let costs = costs_of(alloc, task)?;
-        let entries = entries_of(alloc, task, abstractions, &costs)?;
+        let entries = entries_of(rt, alloc, task, abstractions, &costs)?;
         let stolen = stolen_costs(alloc, &entries, &costs)?;
         Ok(Pool {
             task,

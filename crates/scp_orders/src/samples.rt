@@ -22,11 +22,11 @@ pub(crate) struct Samples {
 }
 
 impl Samples {
-    /// Returns no samples, for a pool of this many abstractions.
-    pub(crate) fn new(alloc: Global, entries: usize) -> Result<Samples, AllocError> {
+    /// Returns no samples, with room for `count` of them, for a pool of this many abstractions.
+    pub(crate) fn new(alloc: Global, entries: usize, count: usize) -> Result<Samples, AllocError> {
         let mut abstract_states = Vec::with_capacity(alloc, entries)?;
         for _ in 0..entries {
-            abstract_states.push(Vec::new(alloc))?;
+            abstract_states.push(Vec::with_capacity(alloc, count)?)?;
         }
         Ok(Samples {
             abstract_states,
@@ -91,9 +91,11 @@ impl Samples {
         let generator = SuccessorGenerator::new(alloc, pool.task)?;
         let mut applicable = Vec::new(alloc);
         let mut abstract_states = Vec::new(alloc);
+        let mut state = Vec::new(alloc);
         for _ in 0..walks {
             let length = heads(words, 4 * plan_length);
-            let state = walk_end(alloc, pool.task, &generator, length, words, &mut applicable)?;
+            let buffer = &mut applicable;
+            walk_end(pool.task, &generator, length, words, buffer, &mut state)?;
             self.add(pool, &state, &mut abstract_states)?;
         }
         Ok(())

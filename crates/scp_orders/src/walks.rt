@@ -1,6 +1,6 @@
 //! Random walks from the initial state.
 
-ghost use Rattle.std.specs.Prelude.{◌≡◌, ◌<◌, ◌≤◌, IfOk};
+ghost use Rattle.std.specs.Prelude.{◌≡◌, ◌<◌, ◌≤◌, OnOk};
 ghost use Rattle.fdr.specs.Tasks.{ranges, IsState};
 
 use fdr::FdrTask;
@@ -58,28 +58,29 @@ pub(crate) fn heads(words: &mut SplitMix64, tosses: usize) -> usize {
     count
 }
 
-/// Returns the last state of a random walk of at most this length from the initial state. It ends early in a state in
-/// which no operator applies. `applicable` is a buffer.
+/// Replaces the content of `state` by the last state of a random walk of at most this length from the initial state. It
+/// ends early in a state in which no operator applies. `applicable` is a buffer.
 pub(crate) fn walk_end(
-    alloc: Global,
     task: &FdrTask,
     generator: &SuccessorGenerator<'_>,
     length: usize,
     words: &mut SplitMix64,
     applicable: &mut Vec<usize>,
-) -> Result<Vec<u32>, AllocError>
+    state: &mut Vec<u32>,
+) -> Result<(), AllocError>
     requires { generator.now ≡ task.now }
-    ensures { IfOk result (λ state. IsState (ranges task.now) state.items) }
+    ensures { OnOk result (IsState (ranges task.now) state.new.items) }
 {
     task.recall();
-    let mut state = Vec::from_slice(alloc, task.initial())?;
+    state.clear();
+    state.extend_from_slice(task.initial())?;
     for _ in 0..length {
-        generator.applicable(&state, applicable)?;
+        generator.applicable(state, applicable)?;
         if applicable.is_empty() {
             break;
         }
         let operator = applicable[below(words, applicable.len())];
-        task.apply(operator, &mut state);
+        task.apply(operator, state);
     }
-    Ok(state)
+    Ok(())
 }

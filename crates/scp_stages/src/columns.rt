@@ -20,11 +20,11 @@ use std::thread::Threads;
 pub const STAGE_COUNT: usize = 4;
 
 /// The greatest number of orders that a stage evaluates.
-const CANDIDATES: usize = 1_000;
+const CANDIDATES: usize = 500;
 
 /// The numbers of steps that the stages spend on the evaluation of orders: abstract states and transitions of each
 /// table that is computed.
-const STEPS: [u64; STAGE_COUNT] = [1_000_000, 12_000_000, 100_000_000, 800_000_000];
+const STEPS: [u64; STAGE_COUNT] = [1_000_000, 6_000_000, 40_000_000, 300_000_000];
 
 /// The seed of the choice of orders in a stage: none of the seeds of refinement.
 fn seed_of(stage: u64) -> u64 {

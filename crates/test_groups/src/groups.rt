@@ -4,7 +4,8 @@ use crate::random::{Random, operators, row, task_with};
 use abstraction::{Abstraction, Projection};
 use abstraction_domain::{DomainAbstraction, are_increasing};
 use abstraction_groups::{
-    BackwardTransitions, FactoredAbstraction, Groups, Listed, OperatorIndex, Transition,
+    BackwardTransitions, Change, FactoredAbstraction, Groups, Listed, OperatorIndex, Transition,
+    shift_of,
 };
 use fdr::FdrTask;
 use std::alloc::Global;
@@ -58,6 +59,8 @@ fn lists_only<A: FactoredAbstraction>(
             .entering(target, &mut digits, &mut buffer)
             .expect(rt, "memory");
         assert_eq!(rt; buffer.len(), listed.entering_list(target).len());
+        let stored = listed.stored(target).map(|stored| stored.len());
+        assert_eq!(rt; stored, Some(buffer.len()));
         for transition in &buffer {
             count = count.saturating_add(1);
             let class = transition.class as usize;
@@ -72,6 +75,46 @@ fn lists_only<A: FactoredAbstraction>(
         }
     }
     assert_eq!(rt; count, listed.groups().transition_count());
+}
+
+/// Checks that the goals that are stored are those of the abstraction.
+fn stores_goals<A: FactoredAbstraction>(
+    rt: &impl Abort,
+    alloc: Global,
+    a: &A,
+    index: &OperatorIndex<'_>,
+)
+    requires { index.now ≡ A.task a.now }
+{
+    let groups = Groups::new(alloc, a, index).expect(rt, "memory");
+    let listed = Listed::with_goals(alloc, groups).expect(rt, "memory");
+    assert_eq!(rt; listed.size(), a.size());
+    for state in 0..a.size() {
+        assert!(rt; state < listed.size());
+        assert_eq!(rt; listed.is_goal(state), a.is_goal(state));
+    }
+}
+
+/// Checks that an operator with a shift changes the number of each abstract state by it, and returns the number of
+/// these operators.
+fn shifted<A: FactoredAbstraction>(rt: &impl Abort, alloc: Global, a: &A) -> u64 {
+    let mut changes = vec![in alloc; Change::Kept; a.variables().len()].expect(rt, "memory");
+    let mut count: u64 = 0;
+    for operator in 0..a.task().operator_count() {
+        assert!(rt; changes.len() == a.variables().len());
+        let Some(shift) = shift_of(a, operator, &mut changes) else {
+            continue;
+        };
+        count = count.saturating_add(1);
+        for source in 0..a.size() {
+            if let Some(target) = a.transition(source, operator) {
+                let before = (source as u64).saturating_add(u64::from(shift.more));
+                let after = (target as u64).saturating_add(u64::from(shift.less));
+                assert_eq!(rt; after, before);
+            }
+        }
+    }
+    count
 }
 
 /// Checks that the limit is exact.
@@ -100,6 +143,8 @@ fn check<A: FactoredAbstraction>(rt: &impl Abort, alloc: Global, a: &A) -> (usiz
     let listed = Listed::new(alloc, groups).expect(rt, "memory");
     lists_all(rt, a, &listed);
     lists_only(rt, alloc, a, &listed);
+    stores_goals(rt, alloc, a, &index);
+    let _ = shifted(rt, alloc, a);
     is_limited(rt, alloc, a, &index, result.1);
     result
 }

@@ -76,7 +76,8 @@ pub(crate) fn agrees(
     are_distances(rt, &values, expected);
     assert_eq!(rt; needed.as_slice(), saturated);
     let mut left = Vec::from_slice(alloc, costs)?;
-    let taken = take_table(alloc, graph, &mut left, scratch)?;
+    take_table(graph, &mut left, scratch)?;
+    let taken = scratch.distances(alloc)?;
     are_distances(rt, &taken, expected);
     are_left(rt, &left, saturated, costs);
     Ok(())

@@ -188,6 +188,10 @@ impl BackwardTransitions for Graph {
         &self.members[class].operators
     }
 
+    fn stored(&self, _: usize) -> Option<&[Transition]> {
+        None
+    }
+
     fn entering(
         &self,
         abstract_state: usize,

@@ -1,6 +1,6 @@
 use Rattle.std.proofs.Common.{inr, ⊎_elim}
 use Rattle.clap.specs.Words.{kind_of}
-use Rattle.optplan_command.proofs.FileCommands.{something, validated, planning_checked, checked, translated, migrated}
+use Rattle.optplan_command.proofs.FileCommands.{something, validated, planning_checked, checked, judged, translated, migrated}
 use Rattle.optplan_command.proofs.command_line.run.Goals as goal
 
 pub returns-in-Some-clause-validates : goal.returns-in-Some-clause-validates
@@ -17,6 +17,11 @@ pub returns-in-Some-clause-checks_planning : goal.returns-in-Some-clause-checks_
 returns-in-Some-clause-checks_planning g c = λ h domain problem cert is asks same known.
     let done = c.run_files.ensures.done h is same known in
     (done.0, done.1, planning_checked h done.0 domain problem cert c.in-Some.command c.run_files.result (c.in-Some.ensures.checks domain problem cert asks) done.2)
+
+pub returns-in-Some-clause-judges : goal.returns-in-Some-clause-judges
+returns-in-Some-clause-judges g c = λ h domain problem plan cert is asks same known.
+    let done = c.run_files.ensures.done h is same known in
+    (done.0, done.1, judged h done.0 domain problem plan cert c.in-Some.command c.run_files.result (c.in-Some.ensures.judges domain problem plan cert asks) done.2)
 
 pub returns-in-Some-clause-translates : goal.returns-in-Some-clause-translates
 returns-in-Some-clause-translates g c = λ h domain problem is asks same known.
@@ -40,6 +45,10 @@ pub returns-in-Ok-clause-checks_planning : goal.returns-in-Ok-clause-checks_plan
 returns-in-Ok-clause-checks_planning g c = λ h domain problem cert is asks same known.
     absurd (something c.plain_command.result _ (c.plain_command.ensures.checks domain problem cert asks) c.in_default.not-Some)
 
+pub returns-in-Ok-clause-judges : goal.returns-in-Ok-clause-judges
+returns-in-Ok-clause-judges g c = λ h domain problem plan cert is asks same known.
+    absurd (something c.plain_command.result _ (c.plain_command.ensures.judges domain problem plan cert asks) c.in_default.not-Some)
+
 pub returns-in-Ok-clause-translates : goal.returns-in-Ok-clause-translates
 returns-in-Ok-clause-translates g c = λ h domain problem is asks same known.
     absurd (something c.plain_command.result _ (c.plain_command.ensures.translates domain problem asks) c.in_default.not-Some)
@@ -59,6 +68,10 @@ returns-in-Err-clause-checks g c = λ h sas cert is asks same known.
 pub returns-in-Err-clause-checks_planning : goal.returns-in-Err-clause-checks_planning
 returns-in-Err-clause-checks_planning g c = λ h domain problem cert is asks same known.
     absurd (something c.plain_command.result _ (c.plain_command.ensures.checks domain problem cert asks) c.in_default.not-Some)
+
+pub returns-in-Err-clause-judges : goal.returns-in-Err-clause-judges
+returns-in-Err-clause-judges g c = λ h domain problem plan cert is asks same known.
+    absurd (something c.plain_command.result _ (c.plain_command.ensures.judges domain problem plan cert asks) c.in_default.not-Some)
 
 pub returns-in-Err-clause-translates : goal.returns-in-Err-clause-translates
 returns-in-Err-clause-translates g c = λ h domain problem is asks same known.

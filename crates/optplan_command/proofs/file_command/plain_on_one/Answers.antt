@@ -12,6 +12,7 @@ returns-then-eq c = λ program. record {
   validates = λ domain problem plan asks. search rules;
   checks = λ domain problem cert asks. search rules;
   checks_sas = λ sas cert asks. search rules;
+  judges = λ domain problem plan cert asks. search rules;
   translates = λ domain problem asks. search rules;
   migrates = λ cert asks. search rules;
 }

@@ -8,6 +8,7 @@ returns-in-text c = λ program. record {
   validates = λ domain problem plan asks. search rules;
   checks = λ domain problem cert asks. search rules;
   checks_sas = λ sas cert asks. search rules;
+  judges = λ domain problem plan cert asks. search rules;
   translates = λ domain problem asks. two_names _ _ _ _ _ _ asks.are (rw c.in-text.is (λ same. omega (arith, same)));
   migrates = λ cert asks. search rules;
 }
@@ -18,6 +19,7 @@ returns-in-translate c = λ program. record {
   validates = λ domain problem plan asks. search rules;
   checks = λ domain problem cert asks. search rules;
   checks_sas = λ sas cert asks. two_names _ _ _ _ _ _ asks.are (rw c.in-translate.is (λ same. omega (arith, same)));
+  judges = λ domain problem plan cert asks. search rules;
   translates = λ domain problem asks. search rules;
   migrates = λ cert asks. search rules;
 }

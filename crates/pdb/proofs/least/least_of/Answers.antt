@@ -1,6 +1,5 @@
-use Rattle.std.proofs.Common.{◌++◌, ◌∷◌, [], take, get_or, arith}
+use Rattle.std.proofs.Common.{take, get_or, arith}
 use Rattle.std.proofs.lemmas.List.{take_more, take_all}
-use Rattle.pdb.specs.Classes.{IsLeastOf}
 use Rattle.pdb.proofs.Shares.{IsLeastOf-with, IsLeastOf-without}
 use Rattle.pdb.proofs.least.least_of.Goals as goal
 use Rattle.pdb.proofs.least.least_of.Goals.{then-index-shares, else-index-shares}

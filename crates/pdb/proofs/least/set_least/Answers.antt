@@ -1,4 +1,4 @@
-use Rattle.std.proofs.Common.{◌≡◌, ℕ, ◌<◌, length, ◌∷◌, [], arith}
+use Rattle.std.proofs.Common.{◌∷◌, [], arith}
 use Rattle.std.proofs.lemmas.List.{length-append}
 use Rattle.pdb.proofs.Shares.{least_pushed, small_pushed, AreLeast-each}
 use Rattle.pdb.proofs.least.set_least.Goals as goal

@@ -1,6 +1,4 @@
 use Rattle.std.proofs.Common.{◌≡◌, ℕ, ◌<◌, [], get_or}
-use Rattle.std.specs.Prelude.{Vec}
-use Rattle.pdb.specs.declared.queue.Entry.{Entry}
 use Rattle.pdb.proofs.queue.first_filled.Given as goal
 
 abbrev pub invariant-loop-bucket : goal.invariant-loop-bucket

@@ -1,5 +1,5 @@
 use Rattle.std.proofs.Common.{below_more, arith}
-use Rattle.pdb_walks.specs.Walks.{value_in}
+use Rattle.pdb.specs.Numbers.{distance_in}
 use Rattle.pdb.specs.Saturations.{IsCoveredAt}
 use Rattle.pdb.proofs.saturation.cover_all.Goals as goal
 
@@ -10,7 +10,7 @@ pub loop-state-preserved : goal.loop-state-preserved
 loop-state-preserved g c =
     let a = g.T.BackwardTransitions.abstraction c.args.transitions.now in
     let classes = g.T.BackwardTransitions.classes c.args.transitions.now in
-    let value = value_in c.args.values.now in
+    let value = distance_in c.args.values.now in
     let new = c.cover.new.greatest in
     let inv = c.loop-state.invariant in
     let now = c.in_ok-cover.ensures in

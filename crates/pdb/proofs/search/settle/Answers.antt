@@ -1,4 +1,4 @@
-use Rattle.std.proofs.Common.{◌≡◌, ℕ, ◌<◌, ◌∷◌, length, slice_index, arith}
+use Rattle.std.proofs.Common.{ℕ, ◌∷◌, arith}
 use Rattle.std.proofs.lemmas.List.Sorted.{length_permutation}
 use Rattle.pdb.specs.Classes.{share_by}
 use Rattle.pdb.proofs.Expansion.{inside_taken, IsSearchBut-taken, IsSearch-skipped}

@@ -3,5 +3,5 @@ use Rattle.std.specs.Prelude.{All}
 use Rattle.scp_orders.specs.Tasks.{task_of}
 use Rattle.scp_orders.proofs.pool.entries_of.Given as goal
 
-abbrev pub invariant-loop-abstraction : goal.invariant-loop-abstraction
-invariant-loop-abstraction l = All (λ e. task_of e.listed ≡ l.task) l.entries.items
+abbrev pub invariant-loop-number : goal.invariant-loop-number
+invariant-loop-number g l = All (λ e. task_of e.listed ≡ l.task) l.entries.items

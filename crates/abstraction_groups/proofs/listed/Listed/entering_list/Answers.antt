@@ -1,9 +1,9 @@
 use Rattle.abstraction_groups.proofs.listed.Listed.entering_list.Goals as goal
 
 pub get-requires : goal.get-requires
-get-requires g c = rw c.self.invariant.as_long (rw (← c.self.view_is) at c.requires)
+get-requires g c = rw c.self.invariant.0.as_long (rw (← c.self.view_is) at c.requires)
 
 pub returns : goal.returns
 returns g c =
     let l = rw (← c.self.view_is) at c.requires in
-    rw (c.get.ensures, ← c.self.view_is) (c.self.invariant.entering c.args.abstract_state l)
+    rw (c.get.ensures, ← c.self.view_is) (c.self.invariant.0.entering c.args.abstract_state l)

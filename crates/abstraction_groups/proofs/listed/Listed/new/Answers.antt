@@ -1,15 +1,5 @@
-use Rattle.std.proofs.Common.{◌≡◌, ℕ, sym, ap, ◌∙◌, subst}
-use Rattle.keyed_lists.specs.Lists.{lists_by}
-use Rattle.abstraction_groups.specs.Factors.{groups_of}
-use Rattle.abstraction_groups.specs.Lists.{AreLists}
-use Rattle.abstraction_groups.proofs.ListLaws.{lists_told}
+use Rattle.abstraction_groups.proofs.ListLaws.{no_goals}
 use Rattle.abstraction_groups.proofs.listed.Listed.new.Goals as goal
 
 pub invariant_of-result : goal.invariant_of-result
-invariant_of-result g c =
-    let a = g.A.Abstraction.abstraction c.args.groups in
-    let classes = groups_of (g.A.Abstraction.task c.args.groups) (g.A.FactoredAbstraction.factors c.args.groups) in
-    let size : c.size-size.result ≡ a.size = c.size-size.ensures.value ∙ ap (λ x. (g.A.Abstraction.abstraction x).size) c.abstraction.ensures in
-    subst (AreLists a classes)
-    (sym (c.in_ok-lists.ensures ∙ ap (λ (n : ℕ). lists_by n c.deref.result.now) size ∙ ap (lists_by a.size) c.deref.ensures.value))
-    (lists_told a classes c.in_ok-entries.entries.items c.in_ok-entries.ensures)
+invariant_of-result g c = (c.in_ok-lists.ensures, rw c.new.ensures.items (no_goals (g.A.Abstraction.abstraction c.args.groups)))

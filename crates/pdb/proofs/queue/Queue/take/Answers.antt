@@ -1,5 +1,5 @@
 use Rattle.std.proofs.Common.{arith}
-use Rattle.pdb.proofs.Buckets.{entries_of-pop, entries_of-same}
+use Rattle.pdb.proofs.Buckets.{entries_of-pop}
 use Rattle.pdb.proofs.queue.Queue.take.Goals as goal
 
 pub returns-in-Some-clause-some : goal.returns-in-Some-clause-some

@@ -1,0 +1,57 @@
+-- Replies to four texts that were read.
+use Rattle.std.proofs.Common.{◌≡◌, ◌≢◌, ◌≤◌, ◌+◌, ℕ, List, ◌++◌, sym, ap, ◌∙◌}
+use Rattle.std.specs.Prelude.{Option, Some, Result, Ok, Err, String, IfOk, IfErr}
+use Rattle.optplan_device.specs.Events.{Event}
+use Rattle.optplan_replies.specs.declared.fault.Fault.{Fault}
+use Rattle.optplan_replies.specs.declared.fault.Fault.TheVariants.{OutOfMemory, CannotRead, CannotWrite, Task, Plan, Sas, Cert, GroundLimit, TaskTooLarge, TotalTooLarge}
+use Rattle.optplan_replies.specs.declared.status.Status.{Status}
+use Rattle.optplan_replies.specs.declared.status.Status.TheVariants.{DeviceFailed}
+use Rattle.optplan_replies.specs.Faults.{fault_status}
+use Rattle.optplan_replies.specs.Reports.{IsTaskReport}
+use Rattle.optplan_optimal.specs.Running.{IsOptimalityReport, reads}
+
+-- a report of the task's texts is one of the four texts
+pub report_of_task : (domain problem plan cert : List ℕ) (e : Fault) → IsTaskReport domain problem e → IsOptimalityReport domain problem plan cert e
+report_of_task domain problem plan cert OutOfMemory report = tt
+report_of_task domain problem plan cert (CannotRead file) report = elim report [ ]
+report_of_task domain problem plan cert (CannotWrite file) report = elim report [ ]
+report_of_task domain problem plan cert (Task e word) report = report
+report_of_task domain problem plan cert (Plan e) report = elim report [ ]
+report_of_task domain problem plan cert (Sas e) report = elim report [ ]
+report_of_task domain problem plan cert (Cert e) report = elim report [ ]
+report_of_task domain problem plan cert GroundLimit report = elim report [ ]
+report_of_task domain problem plan cert (TaskTooLarge table) report = elim report [ ]
+report_of_task domain problem plan cert TotalTooLarge report = elim report [ ]
+
+-- a text's refusal is no failure of the device
+report_status : (domain problem plan cert : List ℕ) (e : Fault) → IsOptimalityReport domain problem plan cert e → fault_status e ≢ DeviceFailed
+report_status domain problem plan cert OutOfMemory report = λ failed. cc
+report_status domain problem plan cert (CannotRead file) report = elim report [ ]
+report_status domain problem plan cert (CannotWrite file) report = elim report [ ]
+report_status domain problem plan cert (Task e word) report = λ failed. cc
+report_status domain problem plan cert (Plan e) report = λ failed. cc
+report_status domain problem plan cert (Sas e) report = elim report [ ]
+report_status domain problem plan cert (Cert e) report = λ failed. cc
+report_status domain problem plan cert GroundLimit report = λ failed. cc
+report_status domain problem plan cert (TaskTooLarge table) report = λ failed. cc
+report_status domain problem plan cert TotalTooLarge report = elim report [ ]
+
+-- a reply ends with `DeviceFailed` only after a failure that is counted
+pub reply_failed : {Z : Type 0} (domain problem plan cert : List ℕ) (answer : Result (String Z × Status) Fault) (status : Status) (old new : ℕ)
+    → IfOk answer (λ r. r.1 ≢ DeviceFailed) → IfErr answer (λ e. IsOptimalityReport domain problem plan cert e)
+    → (status ≡ DeviceFailed → IfOk answer (λ r. r.1 ≢ DeviceFailed → old + 1 ≤ new)) → IfErr answer (λ e. status ≡ fault_status e)
+    → status ≡ DeviceFailed → old + 1 ≤ new
+reply_failed domain problem plan cert (Ok r) status old new judged refused counted fault_is failed = counted failed judged
+reply_failed domain problem plan cert (Err e) status old new judged refused counted fault_is failed =
+    absurd (report_status domain problem plan cert e refused (sym fault_is ∙ failed))
+
+-- four files were read
+pub reads_same : (mid : Option (List Event)) (h : List Event) (domain d d' problem p p' plan l l' cert c c' : List ℕ)
+    → d' ≡ d → p' ≡ p → l' ≡ l → c' ≡ c → mid ≡ Some (h ++ reads domain d problem p plan l cert c)
+    → mid ≡ Some (h ++ reads domain d' problem p' plan l' cert c')
+reads_same mid h domain d d' problem p p' plan l l' cert c c' d_is p_is l_is c_is mid_is =
+    mid_is
+    ∙ ap (λ (x : List ℕ). Some (h ++ reads domain x problem p plan l cert c)) (sym d_is)
+    ∙ ap (λ (x : List ℕ). Some (h ++ reads domain d' problem x plan l cert c)) (sym p_is)
+    ∙ ap (λ (x : List ℕ). Some (h ++ reads domain d' problem p' plan x cert c)) (sym l_is)
+    ∙ ap (λ (x : List ℕ). Some (h ++ reads domain d' problem p' plan l' cert x)) (sym c_is)

@@ -1,0 +1,124 @@
+//! The command that judges whether a plan is optimal, over any device.
+
+ghost use Rattle.std.specs.Prelude.{◌≡◌, ◌≢◌, ◌≤◌, ◌+◌, ◌++◌, ℕ, List, Some, IfOk, IfErr, OnOk, codes, string_bytes};
+ghost use Rattle.optplan_device.specs.Events.{Event};
+ghost use Rattle.optplan_replies.specs.Runs.{IsDeviceFault};
+ghost use Rattle.optplan_optimal.specs.Lines.{verdict_text};
+ghost use Rattle.optplan_optimal.specs.Answers.{IsRefusal};
+ghost use Rattle.optplan_optimal.specs.Running.{IsOptimalityReply, IsOptimalityReport, reads, JudgesOptimality};
+
+use crate::fault::OptimalityFault;
+use crate::judging::judge_optimality;
+use crate::verdict::OptimalityVerdict;
+use optplan_device::Device;
+use optplan_replies::{Fault, FileWord, Status, read_file, reply, report, task_fault};
+use std::alloc::{AllocError, Global};
+use std::thread::Threads;
+
+/// Returns the verdict's line, with its line feed.
+fn line_of(alloc: Global, verdict: &OptimalityVerdict) -> Result<String, AllocError>
+    ensures { IfOk result (λ line. string_bytes line ≡ verdict_text verdict.now ++ codes "\n") }
+{
+    let mut line = format!(in alloc; "{verdict}")?;
+    line.push('\n')?;
+    Ok(line)
+}
+
+/// Converts the fault of the texts into the program's, with the word that it prints.
+#[tactic(auto, using(crate::proofs::Runs::report_of_task))]
+fn fault_of(alloc: Global, fault: OptimalityFault, domain: &[u8], problem: &[u8]) -> Fault
+    ensures { (plan cert : List ℕ) → IsRefusal domain.now problem.now plan cert fault → IsOptimalityReport domain.now problem.now plan cert result }
+{
+    match fault {
+        OptimalityFault::OutOfMemory => Fault::OutOfMemory,
+        OptimalityFault::Task(fault) => task_fault(alloc, fault, domain, problem),
+        OptimalityFault::Plan(fault) => Fault::Plan(fault),
+        OptimalityFault::Cert(fault) => Fault::Cert(fault),
+        OptimalityFault::GroundLimit => Fault::GroundLimit,
+        OptimalityFault::Limit(table) => Fault::TaskTooLarge(table),
+    }
+}
+
+/// Returns the line that is printed for the texts of a domain, a problem, a plan and a certificate, with its line feed,
+/// and the exit status of the verdict.
+///
+/// Fails as `judge_optimality` does.
+fn answer_of<R: AllocGlobal + Threads + Sync>(
+    rt: &R,
+    domain: &[u8],
+    problem: &[u8],
+    plan: &[u8],
+    cert: &[u8],
+) -> Result<(String, Status), Fault>
+    ensures answer { IfOk result (λ r. IsOptimalityReply domain.now problem.now plan.now cert.now (string_bytes r.0) r.1) }
+    ensures judged { IfOk result (λ r. r.1 ≢ Status.DeviceFailed) }
+    ensures refused { IfErr result (IsOptimalityReport domain.now problem.now plan.now cert.now) }
+{
+    let verdict = match judge_optimality(rt, domain, problem, plan, cert) {
+        Ok(verdict) => verdict,
+        Err(fault) => return Err(fault_of(rt.alloc(), fault, domain, problem)),
+    };
+    match line_of(rt.alloc(), &verdict) {
+        Ok(line) => Ok((line, verdict.status())),
+        Err(_) => Err(Fault::OutOfMemory),
+    }
+}
+
+/// The texts of a domain, a problem, a plan and a certificate.
+#[derive(Drop)]
+struct Texts {
+    domain: Vec<u8>,
+    problem: Vec<u8>,
+    plan: Vec<u8>,
+    cert: Vec<u8>,
+}
+
+/// Returns the bytes of the four files, read in this order. Fails as `read_file` does.
+fn read_texts<D: Device>(
+    alloc: Global,
+    device: &mut D,
+    domain: &str,
+    problem: &str,
+    plan: &str,
+    cert: &str,
+) -> Result<Texts, Fault>
+    ensures told { (h : List Event) → D.history device.old ≡ Some h →
+        IfOk result (λ t. D.history device.new ≡ Some (h ++ reads domain.now t.domain.items problem.now t.problem.items plan.now t.plan.items cert.now t.cert.items)) }
+    ensures same { OnOk result (D.failure_count device.new ≡ D.failure_count device.old) }
+    ensures failed { IfErr result (λ e. IsDeviceFault e (D.failure_count device.old) (D.failure_count device.new)) }
+{
+    let domain = read_file(alloc, device, domain, FileWord::Domain)?;
+    let problem = read_file(alloc, device, problem, FileWord::Problem)?;
+    let plan = read_file(alloc, device, plan, FileWord::Plan)?;
+    let cert = read_file(alloc, device, cert, FileWord::Cert)?;
+    Ok(Texts {
+        domain,
+        problem,
+        plan,
+        cert,
+    })
+}
+
+/// Judges whether a plan is optimal: reads the four files, and prints the verdict's line or reports the fault. Returns
+/// the exit status: `Done` if the plan is optimal, `Unsolvable` if the plan's text claims that there is no valid plan
+/// and the certificate proves it, else `Rejected`; or that of the fault.
+pub fn run_optimality<D: Device, R: AllocGlobal + Threads + Sync>(
+    rt: &R,
+    device: &mut D,
+    domain: &str,
+    problem: &str,
+    plan: &str,
+    cert: &str,
+) -> Status
+    ensures done { (h : List Event) → D.history device.old ≡ Some h → D.failure_count device.new ≡ D.failure_count device.old → result ≢ Status.OutOfMemory →
+        (new : List Event) × (D.history device.new ≡ Some new) × JudgesOptimality h new domain.now problem.now plan.now cert.now result }
+    ensures device_failed { result ≡ Status.DeviceFailed → D.failure_count device.old + 1 ≤ D.failure_count device.new }
+{
+    match read_texts(rt.alloc(), device, domain, problem, plan, cert) {
+        Ok(texts) => {
+            let answer = answer_of(rt, &texts.domain, &texts.problem, &texts.plan, &texts.cert);
+            reply(rt.alloc(), device, &answer)
+        }
+        Err(fault) => report(rt.alloc(), device, &fault),
+    }
+}
