@@ -22,10 +22,10 @@ abbrev pub entry_cmp : OpenEntry → OpenEntry → Ordering
 entry_cmp x y = ordering_then (nat_cmp x.f y.f) (ordering_then (rank_cmp x.rank y.rank) (nat_cmp x.index y.index))
 
 -- a comparison by two numbers, and where they are the same by what follows
-abbrev by_number : ℕ → ℕ → Bool → Bool
+abbrev pub by_number : ℕ → ℕ → Bool → Bool
 by_number a b rest = nat_lt a b || ((a == b) && rest)
 
-by_number-trans : (a b c : ℕ) (r s t : Bool) → (r ≡ true → s ≡ true → t ≡ true) →
+pub by_number-trans : (a b c : ℕ) (r s t : Bool) → (r ≡ true → s ≡ true → t ≡ true) →
     by_number a b r ≡ true → by_number b c s ≡ true → by_number a c t ≡ true
 by_number-trans a b c r s t next h k = grind (arith, nat_tests)
 

@@ -7,7 +7,7 @@ use Rattle.std.proofs.lemmas.List.{get_or-map, get_or-set_other, length-map, len
 use Rattle.std.proofs.lemmas.List.Elements.{All-nil, All-cons, All-append, Contains-append_left, Contains-append_right}
 use Rattle.std.proofs.lemmas.List.Sorted.{IsPermutation-append_left, IsPermutation-append_right, IsPermutation-middle, IsPermutation-sym, IsPermutation-trans}
 use Rattle.openlist.specs.declared.entry.OpenEntry.{OpenEntry}
-use Rattle.openlist.specs.declared.bucket.BucketEntry.{BucketEntry}
+use Rattle.openlist.specs.declared.bucket_entry.BucketEntry.{BucketEntry}
 use Rattle.openlist.specs.OpenLists.{comes_first, IsFirst}
 use Rattle.openlist.specs.BucketLists.{BucketHeld, with_f, row_of, spares_of, row_entries, IsEmptyBelow, HasSameEntries, KeepsRoom}
 use Rattle.openlist.proofs.Order.{lower_f-comes_first}

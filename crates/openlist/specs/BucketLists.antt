@@ -4,13 +4,13 @@ use Rattle.std.proofs.Common.{arith}
 use Rattle.std.proofs.Math.Nat.{le_trans}
 use Rattle.std.proofs.lemmas.List.Sums.{sum_by-cons}
 use Rattle.openlist.specs.declared.entry.OpenEntry.{OpenEntry}
-use Rattle.openlist.specs.declared.bucket.BucketEntry.{BucketEntry}
+use Rattle.openlist.specs.declared.bucket_entry.BucketEntry.{BucketEntry}
 use Rattle.openlist.specs.declared.row.TheConstants.{FAR}
 use Rattle.openlist.specs.Heaps.{Held}
 
--- a bucket: its entries, those of the run and then those of the heap in the heap's own order; the number of entries
--- that still fit without an allocation, whichever part they go to; and the number for which the last call of reserve
--- has requested room
+-- a bucket: its entries, those of the groups and then those of the heap in the heap's own order; the number of entries
+-- that still fit in the heap without an allocation; and the number for which the last call of reserve has requested
+-- room
 pub record BucketHeld : Type 0 where
   pub entries : List BucketEntry
   pub spare : ℕ

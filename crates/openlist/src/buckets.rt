@@ -10,13 +10,14 @@ use crate::row::{begin_reserve, bucket_of, count_far, first_filled, push_near, r
 use std::alloc::{AllocError, Global};
 use std::marker::Model;
 
-/// An open list as an array of buckets by f (Dial 1969), each of a run and a binary heap, with one heap for all entries
-/// with f 65536 and above.
+/// An open list as an array of buckets by f (Dial 1969), each of groups by rank and a binary heap, with one heap for
+/// all entries with f 65536 and above.
 ///
-/// A push or a pop takes at most time logarithmic in the number of entries of the same f. A pop also scans empty
-/// buckets, from the f-value of the last pop, or of a push below that, to the first bucket that has an entry; `least`
-/// does the same without moving the start of the scan. So while no push is below the last f that was popped, all pops
-/// together scan each bucket once.
+/// A push or a pop takes constant time on average for an entry of a group, and time logarithmic in the number of the
+/// heap's entries otherwise. An entry takes 4 bytes in a group, 24 in a bucket's heap and 32 in the last heap. A pop
+/// also scans empty buckets, from the f-value of the last pop, or of a push below that, to the first bucket that has an
+/// entry; `least` does the same without moving the start of the scan. So while no push is below the last f that was
+/// popped, all pops together scan each bucket once.
 ///
 /// In contracts its value is the entries of each bucket, the number of entries that still fit in each without an
 /// allocation, the start of the scan, and the heap of entries without a bucket.

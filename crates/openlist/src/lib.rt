@@ -2,8 +2,12 @@
 #![tactic(auto)]
 
 mod bucket;
+mod bucket_entry;
 mod buckets;
 mod entry;
+mod group;
+mod groups;
+mod halves;
 mod heap;
 mod laws;
 mod open_list;

@@ -5,7 +5,7 @@ use Rattle.std.proofs.lemmas.Result.{on_err_weaker, on_ok_weaker}
 use Rattle.openlist.specs.declared.row.TheConstants.{FAR}
 use Rattle.openlist.specs.BucketLists.{has_room_in_fewer, row_entries, row_of}
 use Rattle.openlist.proofs.BucketLaws.{entries_beside-same, far_after_push, far_count-from_room, HasRoomFor-far_cons, on_err_from}
-use Rattle.openlist.proofs.Runs.{IsPermutation-pushed_beside}
+use Rattle.openlist.proofs.BucketOrder.{IsPermutation-pushed_beside}
 use Rattle.openlist.proofs.buckets.BucketsOpenList.push.Goals as goal
 
 pub invariant_of-self : goal.invariant_of-self
