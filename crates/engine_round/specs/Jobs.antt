@@ -50,9 +50,9 @@ pub record AreSetUp {S F : Type 0} (b : Board) (best : Distance) (workers : List
   pub offered : lesser (view own).offered (least (map (λ j. (view j.seat).offered) jobs)) ≡ best
 
 -- a job that was begun at a board, with this gate
-pub record BegunOf (S F G : Type 0) : Type 0 where
+pub record BegunOf (J G : Type 0) : Type 0 where
   pub board : Board
-  pub job : JobOf S F
+  pub job : J
   pub gate : G
 
 -- the worker of that job has taken its turns

@@ -3,10 +3,9 @@
 ghost use Rattle.std.specs.Prelude.{◌≡◌};
 ghost use Rattle.std.specs.Thread.{IsSync};
 ghost use Rattle.board.specs.Seats.{IsSeatOf, view};
-ghost use Rattle.engine_round.specs.Turns.{HasWorked};
-ghost use Rattle.engine_round.specs.Jobs.{IsReady};
 
 use crate::gate::Gate;
+use crate::turns::Turns;
 use crate::work::{Worked, work};
 use board::{Board, Seat};
 use packed::StateForm;
@@ -38,48 +37,58 @@ impl<'a, S: Spread + Drop, F: StateForm + Drop> Model for Job<'a, S, F> {
     ghost invariant = { λ j. j.number ≡ j.worker.owner.worker };
 }
 
-/// The promise of a thread: the worker of this job takes its turns at this board, with this gate. Only for the proof.
+impl<'a, S: Spread + Drop + Send + Sync, F: StateForm + Drop + Send> Turns<Worked<'a, S, F>>
+    for Job<'a, S, F> {
+    ghost use Rattle.engine_round.specs.Jobs.{IsReady, HasDone};
+
+    ghost is_ready = { IsReady };
+
+    ghost has_done = { HasDone S.owner F.values };
+
+    fn run<R: Wait + Clock, G: Gate>(self, rt: &R, board: &Board, gate: &G) -> Worked<'a, S, F> {
+        let Job {
+            seat,
+            number,
+            worker,
+        } = self;
+        work(rt, board, seat, number, worker, gate)
+    }
+}
+
+/// The promise of a thread: the turns of this job are taken at this board, with this gate. Only for the proof.
 #[derive(Drop)]
-pub(crate) struct WorkOf<'a, S: Spread + Drop, F: StateForm + Drop, G: Gate> {
+pub(crate) struct WorkOf<J: Drop, G: Gate> {
     board: Snapshot<Board>,
-    job: Snapshot<Job<'a, S, F>>,
+    job: Snapshot<J>,
     gate: Snapshot<G>,
 }
 
-impl<'a, S: Spread + Drop, F: StateForm + Drop, G: Gate> Promise<Worked<'a, S, F>>
-    for WorkOf<'a, S, F, G> {
-    ghost use Rattle.engine_round.specs.Turns.{HasWorked};
-
-    ghost kept_by = { λ p r. HasWorked S.owner F.values (G.may_stop p.gate.value) p.board.value p.job.value.seat p.job.value.worker r };
+impl<W, J: Turns<W>, G: Gate> Promise<W> for WorkOf<J, G> {
+    ghost kept_by = { λ p r. J.has_done (G.may_stop p.gate.value) p.board.value p.job.value r };
 }
 
 /// A job that runs in a thread, or that was done at once because no thread could be made.
-pub(crate) struct Begun<'a, S: Spread + Drop, F: StateForm + Drop, G: Gate> {
-    of: WorkOf<'a, S, F, G>,
-    run: Result<PromisedHandle<Worked<'a, S, F>, WorkOf<'a, S, F, G>>, Worked<'a, S, F>>,
+pub(crate) struct Begun<W, J: Turns<W>, G: Gate> {
+    of: WorkOf<J, G>,
+    run: Result<PromisedHandle<W, WorkOf<J, G>>, W>,
 }
 
-impl<'a, S: Spread + Drop, F: StateForm + Drop, G: Gate> Model for Begun<'a, S, F, G> {
+impl<W, J: Turns<W>, G: Gate> Model for Begun<W, J, G> {
     ghost use Rattle.std.specs.Prelude.{◌≡◌, IfOk, IfErr};
-    ghost use Rattle.engine_round.specs.Turns.{HasWorked};
     ghost use Rattle.engine_round.specs.Jobs.{BegunOf};
 
-    ghost Value = { BegunOf S F G };
+    ghost Value = { BegunOf J G };
 
     ghost view = { λ x. record { board = x.of.board.value; job = x.of.job.value; gate = x.of.gate.value } };
 
     ghost invariant = { λ x.
         IfOk x.run (λ h. (h.promise.board.value ≡ x.of.board.value) × (h.promise.job.value ≡ x.of.job.value)
         × (h.promise.gate.value ≡ x.of.gate.value)) ×
-        IfErr x.run (λ r. HasWorked S.owner F.values (G.may_stop x.of.gate.value) x.of.board.value x.of.job.value.seat x.of.job.value.worker r) };
+        IfErr x.run (λ r. J.has_done (G.may_stop x.of.gate.value) x.of.board.value x.of.job.value r) };
 }
 
 /// Returns the promise for the job.
-fn work_of<'a, S: Spread + Drop, F: StateForm + Drop, G: Gate>(
-    board: &Board,
-    job: &Job<'a, S, F>,
-    gate: &G,
-) -> WorkOf<'a, S, F, G>
+fn work_of<J: Drop, G: Gate>(board: &Board, job: &J, gate: &G) -> WorkOf<J, G>
     ensures { (result.board.value ≡ board.now) × (result.job.value ≡ job.now) × (result.gate.value ≡ gate.now) }
 {
     WorkOf {
@@ -89,55 +98,36 @@ fn work_of<'a, S: Spread + Drop, F: StateForm + Drop, G: Gate>(
     }
 }
 
-/// Runs the turns of the worker of a job.
-pub(crate) fn run<'a, R: Wait + Clock, S: Spread + Drop, F: StateForm + Drop, G: Gate>(
-    rt: &R,
-    board: &Board,
-    job: Job<'a, S, F>,
-    gate: &G,
-) -> Worked<'a, S, F>
-    requires { IsReady board.now job }
-    ensures { HasWorked S.owner F.values (G.may_stop gate.now) board.now job.entry.seat job.entry.worker result }
-{
-    let Job {
-        seat,
-        number,
-        worker,
-    } = job;
-    work(rt, board, seat, number, worker, gate)
-}
-
 /// Begins a job in a thread of the scope. If no thread can be made, ends the round through the caller's own seat, and
 /// the worker takes one turn in the caller's thread.
 pub(crate) fn begin<
     's,
-    'a: 's,
     E: 's,
     R: Threads + Wait + Clock + Sync,
-    S: Spread + Drop + Send + Sync + 's,
-    F: StateForm + Drop + Send + 's,
+    W: Drop + Send + 's,
+    J: Turns<W> + 's,
     G: Gate + Sync + 's,
 >(
     rt: &'s R,
     scope: &'s Scope<'s, E>,
     board: &'s Board,
     own: &mut Seat,
-    job: Job<'a, S, F>,
+    job: J,
     gate: &'s G,
-) -> Begun<'a, S, F, G>
+) -> Begun<W, J, G>
     requires own { IsSeatOf board.now own.old }
-    requires job { IsReady board.now job }
+    requires job { J.is_ready board.now job }
     ensures own { IsSeatOf board.now own.new × (view own.new ≡ view own.old) }
-    ensures job { result ≡ record { board = board.now; job = job.entry; gate = gate.now } }
+    ensures job { result ≡ record { board = board.now; job = job; gate = gate.now } }
 {
     let of = work_of(board, &job, gate);
     let promise = work_of(board, &job, gate);
     let begun = scope.spawn_with(
         promise,
-        move || -> Worked<S, F>
-            requires { IsSync R.row × IsReady board.now job }
-            ensures { HasWorked S.owner F.values (G.may_stop gate.entry.now) board.entry.now job.entry.seat job.entry.worker result }
-        { run(rt, board, job, gate) },
+        move || -> W
+            requires { IsSync R.row × J.is_ready board.now job }
+            ensures { J.has_done (G.may_stop gate.entry.now) board.entry.now job result }
+        { job.run(rt, board, gate) },
     );
     let run = match begun {
         Ok(handle) => Ok(handle),
@@ -149,10 +139,10 @@ pub(crate) fn begin<
     Begun { of, run }
 }
 
-impl<'a, S: Spread + Drop, F: StateForm + Drop, G: Gate> Begun<'a, S, F, G> {
-    /// Waits until the worker has taken its turns, and returns it.
-    pub(crate) fn finish<R: Threads>(self, rt: &R) -> Worked<'a, S, F>
-        ensures { HasWorked S.owner F.values (G.may_stop self.entry.gate) self.entry.board self.entry.job.seat self.entry.job.worker result }
+impl<W, J: Turns<W>, G: Gate> Begun<W, J, G> {
+    /// Waits until the turns were taken, and returns what is left after them.
+    pub(crate) fn finish<R: Threads>(self, rt: &R) -> W
+        ensures { J.has_done (G.may_stop self.gate) self.board self.job result }
     {
         let Begun { of: _, run } = self;
         match run {

@@ -13,6 +13,7 @@ mod relay;
 mod rounds;
 mod seats;
 mod start;
+mod turns;
 mod work;
 
 pub use fault::TurnFault;

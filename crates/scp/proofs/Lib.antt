@@ -7,3 +7,4 @@ pub mod CostPartitioned
 pub mod PlaceLaws
 pub mod JoinedColumns
 pub mod OrderLaws
+pub mod Applying

@@ -17,7 +17,7 @@ use Rattle.std.proofs.lemmas.Bool.{cases_lt}
 use Rattle.fdr.specs.Tasks.{FiniteDomainTask, ranges, IsState, IsTask, step, applies, successor}
 use Rattle.abstraction.specs.Steps.{step_keeps_state}
 use Rattle.abstraction_mapping.specs.Mappings.{Pattern}
-use Rattle.scp_rows.specs.Moves.{AreMoved, AreTouched, KeepsAt, first_rows}
+use Rattle.scp_rows.specs.Moves.{AreMoved, AreTouched, KeepsAt, StepsTo, first_rows}
 use Rattle.scp_rows.specs.Rows.{MappingRows, AreOf, abstraction_of, word_at, word_in}
 use Rattle.scp_rows.proofs.TouchLaws.{at_some}
 
@@ -72,6 +72,24 @@ module _ (task : FiniteDomainTask) (rows : List MappingRows) (of : AreOf task ro
     sums = λ lane. exchanged (word_at state lane) (word_at next lane) rows is.others touched is.places (λ k d l. same_word lane (get_or is.others k d) (is.kept k d l));
   })
 
+-- the same, for any state
+moved_by : (task : FiniteDomainTask) (rows : List MappingRows) (of : AreOf task rows) (state : List ℕ) (ok : IsState (ranges task) state) (o : ℕ) (next : List ℕ) (leads : step task state o ≡ Some next)
+    (touched : List ℕ) → ∥ AreTouched rows o (length rows) touched ∥₁ → AreMoved rows touched state next
+moved_by task rows of state ok o next leads touched merely = moved task rows of state ok o next leads touched merely
+
+module _ (task : FiniteDomainTask) (rows : List MappingRows) (of : AreOf task rows) (state : List ℕ) (ok : IsState (ranges task) state)
+    (o : ℕ) (next : List ℕ) (leads : step task state o ≡ Some next) where
+  -- the same for each state to which the operator leads under all mappings
+  pub moved_all : (touched : List ℕ) → ∥ AreTouched rows o (length rows) touched ∥₁ → (other : List ℕ) → StepsTo rows state o other → AreMoved rows touched state other
+  moved_all touched merely other steps = go rows of steps (moved task rows of state ok o next leads touched merely) (λ l. moved_to l)
+    where
+      moved_to : step task state o ≡ Some other → AreMoved rows touched state other
+      moved_to leads' = moved_by task rows of state ok o other leads' touched merely
+
+      go : (ps : List MappingRows) → AreOf task ps → StepsTo ps state o other → AreMoved ps touched state next → (step task state o ≡ Some other → AreMoved ps touched state other) → AreMoved ps touched state other
+      go [] own led here to = record { within = here.within; sums = λ lane. here.sums lane }
+      go (q ∷ ps) own led here to = to (subst (λ (t : FiniteDomainTask). step t state o ≡ Some other) (own zero q (omega arith)) (led zero q (omega arith)))
+
 -- ---- states and operators
 
 pub first_of_task : (task : FiniteDomainTask) (blocks : List (Vec MappingRows Global)) → All (λ b. AreOf task b.items) blocks → AreOf task (first_rows blocks)
@@ -89,3 +107,7 @@ operator_within task state next o leads = ⊎_elim (λ (l : o < length task.oper
 
 pub next_state : (task : FiniteDomainTask) → IsTask task → (state next : List ℕ) (o : ℕ) → IsState (ranges task) state → step task state o ≡ Some next → IsState (ranges task) next
 next_state task well state next o ok leads = at_some (IsState (ranges task)) (step task state o) next leads (step_keeps_state task well state o ok)
+
+-- an operator of the task leads to a state under all its mappings
+pub all_step : (task : FiniteDomainTask) (rows : List MappingRows) → AreOf task rows → (state next : List ℕ) (o : ℕ) → step task state o ≡ Some next → StepsTo rows state o next
+all_step task rows of state next o leads k d l = subst (λ own. step own state o ≡ Some next) (sym (of k d l)) leads

@@ -13,7 +13,7 @@ ghost use Rattle.scp_columns.specs.ColumnTables.{on_abstraction};
 ghost use Rattle.scp_columns.specs.Partitions.{IsMadeFrom};
 ghost use Rattle.scp_rows.specs.Rows.{AreOf, value_of, blocks_value};
 ghost use Rattle.scp_rows.specs.Flats.{most_in, blocks_in};
-ghost use Rattle.scp_rows.specs.Moves.{AreTouches, first_rows};
+ghost use Rattle.scp_rows.specs.Moves.{AreMoves, AreTouches, first_rows};
 ghost use Rattle.scp.specs.Partitions.{AreColumnsFrom, AreCostPartitioned, IsColumnFrom, mappings_of};
 
 use crate::places::Places;
@@ -23,7 +23,7 @@ use fdr::FdrTask;
 use rayon::current_num_threads;
 use rayon::prelude::*;
 use scp_columns::{ColumnTable, EarlierColumn, make_column};
-use scp_rows::{Flat, flat_value, make_flat, touches_in};
+use scp_rows::{Flat, Move, flat_value, make_flat, moves_in, touches_in};
 use std::alloc::{AllocError, Global};
 use std::marker::Model;
 use std::thread::Threads;
@@ -36,6 +36,7 @@ pub struct Columns<'a> {
     columns: Vec<Vec<ColumnTable<'a>>>,
     flat: Flat<'a>,
     touches: Vec<Vec<usize>>,
+    moves: Vec<Option<Vec<Move>>>,
     ghost of_task: { All (λ column. All (λ t. t.task ≡ task.now) column.items) columns.items },
     ghost few_columns: { length columns.items ≤ 64 },
     ghost none_empty: { All (λ column. column.items ≢ []) columns.items },
@@ -45,6 +46,7 @@ pub struct Columns<'a> {
     ghost flat_value: { (state : List ℕ) → IsState (ranges task.now) state →
         blocks_value (most_in flat) state (blocks_in flat) ≡ greatest (map (value_of state) columns.items) },
     ghost touches_are: { AreTouches (length task.now.operators) (first_rows (blocks_in flat)) touches.items },
+    ghost moves_are: { AreMoves (first_rows (blocks_in flat)) touches.items moves.items },
 }
 
 impl<'a> Model for Columns<'a> {
@@ -107,7 +109,7 @@ impl<'a> Columns<'a> {
     pub fn places(&'a self, alloc: Global) -> Result<Places<'a>, AllocError>
         ensures { IfOk result (λ p. p ≡ record { task = self.now.task; columns = self.now.columns; state = self.now.task.initial }) }
     {
-        Places::new(alloc, self, &self.flat, &self.touches)
+        Places::new(alloc, self, &self.flat, &self.touches, &self.moves)
     }
 }
 
@@ -204,10 +206,12 @@ pub fn make_columns<'a, R: Threads + Sync>(
     let columns = columns_in_turn(rt, alloc, task, orders)?;
     let flat = make_flat(alloc, task, &columns)?;
     let touches = touches_in(alloc, &flat, task.operator_count())?;
+    let moves = moves_in(alloc, &flat, &touches)?;
     Ok(Columns {
         task,
         columns,
         flat,
         touches,
+        moves,
     })
 }

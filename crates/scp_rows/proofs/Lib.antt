@@ -4,3 +4,4 @@ pub mod RowLists
 pub mod Blocks
 pub mod Limits
 pub mod TouchLaws
+pub mod MoveLaws

@@ -1,9 +1,12 @@
 -- The rows of a state, and those of its successor.
-use Rattle.std.specs.Prelude.{◌≡◌, ℕ, ◌<◌, ◌+◌, ◌-◌, ◌++◌, min, get_or, slice_index, List, [], ◌∷◌, length, map, sum_by, Some, All, Vec}
+use Rattle.std.specs.Prelude.{◌≡◌, ℕ, ◌<◌, ◌+◌, ◌-◌, ◌++◌, min, get_or, slice_index, List, [], ◌∷◌, length, map, sum_by, Option, Some, All, Vec}
+use Rattle.std.specs.Option.{ForSome}
 use Rattle.std.specs.List.{range_with_len}
 use Rattle.std.specs.List.Sorted.{IsPermutation}
 use Rattle.std.specs.Global.{Global}
 use Rattle.fdr.specs.Tasks.{ranges, IsState, step}
+use Rattle.abstraction_groups.specs.declared.shift.Shift.{Shift}
+use Rattle.scp_rows.specs.declared.moves.Move.{Move}
 use Rattle.scp_rows.specs.Rows.{MappingRows, abstraction_of, word_at, lane_sum}
 
 -- the rows of the first block
@@ -54,3 +57,30 @@ sum_at state lane rows places = sum_by (λ k. slice_index (map (word_at state la
 pub record AreMoved (rows : List MappingRows) (touched state next : List ℕ) : Type 0 where
   pub within : All (λ k. k < length rows) touched
   pub sums : (lane : ℕ) → lane_sum next lane rows ≡ lane_sum state lane rows - sum_at state lane rows touched + sum_at next lane rows touched
+
+-- the operator changes the number of each abstract state by this much
+abbrev pub IsShift : MappingRows → ℕ → Shift → Type 0
+IsShift p o s =
+    (state next : List ℕ) → IsState (ranges p.task) state → step p.task state o ≡ Some next
+    → (abstraction_of p).index next + s.less ≡ (abstraction_of p).index state + s.more
+
+-- the move is that of the operator under the mapping with its index
+pub record IsMove (rows : List MappingRows) (o : ℕ) (m : Move) : Type 0 where
+  pub within : m.place < length rows
+  pub shift : (d : MappingRows) → IsShift (get_or rows m.place d) o m.shift
+
+abbrev pub places_of : List Move → List ℕ
+places_of moves = map (λ m. m.place) moves
+
+-- the moves of the operator under the mappings that it affects, if they are known
+abbrev pub AreMovesOf : List MappingRows → ℕ → List ℕ → Option (Vec Move Global) → Type 0
+AreMovesOf rows o touched moves = ForSome moves (λ ms. (places_of ms.items ≡ touched) × All (IsMove rows o) ms.items)
+
+-- for each operator, its moves under the mappings that it affects, if they are known
+pub record AreMoves (rows : List MappingRows) (touches : List (Vec ℕ Global)) (moves : List (Option (Vec Move Global))) : Type 0 where
+  pub as_many : length moves ≡ length touches
+  pub each : (o : ℕ) (t : Vec ℕ Global) (m : Option (Vec Move Global)) → o < length touches → AreMovesOf rows o (get_or touches o t).items (get_or moves o m)
+
+-- the operator is applied in the state, and the next one follows
+abbrev pub StepsTo : List MappingRows → List ℕ → ℕ → List ℕ → Type 0
+StepsTo rows state o next = All (λ p. step p.task state o ≡ Some next) rows

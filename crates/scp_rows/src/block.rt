@@ -8,10 +8,11 @@ ghost use Rattle.abstraction.specs.Columns.{column_value};
 ghost use Rattle.abstraction_mapping.specs.Views.{mapping_of};
 ghost use Rattle.abstraction_mapping.specs.Mappings.{is_mapping};
 ghost use Rattle.scp_columns.specs.ColumnTables.{on_abstraction};
-ghost use Rattle.scp_rows.specs.Moves.{AreMoved, IsEntered, first_rows};
+ghost use Rattle.scp_rows.specs.Moves.{AreMoved, IsEntered, IsMove, StepsTo, first_rows, places_of};
 ghost use Rattle.scp_rows.specs.Rows.{lane_sum, Gains, AreOf, IsBlockOf, HasWord, value_of, blocks_value};
 
 use crate::mapping_rows::{MappingRows, sums, sums_after};
+use crate::moves::{Move, sums_moved};
 use crate::row::Row;
 use abstraction_mapping::Mapping;
 use cost::Dist;
@@ -192,4 +193,44 @@ pub(crate) fn greatest_after<R: Row>(
     }
     let first = sums_after(&blocks[0], entered, indices, entered_sums, touched, state).greatest();
     first.max(greatest_value(&blocks[1..], state))
+}
+
+/// Returns the greatest value of blocks at the state that an operator reaches from the state `entered`, the same as
+/// `greatest_value`, or `None` if it has to be computed from the state's values: if there are two blocks, or a sum of
+/// `entered` may be capped. The other arguments are those of `sums_moved` for the first block.
+pub(crate) fn greatest_moved<R: Row>(
+    blocks: &[Vec<MappingRows<'_, R>>],
+    entered: &[u32],
+    operator: usize,
+    indices: &[usize],
+    entered_sums: &R,
+    touched: &[usize],
+    moves: &[Move],
+) -> Option<Dist>
+    requires entered { IsEntered R.most (first_rows blocks.now) entered.now indices.now (R.words entered_sums.now) }
+    requires leads { (next : List ℕ) × StepsTo (first_rows blocks.now) entered.now operator next }
+    requires touched { All (λ k. k < length (first_rows blocks.now)) touched.now }
+    requires places { places_of moves.now ≡ touched.now }
+    requires moves { All (IsMove (first_rows blocks.now) operator) moves.now }
+    requires moved { (next : List ℕ) → StepsTo (first_rows blocks.now) entered.now operator next →
+        AreMoved (first_rows blocks.now) touched.now entered.now next }
+    ensures { IfSome result (λ value. (next : List ℕ) → StepsTo (first_rows blocks.now) entered.now operator next →
+        value ≡ blocks_value R.most next blocks.now) }
+{
+    match blocks {
+        [] => Some(Dist::ZERO),
+        [first] => {
+            let sums = sums_moved(
+                first,
+                entered,
+                operator,
+                indices,
+                entered_sums,
+                touched,
+                moves,
+            )?;
+            Some(sums.greatest())
+        }
+        _ => None,
+    }
 }

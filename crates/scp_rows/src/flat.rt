@@ -1,15 +1,16 @@
 //! The tables of columns as blocks of rows, in the shortest words that their values allow.
 
-ghost use Rattle.std.specs.Prelude.{◌≡◌, ℕ, List, ◌≤◌, length, map, All, IfOk};
+ghost use Rattle.std.specs.Prelude.{◌≡◌, ℕ, List, ◌<◌, ◌≤◌, length, map, All, IfOk, IfSome};
 ghost use Rattle.cost.specs.Distances.{greatest};
 ghost use Rattle.fdr.specs.Tasks.{ranges, IsState};
 ghost use Rattle.scp_rows.specs.Rows.{AreOf, value_of, blocks_value};
-ghost use Rattle.scp_rows.specs.Moves.{AreMoved, AreTouches, IsEntered, first_rows};
+ghost use Rattle.scp_rows.specs.Moves.{AreMoved, AreMoves, AreTouches, IsEntered, IsMove, StepsTo, first_rows, places_of};
 ghost use Rattle.scp_rows.specs.Flats.{most_in, blocks_in, words_in};
 
-use crate::block::{first_block, greatest_after, greatest_value, make_blocks};
+use crate::block::{first_block, greatest_after, greatest_moved, greatest_value, make_blocks};
 use crate::limit::columns_limit;
 use crate::mapping_rows::{MappingRows, enter, touches};
+use crate::moves::{Move, moves};
 use crate::row::{LongRow, MiddleRow, ShortRow};
 use cost::Dist;
 use fdr::FdrTask;
@@ -140,5 +141,59 @@ pub fn flat_value_after(
         }
         // unreachable: the sums have the same word width as the rows
         _ => flat_value(flat, state),
+    }
+}
+
+/// Returns for each operator its moves under the mappings of the first block that it affects, or `None` if what it
+/// changes under one of them depends on the state.
+pub fn moves_in(
+    alloc: Global,
+    flat: &Flat<'_>,
+    touches: &[Vec<usize>],
+) -> Result<Vec<Option<Vec<Move>>>, AllocError>
+    ensures { IfOk result (λ moves. AreMoves (first_rows (blocks_in flat.now)) touches.now moves.items) }
+{
+    match flat {
+        Flat::Short(blocks) => moves(alloc, first_block(blocks), touches),
+        Flat::Middle(blocks) => moves(alloc, first_block(blocks), touches),
+        Flat::Long(blocks) => moves(alloc, first_block(blocks), touches),
+    }
+}
+
+/// Returns the greatest value of the blocks at the state that an operator reaches from the state `entered`, or `None`
+/// if it has to be computed from that state's values. `indices` and `entered_sums` are the abstract states and the sums
+/// of `entered` in the first block, `touched` has the mappings of that block that are affected, and `moves` the
+/// operator's moves under these. No memory is allocated.
+pub fn flat_value_moved(
+    flat: &Flat<'_>,
+    entered: &[u32],
+    operator: usize,
+    indices: &[usize],
+    entered_sums: &BlockSums,
+    touched: &[usize],
+    moves: &[Move],
+) -> Option<Dist>
+    requires entered { IsEntered (most_in flat.now) (first_rows (blocks_in flat.now)) entered.now indices.now (words_in entered_sums.now) }
+    requires leads { (next : List ℕ) × StepsTo (first_rows (blocks_in flat.now)) entered.now operator next }
+    requires touched { All (λ k. k < length (first_rows (blocks_in flat.now))) touched.now }
+    requires places { places_of moves.now ≡ touched.now }
+    requires moves { All (IsMove (first_rows (blocks_in flat.now)) operator) moves.now }
+    requires moved { (next : List ℕ) → StepsTo (first_rows (blocks_in flat.now)) entered.now operator next →
+        AreMoved (first_rows (blocks_in flat.now)) touched.now entered.now next }
+    ensures { IfSome result (λ value. (next : List ℕ) → StepsTo (first_rows (blocks_in flat.now)) entered.now operator next →
+        value ≡ blocks_value (most_in flat.now) next (blocks_in flat.now)) }
+{
+    match (flat, entered_sums) {
+        (Flat::Short(blocks), BlockSums::Short(sums)) => {
+            greatest_moved(blocks, entered, operator, indices, sums, touched, moves)
+        }
+        (Flat::Middle(blocks), BlockSums::Middle(sums)) => {
+            greatest_moved(blocks, entered, operator, indices, sums, touched, moves)
+        }
+        (Flat::Long(blocks), BlockSums::Long(sums)) => {
+            greatest_moved(blocks, entered, operator, indices, sums, touched, moves)
+        }
+        // unreachable: the sums have the same word width as the rows
+        _ => None,
     }
 }

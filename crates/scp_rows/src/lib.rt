@@ -6,8 +6,11 @@ mod block;
 mod flat;
 mod limit;
 mod mapping_rows;
+mod moves;
 mod row;
 
 pub use flat::{
-    BlockSums, Flat, enter_flat, flat_value, flat_value_after, make_flat, mapping_count, touches_in,
+    BlockSums, Flat, enter_flat, flat_value, flat_value_after, flat_value_moved, make_flat,
+    mapping_count, moves_in, touches_in,
 };
+pub use moves::Move;

@@ -1,15 +1,16 @@
 //! Mappings with the values of the tables of several columns, interleaved by column.
 
-ghost use Rattle.std.specs.Prelude.{◌≡◌, ◌≢◌, ℕ, List, ◌+◌, ◌-◌, ◌<◌, ◌≤◌, min, map, length, slice_index, slice_index_or, true, false, All, IfOk};
+ghost use Rattle.std.specs.Prelude.{◌≡◌, ◌≢◌, ℕ, List, ◌+◌, ◌-◌, ◌<◌, ◌≤◌, min, map, length, slice_index, slice_index_or, true, false, Some, All, IfOk, IfSome};
 ghost use Rattle.cost.specs.Distances.{Infinite};
-ghost use Rattle.fdr.specs.Tasks.{ranges, IsState};
+ghost use Rattle.fdr.specs.Tasks.{ranges, IsState, step};
 ghost use Rattle.abstraction_mapping.specs.Mappings.{is_mapping};
 ghost use Rattle.abstraction_mapping.specs.Views.{mapping_of};
-ghost use Rattle.scp_rows.specs.Moves.{AreIndices, AreMoved, AreTouched, AreTouches, IsEntered, Keeps, sum_at};
+ghost use Rattle.scp_rows.specs.Moves.{AreIndices, AreMoved, AreTouched, AreTouches, IsEntered, IsShift, Keeps, sum_at};
 ghost use Rattle.scp_rows.specs.Rows.{abstraction_of, word_of, word_in, word_at, lane_sum, added};
 
 use crate::row::Row;
-use abstraction_mapping::{Mapping, TaskMapping};
+use abstraction_groups::{Change, FactoredAbstraction, Shift, shift_of};
+use abstraction_mapping::{Mapping, TableAbstraction, TaskMapping};
 use cert_value::Values;
 use fdr::FdrTask;
 use std::alloc::{AllocError, Global};
@@ -43,23 +44,48 @@ fn add_values<R: Row>(rows: &mut [R], lane: usize, values: &Values)
     }
 }
 
+/// Returns by how much an operator changes the number of an abstract state, if that is the same wherever it applies.
+/// `changes` is a buffer.
+fn shift_in<A: FactoredAbstraction>(
+    abstraction: &A,
+    operator: usize,
+    changes: &mut Vec<Change>,
+) -> Result<Option<Shift>, AllocError>
+    ensures { IfOk result (λ found. IfSome found (λ s. (state next : List ℕ) → IsState (ranges (A.task abstraction.now)) state →
+        step (A.task abstraction.now) state operator ≡ Some next →
+        (A.abstraction abstraction.now).index next + s.less ≡ (A.abstraction abstraction.now).index state + s.more)) }
+{
+    if operator >= abstraction.task().operator_count() {
+        return Ok(None);
+    }
+    changes.clear();
+    changes.resize(abstraction.variables().len(), Change::Kept)?;
+    Ok(shift_of(abstraction, operator, changes))
+}
+
 /// A mapping with a row for each abstract state.
 #[derive(Drop)]
 pub struct MappingRows<'a, R: Row> {
     mapping: TaskMapping<'a>,
+    /// The abstraction by the mapping, which has the transitions.
+    abstraction: TableAbstraction<'a>,
     rows: Vec<R>,
 }
 
 impl<'a, R: Row> Model for MappingRows<'a, R> {
     ghost use Rattle.std.specs.Prelude.{◌≡◌, map, length};
     ghost use Rattle.abstraction_mapping.specs.TaskMappings.{abstraction_for};
+    ghost use Rattle.abstraction_mapping.specs.Views.{mapping_in, task_in};
     ghost use Rattle.scp_rows.specs.Rows as spec;
 
     ghost Value = { spec.MappingRows };
 
     ghost view = { λ p. record { task = p.mapping.task; mapping = p.mapping.mapping; rows = map R.words p.rows.items } };
 
-    ghost invariant = { λ p. length p.rows.items ≡ (abstraction_for p.mapping).size };
+    ghost invariant = { λ p.
+        (length p.rows.items ≡ (abstraction_for p.mapping).size) ×
+        (task_in p.abstraction ≡ p.mapping.task) ×
+        (mapping_in p.abstraction ≡ p.mapping.mapping) };
 }
 
 impl<'a, R: Row> MappingRows<'a, R> {
@@ -74,9 +100,16 @@ impl<'a, R: Row> MappingRows<'a, R> {
         ensures mapping { IfOk result (λ p. p.mapping ≡ mapping_of mapping.now) }
         ensures zero { IfOk result (λ p. (state : List ℕ) (lane : ℕ) → word_at state lane p ≡ 0) }
     {
+        let Some(abstraction) = TableAbstraction::new(alloc, task, mapping)? else {
+            unreachable!()
+        };
         let mapping = TaskMapping::new(alloc, task, mapping)?;
         let rows = zero_rows(alloc, mapping.size())?;
-        Ok(MappingRows { mapping, rows })
+        Ok(MappingRows {
+            mapping,
+            abstraction,
+            rows,
+        })
     }
 
     /// Returns whether the rows are those of this mapping.
@@ -114,6 +147,36 @@ impl<'a, R: Row> MappingRows<'a, R> {
         ensures { result ≡ false → Keeps self.now operator }
     {
         self.mapping.touches(operator)
+    }
+
+    /// Returns by how much an operator changes the number of an abstract state, if that is the same wherever it applies.
+    /// `changes` is a buffer.
+    pub(crate) fn shift_of(
+        &self,
+        operator: usize,
+        changes: &mut Vec<Change>,
+    ) -> Result<Option<Shift>, AllocError>
+        ensures { IfOk result (λ found. IfSome found (IsShift self.now operator)) }
+    {
+        match &self.abstraction {
+            TableAbstraction::Projection(projection) => shift_in(projection, operator, changes),
+            TableAbstraction::Domain(domain) => shift_in(domain, operator, changes),
+        }
+    }
+
+    /// Returns the row of the state that an operator with this shift reaches from `state`, whose abstract state is
+    /// `index`.
+    pub(crate) fn moved_row(&self, state: &[u32], operator: usize, index: usize, shift: Shift) -> &R
+        requires state { IsState (ranges self.now.task) state.now }
+        requires leads { (next : List ℕ) × (step self.now.task state.now operator ≡ Some next) }
+        requires index { index ≡ (abstraction_of self.now).index state.now }
+        requires shift { IsShift self.now operator shift }
+        ensures { (next : List ℕ) → step self.now.task state.now operator ≡ Some next → (lane : ℕ) →
+            slice_index (R.words result.now) lane ≡ word_at next lane self.now }
+    {
+        let _ = state;
+        let _ = operator;
+        &self.rows[shift.after(index)]
     }
 
     /// Returns the row of the state, whose abstract state is `index`.
@@ -159,7 +222,7 @@ pub(crate) fn enter<R: Row>(
 }
 
 /// Subtracts the rows of an entered state, for the mappings at these indices.
-fn subtract_rows<R: Row>(
+pub(crate) fn subtract_rows<R: Row>(
     mappings: &[MappingRows<'_, R>],
     places: &[usize],
     entered: &[u32],

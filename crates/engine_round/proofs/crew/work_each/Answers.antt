@@ -9,10 +9,9 @@ scoped-requires g c = record {
   at = λ a. (
     (record { shared = c.type_bounds.sync-R.shared }, c.requires.own, c.requires.jobs),
     (
-      record { owned = c.type_bounds.send-S.owned; leaving = λ k. Quiet-if (k (of_param 1)) unseen unseen (λ x w. tt {0}) (λ x w. tt {0}) },
-      record { owned = c.type_bounds.send-F.owned; leaving = λ k. Quiet-if (k (of_param 2)) unseen unseen (λ x w. tt {0}) (λ x w. tt {0}) },
+      record { owned = c.type_bounds.send-W.owned; leaving = λ k. Quiet-if (k (of_param 1)) unseen unseen (λ x w. tt {0}) (λ x w. tt {0}) },
+      record { owned = c.type_bounds.send-J.owned; leaving = λ k. Quiet-if (k (of_param 2)) unseen unseen (λ x w. tt {0}) (λ x w. tt {0}) },
       record { shared = c.type_bounds.sync-R.shared },
-      record { shared = c.type_bounds.sync-S.shared },
       record { shared = c.type_bounds.sync-G.shared },
     ),
   );

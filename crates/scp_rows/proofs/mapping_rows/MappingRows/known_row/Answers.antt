@@ -9,7 +9,7 @@ pub index-requires : goal.index-requires
 index-requires g c =
     let is = rw (← c.self.view_is) at c.requires.index in
     let ok = rw (← c.self.view_is) at c.requires.state in
-    omega (arith, (task_mapping_abstracts c.self.inside.mapping).indices c.args.state.now ok, c.self.invariant, is)
+    omega (arith, (task_mapping_abstracts c.self.inside.mapping).indices c.args.state.now ok, c.self.invariant.0, is)
 
 pub returns : goal.returns
 returns g c = rw (← c.self.view_is) (λ lane.
@@ -18,6 +18,6 @@ returns g c = rw (← c.self.view_is) (λ lane.
     let rows = c.self.inside.rows.items in
     let is : c.args.index ≡ (abstraction_for a).index c.args.state.now = rw (← c.self.view_is) at c.requires.index in
     let ok = rw (← c.self.view_is) at c.requires.state in
-    let within : c.args.index < length rows = omega (arith, (task_mapping_abstracts a).indices c.args.state.now ok, c.self.invariant, is) in
+    let within : c.args.index < length rows = omega (arith, (task_mapping_abstracts a).indices c.args.state.now ok, c.self.invariant.0, is) in
     let read = word_read words rows c.args.index lane c.index.result.now within in
     ap (λ r. slice_index (words r) lane) c.index.ensures ∙ sym read ∙ ap (λ i. word_in (map words rows) i lane) is)
