@@ -1,5 +1,2 @@
 pub mod ForColumns
-mod Falls
 mod OrderLists
-mod Prepared
-mod Successors

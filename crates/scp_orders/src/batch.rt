@@ -1,8 +1,8 @@
 //! Batches of candidates, which threads evaluate in parallel.
 
 use crate::candidate::{Candidate, Setting};
-use crate::pool::Pool;
 use rayon::prelude::*;
+use scp_samples::Pool;
 use std::alloc::{AllocError, Global};
 use std::thread::Threads;
 

@@ -2,10 +2,8 @@
 
 ghost use Rattle.std.specs.Prelude.{◌≡◌, ℕ, ◌<◌, ◌^◌, length, slice_index, OnOk};
 
-use crate::orders::MAX_TABLES;
-use crate::pool::Pool;
-use crate::samples::Samples;
 use pdb::Scratch;
+use scp_samples::{MAX_TABLES, Pool, Samples};
 use std::alloc::{AllocError, Global};
 
 /// What orders are evaluated with.

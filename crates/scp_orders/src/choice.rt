@@ -6,17 +6,14 @@ ghost use Rattle.pdb_patterns.specs.Choices.{IsMappingWithin};
 ghost use Rattle.scp_orders.specs.Orders.{AreOrders, IsChoice, mappings_of};
 
 use crate::candidate::{Candidate, Column, Setting};
-use crate::dead_ends::{append_dead_ends, first_dead_end};
 use crate::diversifier::{Diversifier, Effort, positive_entries, raise};
 use crate::greedy::set_greedy_order;
 use crate::orders::{MAX_COLUMNS, orders_or_first};
-use crate::pool::{Pool, abstractions_by};
-use crate::samples::Samples;
 use crate::scores::Score;
-use crate::walks::plan_length;
 use abstraction_mapping::Mapping;
 use fdr::FdrTask;
 use rand_xoshiro::SplitMix64;
+use scp_samples::{Pool, Samples, abstractions_by, append_dead_ends, first_dead_end, plan_length};
 use std::alloc::{AllocError, Global};
 use std::thread::Threads;
 
@@ -145,7 +142,7 @@ fn chosen_indices<R: Threads + Sync>(
         samples: &samples,
     })?;
     let walks = effort.samples.saturating_sub(1);
-    samples.add_walks(alloc, pool, walks, length, words)?;
+    samples.add_walks(rt, alloc, pool, walks, length, words)?;
     let setting = Setting {
         alloc,
         pool: &*pool,

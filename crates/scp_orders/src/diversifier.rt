@@ -4,10 +4,9 @@
 use crate::batch::{BATCH, evaluate_all, new_batch};
 use crate::candidate::{Candidate, Column, Setting};
 use crate::greedy::set_greedy_order;
-use crate::pool::Pool;
 use crate::scores::score_of;
-use crate::walks::below;
 use rand_xoshiro::SplitMix64;
+use scp_samples::{Pool, below};
 use std::alloc::{AllocError, Global};
 use std::cmp::Reverse;
 use std::thread::Threads;

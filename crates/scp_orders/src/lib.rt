@@ -5,16 +5,10 @@
 mod batch;
 mod candidate;
 mod choice;
-mod dead_ends;
 mod diversifier;
-mod entry;
 mod greedy;
-mod listed;
 mod orders;
-mod pool;
-mod samples;
 mod scores;
-mod walks;
 
 pub use choice::choose_orders;
 pub use diversifier::{DEFAULT_SAMPLES, Effort};

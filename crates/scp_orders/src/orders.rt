@@ -8,13 +8,11 @@ ghost use Rattle.scp_orders.specs.Orders.{AreOrders, IsChoice, mappings_of};
 
 use abstraction_mapping::Mapping;
 use pdb_patterns::has_mapping;
+use scp_samples::MAX_TABLES;
 use std::alloc::{AllocError, Global};
 
 /// The greatest number of orders.
 pub(crate) const MAX_COLUMNS: usize = 8;
-
-/// The greatest number of mappings of an order.
-pub(crate) const MAX_TABLES: usize = 64;
 
 /// Returns copies of the mappings with these indices, in order, but at most 64. Indices of no mapping are left out, and
 /// so is a mapping that is in the order already.

@@ -1,9 +1,6 @@
-//! Stolen costs, and the scores by which abstractions are ordered for a state (Seipp, Keller and Helmert 2020).
+//! Scores by which abstractions are ordered for a state (Seipp, Keller and Helmert 2020).
 
 ghost use Rattle.std.specs.Prelude.{◌≤◌};
-
-use crate::entry::{OperatorShare, PoolEntry};
-use std::alloc::{AllocError, Global};
 
 /// A score of an abstraction for a state, from its distance `h` of the state under full costs and the costs that it
 /// takes from other abstractions.
@@ -24,56 +21,6 @@ pub(crate) fn score_of(candidate: usize) -> Score {
         1 => Score::Distance,
         _ => Score::SquareQuotient,
     }
-}
-
-/// Adds the shares to the sums for their operators.
-fn add_shares(sums: &mut [u64], shares: &[OperatorShare]) {
-    for share in shares {
-        if share.operator < sums.len() {
-            sums[share.operator] = sums[share.operator].saturating_add(u64::from(share.share));
-        }
-    }
-}
-
-/// Returns the cost that an abstraction takes from others. It takes from an operator what all saturated shares
-/// together have beyond its cost, but at most its own share: `min(w, w - (cost - others))` with its share `w` and the
-/// sum `others` of the others' shares, as far as that is positive.
-fn stolen_by(shares: &[OperatorShare], sums: &[u64], costs: &[u32]) -> u64 {
-    let mut stolen: u64 = 0;
-    for share in shares {
-        let sum = sums.get(share.operator).copied().unwrap_or(0);
-        let cost = costs.get(share.operator).copied().unwrap_or(0);
-        let excess = sum.saturating_sub(u64::from(cost));
-        stolen = stolen.saturating_add(excess.min(u64::from(share.share)));
-    }
-    stolen
-}
-
-/// Returns the sum of the shares of each operator over all entries.
-fn sums_of(
-    alloc: Global,
-    entries: &[PoolEntry<'_>],
-    operators: usize,
-) -> Result<Vec<u64>, AllocError> {
-    let mut sums = vec![in alloc; 0; operators]?;
-    for entry in entries {
-        add_shares(&mut sums, &entry.shares);
-    }
-    Ok(sums)
-}
-
-/// Returns the cost that each entry takes from others.
-pub(crate) fn stolen_costs(
-    alloc: Global,
-    entries: &[PoolEntry<'_>],
-    costs: &[u32],
-) -> Result<Vec<u64>, AllocError> {
-    let sums = sums_of(alloc, entries, costs.len())?;
-    let mut stolen = Vec::with_capacity(alloc, entries.len())?;
-    for entry in entries {
-        stolen.push(stolen_by(&entry.shares, &sums, costs))?;
-    }
-    Ok(stolen)
 }
 
 /// Returns by how many bits distances of at most `most` are shifted to the right so that they have at most 32 bits.

@@ -1,4 +1,4 @@
-//! Random walks from the initial state.
+//! Random walks from the initial state (Seipp, Keller and Helmert 2020).
 
 ghost use Rattle.std.specs.Prelude.{◌≡◌, ◌<◌, ◌≤◌, OnOk};
 ghost use Rattle.fdr.specs.Tasks.{ranges, IsState};
@@ -16,7 +16,7 @@ const MAX_ESTIMATE: u128 = 10_000;
 const DEFAULT_ESTIMATE: usize = 10;
 
 /// Returns a random number below `count`.
-pub(crate) fn below(words: &mut SplitMix64, count: usize) -> usize
+pub fn below(words: &mut SplitMix64, count: usize) -> usize
     requires { 0 < count }
     ensures { result < count }
 {
@@ -33,9 +33,10 @@ fn total_cost(task: &FdrTask) -> u128 {
     sum
 }
 
-/// Returns the estimated number of operators of a plan of cost `h`: the quotient by the mean cost of an operator,
-/// rounded up, from 1 to 10,000.
-pub(crate) fn plan_length(task: &FdrTask, h: u64) -> usize
+/// Returns the estimated number of operators of a plan of cost `h`, a heuristic value of the initial state: the
+/// quotient by the mean cost of an operator, rounded up, from 1 to 10,000. It is 10 if `h` or the cost of every
+/// operator is 0.
+pub fn plan_length(task: &FdrTask, h: u64) -> usize
     ensures { result ≤ 10000 }
 {
     let sum = total_cost(task);

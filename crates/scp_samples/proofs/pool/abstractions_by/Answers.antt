@@ -1,7 +1,7 @@
 use Rattle.std.proofs.Common.{◌≡◌}
 use Rattle.std.proofs.lemmas.List.Elements.{All-push}
 use Rattle.abstraction_mapping.specs.Views.{task_in}
-use Rattle.scp_orders.proofs.pool.abstractions_by.Goals as goal
+use Rattle.scp_samples.proofs.pool.abstractions_by.Goals as goal
 
 pub loop-mapping-preserved : goal.loop-mapping-preserved
 loop-mapping-preserved c =

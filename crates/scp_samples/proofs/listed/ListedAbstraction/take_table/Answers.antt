@@ -1,8 +1,8 @@
 use Rattle.abstraction.specs.Projections.{projection}
 use Rattle.abstraction_domain.specs.Domains.{domain}
 use Rattle.pdb.specs.Numbers.{distances_in}
-use Rattle.scp_orders.proofs.Falls.{still_small}
-use Rattle.scp_orders.proofs.listed.ListedAbstraction.take_table.Goals as goal
+use Rattle.scp_samples.proofs.Falls.{still_small}
+use Rattle.scp_samples.proofs.listed.ListedAbstraction.take_table.Goals as goal
 
 pub returns-in-Projection : goal.returns-in-Projection
 returns-in-Projection c =

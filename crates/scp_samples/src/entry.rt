@@ -2,7 +2,7 @@
 
 ghost use Rattle.std.specs.Prelude.{◌≡◌, ℕ, ◌<◌, ◌^◌, length, slice_index, IfOk};
 ghost use Rattle.abstraction_mapping.specs.Views.{task_in};
-ghost use Rattle.scp_orders.specs.Tasks.{task_of};
+ghost use Rattle.scp_samples.specs.Tasks.{task_of};
 
 use crate::listed::ListedAbstraction;
 use abstraction_groups::OperatorIndex;
@@ -11,23 +11,26 @@ use cert_value::Values;
 use pdb::Scratch;
 use std::alloc::{AllocError, Global};
 
-/// The saturated share of an operator.
+/// The saturated share of an operator: what an abstraction needs of its cost so that no distance becomes less.
 #[derive(Clone, Copy)]
-pub(crate) struct OperatorShare {
-    pub(crate) operator: usize,
-    pub(crate) share: u32,
+pub struct OperatorShare {
+    /// The index of the operator in the task.
+    pub operator: usize,
+    /// At most the cost of the operator.
+    pub share: u32,
 }
 
-/// An abstraction of the pool.
+/// An abstraction of the pool, with its distances and shares under full costs.
 #[derive(Drop)]
-pub(crate) struct PoolEntry<'a> {
-    pub(crate) listed: ListedAbstraction<'a>,
+pub struct PoolEntry<'a> {
+    /// The abstraction with lists of its transitions.
+    pub listed: ListedAbstraction<'a>,
     /// The number of abstract states and transitions.
-    pub(crate) steps: u64,
+    pub steps: u64,
     /// The distances under full costs.
     values: Values,
     /// The positive saturated shares under full costs. There is one if a finite distance is positive, and only then.
-    pub(crate) shares: Vec<OperatorShare>,
+    pub shares: Vec<OperatorShare>,
 }
 
 /// Returns the share of each operator that has one: its cost less what is left of it, if that is positive.
@@ -75,7 +78,7 @@ impl<'a> PoolEntry<'a> {
     }
 
     /// Returns the distance of an abstract state under full costs, or `None` if it is infinite or there is no state.
-    pub(crate) fn height(&self, abstract_state: u32) -> Option<u64> {
+    pub fn height(&self, abstract_state: u32) -> Option<u64> {
         let index = abstract_state as usize;
         let values = &self.values;
         if index < values.len() {

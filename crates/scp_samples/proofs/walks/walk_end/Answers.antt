@@ -2,8 +2,8 @@ use Rattle.std.proofs.Common.{◌≡◌, arith}
 use Rattle.std.specs.Vec.{with_items}
 use Rattle.std.proofs.lemmas.List.{with_items_is}
 use Rattle.fdr.specs.Tasks.{ranges, IsState}
-use Rattle.scp_orders.proofs.Successors.{successor_or_same}
-use Rattle.scp_orders.proofs.walks.walk_end.Goals as goal
+use Rattle.scp_samples.proofs.Successors.{successor_or_same}
+use Rattle.scp_samples.proofs.walks.walk_end.Goals as goal
 
 pub loop-preserved : goal.loop-preserved
 loop-preserved c =

@@ -3,9 +3,9 @@ use Rattle.std.specs.Prelude.{IfOk}
 use Rattle.rayon.proofs.ListFacts.{AllZip-weaken}
 use Rattle.rayon.proofs.ToStd.{slice-AllZip}
 use Rattle.abstraction_mapping.specs.Views.{task_in}
-use Rattle.scp_orders.specs.Tasks.{task_of}
-use Rattle.scp_orders.proofs.Prepared.{all_prepared}
-use Rattle.scp_orders.proofs.pool.prepared.Goals as goal
+use Rattle.scp_samples.specs.Tasks.{task_of}
+use Rattle.scp_samples.proofs.Prepared.{all_prepared}
+use Rattle.scp_samples.proofs.pool.prepared.Goals as goal
 
 pub returns : goal.returns
 returns g c =

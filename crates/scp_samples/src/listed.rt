@@ -3,7 +3,7 @@
 ghost use Rattle.std.specs.Prelude.{◌≡◌, ℕ, ◌<◌, ◌^◌, length, slice_index, IfOk};
 ghost use Rattle.fdr.specs.Tasks.{ranges, IsState};
 ghost use Rattle.abstraction_mapping.specs.Views.{task_in};
-ghost use Rattle.scp_orders.specs.Tasks.{task_of};
+ghost use Rattle.scp_samples.specs.Tasks.{task_of};
 
 use abstraction::{Abstraction, Projection};
 use abstraction_domain::DomainAbstraction;
@@ -14,8 +14,10 @@ use std::alloc::{AllocError, Global};
 
 /// An abstraction of the pool with lists of its transitions.
 #[derive(Drop)]
-pub(crate) enum ListedAbstraction<'a> {
+pub enum ListedAbstraction<'a> {
+    /// A projection to a pattern.
     Projection(Listed<'a, Projection<'a>>),
+    /// A domain abstraction.
     Domain(Listed<'a, DomainAbstraction<'a>>),
 }
 
@@ -104,7 +106,7 @@ impl<'a> ListedAbstraction<'a> {
 
     /// Returns whether the operators of some class all have a positive cost. If there is no such class, all finite
     /// distances are 0.
-    pub(crate) fn has_cost(&self, costs: &[u32]) -> bool {
+    pub fn has_cost(&self, costs: &[u32]) -> bool {
         match self {
             ListedAbstraction::Projection(listed) => has_cost(listed, costs),
             ListedAbstraction::Domain(listed) => has_cost(listed, costs),
@@ -112,12 +114,9 @@ impl<'a> ListedAbstraction<'a> {
     }
 
     /// Finds the distances under the costs that are left, which `scratch` has then, and subtracts the saturated shares
-    /// from these costs, of which there is one below 2^31 for each operator of the task.
-    pub(crate) fn take_table(
-        &self,
-        left: &mut [u32],
-        scratch: &mut Scratch,
-    ) -> Result<(), AllocError>
+    /// from these costs, of which there is one below 2^31 for each operator of the task. After an error the costs are
+    /// unchanged.
+    pub fn take_table(&self, left: &mut [u32], scratch: &mut Scratch) -> Result<(), AllocError>
         requires operators { length left.old ≡ length (task_of self.now).operators }
         requires small { (o : ℕ) → slice_index left.old o < 2 ^ 31 }
         ensures { (o : ℕ) → slice_index left.new o < 2 ^ 31 }

@@ -1,6 +1,6 @@
 use Rattle.std.proofs.Common.{◌≡◌, ◌<◌, ◌^◌, ℕ, length}
 use Rattle.std.specs.Prelude.{slice_index}
-use Rattle.scp_orders.proofs.pool.costs_of.Given as goal
+use Rattle.scp_samples.proofs.pool.costs_of.Given as goal
 
 abbrev pub invariant-loop-operator : goal.invariant-loop-operator
 invariant-loop-operator l =

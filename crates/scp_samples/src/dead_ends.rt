@@ -1,7 +1,9 @@
 //! Abstractions in which a sampled state has an infinite distance.
 
-use crate::orders::MAX_TABLES;
 use std::alloc::{AllocError, Global};
+
+/// The greatest number of abstractions of an order, which is that of the tables of a column.
+pub const MAX_TABLES: usize = 64;
 
 /// Returns whether an order has the index.
 fn has_index(orders: &[Vec<usize>], index: usize) -> bool {
@@ -30,9 +32,10 @@ fn append_index(
     Ok(())
 }
 
-/// Appends the indices of the marked abstractions that are in no order, as far as there is room. Their tables may have
-/// no costs left, but they still have the infinite distances.
-pub(crate) fn append_dead_ends(
+/// Appends the indices of the marked abstractions of the pool that are in no order, each to the first order with fewer
+/// than 64. If there is no order, the first of them begins one. Their tables may have no costs left, but they still
+/// have the infinite distances. After an error only some of them are appended.
+pub fn append_dead_ends(
     alloc: Global,
     orders: &mut Vec<Vec<usize>>,
     has_dead_end: &[bool],
@@ -45,11 +48,8 @@ pub(crate) fn append_dead_ends(
     Ok(())
 }
 
-/// Returns the order of the first marked abstraction alone, or no order if none is marked.
-pub(crate) fn first_dead_end(
-    alloc: Global,
-    has_dead_end: &[bool],
-) -> Result<Vec<Vec<usize>>, AllocError> {
+/// Returns the order of the first marked abstraction of the pool alone, or no order if none is marked.
+pub fn first_dead_end(alloc: Global, has_dead_end: &[bool]) -> Result<Vec<Vec<usize>>, AllocError> {
     let mut orders = Vec::new(alloc);
     if let Some(index) = has_dead_end.iter().position(|is_marked| *is_marked) {
         append_index(alloc, &mut orders, index)?;

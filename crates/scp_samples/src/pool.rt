@@ -4,10 +4,10 @@ ghost use Rattle.std.specs.Prelude.{◌≡◌, ℕ, ◌<◌, ◌^◌, true, leng
 ghost use Rattle.fdr.specs.Tasks.{ranges, IsState};
 ghost use Rattle.abstraction_mapping.specs.Mappings.{is_mapping};
 ghost use Rattle.abstraction_mapping.specs.Views.{mapping_of, task_in};
-ghost use Rattle.scp_orders.specs.Tasks.{task_of};
+ghost use Rattle.scp_samples.specs.Tasks.{task_of};
 
 use crate::entry::PoolEntry;
-use crate::scores::stolen_costs;
+use crate::stolen::stolen_costs;
 use abstraction::Abstraction;
 use abstraction_groups::OperatorIndex;
 use abstraction_mapping::{Mapping, TableAbstraction};
@@ -17,22 +17,24 @@ use rayon::prelude::*;
 use std::alloc::{AllocError, Global};
 use std::thread::Threads;
 
-/// The pool of abstractions of a task.
+/// The pool of abstractions of a task, with what all orders of them need (Seipp, Keller and Helmert 2020).
 #[derive(Drop)]
-pub(crate) struct Pool<'a> {
-    pub(crate) task: &'a FdrTask,
-    pub(crate) entries: Vec<PoolEntry<'a>>,
+pub struct Pool<'a> {
+    /// The task of all abstractions.
+    pub task: &'a FdrTask,
+    /// The abstractions, in the order in which they were passed. Orders have indices into this list.
+    pub entries: Vec<PoolEntry<'a>>,
     /// The cost of each operator.
-    pub(crate) costs: Vec<u32>,
+    pub costs: Vec<u32>,
     /// For each entry, the costs that it takes from others.
-    pub(crate) stolen: Vec<u64>,
-    ghost of_task: { All (λ e. task_of e.listed ≡ task.now) entries.items },
-    ghost operators: { length costs.items ≡ length task.now.operators },
-    ghost small: { (o : ℕ) → slice_index costs.items o < 2 ^ 31 },
+    pub stolen: Vec<u64>,
+    pub ghost of_task: { All (λ e. task_of e.listed ≡ task.now) entries.items },
+    pub ghost operators: { length costs.items ≡ length task.now.operators },
+    pub ghost small: { (o : ℕ) → slice_index costs.items o < 2 ^ 31 },
 }
 
-/// Returns the abstractions of the task by these mappings.
-pub(crate) fn abstractions_by<'a>(
+/// Returns the abstractions of the task by these mappings, in their order.
+pub fn abstractions_by<'a>(
     alloc: Global,
     task: &'a FdrTask,
     mappings: &[Mapping],
@@ -161,8 +163,10 @@ fn entries_of<'a, R: Threads + Sync>(
 }
 
 impl<'a> Pool<'a> {
-    /// Prepares the abstractions of a task. The result does not depend on the number of threads.
-    pub(crate) fn new<R: Threads + Sync>(
+    /// Prepares the abstractions of a task: lists their transitions, and computes their distances and shares under full
+    /// costs. Uses threads unless there are fewer than 20,000 abstract states. The result does not depend on the number
+    /// of threads.
+    pub fn new<R: Threads + Sync>(
         rt: &R,
         alloc: Global,
         task: &'a FdrTask,
@@ -198,7 +202,7 @@ impl<'a> Pool<'a> {
     }
 
     /// Returns the number of abstract states and transitions of the entries with these indices.
-    pub(crate) fn steps(&self, indices: &[usize]) -> u64 {
+    pub fn steps(&self, indices: &[usize]) -> u64 {
         let entries = indices.iter().filter_map(|index| self.entries.get(*index));
         entries.fold(0, |steps: u64, entry| steps.saturating_add(entry.steps))
     }

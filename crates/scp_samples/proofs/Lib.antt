@@ -1,0 +1,3 @@
+mod Falls
+mod Prepared
+mod Successors
