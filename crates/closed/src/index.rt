@@ -6,6 +6,7 @@ ghost use Rattle.slots.specs.Slots.{links_of, empties};
 ghost use Rattle.closed.specs.Rows as spec;
 ghost use Rattle.closed.specs.Rows.{HasTag, IsAmongFirst, Holds, AreIndexed, tags_of};
 
+use crate::rows::Hint;
 use crate::small_entry::SmallEntry;
 use slots::{Slot, add, home_of, slot_after};
 use std::alloc::AllocError;
@@ -116,21 +117,27 @@ pub(crate) fn make_room(slots: &mut Vec<Slot<u32>>, rows: usize) -> Result<(), A
     Ok(())
 }
 
-/// Returns the link of the form's home slot or of the next one, if that slot has the form's tag, and 0 otherwise: most
-/// often that of the form's row, if it has one.
-pub(crate) fn lead_to<F: Hash>(slots: &[Slot<u32>], form: &F) -> u32
+/// Returns the form's home slot and the next one. Nothing here depends on what the slots hold, so reads for several
+/// forms overlap.
+pub(crate) fn first_slots<F: Hash>(slots: &[Slot<u32>], form: &F) -> (Slot<u32>, Slot<u32>)
     requires some { 0 < length slots.now }
     requires few { length slots.now < 2 ^ 32 }
 {
-    let tag = tag_of(form);
     let size = slots.len();
-    let home = home_of(tag, size);
-    let first = slot_after(slots, home, 0);
-    let second = slot_after(slots, home, size.min(2) - 1);
-    if first.note == tag {
-        first.link
-    } else if second.note == tag {
-        second.link
+    let home = home_of(tag_of(form), size);
+    (
+        slot_after(slots, home, 0),
+        slot_after(slots, home, size.min(2) - 1),
+    )
+}
+
+/// Returns the link of the first of these slots that has the tag, 0 if none has it: most often that of the row of the
+/// form with this tag, if it has one.
+fn link_by(tag: u32, home: Slot<u32>, next: Slot<u32>) -> u32 {
+    if home.note == tag {
+        home.link
+    } else if next.note == tag {
+        next.link
     } else {
         0
     }
@@ -158,19 +165,19 @@ fn find<F: Hash>(rows: &[(F, SmallEntry)], slots: &[Slot<u32>], form: &F) -> Opt
     None
 }
 
-/// Returns the same as `find`, after trying the row to which `link` points, if any: if it has the form, no slot is
-/// read.
-pub(crate) fn find_led<F: Hash>(
+/// Returns the same as `find`, after trying the row that one of the hint's slots names by the form's tag, if any: if it
+/// has the form, no slot is read.
+pub(crate) fn find_hinted<F: Hash>(
     rows: &[(F, SmallEntry)],
     slots: &[Slot<u32>],
     form: &F,
-    link: u32,
+    hint: Hint,
 ) -> Option<usize>
     requires { AreIndexed F.eq F.hash_input rows.now slots.now }
     ensures index { result ≡ position (F.eq form.now) (keys_of rows.now) }
     ensures within { IfSome result (λ i. i < length rows.now) }
 {
-    let index = (link as usize).wrapping_sub(1);
+    let index = (link_by(tag_of(form), hint.home, hint.next) as usize).wrapping_sub(1);
     match rows.get(index) {
         Some(row) if *form == row.0 => Some(index),
         _ => find(rows, slots, form),

@@ -11,5 +11,5 @@ mod table;
 
 pub use laws::{outcomes_place, outcomes_tell, reaching_is_improving};
 pub use message::{Message, Parent};
-pub use rows::Lead;
+pub use rows::Hint;
 pub use table::{ClosedTable, Entry, Outcome};

@@ -5,23 +5,28 @@ ghost use Rattle.std.specs.Option.{option_copied};
 ghost use Rattle.std.specs.Map.{keys_of, values_of};
 ghost use Rattle.closed.specs.Entries.{set_entry_at};
 
-use crate::index::{EMPTY, FIRST_SLOTS, add_rows, find_led, lead_to, make_room, tag_of};
+use crate::index::{EMPTY, FIRST_SLOTS, add_rows, find_hinted, first_slots, make_room, tag_of};
 use crate::small_entry::SmallEntry;
 use packed::StateForm;
 use slots::{Slot, add, home_of};
 use std::alloc::{AllocError, Global};
 use std::marker::Model;
 
-/// A hint for a later look-up of a form, read from its first slots. The result of the look-up does not depend on it.
-#[derive(Clone, Copy, Debug, PartialEq, Eq)]
-pub struct Lead {
-    /// The index of a row plus one, or 0 for no row.
-    link: u32,
+/// A hint for a later look-up of a form: its first slots. The result of the look-up does not depend on it.
+#[derive(Clone, Copy)]
+pub struct Hint {
+    /// The form's home slot.
+    pub(crate) home: Slot<u32>,
+    /// The slot after it.
+    pub(crate) next: Slot<u32>,
 }
 
-impl Lead {
+impl Hint {
     /// The hint that names no row.
-    pub const NONE: Lead = Lead { link: 0 };
+    pub const NONE: Hint = Hint {
+        home: EMPTY,
+        next: EMPTY,
+    };
 }
 
 /// The forms of states, each stored with its entry, with a hash index of the forms: open addressing, 8 bytes a slot, at
@@ -71,19 +76,18 @@ impl<F: StateForm + Drop> Rows<F> {
         self.rows.len()
     }
 
-    /// Reads the first slots for `form` and returns the row that they name, as a hint.
-    pub(crate) fn lead(&self, form: &F) -> Lead {
-        Lead {
-            link: lead_to(&self.slots, form),
-        }
+    /// Reads the first slots for `form`, and returns them as a hint.
+    pub(crate) fn hint(&self, form: &F) -> Hint {
+        let (home, next) = first_slots(&self.slots, form);
+        Hint { home, next }
     }
 
     /// Returns the index of the row with this form, or `None` if there is none, whatever the hint.
-    pub(crate) fn index_of(&self, form: &F, lead: Lead) -> Option<usize>
+    pub(crate) fn index_of(&self, form: &F, hint: Hint) -> Option<usize>
         ensures index { result ≡ position (F.eq form.now) (keys_of self.now) }
         ensures within { IfSome result (λ i. i < length self.now) }
     {
-        find_led(&self.rows, &self.slots, form, lead.link)
+        find_hinted(&self.rows, &self.slots, form, hint)
     }
 
     /// Returns the row at the index, or `None` past the last row.

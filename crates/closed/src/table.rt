@@ -12,7 +12,7 @@ ghost use Rattle.closed.specs.Limits.{IsPastEntry};
 ghost use Rattle.closed.specs.Entries.{entry_in, nodes_of, ever_of, with_entry, taken_back, Notes};
 
 use crate::message::{Message, Parent};
-use crate::rows::{Lead, Rows};
+use crate::rows::{Hint, Rows};
 use crate::small_entry::SmallEntry;
 use fdr::FdrTask;
 use openlist::Rank;
@@ -69,13 +69,13 @@ impl<F: StateForm + Drop> Model for ClosedTable<F> {
 
 /// Returns the outcome of reaching the state of a form at a rank, if all keys are forms of states with the same ranges.
 /// A form that equals none of them is new, even if it is no form of a state.
-fn outcome_among<F: StateForm + Drop>(rows: &Rows<F>, form: &F, rank: Rank, lead: Lead) -> Outcome
+fn outcome_among<F: StateForm + Drop>(rows: &Rows<F>, form: &F, rank: Rank, hint: Hint) -> Outcome
     ensures outcome { (ranges : List ℕ) (parent : Option Parent) → F.IsForm ranges form.now →
         All (λ p. F.IsForm ranges p.0) rows.now →
         result ≡ outcome_of (nodes_of (F.values ranges) rows.now) (fresh (F.values ranges form.now) rank parent) }
     ensures form { result ≡ Kept → (ranges : List ℕ) → All (λ p. F.IsForm ranges p.0) rows.now → F.IsForm ranges form.now }
 {
-    match rows.index_of(form, lead) {
+    match rows.index_of(form, hint) {
         None => Outcome::New(rows.len()),
         Some(index) if rank < rows.entry(index).rank() => Outcome::Better(index),
         Some(_) => Outcome::Kept,
@@ -240,7 +240,7 @@ impl<F: StateForm + Drop> ClosedTable<F> {
         ensures same { self.new ≡ self.old }
     {
         self.sought.repack(&self.layout, state);
-        outcome_among(&self.rows, &self.sought, rank, Lead::NONE)
+        outcome_among(&self.rows, &self.sought, rank, Hint::NONE)
     }
 
     /// Records that a state was reached, with the outcome that `look` returned. Fails if allocation fails, which can
@@ -274,23 +274,23 @@ impl<F: StateForm + Drop> ClosedTable<F> {
         ensures { (parent : Option Parent) →
             result ≡ outcome_of self.now.nodes (fresh (F.values self.now.ranges form.now) rank parent) }
     {
-        self.look_led(form, rank, Lead::NONE)
+        self.look_hinted(form, rank, Hint::NONE)
     }
 
-    /// Reads the first slots for `form` and returns the row that they name, as a hint. Probing all successors before
-    /// reading rows lets cache misses overlap.
-    pub fn lead(&self, form: &F) -> Lead {
-        self.rows.lead(form)
+    /// Reads the first slots for `form`, and returns them as a hint. Reading those of all successors before any row lets
+    /// cache misses overlap.
+    pub fn hint(&self, form: &F) -> Hint {
+        self.rows.hint(form)
     }
 
     /// Returns the same as `look_form`, whatever the hint. With the form's hint a look-up mostly reads one row and no
     /// slot.
-    pub fn look_led(&self, form: &F, rank: Rank, lead: Lead) -> Outcome
+    pub fn look_hinted(&self, form: &F, rank: Rank, hint: Hint) -> Outcome
         requires { F.IsForm self.now.ranges form.now }
         ensures { (parent : Option Parent) →
             result ≡ outcome_of self.now.nodes (fresh (F.values self.now.ranges form.now) rank parent) }
     {
-        outcome_among(&self.rows, form, rank, lead)
+        outcome_among(&self.rows, form, rank, hint)
     }
 
     /// Returns whether the state of this form is in the table at this rank or a lesser one, so that reaching it again
@@ -301,7 +301,7 @@ impl<F: StateForm + Drop> ClosedTable<F> {
         ensures unknown { result ≡ false → F.IsForm self.now.ranges form.now → (parent : Option Parent) →
             outcome_of self.now.nodes (fresh (F.values self.now.ranges form.now) rank parent) ≢ Kept }
     {
-        let outcome = outcome_among(&self.rows, form, rank, Lead::NONE);
+        let outcome = outcome_among(&self.rows, form, rank, Hint::NONE);
         matches!(outcome, Outcome::Kept)
     }
 

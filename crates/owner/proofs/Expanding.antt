@@ -20,12 +20,13 @@ use Rattle.owner.specs.declared.fault.OwnerFault.{OwnerFault}
 use Rattle.owner.specs.declared.fault.OwnerFault.TheVariants.{OutOfMemory}
 use Rattle.owner.specs.Owned.{OwnerOf, space_of, under, max_total, HasSmallSuccessors, HasLargeSuccessor, Expands, IsRefusal}
 use Rattle.owner.specs.Queues.{IsLeast, h_of}
-use Rattle.owner.specs.Held.{IsOwner, IsSmallStep}
-use Rattle.owner.specs.Late.{is_late, all_are_late}
+use Rattle.owner_space.specs.Steps.{IsSmallStep}
+use Rattle.owner_space.specs.Late.{is_late, all_are_late}
+use Rattle.owner.specs.Held.{IsOwner}
 use Rattle.owner.proofs.Outcomes.{at_below}
 use Rattle.owner.proofs.Choosing.{is_next, may_be_expanded}
 use Rattle.owner.proofs.LateSuccessors.{late_dropped, late_by, late_small, late_treated}
-use Rattle.owner_space.proofs.Applying.{applied_step}
+use Rattle.scp.proofs.Applying.{applied_step}
 
 -- ---- tests of the operators that apply
 

@@ -11,10 +11,10 @@ use Rattle.owner_theory.specs.Owners.{SearchSpace, Message, Node, Owner, f_value
 use Rattle.owner_theory.proofs.States.{step_there}
 use Rattle.openlist.specs.declared.entry.Rank.{Rank}
 use Rattle.owner_space.specs.Costs.{least_cost, greatest_cost}
-use Rattle.owner_space.proofs.Applying.{applied_step}
+use Rattle.scp.proofs.Applying.{applied_step}
 use Rattle.owner_space.proofs.CostBounds.{least_at_most, at_most_greatest}
 use Rattle.owner.specs.Owned.{max_total, HasSmallSuccessors}
-use Rattle.owner.specs.Late.{all_are_late}
+use Rattle.owner_space.specs.Late.{all_are_late}
 
 -- ---- some messages are left out
 

@@ -1,11 +1,9 @@
 -- The invariant of owners, and what they need for generating successors.
-use Rattle.std.specs.Prelude.{ℕ, ◌+◌, ◌<◌, ◌≤◌, List, length, All, IfSome}
-use Rattle.fdr.specs.Tasks.{FiniteDomainTask, cost_of}
+use Rattle.std.specs.Prelude.{ℕ, ◌<◌, ◌≤◌, List, length, All, IfSome}
 use Rattle.owner_theory.specs.Owners.{At, Node, list_at}
-use Rattle.openlist.specs.declared.entry.Rank.{Rank}
 use Rattle.scp.specs.Places.{PlacesOf}
 use Rattle.owner_space.specs.Spaces.{SpaceOf}
-use Rattle.owner.specs.Owned.{OwnerOf, space_of, max_total, IsKept, IsMessageTo}
+use Rattle.owner.specs.Owned.{OwnerOf, space_of, IsKept, IsMessageTo}
 
 -- the owner is one of several, its nodes are its own, its messages are in the outboxes of their owners, and at most as
 -- many nodes were expanded as the limit allows
@@ -14,10 +12,6 @@ pub record IsOwner {S : Type 0} (owner : S → List ℕ → ℕ → ℕ) (o : Ow
   pub nodes : (i : ℕ) (n : Node) → At o.nodes i n → IsKept (space_of owner o) o.worker n
   pub messages : (to : ℕ) → to < length o.outboxes → All (IsMessageTo (space_of owner o) to) (list_at o.outboxes to)
   pub counted : IfSome o.space.limit (λ limit. o.expansions ≤ limit)
-
--- a step by the operator from this rank results in a cost and a number of operators of at most 2^62
-abbrev pub IsSmallStep : FiniteDomainTask → Rank → ℕ → Type 0
-IsSmallStep task rank o = (rank.cost + cost_of task o ≤ max_total) × (rank.steps + 1 ≤ max_total)
 
 -- the columns of the space, with a state
 abbrev pub places_in : {S : Type 0} → SpaceOf S → List ℕ → PlacesOf

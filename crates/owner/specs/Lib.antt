@@ -3,6 +3,5 @@ pub mod Owned
 pub mod Queues
 pub mod Held
 pub mod Successors
-pub mod Late
 pub mod Outboxes
 pub mod Batches

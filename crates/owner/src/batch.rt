@@ -7,16 +7,17 @@ ghost use Rattle.owner_theory.specs.Owners.{Node, treat, treat_all, successor_by
 ghost use Rattle.closed.specs.Tables.{message_of, fresh};
 ghost use Rattle.owner.specs.Owned.{space_of, IsMessageTo};
 ghost use Rattle.owner.specs.Queues.{h_of};
-ghost use Rattle.owner.specs.Held.{IsSmallStep, places_in};
+ghost use Rattle.owner_space.specs.Steps.{IsSmallStep};
+ghost use Rattle.owner.specs.Held.{places_in};
 ghost use Rattle.owner.specs.Successors.{IsSuccessor, AreKnown};
 ghost use Rattle.owner.specs.Batches.{pending, IsBatch, ArePosted};
 
-use crate::holdings::{Holdings, best_with, is_within};
-use crate::successors::{Successor, rank_after};
+use crate::holdings::Holdings;
+use crate::successors::Successor;
 use closed::{Message, Outcome, Parent};
 use cost::Dist;
 use openlist::OpenEntry;
-use owner_space::{f_after, write_successor};
+use owner_space::{best_with, f_after, is_within, rank_after};
 use packed::StateForm;
 use packed_spread::Spread;
 use scp::Places;
@@ -97,7 +98,7 @@ fn put<S: Spread + Drop, F: StateForm + Drop>(
 }
 
 /// Routes a successor of the state whose table indices are cached: drops it if its f-value reaches the bound, adds it
-/// to the batch if it belongs to this owner, and otherwise puts it into the outbox for its owner. `values` is a buffer.
+/// to the batch if it belongs to this owner, and otherwise puts it into the outbox for its owner.
 fn place<S: Spread + Drop, F: StateForm + Drop>(
     alloc: Global,
     holdings: &mut Holdings<'_, S, F>,
@@ -105,12 +106,10 @@ fn place<S: Spread + Drop, F: StateForm + Drop>(
     next: OpenEntry,
     places: &mut Places<'_>,
     successor: &Successor<F>,
-    values: &mut [u32],
     batch: &mut Batch<F>,
 ) -> Result<(), AllocError>
     requires state { IsState (ranges holdings.old.space.task) places.old.state }
     requires places { places.old ≡ places_in holdings.old.space places.old.state }
-    requires buffer { length values.old ≡ length places.old.state }
     requires successor { IsSuccessor F.IsForm F.values (space_of S.owner holdings.old) places.old.state successor.now }
     requires applies { applies_at holdings.old.space.task successor.now.operator places.old.state ≡ true }
     requires small { IsSmallStep holdings.old.space.task next.rank successor.now.operator }
@@ -122,9 +121,8 @@ fn place<S: Spread + Drop, F: StateForm + Drop>(
     ensures places { places.new ≡ places.old }
 {
     let task = holdings.space().task();
-    write_successor(task, places.state(), successor.operator, values);
     let rank = rank_after(task, next.rank, successor.operator);
-    let f = f_after(places, successor.operator, values, rank.cost);
+    let f = f_after(places, successor.operator, rank.cost);
     if is_within(bound, f) {
         return Ok(()); // no memory is taken for it
     }
@@ -150,7 +148,7 @@ fn place<S: Spread + Drop, F: StateForm + Drop>(
 }
 
 /// Routes the successors of the state whose table indices are cached, in their order, except those that `known` marks
-/// as changing nothing. `values` is a buffer.
+/// as changing nothing.
 pub(crate) fn place_unknown<S: Spread + Drop, F: StateForm + Drop>(
     alloc: Global,
     holdings: &mut Holdings<'_, S, F>,
@@ -159,12 +157,10 @@ pub(crate) fn place_unknown<S: Spread + Drop, F: StateForm + Drop>(
     places: &mut Places<'_>,
     successors: &[Successor<F>],
     known: &[bool],
-    values: &mut [u32],
     batch: &mut Batch<F>,
 ) -> Result<(), AllocError>
     requires state { IsState (ranges holdings.old.space.task) places.old.state }
     requires places { places.old ≡ places_in holdings.old.space places.old.state }
-    requires buffer { length values.old ≡ length places.old.state }
     requires each { All (IsSuccessor F.IsForm F.values (space_of S.owner holdings.old) places.old.state) successors.now }
     requires small { All (λ s. IsSmallStep holdings.old.space.task next.rank s.operator) successors.now }
     requires apply { All (λ s. applies_at holdings.old.space.task s.operator places.old.state ≡ true) successors.now }
@@ -182,9 +178,7 @@ pub(crate) fn place_unknown<S: Spread + Drop, F: StateForm + Drop>(
             continue; // nothing changes
         }
         let successor = &successors[at];
-        place(
-            alloc, holdings, bound, next, places, successor, values, batch,
-        )?;
+        place(alloc, holdings, bound, next, places, successor, batch)?;
     }
     Ok(())
 }

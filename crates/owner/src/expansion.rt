@@ -8,13 +8,14 @@ ghost use Rattle.openlist.specs.declared.entry.OpenEntry.{OpenEntry as EntryOf};
 ghost use Rattle.closed.specs.Tables.{padded, fresh};
 ghost use Rattle.owner.specs.Owned.{space_of, under};
 ghost use Rattle.owner.specs.Queues.{h_of, IsLeast};
-ghost use Rattle.owner.specs.Held.{IsSmallStep, places_in};
+ghost use Rattle.owner_space.specs.Steps.{IsSmallStep};
+ghost use Rattle.owner.specs.Held.{places_in};
 ghost use Rattle.owner.specs.Batches.{ArePosted};
 
 use crate::batch::{Batch, place_unknown};
 use crate::holdings::Holdings;
 use crate::successors::{Successor, look_up, make_successors};
-use closed::Lead;
+use closed::Hint;
 use cost::Dist;
 use openlist::OpenEntry;
 use packed::StateForm;
@@ -25,28 +26,23 @@ use std::alloc::{AllocError, Global};
 /// Buffers for the successors of a node.
 #[derive(Drop)]
 pub(crate) struct Buffers<F: StateForm + Drop> {
-    /// The values of a successor.
-    values: Vec<u32>,
     successors: Vec<Successor<F>>,
     /// For each successor the hint of its look-up.
-    leads: Vec<Lead>,
+    hints: Vec<Hint>,
     /// For each successor whether it is known to change nothing.
     known: Vec<bool>,
     batch: Batch<F>,
 }
 
 impl<F: StateForm + Drop> Buffers<F> {
-    /// Returns buffers for states of `width` variables.
-    pub(crate) fn new(alloc: Global, width: usize) -> Result<Buffers<F>, AllocError>
-        ensures { IfOk result (λ b. length b.values.items ≡ width) }
-    {
-        Ok(Buffers {
-            values: vec![in alloc; 0; width]?,
+    /// Returns empty buffers.
+    pub(crate) fn new(alloc: Global) -> Buffers<F> {
+        Buffers {
             successors: Vec::new(alloc),
-            leads: Vec::new(alloc),
+            hints: Vec::new(alloc),
             known: Vec::new(alloc),
             batch: Batch::new(alloc),
-        })
+        }
     }
 }
 
@@ -66,8 +62,8 @@ fn try_to_expand<S: Spread + Drop, F: StateForm + Drop>(
     requires allowed { holdings.old.space.limit ≢ Some holdings.old.expansions }
     requires least { IsLeast holdings.old.space.ties (h_of holdings.old.space) holdings.old.nodes holdings.old.ever next }
     requires state { IsState (ranges holdings.old.space.task) places.old.state }
+    requires of_next { (n : Node) → At holdings.old.nodes next.index n → places.old.state ≡ n.state }
     requires places { places.old ≡ places_in holdings.old.space places.old.state }
-    requires buffer { length buffers.old.values.items ≡ length places.old.state }
     requires apply { All (λ o. applies_at holdings.old.space.task o places.old.state ≡ true) operators.now }
     requires small { All (IsSmallStep holdings.old.space.task next.rank) operators.now }
     ensures treated { OnOk result ((n : Node) → At holdings.old.nodes next.index n → under holdings.new bound ≡ treat_all (space_of S.owner holdings.old) holdings.old.worker (mark_node (under holdings.old bound) next.index n) (filter_map (successor_by holdings.old.space.task holdings.old.worker next.index (fresh places.old.state next.rank None)) operators.now)) }
@@ -79,12 +75,12 @@ fn try_to_expand<S: Spread + Drop, F: StateForm + Drop>(
     ensures counted { OnOk result (holdings.new.expansions ≡ (if is_some holdings.old.space.limit then suc holdings.old.expansions else holdings.old.expansions)) }
     ensures posted { OnErr result (ArePosted holdings.old holdings.new [] buffers.new.batch.receivers.items) }
     ensures places { places.new ≡ places.old }
-    ensures buffer { length buffers.new.values.items ≡ length buffers.old.values.items }
 {
     buffers.batch.clear(holdings.best);
     make_successors(
         alloc,
         holdings,
+        next.index,
         places.state(),
         operators,
         &mut buffers.successors,
@@ -94,7 +90,7 @@ fn try_to_expand<S: Spread + Drop, F: StateForm + Drop>(
         next,
         places.state(),
         &buffers.successors,
-        &mut buffers.leads,
+        &mut buffers.hints,
         &mut buffers.known,
     )?;
     place_unknown(
@@ -105,7 +101,6 @@ fn try_to_expand<S: Spread + Drop, F: StateForm + Drop>(
         places,
         &buffers.successors,
         &buffers.known,
-        &mut buffers.values,
         &mut buffers.batch,
     )?;
     holdings.expand_next(&mut buffers.batch)?;
@@ -126,8 +121,8 @@ pub(crate) fn expand_node<S: Spread + Drop, F: StateForm + Drop>(
     requires allowed { holdings.old.space.limit ≢ Some holdings.old.expansions }
     requires least { IsLeast holdings.old.space.ties (h_of holdings.old.space) holdings.old.nodes holdings.old.ever next }
     requires state { IsState (ranges holdings.old.space.task) places.old.state }
+    requires of_next { (n : Node) → At holdings.old.nodes next.index n → places.old.state ≡ n.state }
     requires places { places.old ≡ places_in holdings.old.space places.old.state }
-    requires buffer { length buffers.old.values.items ≡ length places.old.state }
     requires apply { All (λ o. applies_at holdings.old.space.task o places.old.state ≡ true) operators.now }
     requires small { All (IsSmallStep holdings.old.space.task next.rank) operators.now }
     ensures treated { OnOk result ((n : Node) → At holdings.old.nodes next.index n → under holdings.new bound ≡ treat_all (space_of S.owner holdings.old) holdings.old.worker (mark_node (under holdings.old bound) next.index n) (filter_map (successor_by holdings.old.space.task holdings.old.worker next.index (fresh places.old.state next.rank None)) operators.now)) }
@@ -139,7 +134,6 @@ pub(crate) fn expand_node<S: Spread + Drop, F: StateForm + Drop>(
     ensures counted { OnOk result (holdings.new.expansions ≡ (if is_some holdings.old.space.limit then suc holdings.old.expansions else holdings.old.expansions)) }
     ensures unchanged { OnErr result (holdings.new ≡ holdings.old) }
     ensures places { places.new ≡ places.old }
-    ensures buffer { length buffers.new.values.items ≡ length buffers.old.values.items }
 {
     match try_to_expand(alloc, holdings, bound, next, places, operators, buffers) {
         Ok(()) => Ok(buffers.batch.receivers.len()),
@@ -168,7 +162,6 @@ pub(crate) fn expand_alone<S: Spread + Drop, F: StateForm + Drop>(
     ensures space { holdings.new.space ≡ holdings.old.space }
     ensures worker { holdings.new.worker ≡ holdings.old.worker }
     ensures unchanged { OnErr result (holdings.new ≡ holdings.old) }
-    ensures buffer { length buffers.new.values.items ≡ length buffers.old.values.items }
 {
     buffers.batch.clear(holdings.best);
     holdings.expand_next(&mut buffers.batch)

@@ -1,6 +1,6 @@
 //! The data of an owner, without its buffers.
 
-ghost use Rattle.std.specs.Prelude.{◌≡◌, ◌≢◌, ◌⊎◌, suc, ◌+◌, ◌<◌, ◌≤◌, ◌^◌, ◌++◌, ◌∷◌, [], ◌==◌, length, map, fold, All, slice_set, Option, Some, None, true, false, is_some, if◌then◌else◌, IsTrue, ◌↔◌, IfOk, IfSome, IfNone, OnOk, OnErr};
+ghost use Rattle.std.specs.Prelude.{◌≡◌, ◌≢◌, ◌⊎◌, suc, ◌+◌, ◌<◌, ◌++◌, ◌∷◌, [], ◌==◌, length, map, fold, All, slice_get, slice_set, Option, Some, None, true, false, is_some, if◌then◌else◌, IsTrue, ◌↔◌, IfOk, IfSome, IfNone, OnOk, OnErr};
 ghost use Rattle.std.specs.Option.{option_to_list};
 ghost use Rattle.cost.specs.Distances.{Distance, Infinite, is_at_most, lesser, Finite};
 ghost use Rattle.fdr.specs.Tasks.{ranges, is_goal_state};
@@ -20,11 +20,11 @@ ghost use Rattle.owner.specs.Batches.{IsBatch};
 
 use crate::batch::Batch;
 use crate::reached::Reached;
-use closed::{Lead, Message, Outcome, Parent};
+use closed::{Hint, Message, Outcome, Parent};
 use cost::Dist;
 use openlist::{OpenEntry, Rank};
 use owner_outboxes::Outboxes;
-use owner_space::{Space, is_goal_form};
+use owner_space::{Space, best_with, finite, is_goal_form, is_within};
 use packed::StateForm;
 use packed_spread::Spread;
 use std::alloc::{AllocError, Global};
@@ -69,34 +69,6 @@ impl<'a, S: Spread + Drop, F: StateForm + Drop> Model for Holdings<'a, S, F> {
       best = o.best;
       expansions = o.expansions;
     }) };
-}
-
-/// Returns whether the first distance is at most the second.
-pub(crate) fn is_within(distance: Dist, other: Dist) -> bool
-    ensures { result ≡ is_at_most distance other }
-{
-    distance <= other
-}
-
-/// Returns the distance of a number that is at most 2^63.
-pub(crate) fn finite(value: u64) -> Dist
-    requires { value ≤ 2 ^ 63 }
-    ensures { result ≡ Finite value }
-{
-    Dist::fin(value).unwrap()
-}
-
-/// Returns the least cost at which a goal state was taken, including a state taken at `cost` if that is a goal state;
-/// `best` is the least cost before.
-pub(crate) fn best_with(best: Dist, is_goal: bool, cost: u64) -> Dist
-    requires { cost ≤ 2 ^ 63 }
-    ensures { result ≡ (if is_goal then lesser best (Finite cost) else best) }
-{
-    if is_goal {
-        best.min(finite(cost))
-    } else {
-        best
-    }
 }
 
 impl<'a, S: Spread + Drop, F: StateForm + Drop> Holdings<'a, S, F> {
@@ -155,13 +127,22 @@ impl<'a, S: Spread + Drop, F: StateForm + Drop> Holdings<'a, S, F> {
         Ok(())
     }
 
+    /// Returns the form of the state at the index.
+    pub(crate) fn form(&self, index: usize) -> &F
+        requires { index < length self.now.nodes }
+        ensures form { F.IsForm (ranges self.now.space.task) result.now }
+        ensures values { (n : Node) → slice_get self.now.nodes index ≡ Some n → F.values (ranges self.now.space.task) result.now ≡ n.state }
+    {
+        self.reached.form(index)
+    }
+
     /// Returns the outcome that reaching the state of a form at a rank would have, whatever the hint.
-    pub(crate) fn look_led(&self, form: &F, rank: Rank, lead: Lead) -> Outcome
+    pub(crate) fn look_hinted(&self, form: &F, rank: Rank, hint: Hint) -> Outcome
         requires { F.IsForm (ranges self.now.space.task) form.now }
         ensures { (parent : Option Parent) →
             result ≡ outcome_of self.now.nodes (fresh (F.values (ranges self.now.space.task) form.now) rank parent) }
     {
-        self.reached.look_led(form, rank, lead)
+        self.reached.look_hinted(form, rank, hint)
     }
 
     /// Returns whether the message is a duplicate that changes nothing when it is taken: its state was reached at its

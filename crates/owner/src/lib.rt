@@ -6,7 +6,6 @@ mod batch;
 mod expansion;
 mod fault;
 mod holdings;
-mod late;
 mod owner;
 mod reached;
 mod successors;

@@ -16,11 +16,9 @@ ghost use Rattle.owner.specs.Owned.{space_of, under, IsMessageTo, IsExpansion, I
 use crate::expansion::{Buffers, expand_alone, expand_node};
 use crate::fault::OwnerFault;
 use crate::holdings::Holdings;
-use crate::late::{all_are_late, drop_late};
-use crate::successors::has_large_successor;
 use closed::{Entry, Message};
 use cost::Dist;
-use owner_space::Space;
+use owner_space::{Space, all_are_late, drop_late, has_large_successor};
 use packed::{Layout, StateForm};
 use packed_spread::Spread;
 use scp::Places;
@@ -56,7 +54,6 @@ impl<'a, S: Spread + Drop, F: StateForm + Drop> Model for Owner<'a, S, F> {
 
     ghost invariant = { λ o.
         (length o.state.items ≡ length o.holdings.space.task.value_names)
-        × (length o.buffers.values.items ≡ length o.holdings.space.task.value_names)
         × (o.places ≡ places_in o.holdings.space o.places.state) };
 }
 
@@ -104,14 +101,13 @@ impl<'a, S: Spread + Drop, F: StateForm + Drop> Owner<'a, S, F> {
     {
         let width = space.task().variable_count();
         let state = vec![in alloc; 0; width]?;
-        let buffers = Buffers::new(alloc, width)?;
         let places = space.columns().places(alloc)?;
         Ok(Owner {
             alloc,
             holdings: Holdings::start(alloc, space, worker, owners)?,
             state,
             applicable: Vec::new(alloc),
-            buffers,
+            buffers: Buffers::new(alloc),
             places,
         })
     }

@@ -12,7 +12,7 @@ ghost use Rattle.closed.specs.Tables.{padded, reached, outcome_of, outcomes_of, 
 ghost use Rattle.owner_space.specs.Keyed.{max_total, IsSmall, IsKeyed, denoted};
 ghost use Rattle.owner.specs.Queues.{added, keyed_in, h_of, IsCurrent, AreQueued, IsQueue, IsLeast, HasNoneOpen};
 
-use closed::{ClosedTable, Entry, Lead, Message, Outcome, Parent};
+use closed::{ClosedTable, Entry, Hint, Message, Outcome, Parent};
 use cost::Dist;
 use openlist::{Buckets, OpenEntry, OpenList, Rank};
 use owner_space::{Space, Ties};
@@ -305,18 +305,30 @@ impl<'a, S: Spread + Drop, F: StateForm + Drop> Reached<'a, S, F> {
         self.table.copy_state(index, state)
     }
 
-    /// Reads the first slots for `form` and returns the row that they name, as a hint.
-    pub(crate) fn lead(&self, form: &F) -> Lead {
-        self.table.lead(form)
+    /// Returns the form of the state at the index.
+    pub(crate) fn form(&self, index: usize) -> &F
+        requires { index < length self.now.nodes }
+        ensures form { F.IsForm (ranges self.now.space.task) result.now }
+        ensures values { (n : Node) → slice_get self.now.nodes index ≡ Some n → F.values (ranges self.now.space.task) result.now ≡ n.state }
+    {
+        match self.table.form(index) {
+            Some(form) => form,
+            None => unreachable!(),
+        }
+    }
+
+    /// Reads the first slots for `form`, and returns them as a hint.
+    pub(crate) fn hint(&self, form: &F) -> Hint {
+        self.table.hint(form)
     }
 
     /// Returns the outcome that reaching the state of a form at a rank would have, whatever the hint.
-    pub(crate) fn look_led(&self, form: &F, rank: Rank, lead: Lead) -> Outcome
+    pub(crate) fn look_hinted(&self, form: &F, rank: Rank, hint: Hint) -> Outcome
         requires { F.IsForm (ranges self.now.space.task) form.now }
         ensures { (parent : Option Parent) →
             result ≡ outcome_of self.now.nodes (fresh (F.values (ranges self.now.space.task) form.now) rank parent) }
     {
-        self.table.look_led(form, rank, lead)
+        self.table.look_hinted(form, rank, hint)
     }
 
     /// Returns whether the state of this form was reached at this rank or a lesser one, so that reaching it again is a

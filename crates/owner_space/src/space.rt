@@ -1,10 +1,10 @@
 //! The space that owners search.
 
-ghost use Rattle.std.specs.Prelude.{◌≡◌, ◌<◌, ◌≤◌, ◌^◌, [], length, Some, IfOk, OnOk, OnErr};
+ghost use Rattle.std.specs.Prelude.{◌≡◌, ℕ, List, true, ◌<◌, ◌≤◌, ◌^◌, [], length, Some, IfOk, OnOk, OnErr};
 ghost use Rattle.cost.specs.Distances.{◌+ᵈ◌, Finite, IsWithin};
 ghost use Rattle.checker_clauses.specs.Clauses.{heuristic_of};
 ghost use Rattle.fdr.specs.Tasks as tasks;
-ghost use Rattle.fdr.specs.Tasks.{IsState, IsTask, IsAssignment, step, with_values};
+ghost use Rattle.fdr.specs.Tasks.{IsState, IsTask, IsAssignment, applies_at, step, with_values};
 ghost use Rattle.owner_theory.specs.Families.{IsLowerBound};
 ghost use Rattle.fdr_successors.specs.Applicable.{applicable_operators};
 ghost use Rattle.owner_space.specs.Costs as costs;
@@ -67,15 +67,16 @@ fn sum(cost: u64, h: Dist) -> Dist
     }
 }
 
-/// Returns the f-value of the successor by the operator, reached at this cost, of the state whose table indices
-/// `places` caches. It is the same as `Space::f`.
-pub fn f_after(places: &mut Places<'_>, operator: usize, successor: &[u32], cost: u64) -> Dist
-    requires step { step places.old.task places.old.state operator ≡ Some successor.now }
+/// Returns the f-value of the successor by an operator that applies, reached at this cost, of the state whose table
+/// indices `places` caches. It is the same as `Space::f`.
+pub fn f_after(places: &mut Places<'_>, operator: usize, cost: u64) -> Dist
+    requires applies { applies_at places.old.task operator places.old.state ≡ true }
     requires cost { cost ≤ 2 ^ 62 }
-    ensures value { result ≡ Finite cost +ᵈ heuristic_of places.old.task places.old.columns successor.now }
+    ensures value { (next : List ℕ) → step places.old.task places.old.state operator ≡ Some next →
+        result ≡ Finite cost +ᵈ heuristic_of places.old.task places.old.columns next }
     ensures same { places.new ≡ places.old }
 {
-    sum(cost, places.h_after(operator, successor))
+    sum(cost, places.h_after(operator))
 }
 
 impl<'a, S: Spread + Drop> Space<'a, S> {

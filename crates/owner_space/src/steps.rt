@@ -1,10 +1,14 @@
-//! Steps of a task: the successors of a state.
+//! Effects of a task's operators, ranks of the states that these reach, and goal states.
 
-ghost use Rattle.std.specs.Prelude.{◌≡◌, length, Some, true};
-ghost use Rattle.fdr.specs.Tasks.{ranges, IsState, IsAssignment, is_goal_state, applies_at, step};
-ghost use Rattle.owner_space.specs.Steps.{effect_at};
+ghost use Rattle.std.specs.Prelude.{◌≡◌, ◌+◌, ◌≤◌, ◌||◌, nat_lt};
+ghost use Rattle.std.specs.List.{list_any};
+ghost use Rattle.fdr.specs.Tasks.{ranges, IsAssignment, is_goal_state, cost_of};
+ghost use Rattle.owner_space.specs.Keyed.{max_total};
+ghost use Rattle.owner_space.specs.Steps.{effect_at, IsSmallStep};
 
+use crate::ties::MAX_TOTAL;
 use fdr::{Fact, FdrTask};
+use openlist::Rank;
 use packed::{Layout, StateForm};
 
 /// Returns the effect of the operator with this number, which is empty if there is no such operator.
@@ -16,19 +20,6 @@ pub fn effect_of(task: &FdrTask, operator: usize) -> &[Fact]
         Some(operator) => &operator.effect,
         None => &[],
     }
-}
-
-/// Writes the successor of a state, by an operator that applies, into `values`.
-pub fn write_successor(task: &FdrTask, state: &[u32], operator: usize, values: &mut [u32])
-    requires state { IsState (ranges task.now) state.now }
-    requires applies { applies_at task.now operator state.now ≡ true }
-    requires buffer { length values.old ≡ length state.now }
-    ensures step { step task.now state.now operator ≡ Some values.new }
-    ensures state { IsState (ranges task.now) values.new }
-{
-    task.recall(); // a successor of a state is a state
-    values.copy_from_slice(state);
-    task.advance(operator, values);
 }
 
 /// Returns whether the state of a form is a goal state. It reads the values of the goal's variables, up to the first
@@ -45,4 +36,27 @@ pub fn is_goal_form<F: StateForm + Drop>(task: &FdrTask, layout: &Layout, form: 
         }
     }
     true
+}
+
+/// Returns whether the successor by one of these operators would have a cost or a number of operators above 2^62.
+pub fn has_large_successor(task: &FdrTask, operators: &[usize], rank: Rank) -> bool
+    requires cost { rank.cost ≤ max_total }
+    requires steps { rank.steps ≤ max_total }
+    ensures { result ≡ list_any (λ o. nat_lt max_total (rank.cost + cost_of task.now o) || nat_lt max_total (rank.steps + 1)) operators.now }
+{
+    operators.iter().any(|operator| {
+        rank.cost + task.cost(*operator).get() > MAX_TOTAL || rank.steps + 1 > MAX_TOTAL
+    })
+}
+
+/// Returns the rank of the successor, by this operator, of a state that has rank `rank`.
+pub fn rank_after(task: &FdrTask, rank: Rank, operator: usize) -> Rank
+    requires { IsSmallStep task.now rank operator }
+    ensures cost { result.cost ≡ rank.cost + cost_of task.now operator }
+    ensures steps { result.steps ≡ rank.steps + 1 }
+{
+    Rank {
+        cost: rank.cost + task.cost(operator).get(),
+        steps: rank.steps + 1,
+    }
 }

@@ -7,10 +7,11 @@ use Rattle.closed.specs.Tables.{fresh}
 use Rattle.scp.specs.Places.{PlacesOf}
 use Rattle.owner.specs.declared.successors.Successor.{Successor}
 use Rattle.owner.specs.Owned.{OwnerOf, space_of}
-use Rattle.owner.specs.Held.{IsSmallStep, places_in}
+use Rattle.owner_space.specs.Steps.{IsSmallStep}
+use Rattle.owner.specs.Held.{places_in}
 use Rattle.owner.specs.Successors.{IsSuccessor}
 use Rattle.owner.specs.Batches.{pending}
-use Rattle.owner_space.proofs.Applying.{applied_step}
+use Rattle.scp.proofs.Applying.{applied_step}
 use Rattle.owner.proofs.Stepping.{one_more, none_left}
 use Rattle.owner.proofs.Passing.{operator_at, all_operators, nothing_treats, still_nothing}
 use Rattle.owner.proofs.Batching.{posted_then, posted_space}

@@ -8,12 +8,21 @@ use Rattle.closed.specs.Tables.{padded, fresh, message_of}
 use Rattle.owner.specs.declared.successors.Successor.{Successor}
 use Rattle.owner.specs.Owned.{OwnerOf, space_of, under}
 use Rattle.owner.specs.Queues.{IsLeast, h_of}
-use Rattle.owner.specs.Held.{IsSmallStep}
+use Rattle.owner_space.specs.Steps.{IsSmallStep}
 use Rattle.owner.specs.Successors.{AreKnown}
+use Rattle.owner.proofs.Outcomes.{get_at}
 use Rattle.owner.proofs.Passing.{all_by_operator}
 use Rattle.owner.proofs.Batching.{known_marked, taken_pending, empty_pending}
 use Rattle.owner.proofs.expansion.try_to_expand.Goals as goal
 use Rattle.owner.proofs.expansion.try_to_expand.Goals.{In_ok-expand_next}
+
+pub make_successors-requires-clause-node : goal.make_successors-requires-clause-node
+make_successors-requires-clause-node g c =
+    let l = c.requires.least in (
+      l.node,
+      get_at c.args.holdings.now.nodes c.args.next.index l.node l.there,
+      c.state.ensures ∙ c.requires.of_next l.node l.there,
+    )
 
 pub look_up-requires-clause-small : goal.look_up-requires-clause-small
 look_up-requires-clause-small g c =

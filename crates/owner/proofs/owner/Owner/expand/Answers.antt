@@ -9,8 +9,9 @@ use Rattle.owner.specs.declared.fault.OwnerFault.TheVariants.{OutOfMemory, Total
 use Rattle.owner_space.specs.Spaces.{SpaceOf}
 use Rattle.owner.specs.Owned.{OwnerOf, space_of, under, IsRefusal, Expands}
 use Rattle.scp.specs.Places.{PlacesOf}
-use Rattle.owner.specs.Held.{places_in, IsSmallStep}
-use Rattle.owner.specs.Late.{is_late, all_are_late}
+use Rattle.owner_space.specs.Steps.{IsSmallStep}
+use Rattle.owner_space.specs.Late.{is_late, all_are_late}
+use Rattle.owner.specs.Held.{places_in}
 use Rattle.owner.proofs.Choosing.{is_next, no_open_some}
 use Rattle.owner.proofs.Outcomes.{get_at}
 use Rattle.owner.proofs.Expanding.{is_large, expands_alone, least_index, least_cost, least_steps, least_state, all_apply, all_small, large_successor, expands, refused_memory}
@@ -70,7 +71,7 @@ enter-requires g c =
     let e = c.in-Some.next in
     let l = c.in-Some.ensures.some.0 in
     let s = c.deref-3.ensures.value ∙ c.read_state.ensures.state l.node (get_at h.nodes e.index l.node l.there) in
-    subst (λ (p : PlacesOf). IsState (ranges p.task) c.deref-3.result.now) (sym c.self.invariant.2)
+    subst (λ (p : PlacesOf). IsState (ranges p.task) c.deref-3.result.now) (sym c.self.invariant.1)
     (least_state g.S.Spread.owner h e l c.deref-3.result.now c.recall.ensures.owner s)
 
 pub expand_node-requires-clause-allowed : goal.expand_node-requires-clause-allowed
@@ -88,9 +89,15 @@ expand_node-requires-clause-state g c =
     subst (λ (p : PlacesOf). IsState (ranges h.space.task) p.state) (sym c.enter.ensures)
     (least_state g.S.Spread.owner h e l c.deref-3.result.now c.recall.ensures.owner s)
 
+pub expand_node-requires-clause-of_next : goal.expand_node-requires-clause-of_next
+expand_node-requires-clause-of_next g c = λ n at.
+    let h = c.self.inside.holdings in
+    ap (λ (p : PlacesOf). p.state) c.enter.ensures
+    ∙ (c.deref-3.ensures.value ∙ c.read_state.ensures.state n (get_at h.nodes c.in-Some.next.index n at))
+
 pub expand_node-requires-clause-places : goal.expand_node-requires-clause-places
 expand_node-requires-clause-places g c =
-    c.enter.ensures ∙ (ap (λ (p : PlacesOf). record p { state = c.deref-3.result.now }) c.self.invariant.2
+    c.enter.ensures ∙ (ap (λ (p : PlacesOf). record p { state = c.deref-3.result.now }) c.self.invariant.1
     ∙ (λ j. places_in c.self.inside.holdings.space (((sym c.enter.ensures) j).state)))
 
 pub expand_node-requires-clause-apply : goal.expand_node-requires-clause-apply

@@ -2,15 +2,15 @@ use Rattle.std.proofs.Common.{ℕ, List, sym, ap, ◌∙◌, subst}
 use Rattle.fdr.specs.Tasks.{ranges}
 use Rattle.closed.specs.Tables.{outcome_of, fresh}
 use Rattle.owner.specs.Queues.{ReachedOf}
-use Rattle.owner.proofs.reached.Reached.look_led.Goals as goal
+use Rattle.owner.proofs.reached.Reached.look_hinted.Goals as goal
 
-pub look_led-requires : goal.look_led-requires
-look_led-requires g c =
+pub look_hinted-requires : goal.look_hinted-requires
+look_hinted-requires g c =
     subst (λ (rs : List ℕ). g.F.StateForm.IsForm rs c.args.form.now)
     (sym (c.self.invariant.0 ∙ ap (λ (r : ReachedOf g.row.S.Denot). ranges r.space.task) c.self.view_is)) c.requires
 
 pub returns : goal.returns
 returns g c = λ parent.
     let same = c.self.invariant.0 ∙ ap (λ (r : ReachedOf g.row.S.Denot). ranges r.space.task) c.self.view_is in
-    c.look_led.ensures parent
+    c.look_hinted.ensures parent
     ∙ (λ j. outcome_of ((c.self.view_is j).nodes) (fresh (g.F.StateForm.values (same j) c.args.form.now) c.args.rank parent))

@@ -4,7 +4,7 @@ use Rattle.cost.specs.Distances.{Distance, Finite, is_at_most}
 use Rattle.fdr.specs.Tasks.{FiniteDomainTask, cost_of}
 use Rattle.openlist.specs.declared.entry.Rank.{Rank}
 use Rattle.owner_space.specs.Costs.{least_cost, greatest_cost}
-use Rattle.owner.specs.Owned.{max_total}
+use Rattle.owner_space.specs.Keyed.{max_total}
 
 -- the successor by the operator, of a node of this rank, is reached at a cost at the bound or past it
 abbrev pub is_late : FiniteDomainTask → Distance → Rank → ℕ → Bool

@@ -1,6 +1,6 @@
 use Rattle.std.proofs.Common.{sym, ap, subst, ◌∙◌}
 use Rattle.closed.specs.Tables.{Table, fresh, outcome_of}
-use Rattle.closed.proofs.table.ClosedTable.look_led.Goals as goal
+use Rattle.closed.proofs.table.ClosedTable.look_hinted.Goals as goal
 
 pub returns : goal.returns
 returns g c parent =

@@ -3,14 +3,15 @@
 
 ghost use Rattle.std.specs.Prelude.{◌≡◌, ◌≤◌, ◌^◌, not, filter};
 ghost use Rattle.cost.specs.Distances.{Finite, is_at_most};
-ghost use Rattle.owner.specs.Owned.{max_total};
-ghost use Rattle.owner.specs.Late as late;
+ghost use Rattle.owner_space.specs.Keyed.{max_total};
+ghost use Rattle.owner_space.specs.Late as late;
 
-use crate::holdings::{finite, is_within};
+use crate::bounds::{finite, is_within};
+use crate::space::Space;
+use crate::ties::MAX_TOTAL;
 use cost::Dist;
 use fdr::FdrTask;
 use openlist::Rank;
-use owner_space::{MAX_TOTAL, Space};
 use packed_spread::Spread;
 
 /// Returns whether a cost is at the bound or past it.
@@ -23,7 +24,7 @@ fn is_late(bound: Dist, cost: u64) -> bool
 
 /// Returns whether no successor of a node of this rank has a cost or a number of operators above 2^62, and each is
 /// reached at a cost at the bound or past it, by the greatest and the least cost of an operator: whichever apply.
-pub(crate) fn all_are_late<S: Spread + Drop>(space: &Space<'_, S>, bound: Dist, rank: Rank) -> bool
+pub fn all_are_late<S: Spread + Drop>(space: &Space<'_, S>, bound: Dist, rank: Rank) -> bool
     requires cost { rank.cost ≤ max_total }
     requires steps { rank.steps ≤ max_total }
     ensures { result ≡ late.all_are_late space.now.task bound rank }
@@ -34,7 +35,7 @@ pub(crate) fn all_are_late<S: Spread + Drop>(space: &Space<'_, S>, bound: Dist, 
 }
 
 /// Removes the operators whose successors, of a node of this rank, are reached at a cost at the bound or past it.
-pub(crate) fn drop_late(task: &FdrTask, bound: Dist, rank: Rank, operators: &mut Vec<usize>)
+pub fn drop_late(task: &FdrTask, bound: Dist, rank: Rank, operators: &mut Vec<usize>)
     requires { rank.cost ≤ max_total }
     ensures { operators.new.items ≡ filter (λ o. not (late.is_late task.now bound rank o)) operators.old.items }
 {

@@ -1,7 +1,7 @@
 use Rattle.std.proofs.Common.{◌∙◌, Some, sym, ap}
 use Rattle.std.proofs.lemmas.Option.{slice_get-get_or}
 use Rattle.closed.proofs.Indexing.{search_found}
-use Rattle.closed.proofs.index.find_led.Goals as goal
+use Rattle.closed.proofs.index.find_hinted.Goals as goal
 
 pub returns-in-Some-clause-index : goal.returns-in-Some-clause-index
 returns-in-Some-clause-index g c =

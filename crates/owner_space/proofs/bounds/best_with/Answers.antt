@@ -1,7 +1,7 @@
 use Rattle.std.proofs.Common.{sym, ap, ◌∙◌, cond}
 use Rattle.cost.specs.Distances.{Finite, lesser}
 use Rattle.cost.proofs.DistanceLaws.{ord_min-is_lesser}
-use Rattle.owner.proofs.holdings.best_with.Goals as goal
+use Rattle.owner_space.proofs.bounds.best_with.Goals as goal
 
 pub returns-then-is_goal : goal.returns-then-is_goal
 returns-then-is_goal c =

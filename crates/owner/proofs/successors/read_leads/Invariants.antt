@@ -1,5 +1,0 @@
-use Rattle.std.proofs.Common.{◌≡◌, length}
-use Rattle.owner.proofs.successors.read_leads.Given as goal
-
-abbrev pub invariant-loop-successor : goal.invariant-loop-successor
-invariant-loop-successor g l = length l.leads.items ≡ l.successor-index
