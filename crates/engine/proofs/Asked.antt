@@ -3,11 +3,10 @@ use Rattle.std.proofs.Common.{◌≡◌, ◌≢◌, ◌⊎◌, ℕ, zero, suc, �
 use Rattle.std.proofs.lemmas.Bool.{cases_lt}
 use Rattle.fdr.specs.Tasks.{ranges}
 use Rattle.owner_theory.specs.Owners.{At}
-use Rattle.owner_theory.specs.Families.{Family}
 use Rattle.owner.specs.declared.fault.OwnerFault.{OwnerFault}
 use Rattle.owner.specs.Spaces.{SpaceOf, searched}
 use Rattle.owner.specs.Owned.{OwnerOf, IsRefusal}
-use Rattle.extract.specs.Ends.{EndOf, IsEndOf, IsSettledAnswer}
+use Rattle.extract.specs.Ends.{EndOf, IsSettledAnswer}
 use Rattle.extract.proofs.Places.{all_at, each_at, at_below, at_some}
 use Rattle.worker.specs.Workers.{WorkerOf, sent_to, received_from}
 use Rattle.engine_team.specs.Teams.{TeamOf, values_on, AreEmpty}
@@ -109,6 +108,5 @@ module _ {S F : Type 0} (owner : S → List ℕ → ℕ → ℕ) (number : ℕ) 
         }
 
     pub refused_end : number < length old.workers → (space : SpaceOf S) (n : ℕ) (e : EndOf S) → e.owners ≡ map (λ w. w.owner) r.0.workers
-        → IsEndIn space n e → ∥ ((family : Family) × IsEndOf owner e family) ∥₁ → IsRefusedEnd owner space n fault
-    refused_end lt space n e owners_are is family =
-        record { end = e; is_in = is; family = family; refused = refused_by lt e owners_are }
+        → IsEndIn owner space n e → IsRefusedEnd owner space n fault
+    refused_end lt space n e owners_are is = record { end = e; is_in = is; refused = refused_by lt e owners_are }

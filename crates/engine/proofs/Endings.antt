@@ -3,10 +3,11 @@ use Rattle.std.proofs.Common.{◌≡◌, ℕ, true, false, List, [], length, map
 use Rattle.std.proofs.lemmas.List.{length-map}
 use Rattle.cost.specs.Distances.{Distance}
 use Rattle.owner_theory.specs.Owners.{SearchSpace}
+use Rattle.owner_theory.specs.Families.{Family}
 use Rattle.owner.specs.declared.fault.OwnerFault.TheVariants.{LimitReached}
 use Rattle.owner.specs.Spaces.{SpaceOf, searched}
 use Rattle.owner.specs.Owned.{OwnerOf}
-use Rattle.extract.specs.Ends.{EndOf, IsSettledAnswer, space_at}
+use Rattle.extract.specs.Ends.{EndOf, IsForm, IsEndOf, IsSettledAnswer, space_at}
 use Rattle.extract.proofs.Places.{all_at}
 use Rattle.worker.specs.Workers.{WorkerOf}
 use Rattle.engine_round.specs.Turns.{MayStop}
@@ -71,16 +72,18 @@ module _ {S : Type 0} (owner : S → List ℕ → ℕ → ℕ) (space : SpaceOf 
 
   -- ---- a team whose owners are taken
   module _ {F : Type 0} (t : TeamOf S F) (is : IsTeamIn space n t) (e : EndOf S) (space_is : e.space ≡ t.space) (owners_are : e.owners ≡ map (λ w. w.owner) t.workers)
-      (none_left : e.left ≡ [])
+      (none_left : e.left ≡ []) (form : IsForm e) (family : ∥ ((family : Family) × IsEndOf owner e family) ∥₁)
     where
       e_is : e ≡ end_of t
       e_is = λ j. record { space = space_is j; owners = owners_are j; left = none_left j }
 
-      pub end_in : IsEndIn space n e
+      pub end_in : IsEndIn owner space n e
       end_in = record {
         space = space_is ∙ is.space;
         count = ap length owners_are ∙ (length-map t.workers (λ (w : WorkerOf S F). w.owner) ∙ is.count);
         left = none_left;
+        form = form;
+        family = family;
       }
 
       pub answer_at : (answer : Option Distance)

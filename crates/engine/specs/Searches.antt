@@ -7,7 +7,7 @@ use Rattle.owner.specs.declared.fault.OwnerFault.{OwnerFault}
 use Rattle.owner.specs.declared.fault.OwnerFault.TheVariants as owner_fault
 use Rattle.owner.specs.Spaces.{SpaceOf}
 use Rattle.owner.specs.Owned.{OwnerOf, IsRefusal}
-use Rattle.extract.specs.Ends.{EndOf, IsEndOf, IsSettledAt, IsSettledAnswer, space_at}
+use Rattle.extract.specs.Ends.{EndOf, IsForm, IsEndOf, IsSettledAt, IsSettledAnswer, space_at}
 use Rattle.engine_round.specs.Turns.{MayStop}
 use Rattle.engine_round.specs.declared.gate.Stop.{Stop}
 use Rattle.engine_round.specs.declared.gate.Stop.TheVariants as stop
@@ -18,11 +18,13 @@ use Rattle.engine.specs.declared.searched.Cause.TheVariants as cause
 use Rattle.engine.specs.declared.searched.Searched.{Searched}
 use Rattle.engine.specs.declared.searched.Searched.TheVariants.{Settled, Stopped}
 
--- `workers` owners of that space, which have taken all messages
-pub record IsEndIn {S : Type 0} (searched_space : SpaceOf S) (workers : ℕ) (e : EndOf S) : Type 0 where
+-- the end of a lawful family of `workers` owners, each of that space, which have taken all messages
+pub record IsEndIn {S : Type 0} (owner : S → List ℕ → ℕ → ℕ) (searched_space : SpaceOf S) (workers : ℕ) (e : EndOf S) : Type 0 where
   pub space : e.space ≡ searched_space
   pub count : length e.owners ≡ workers
   pub left : e.left ≡ []
+  pub form : IsForm e
+  pub family : ∥ ((family : Family) × IsEndOf owner e family) ∥₁
 
 -- one of the owners refuses to expand its next node below some bound, for this fault
 pub record IsRefusedBy {S : Type 0} (owner : S → List ℕ → ℕ → ℕ) (e : EndOf S) (fault : OwnerFault) : Type 0 where
@@ -50,15 +52,14 @@ IsCauseOf owner may_stop workers e cause.Stage = IsEndedByGate may_stop workers 
 -- this reason
 abbrev pub IsSearched : {S F : Type 0} → (S → List ℕ → ℕ → ℕ) → MayStop → SpaceOf S → ℕ → Searched S F → Type 0
 IsSearched owner may_stop space workers (Settled e) =
-    IsEndIn space workers e × ((bound : Distance) × IsSettledAt (space_at owner e) e.owners e.left bound)
+    IsEndIn owner space workers e × ((bound : Distance) × IsSettledAt (space_at owner e) e.owners e.left bound)
 IsSearched owner may_stop space workers (Stopped e why) =
-    IsEndIn space workers e × IsSettledAnswer (space_at owner e) e.owners e.left None × IsCauseOf owner may_stop workers e why
+    IsEndIn owner space workers e × IsSettledAnswer (space_at owner e) e.owners e.left None × IsCauseOf owner may_stop workers e why
 
 -- the end of a search of `workers` owners, one of which refuses to expand its next node, for this fault
 pub record IsRefusedEnd {S : Type 0} (owner : S → List ℕ → ℕ → ℕ) (searched_space : SpaceOf S) (workers : ℕ) (fault : OwnerFault) : Type 0 where
   pub end : EndOf S
-  pub is_in : IsEndIn searched_space workers end
-  pub family : ∥ ((family : Family) × IsEndOf owner end family) ∥₁
+  pub is_in : IsEndIn owner searched_space workers end
   pub refused : IsRefusedBy owner end fault
 
 -- the reason why a search of `workers` workers fails: allocation failed; a successor's total is too large; or the gate

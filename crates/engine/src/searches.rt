@@ -82,7 +82,9 @@ fn after_refusal<'a, S: Spread + Drop, F: StateForm + Drop>(
     match refused {
         None => Ok(Outcome::Next(team)),
         Some(OwnerFault::LimitReached) => {
-            Ok(Outcome::Last(Searched::Stopped(team.into_joined(alloc)?, Cause::Limit)))
+            let joined = team.into_joined(alloc)?;
+            joined.recall(); // the end of a lawful family
+            Ok(Outcome::Last(Searched::Stopped(joined, Cause::Limit)))
         }
         Some(OwnerFault::TotalTooLarge) => {
             team.into_joined(alloc)?.recall();
@@ -108,6 +110,7 @@ fn step<
     let drained = played.drain()?;
     if drained.settled(alloc)?.is_some() {
         let joined = drained.into_joined(alloc)?;
+        joined.recall(); // the end of a lawful family
         return Ok(Outcome::Last(Searched::Settled(joined)));
     }
     match halt {
@@ -115,6 +118,7 @@ fn step<
         Some(Halt::Refused(number)) => after_refusal(alloc, drained, number),
         Some(Halt::ByGate(cause)) => {
             let joined = drained.into_joined(alloc)?;
+            joined.recall(); // the end of a lawful family
             Ok(Outcome::Last(Searched::Stopped(joined, cause)))
         }
     }

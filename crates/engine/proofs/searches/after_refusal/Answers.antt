@@ -18,15 +18,16 @@ pub returns-in-Some-LimitReached-clause-outcome : goal.returns-in-Some-LimitReac
 returns-in-Some-LimitReached-clause-outcome g c =
     let refused : c.in_ok-team.refused ≡ Some LimitReached = c.in-Some-LimitReached.is
     ∙ ap Some (rw c.in-Some-LimitReached.is at c.in-Some-LimitReached.field-0-is) in
-    let joined = c.in_ok-into_joined-in-Some-LimitReached in
+    let joined = c.in_ok-joined-in-Some-LimitReached in
     limit_end g.S.Spread.owner c.args.team.space (length c.args.team.workers) c.in_ok-team.team
     (asked_in g.S.Spread.owner c.args.number c.args.team (c.in_ok-team.team, c.in_ok-team.refused) c.in_ok-team.ensures c.args.team.space
     (length c.args.team.workers) (record { space = refl; count = refl }))
-    joined.field-0 joined.ensures.space joined.ensures.owners joined.ensures.left no_stop
+    joined.joined joined.ensures.space joined.ensures.owners joined.ensures.left
+    c.recall.ensures.form c.recall.ensures.lawful no_stop
     (still_unsettled g.S.Spread.owner c.args.number c.args.team (c.in_ok-team.team, c.in_ok-team.refused) c.in_ok-team.ensures LimitReached refused
     c.requires.unsettled)
     (refused_by g.S.Spread.owner c.args.number c.args.team (c.in_ok-team.team, c.in_ok-team.refused) c.in_ok-team.ensures LimitReached refused
-    c.requires.number joined.field-0 joined.ensures.owners)
+    c.requires.number joined.joined joined.ensures.owners)
 
 pub into_joined-requires-in-Some-TotalTooLarge : goal.into_joined-requires-in-Some-TotalTooLarge
 into_joined-requires-in-Some-TotalTooLarge g c =
@@ -42,5 +43,5 @@ returns-in-Some-TotalTooLarge-clause-fault g c =
     (end_in g.S.Spread.owner c.args.team.space (length c.args.team.workers) c.in_ok-team.team
     (asked_in g.S.Spread.owner c.args.number c.args.team (c.in_ok-team.team, c.in_ok-team.refused) c.in_ok-team.ensures c.args.team.space
     (length c.args.team.workers) (record { space = refl; count = refl }))
-    joined.field-0 joined.ensures.space joined.ensures.owners joined.ensures.left)
-    c.recall-in-Some-TotalTooLarge.ensures.lawful
+    joined.field-0 joined.ensures.space joined.ensures.owners joined.ensures.left
+    c.recall-in-Some-TotalTooLarge-2.ensures.form c.recall-in-Some-TotalTooLarge-2.ensures.lawful)

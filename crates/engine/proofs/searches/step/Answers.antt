@@ -10,7 +10,8 @@ returns-then-is_some-clause-outcome g c =
     let ready = drained_ready g.S.Spread.owner c.args.team.space (length c.args.team.workers) g.F.StateForm.values c.in_ok-played.played c.in_ok-drained.drained
     c.in_ok-played.ensures.team c.in_ok-drained.ensures in
     settled_end g.S.Spread.owner c.args.team.space (length c.args.team.workers) c.in_ok-drained.drained ready.is_in c.in_ok-joined.joined
-    c.in_ok-joined.ensures.space c.in_ok-joined.ensures.owners c.in_ok-joined.ensures.left (g.G.Gate.may_stop c.args.gate.now)
+    c.in_ok-joined.ensures.space c.in_ok-joined.ensures.owners c.in_ok-joined.ensures.left
+    c.recall.ensures.form c.recall.ensures.lawful (g.G.Gate.may_stop c.args.gate.now)
     c.in_ok-settled.field-0 c.in_ok-settled.ensures (sym c.is_some.ensures ∙ c.if-is_some.true)
 
 pub after_refusal-requires-clause-none_aside : goal.after_refusal-requires-clause-none_aside
@@ -53,7 +54,8 @@ returns-in_ok-joined-in-Some-ByGate-clause-outcome g c =
     c.in_ok-played.ensures.team c.in_ok-drained.ensures in
     let joined = c.in_ok-joined-in-Some-ByGate in
     gate_end g.S.Spread.owner c.args.team.space (length c.args.team.workers) c.in_ok-drained.drained ready.is_in joined.joined
-    joined.ensures.space joined.ensures.owners joined.ensures.left (g.G.Gate.may_stop c.args.gate.now) c.in-Some-ByGate.cause
+    joined.ensures.space joined.ensures.owners joined.ensures.left
+    c.recall-in-Some-ByGate.ensures.form c.recall-in-Some-ByGate.ensures.lawful (g.G.Gate.may_stop c.args.gate.now) c.in-Some-ByGate.cause
     (unsettled (searched g.S.Spread.owner c.in_ok-drained.drained.space (length c.in_ok-drained.drained.workers))
     (map (λ w. w.owner) c.in_ok-drained.drained.workers) c.in_ok-settled.field-0 c.in_ok-settled.ensures (sym c.is_some.ensures ∙ c.if-is_some.false))
     (subst (IsHalt (g.G.Gate.may_stop c.args.gate.now) (length c.args.team.workers)) (c.in-Some-ByGate.is ∙ ap Some (rw c.in-Some-ByGate.is at c.in-Some-ByGate.field-0-is))
