@@ -2,8 +2,8 @@
 
 import re
 
-from program import example, run
-from test_planner import PlannerTest, solved
+from program import Outcome, example, run
+from test_planner import KEY_BEHIND_ITS_LOCK, LOCKS, PlannerTest, solved
 from test_threads import HANOI, tower
 
 # The first stage has tables of at most 300 abstract states, which say little about the 3^11 states of a tower of 11 discs,
@@ -22,6 +22,17 @@ class Stages(PlannerTest):
                 for workers in (1, 2, 4):
                     with self.subTest(task=task, workers=workers, **options):
                         self.is_cheapest(domain, problem, solved(domain, problem, workers=workers, **options), cost)
+
+    def test_same_answer_without_a_certificate(self):
+        """With one worker, and by a seed, one plan and one bound are found, whether a certificate is made or not."""
+        tasks = [(example(task, "domain.pddl"), example(task, "problem.pddl")) for task in COSTS] + [(LOCKS, KEY_BEHIND_ITS_LOCK)]
+        for domain, problem in tasks:
+            for options in ({}, {"simulate": 3}, {"table": 1, "limit": 1}):
+                with self.subTest(problem=problem, **options):
+                    asked = solved(domain, problem, workers=1, **options)
+                    words = [word for name, value in options.items() for word in (f"--{name}", str(value))]
+                    plain = run("solve", "d", "p", "--workers", "1", *words, files={"d": domain, "p": problem})
+                    self.assertEqual(plain, Outcome(asked.out, asked.err, asked.status))
 
     def test_goal_where_a_size_or_a_seed_is_given(self):
         """A search with tables of one abstract state, which say nothing, expands more than one state of this task."""

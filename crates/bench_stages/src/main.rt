@@ -40,7 +40,7 @@ fn put_search<D: Device, R: Threads + Wait + Clock + Sync>(
         alloc,
         task,
         options,
-        CertificateKind::Sas,
+        Some(CertificateKind::Sas),
         &counting,
     );
     let Ok(found) = found else {

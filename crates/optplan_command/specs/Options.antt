@@ -67,6 +67,7 @@ pub record AreChoicesOf (value : List ℕ → Option (List ℕ)) (choices : Choi
   pub ties : IsTiesOf (value (codes "ties")) (is_some (value (codes "simulate"))) choices.ties
   pub tables : IsTablesOf (requires_goal value) (value (codes "tables")) choices.tables
   pub stage_ends : choices.stage_ends ≡ 60000 ∷ 700000 ∷ 15000000 ∷ []
+  pub certificate : choices.certificate ≡ is_some (value (codes "cert"))
 
 -- the schedule from a seed, seconds and a memory: random steps from the seed, whatever the others are; or, if there is
 -- no seed, threads, with these seconds and this memory, if there are any

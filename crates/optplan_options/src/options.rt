@@ -1,6 +1,6 @@
 //! Options of the solver.
 
-ghost use Rattle.std.specs.Prelude.{◌≡◌, ◌≤◌, ◌^◌, ◌∷◌, [], Some, None};
+ghost use Rattle.std.specs.Prelude.{◌≡◌, ◌≤◌, ◌^◌, ◌∷◌, [], Some, None, true};
 
 use owner_space::Ties;
 use std::marker::Model;
@@ -33,8 +33,8 @@ pub enum Tables {
 /// How a task is solved: the number of owners (1 to 64), the greatest number of abstract states of a table (1 to 2^24),
 /// the limit on the nodes that each owner expands in each search, if there is one, the capacity of a link between two
 /// workers in messages (1 to 65,536), the greatest number of steps of a simulation, the order of expansion among nodes
-/// of the same f-value, whether a multi-threaded solver searches in stages, and the numbers of states at which these
-/// end.
+/// of the same f-value, whether a multi-threaded solver searches in stages, the numbers of states at which these end,
+/// and whether a certificate is made.
 #[derive(Debug, Drop)]
 pub struct Options {
     workers: usize,
@@ -45,6 +45,7 @@ pub struct Options {
     ties: Ties,
     tables: Tables,
     stage_ends: [usize; STAGES],
+    certificate: bool,
 }
 
 impl Model for Options {
@@ -53,15 +54,15 @@ impl Model for Options {
 
     ghost Value = { Choices };
 
-    ghost view = { λ o. record { workers = o.workers; table = o.table; limit = o.limit; ring = o.ring; steps = o.steps; ties = o.ties; tables = o.tables; stage_ends = o.stage_ends } };
+    ghost view = { λ o. record { workers = o.workers; table = o.table; limit = o.limit; ring = o.ring; steps = o.steps; ties = o.ties; tables = o.tables; stage_ends = o.stage_ends; certificate = o.certificate } };
 
     ghost invariant = { λ o. (1 ≤ o.workers) × (o.workers ≤ 64) × (1 ≤ o.table) × (o.table ≤ 2 ^ 24) × (1 ≤ o.ring) × (o.ring ≤ 2 ^ 16) };
 }
 
 impl Options {
     /// Returns the defaults: 4 owners, tables of at most 100,000 abstract states, no limit on expansions, links with
-    /// room for 64 messages, 1,000,000 steps of a simulation, the order `Shallow`, one search, and stages that end at
-    /// 60,000, 700,000 and 15,000,000 states.
+    /// room for 64 messages, 1,000,000 steps of a simulation, the order `Shallow`, one search, stages that end at
+    /// 60,000, 700,000 and 15,000,000 states, and a certificate.
     pub fn new() -> Options
         ensures { result ≡ record {
           workers = 4;
@@ -72,6 +73,7 @@ impl Options {
           ties = Ties.Shallow;
           tables = Tables.Goal;
           stage_ends = 60000 ∷ 700000 ∷ 15000000 ∷ [];
+          certificate = true;
         } }
     {
         Options {
@@ -83,6 +85,7 @@ impl Options {
             ties: Ties::Shallow,
             tables: Tables::Goal,
             stage_ends: STAGE_ENDS,
+            certificate: true,
         }
     }
 
@@ -152,6 +155,17 @@ impl Options {
         Options { stage_ends, ..self }
     }
 
+    /// Returns these options with a certificate, or without one. Making it takes time and memory in proportion to the
+    /// states that were expanded.
+    pub fn with_certificate(self, certificate: bool) -> Options
+        ensures { result ≡ record self { certificate = certificate } }
+    {
+        Options {
+            certificate,
+            ..self
+        }
+    }
+
     /// Returns the number of owners.
     pub fn workers(&self) -> usize
         ensures value { result ≡ self.now.workers }
@@ -212,5 +226,12 @@ impl Options {
         ensures { result ≡ self.now.stage_ends }
     {
         self.stage_ends
+    }
+
+    /// Returns whether a certificate is made.
+    pub fn certificate(&self) -> bool
+        ensures { result ≡ self.now.certificate }
+    {
+        self.certificate
     }
 }

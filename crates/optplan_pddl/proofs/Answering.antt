@@ -1,8 +1,10 @@
 -- From what a search has found to what is answered.
-use Rattle.std.proofs.Common.{◌≡◌, ℕ, List, sym, subst, ◌∙◌}
+use Rattle.std.proofs.Common.{◌≡◌, ℕ, Bool, List, Option, sym, subst}
 use Rattle.std.specs.Prelude.{Vec}
 use Rattle.std.specs.Global.{Global}
-use Rattle.cost.specs.Distances.{Distance, Finite, Infinite}
+use Rattle.std.specs.Option.{option_map}
+use Rattle.std.specs.Bool.{then_some}
+use Rattle.cost.specs.Distances.{Finite, Infinite}
 use Rattle.fdr.specs.Tasks.{FiniteDomainTask, HasNoPlan}
 use Rattle.pddl_task.specs.Planning.{PlanningTask}
 use Rattle.pddl.specs.Texts.{SpellTask}
@@ -15,7 +17,7 @@ use Rattle.packed_spread.specs.Spreads as spread
 use Rattle.packed_spread.specs.Spreads.{zobrist_owner}
 use Rattle.optplan_sas.specs.SearchEnds.{EndsOf, least_best_of}
 use Rattle.optplan_kind.specs.Kinds.{translation_kind}
-use Rattle.optplan_sas.specs.Findings.{IsCertificateOf, IsSolution, IsSoFar, IsFound, IsFinding, IsTrueOf, IsSettledEnd, IsShortEnd}
+use Rattle.optplan_sas.specs.Findings.{IsCertifiedBy, IsSolution, IsSoFar, IsFound, IsFinding, IsTrueOf, IsSettledEnd, IsShortEnd}
 use Rattle.optplan_sas.specs.declared.answer.CheapestPlan.{CheapestPlan}
 use Rattle.optplan_sas.specs.declared.answer.KnownSoFar.{KnownSoFar}
 use Rattle.optplan_sas.specs.declared.answer.Answer.TheVariants as answer
@@ -31,40 +33,36 @@ use Rattle.optplan_pddl.specs.Prepared.{IsPrepared}
 use Rattle.optplan_pddl.specs.declared.preparing.Prepared.{Prepared}
 use Rattle.optplan_pddl.specs.declared.fault.PlanningFault.{PlanningFault}
 use Rattle.optplan_pddl.specs.declared.fault.PlanningFault.TheVariants as planning
-use Rattle.optplan_pddl.proofs.Accepting.{accepted}
+use Rattle.optplan_pddl.proofs.Accepting.{accepted_if}
 
 -- ---- texts of what was found
 
--- what is found of a task is found of the same task at its end
-pub solution_there : (over : FiniteDomainTask) (kind : Kind) (s : Solution) → IsTrueOf over kind (Solved s) → IsSolution over kind s
-solution_there over kind s (es, same, found) = subst (λ (t : FiniteDomainTask). IsSolution t kind s) same found.0
-
-pub known_there : (over : FiniteDomainTask) (kind : Kind) (s : SoFar) → IsTrueOf over kind (Stopped s) → (most : Distance) × IsSoFar over kind most s
-known_there over kind s (es, same, found) = (least_best_of es, subst (λ (t : FiniteDomainTask). IsSoFar t kind (least_best_of es) s) same found.0)
-
-module _ (domain problem : List ℕ) (task : PlanningTask) (t : TranslatedTask) (es : EndsOf spread.Zobrist) (spells : SpellTask domain problem task)
+module _ (wanted : Bool) (domain problem : List ℕ) (task : PlanningTask) (t : TranslatedTask) (es : EndsOf spread.Zobrist) (spells : SpellTask domain problem task)
     (made : IsTranslation task t) (plans : HasSamePlans task t) (same : es.last.space.task ≡ t.task) where
-  pub solved_answer : (s : Solution) (p : CheapestPlan (Vec Step Global)) → IsFound zobrist_owner es (translation_kind task t) (Solved s)
-      → (IsSolution t.task (translation_kind task t) s → IsPlanningSolution domain problem task p) → p.found.cost ≡ s.found.cost
-      → IsAnswerFor domain problem task es (answer.Solved p)
+  abbrev kind : Option Kind
+  kind = then_some wanted (translation_kind task t)
+
+  pub solved_answer : (s : Solution) (p : CheapestPlan (Vec Step Global)) → IsFound zobrist_owner es kind (Solved s)
+      → (IsSolution t.task kind s → IsPlanningSolution wanted domain problem task p) → p.found.cost ≡ s.found.cost
+      → IsAnswerFor wanted domain problem task es (answer.Solved p)
   solved_answer s p found texts cost = (
-    texts (subst (λ (x : FiniteDomainTask). IsSolution x (translation_kind task t) s) same found.0),
+    texts (subst (λ (x : FiniteDomainTask). IsSolution x kind s) same found.0),
     subst (λ (n : ℕ). IsSettledEnd zobrist_owner es.last (Finite n)) (sym cost) found.1,
   )
 
-  pub unsolvable_answer : (c : CertificateValue) (cert : Vec ℕ Global) → IsFound zobrist_owner es (translation_kind task t) (Unsolvable c) → cert.items ≡ spelling c
-      → IsAnswerFor domain problem task es (answer.Unsolvable cert)
+  pub unsolvable_answer : (c : Option CertificateValue) (cert : Option (Vec ℕ Global)) → IsFound zobrist_owner es kind (Unsolvable c)
+      → option_map (λ x. x.items) cert ≡ option_map spelling c → IsAnswerFor wanted domain problem task es (answer.Unsolvable cert)
   unsolvable_answer c cert (none, certified, ended) is = (
     plans.none.0 (subst HasNoPlan same none),
-    accepted domain problem cert.items task t Infinite c spells made (subst (λ (x : FiniteDomainTask). IsCertificateOf x (translation_kind task t) Infinite c) same certified) is,
+    accepted_if domain problem task t spells made plans wanted Infinite c cert (subst (λ (x : FiniteDomainTask). IsCertifiedBy x kind Infinite c) same certified) is,
     ended,
   )
 
-  pub limit_answer : (s : SoFar) (known : KnownSoFar (Vec Step Global)) → IsFound zobrist_owner es (translation_kind task t) (Stopped s)
-      → (IsSoFar t.task (translation_kind task t) (least_best_of es) s → IsPlanningKnown domain problem task (least_best_of es) known) → known.bound ≡ s.bound
-      → IsAnswerFor domain problem task es (answer.Limit known)
+  pub limit_answer : (s : SoFar) (known : KnownSoFar (Vec Step Global)) → IsFound zobrist_owner es kind (Stopped s)
+      → (IsSoFar t.task kind (least_best_of es) s → IsPlanningKnown wanted domain problem task (least_best_of es) known) → known.bound ≡ s.bound
+      → IsAnswerFor wanted domain problem task es (answer.Limit known)
   limit_answer s known found texts bound = (
-    texts (subst (λ (x : FiniteDomainTask). IsSoFar x (translation_kind task t) (least_best_of es) s) same found.0),
+    texts (subst (λ (x : FiniteDomainTask). IsSoFar x kind (least_best_of es) s) same found.0),
     subst (λ (n : ℕ). IsShortEnd zobrist_owner es n) (sym bound) found.1,
   )
 
@@ -88,24 +86,25 @@ text_refused domain problem why (planning.Gate worker turn) (task, spells, (t, m
 
 -- ---- of a task that is ready
 
-module _ (domain problem : List ℕ) (p : Prepared) (is : IsPrepared domain problem p) (over : FiniteDomainTask) (over_is : over ≡ p.translated.task) where
+module _ (wanted : Bool) (domain problem : List ℕ) (p : Prepared) (is : IsPrepared wanted domain problem p) (over : FiniteDomainTask) (over_is : over ≡ p.translated.task) where
   -- what is found of the translation, by its own kind of certificates
-  pub found_of : (ends : FiniteDomainTask → EndsOf spread.Zobrist → Type 0) (f : Found) → IsFinding over (kind_of p.kind) (ends over) f
-      → IsFinding p.translated.task (translation_kind is.task p.translated) (ends p.translated.task) f
+  pub found_of : (ends : FiniteDomainTask → EndsOf spread.Zobrist → Type 0) (f : Found) → IsFinding over (option_map kind_of p.wanted) (ends over) f
+      → IsFinding p.translated.task (then_some wanted (translation_kind is.task p.translated)) (ends p.translated.task) f
   found_of ends f found =
-      subst (λ (k : Kind). IsFinding p.translated.task k (ends p.translated.task) f) is.kind_is
-      (subst (λ (t : FiniteDomainTask). IsFinding t (kind_of p.kind) (ends t) f) over_is found)
+      subst (λ (k : Option Kind). IsFinding p.translated.task k (ends p.translated.task) f) is.kind_is
+      (subst (λ (t : FiniteDomainTask). IsFinding t (option_map kind_of p.wanted) (ends t) f) over_is found)
 
   -- what is found is true of the translation
-  pub found_true : (ends : FiniteDomainTask → EndsOf spread.Zobrist → Type 0) (f : Found) → IsFinding over (kind_of p.kind) (ends over) f
-      → (task : PlanningTask) × IsTrueOf p.translated.task (translation_kind task p.translated) f
-  found_true ends f found = let is_found = found_of ends f found in (is.task, (is_found.at, is_found.task_is, is_found.found))
+  pub found_true : (ends : FiniteDomainTask → EndsOf spread.Zobrist → Type 0) (f : Found) → IsFinding over (option_map kind_of p.wanted) (ends over) f
+      → (b : Bool) × ((task : PlanningTask) × IsTrueOf p.translated.task (then_some b (translation_kind task p.translated)) f)
+  found_true ends f found = let is_found = found_of ends f found in (wanted, (is.task, (is_found.at, is_found.task_is, is_found.found)))
 
   -- its texts are the answer
-  pub answer_for : (ends : FiniteDomainTask → EndsOf spread.Zobrist → Type 0) (f : Found) (given : PlanningAnswer) → IsFinding over (kind_of p.kind) (ends over) f
-      → ((d q : List ℕ) (task : PlanningTask) (es : EndsOf spread.Zobrist) → SpellTask d q task → IsTranslation task p.translated → HasSamePlans task p.translated
-      → es.last.space.task ≡ p.translated.task → IsFound zobrist_owner es (translation_kind task p.translated) f → IsAnswerFor d q task es given)
-      → IsPlanningAnswer domain problem ends given
+  pub answer_for : (ends : FiniteDomainTask → EndsOf spread.Zobrist → Type 0) (f : Found) (given : PlanningAnswer) → IsFinding over (option_map kind_of p.wanted) (ends over) f
+      → ((b : Bool) (d q : List ℕ) (task : PlanningTask) (es : EndsOf spread.Zobrist) → SpellTask d q task → IsTranslation task p.translated
+      → HasSamePlans task p.translated → es.last.space.task ≡ p.translated.task → IsFound zobrist_owner es (then_some b (translation_kind task p.translated)) f
+      → IsAnswerFor b d q task es given)
+      → IsPlanningAnswer wanted domain problem ends given
   answer_for ends f given found texts =
       let is_found = found_of ends f found in
       record {
@@ -115,7 +114,7 @@ module _ (domain problem : List ℕ) (p : Prepared) (is : IsPrepared domain prob
         translation = is.translation;
         at = is_found.at;
         ended = is_found.ended;
-        is = texts domain problem is.task is_found.at is.spelled is.translation is.same is_found.task_is is_found.found;
+        is = texts wanted domain problem is.task is_found.at is.spelled is.translation is.same is_found.task_is is_found.found;
       }
 
   pub search_refused : (why : FiniteDomainTask → SearchFault → Type 0) (e : SearchFault) → why over e → IsPlanningRefusal domain problem why (fault_of_search e)

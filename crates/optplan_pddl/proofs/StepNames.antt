@@ -1,5 +1,5 @@
 -- The names of the operators of a prepared task spell steps of plan words.
-use Rattle.std.proofs.Common.{ℕ, List, sym, subst}
+use Rattle.std.proofs.Common.{ℕ, Bool, List, sym, subst}
 use Rattle.pddl_task.specs.Planning.{PlanningTask}
 use Rattle.pddl.specs.Texts.{SpellTask}
 use Rattle.pddl_laws.proofs.WordNames.{spelled_words}
@@ -18,5 +18,5 @@ step_names domain problem task t spelled made =
     all_operators domain problem task t spelled made (λ op. IsPlanStep (step_of_words (words_of op.name)))
     (λ a is. subst (λ (s : Step). IsPlanStep s) (sym (spelled_again task.vocabulary a (spelled_words domain problem task spelled))) (step_is domain problem task spelled a is))
 
-pub names_there : (domain problem : List ℕ) (p : Prepared) → IsPrepared domain problem p → HasStepNames p.translated.task
-names_there domain problem p is = step_names domain problem is.task p.translated is.spelled is.translation
+pub names_there : (wanted : Bool) (domain problem : List ℕ) (p : Prepared) → IsPrepared wanted domain problem p → HasStepNames p.translated.task
+names_there wanted domain problem p is = step_names domain problem is.task p.translated is.spelled is.translation

@@ -1,5 +1,5 @@
 -- The answer for the texts of a planning task.
-use Rattle.std.specs.Prelude.{◌≡◌, ◌≢◌, ℕ, ◌≤◌, ◌^◌, List, length, map, Vec}
+use Rattle.std.specs.Prelude.{◌≡◌, ◌≢◌, ℕ, ◌≤◌, ◌^◌, Bool, List, length, map, Option, Vec}
 use Rattle.std.specs.Global.{Global}
 use Rattle.std.specs.String.{string_bytes}
 use Rattle.cost.specs.Distances.{Distance, Finite, Infinite}
@@ -19,7 +19,7 @@ use Rattle.packed_spread.specs.Spreads as spread
 use Rattle.packed_spread.specs.Spreads.{zobrist_owner}
 use Rattle.optplan_sas.specs.SearchEnds.{EndsOf, least_best_of}
 use Rattle.optplan_sas.specs.Findings.{IsSettledEnd, IsShortEnd}
-use Rattle.optplan_sas.specs.SasAnswers.{IsBestWritten}
+use Rattle.optplan_sas.specs.SasAnswers.{IsBestWritten, IsTextIf}
 use Rattle.optplan_sas.specs.declared.answer.WrittenPlan.{WrittenPlan}
 use Rattle.optplan_sas.specs.declared.answer.CheapestPlan.{CheapestPlan}
 use Rattle.optplan_sas.specs.declared.answer.KnownSoFar.{KnownSoFar}
@@ -39,6 +39,10 @@ PlanningAnswer = Answer (Vec Step Global)
 abbrev pub IsAccepted : List ℕ → List ℕ → List ℕ → Distance → Type 0
 IsAccepted domain problem cert bound = length cert ≤ 2 ^ 30 → IsAnswer domain problem cert (Accepted bound)
 
+-- the text of a certificate that the checker accepts for the bound, if one is wanted; none if none is
+abbrev pub IsAcceptedIf : Bool → List ℕ → List ℕ → Option (Vec ℕ Global) → Distance → Type 0
+IsAcceptedIf wanted domain problem cert bound = IsTextIf wanted (λ text. IsAccepted domain problem text bound) cert
+
 -- a valid plan of that cost, by its steps and as a text
 pub record IsPlanningPlan (task : PlanningTask) (p : WrittenPlan (Vec Step Global)) : Type 0 where
   pub actions : List Action
@@ -47,35 +51,40 @@ pub record IsPlanningPlan (task : PlanningTask) (p : WrittenPlan (Vec Step Globa
   pub steps : p.plan.items ≡ map (step_of task.vocabulary) actions
   pub written : string_bytes p.plan_text ≡ text_of_plan task actions p.cost
 
--- a valid plan such that every valid plan costs at least as much, with the text of a certificate of that
-pub record IsPlanningSolution (domain problem : List ℕ) (task : PlanningTask) (s : CheapestPlan (Vec Step Global)) : Type 0 where
+-- a valid plan such that every valid plan costs at least as much, with the text of a certificate of that if one is
+-- wanted
+pub record IsPlanningSolution (wanted : Bool) (domain problem : List ℕ) (task : PlanningTask) (s : CheapestPlan (Vec Step Global)) : Type 0 where
   pub found : IsPlanningPlan task s.found
   pub least : ValidPlansCostAtLeast task (Finite s.found.cost)
-  pub accepted : IsAccepted domain problem s.cert.items (Finite s.found.cost)
+  pub accepted : IsAcceptedIf wanted domain problem s.cert (Finite s.found.cost)
 
--- a lower bound on the cost of every valid plan, with the text of a certificate of it, and the best plan so far
-pub record IsPlanningKnown (domain problem : List ℕ) (task : PlanningTask) (most : Distance) (known : KnownSoFar (Vec Step Global)) : Type 0 where
+-- a lower bound on the cost of every valid plan, with the text of a certificate of it if one is wanted, and the best
+-- plan so far
+pub record IsPlanningKnown (wanted : Bool) (domain problem : List ℕ) (task : PlanningTask) (most : Distance) (known : KnownSoFar (Vec Step Global)) : Type 0 where
   pub least : ValidPlansCostAtLeast task (Finite known.bound)
   pub best : IsBestWritten (IsPlanningPlan task) most known.best
-  pub accepted : IsAccepted domain problem known.cert.items (Finite known.bound)
+  pub accepted : IsAcceptedIf wanted domain problem known.cert (Finite known.bound)
 
 -- the answer for a task by searches of a translation at their ends: a cheapest plan, that there is none, or a bound and
--- the best plan so far; each with the text of a certificate
-abbrev pub IsAnswerFor : List ℕ → List ℕ → PlanningTask → EndsOf spread.Zobrist → PlanningAnswer → Type 0
-IsAnswerFor domain problem task es (Solved s) = IsPlanningSolution domain problem task s × IsSettledEnd zobrist_owner es.last (Finite s.found.cost)
-IsAnswerFor domain problem task es (Unsolvable cert) = HasNoValidPlan task × IsAccepted domain problem cert.items Infinite × IsSettledEnd zobrist_owner es.last Infinite
-IsAnswerFor domain problem task es (Limit known) = IsPlanningKnown domain problem task (least_best_of es) known × IsShortEnd zobrist_owner es known.bound
+-- the best plan so far; each with the text of a certificate if one is wanted
+abbrev pub IsAnswerFor : Bool → List ℕ → List ℕ → PlanningTask → EndsOf spread.Zobrist → PlanningAnswer → Type 0
+IsAnswerFor wanted domain problem task es (Solved s) =
+    IsPlanningSolution wanted domain problem task s × IsSettledEnd zobrist_owner es.last (Finite s.found.cost)
+IsAnswerFor wanted domain problem task es (Unsolvable cert) =
+    HasNoValidPlan task × IsAcceptedIf wanted domain problem cert Infinite × IsSettledEnd zobrist_owner es.last Infinite
+IsAnswerFor wanted domain problem task es (Limit known) =
+    IsPlanningKnown wanted domain problem task (least_best_of es) known × IsShortEnd zobrist_owner es known.bound
 
 -- the texts spell a task, and this is the answer for it, by searches of a translation of the task whose ends satisfy
--- `ends`
-pub record IsPlanningAnswer (domain problem : List ℕ) (ends : FiniteDomainTask → EndsOf spread.Zobrist → Type 0) (answer : PlanningAnswer) : Type 0 where
+-- `ends`, with a certificate if one is wanted
+pub record IsPlanningAnswer (wanted : Bool) (domain problem : List ℕ) (ends : FiniteDomainTask → EndsOf spread.Zobrist → Type 0) (answer : PlanningAnswer) : Type 0 where
   pub task : PlanningTask
   pub spelled : SpellTask domain problem task
   pub translated : TranslatedTask
   pub translation : IsTranslation task translated
   pub at : EndsOf spread.Zobrist
   pub ended : ends translated.task at
-  pub is : IsAnswerFor domain problem task at answer
+  pub is : IsAnswerFor wanted domain problem task at answer
 
 -- the texts are refused for their first fault; or they spell a task that has too many atoms or actions, whose
 -- translation is too large, or the search of whose translation is refused for a fault that satisfies `refused`: a

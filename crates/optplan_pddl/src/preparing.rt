@@ -1,9 +1,13 @@
 //! Preparation of a planning task for a search, from its texts.
 
-ghost use Rattle.std.specs.Prelude.{ℕ, List, IfOk, IfErr};
+ghost use Rattle.std.specs.Prelude.{◌≡◌, ℕ, List, IfOk, IfErr};
+ghost use Rattle.std.specs.Option.{option_map};
+ghost use Rattle.std.specs.Bool.{then_some};
+ghost use Rattle.cert_value.specs.Views.{kind_of};
 ghost use Rattle.pddl_task.specs.Planning.{IsPlanningTask};
 ghost use Rattle.pddl.specs.Texts.{SpellTask};
 ghost use Rattle.translate.specs.Translated.{IsReadTask, IsTranslation, HasSamePlans};
+ghost use Rattle.optplan_kind.specs.Kinds.{translation_kind};
 ghost use Rattle.optplan_pddl.specs.Prepared.{IsPrepared};
 ghost use Rattle.optplan_pddl.specs.Answers.{IsPlanningRefusal};
 
@@ -12,15 +16,15 @@ use cert_value::CertificateKind;
 use optplan_kind::translation_kind;
 use pddl::read_task;
 use pddl_task::Task;
-use std::alloc::Global;
+use std::alloc::{AllocError, Global};
 use translate::{Translated, translate};
 use translate_vars::TranslateFault;
 
-/// A task's translation, with the kind of certificates for it.
+/// A task's translation, with the kind of the certificate to make, `None` if none is made.
 #[derive(Drop)]
 pub(crate) struct Prepared {
     pub(crate) translated: Translated,
-    pub(crate) kind: CertificateKind,
+    pub(crate) wanted: Option<CertificateKind>,
 }
 
 /// Returns the task's translation. Fails if the task or its translation exceeds a limit, or if allocation fails.
@@ -39,29 +43,48 @@ fn translation_of(alloc: Global, task: &Task) -> Result<Translated, PlanningFaul
     }
 }
 
-/// Returns the task's translation, with the kind of certificates for it. Fails if the task or its translation exceeds a
-/// limit, or if allocation fails.
-fn prepare_task(alloc: Global, task: &Task) -> Result<Prepared, PlanningFault>
+/// Returns the kind of certificates for a translated task, if a certificate is wanted.
+fn wanted_kind(
+    alloc: Global,
+    task: &Task,
+    translated: &Translated,
+    certificate: bool,
+) -> Result<Option<CertificateKind>, AllocError>
+    requires { IsTranslation task.now translated.now }
+    ensures { IfOk result (λ wanted. option_map kind_of wanted ≡ then_some certificate (translation_kind task.now translated.now)) }
+{
+    if certificate {
+        Ok(Some(translation_kind(alloc, task, translated)?))
+    } else {
+        Ok(None)
+    }
+}
+
+/// Returns the task's translation, with the kind of certificates for it if a certificate is wanted. Fails if the task
+/// or its translation exceeds a limit, or if allocation fails.
+fn prepare_task(alloc: Global, task: &Task, certificate: bool) -> Result<Prepared, PlanningFault>
     requires read { IsReadTask task.now }
     requires well { IsPlanningTask task.now }
-    ensures prepared { (domain problem : List ℕ) → SpellTask domain problem task.now → IfOk result (IsPrepared domain problem) }
+    ensures prepared { (domain problem : List ℕ) → SpellTask domain problem task.now → IfOk result (IsPrepared certificate domain problem) }
     ensures refused { (domain problem : List ℕ) → SpellTask domain problem task.now → IfErr result (IsPlanningRefusal domain problem (λ task e. ⊥)) }
 {
     let translated = translation_of(alloc, task)?;
-    let kind = translation_kind(alloc, task, &translated)?;
-    Ok(Prepared { translated, kind })
+    let wanted = wanted_kind(alloc, task, &translated, certificate)?;
+    Ok(Prepared { translated, wanted })
 }
 
-/// Returns the translation of the task that the texts spell, with the kind of certificates for it. Fails with the first
-/// fault of the texts, if the task or its translation exceeds a limit, or if allocation fails.
+/// Returns the translation of the task that the texts spell, with the kind of certificates for it if a certificate is
+/// wanted. Fails with the first fault of the texts, if the task or its translation exceeds a limit, or if allocation
+/// fails.
 pub(crate) fn prepare(
     alloc: Global,
     domain: &[u8],
     problem: &[u8],
+    certificate: bool,
 ) -> Result<Prepared, PlanningFault>
-    ensures prepared { IfOk result (IsPrepared domain.now problem.now) }
+    ensures prepared { IfOk result (IsPrepared certificate domain.now problem.now) }
     ensures refused { IfErr result (IsPlanningRefusal domain.now problem.now (λ task e. ⊥)) }
 {
     let task = read_task(alloc, domain, problem)?;
-    prepare_task(alloc, &task)
+    prepare_task(alloc, &task, certificate)
 }

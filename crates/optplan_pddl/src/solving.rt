@@ -1,6 +1,7 @@
 //! Solving a planning task, from texts to texts.
 
-ghost use Rattle.std.specs.Prelude.{◌≡◌, ℕ, List, IfOk, IfErr};
+ghost use Rattle.std.specs.Prelude.{◌≡◌, ℕ, Bool, List, IfOk, IfErr};
+ghost use Rattle.std.specs.Bool.{then_some};
 ghost use Rattle.cost.specs.Distances.{Distance};
 ghost use Rattle.pddl_task.specs.Planning.{PlanningTask};
 ghost use Rattle.pddl.specs.Texts.{SpellTask};
@@ -17,12 +18,11 @@ ghost use Rattle.optplan_pddl.specs.Answers.{IsPlanningPlan, IsPlanningSolution,
 
 use crate::fault::PlanningFault;
 use crate::preparing::{Prepared, prepare};
-use cert_text::write_cert;
 use netcore::WorldStep;
 use optplan_plans::named_steps;
 use optplan_sas::{
     Answer, CheapestPlan, Found, FoundPlan, Gate, KnownSoFar, Observer, Options, SoFar, Solution,
-    WrittenPlan, found_after, found_by_seed, found_by_threads,
+    WrittenPlan, certificate_text, found_after, found_by_seed, found_by_threads,
 };
 use sasfile_writer::sas_plan_text;
 use std::alloc::{AllocError, Global};
@@ -73,39 +73,40 @@ fn best_text(
     }
 }
 
-/// Returns the solution with the texts of its plan and its certificate, from a solution of the translation.
+/// Returns the solution with the texts of its plan and of its certificate, if it has one, from a solution of the
+/// translation.
 fn solution_texts(
     alloc: Global,
     translated: &Translated,
     solution: Solution,
 ) -> Result<CheapestPlan<Vec<Step>>, AllocError>
-    requires solution { (task : PlanningTask) × IsSolution translated.now.task (translation_kind task translated.now) solution }
+    requires solution { (wanted : Bool) × ((task : PlanningTask) × IsSolution translated.now.task (then_some wanted (translation_kind task translated.now)) solution) }
     requires names { HasStepNames translated.now.task }
-    ensures solution { (domain problem : List ℕ) (task : PlanningTask) → SpellTask domain problem task → IsTranslation task translated.now →
-        HasSamePlans task translated.now → IsSolution translated.now.task (translation_kind task translated.now) solution →
-        IfOk result (IsPlanningSolution domain problem task) }
+    ensures solution { (wanted : Bool) (domain problem : List ℕ) (task : PlanningTask) → SpellTask domain problem task → IsTranslation task translated.now →
+        HasSamePlans task translated.now → IsSolution translated.now.task (then_some wanted (translation_kind task translated.now)) solution →
+        IfOk result (IsPlanningSolution wanted domain problem task) }
     ensures cost { IfOk result (λ s. s.found.cost ≡ solution.found.cost) }
 {
-    let cert = write_cert(alloc, &solution.certificate)?;
+    let cert = certificate_text(alloc, &solution.certificate)?;
     let found = plan_text(alloc, translated, solution.found)?;
     Ok(CheapestPlan { found, cert })
 }
 
-/// Returns the result so far with the texts of the best plan and of the certificate, from the result so far for the
-/// translation.
+/// Returns the result so far with the texts of the best plan and of the certificate, if it has one, from the result so
+/// far for the translation.
 fn known_texts(
     alloc: Global,
     translated: &Translated,
     known: SoFar,
 ) -> Result<KnownSoFar<Vec<Step>>, AllocError>
-    requires known { (task : PlanningTask) × ((most : Distance) × IsSoFar translated.now.task (translation_kind task translated.now) most known) }
+    requires known { (wanted : Bool) × ((task : PlanningTask) × ((most : Distance) × IsSoFar translated.now.task (then_some wanted (translation_kind task translated.now)) most known)) }
     requires names { HasStepNames translated.now.task }
-    ensures known { (domain problem : List ℕ) (task : PlanningTask) (most : Distance) → SpellTask domain problem task → IsTranslation task translated.now →
-        HasSamePlans task translated.now → IsSoFar translated.now.task (translation_kind task translated.now) most known →
-        IfOk result (IsPlanningKnown domain problem task most) }
+    ensures known { (wanted : Bool) (domain problem : List ℕ) (task : PlanningTask) (most : Distance) → SpellTask domain problem task →
+        IsTranslation task translated.now → HasSamePlans task translated.now →
+        IsSoFar translated.now.task (then_some wanted (translation_kind task translated.now)) most known → IfOk result (IsPlanningKnown wanted domain problem task most) }
     ensures bound { IfOk result (λ k. k.bound ≡ known.bound) }
 {
-    let cert = write_cert(alloc, &known.certificate)?;
+    let cert = certificate_text(alloc, &known.certificate)?;
     let best = best_text(alloc, translated, known.best)?;
     Ok(KnownSoFar {
         bound: known.bound,
@@ -120,23 +121,25 @@ fn answer_texts(
     translated: &Translated,
     found: Found,
 ) -> Result<PlanningAnswer, AllocError>
-    requires found { (task : PlanningTask) × IsTrueOf translated.now.task (translation_kind task translated.now) found }
+    requires found { (wanted : Bool) × ((task : PlanningTask) × IsTrueOf translated.now.task (then_some wanted (translation_kind task translated.now)) found) }
     requires names { HasStepNames translated.now.task }
-    ensures { (domain problem : List ℕ) (task : PlanningTask) (es : EndsOf spread.Zobrist) → SpellTask domain problem task →
+    ensures { (wanted : Bool) (domain problem : List ℕ) (task : PlanningTask) (es : EndsOf spread.Zobrist) → SpellTask domain problem task →
         IsTranslation task translated.now → HasSamePlans task translated.now → es.last.space.task ≡ translated.now.task →
-        IsFound zobrist_owner es (translation_kind task translated.now) found → IfOk result (IsAnswerFor domain problem task es) }
+        IsFound zobrist_owner es (then_some wanted (translation_kind task translated.now)) found → IfOk result (IsAnswerFor wanted domain problem task es) }
 {
     match found {
         Found::Solved(solution) => Ok(Answer::Solved(solution_texts(alloc, translated, solution)?)),
-        Found::Unsolvable(certificate) => Ok(Answer::Unsolvable(write_cert(alloc, &certificate)?)),
+        Found::Unsolvable(certificate) => {
+            Ok(Answer::Unsolvable(certificate_text(alloc, &certificate)?))
+        }
         Found::Stopped(known) => Ok(Answer::Limit(known_texts(alloc, translated, known)?)),
     }
 }
 
-/// Returns the answer for the task that the texts spell, after these steps of a world of owners, with a certificate
-/// that the checker accepts if its text has at most 2^30 bytes: a cheapest plan, or that there is none; `Limit` with a
-/// lower bound on the cost of every plan, and possibly a plan, if the owners are not settled. Stops before the first
-/// step that asks an owner for more nodes than its limit allows.
+/// Returns the answer for the task that the texts spell, after these steps of a world of owners: a cheapest plan, or
+/// that there is none; `Limit` with a lower bound on the cost of every plan, and possibly a plan, if the owners are not
+/// settled. If the options request a certificate, the answer has one, which the checker accepts if its text has at most
+/// 2^30 bytes. Stops before the first step that asks an owner for more nodes than its limit allows.
 ///
 /// Fails with the first fault of the texts, with `GroundLimit` or `TaskTooLarge` if the task or its translation exceeds
 /// a limit, with `TotalTooLarge` if a path would have a cost or a number of actions above 2^62, or if allocation fails.
@@ -148,12 +151,12 @@ pub fn solve_steps<R: AllocGlobal + Threads + Sync>(
     options: &Options,
     steps: &[WorldStep],
 ) -> Result<PlanningAnswer, PlanningFault>
-    ensures answer { IfOk result (IsPlanningAnswer domain.now problem.now (EndsAfter options.now steps.now)) }
+    ensures answer { IfOk result (IsPlanningAnswer options.now.certificate domain.now problem.now (EndsAfter options.now steps.now)) }
     ensures refused { IfErr result (IsPlanningRefusal domain.now problem.now (IsRefusedAfter options.now steps.now)) }
 {
     let alloc = rt.alloc();
-    let Prepared { translated, kind } = prepare(alloc, domain, problem)?;
-    let found = found_after(rt, alloc, translated.task(), options, steps, kind)?;
+    let Prepared { translated, wanted } = prepare(alloc, domain, problem, options.certificate())?;
+    let found = found_after(rt, alloc, translated.task(), options, steps, wanted)?;
     Ok(answer_texts(alloc, &translated, found)?)
 }
 
@@ -169,20 +172,28 @@ pub fn simulate<R: AllocGlobal + Threads + Sync, O: Observer>(
     seed: u64,
     observer: &O,
 ) -> Result<PlanningAnswer, PlanningFault>
-    ensures answer { IfOk result (IsPlanningAnswer domain.now problem.now (EndsBySeed options.now seed)) }
+    ensures answer { IfOk result (IsPlanningAnswer options.now.certificate domain.now problem.now (EndsBySeed options.now seed)) }
     ensures refused { IfErr result (IsPlanningRefusal domain.now problem.now (IsRefusedBySeed options.now seed)) }
 {
     let alloc = rt.alloc();
-    let Prepared { translated, kind } = prepare(alloc, domain, problem)?;
-    let found = found_by_seed(rt, alloc, translated.task(), options, seed, kind, observer)?;
+    let Prepared { translated, wanted } = prepare(alloc, domain, problem, options.certificate())?;
+    let found = found_by_seed(
+        rt,
+        alloc,
+        translated.task(),
+        options,
+        seed,
+        wanted,
+        observer,
+    )?;
     Ok(answer_texts(alloc, &translated, found)?)
 }
 
-/// Returns the answer for the task that the texts spell, by the chosen number of workers, each in a thread of its own,
-/// with a certificate that the checker accepts if its text has at most 2^30 bytes: a cheapest plan, or that there is
-/// none; `Limit` with a lower bound on the cost of every plan, and possibly a plan, if the search ended before the
-/// owners were settled, by an owner's limit or by the gate. If the options request stages, up to four searches follow
-/// one another, and `Limit` has the best of what all of them know.
+/// Returns the answer for the task that the texts spell, by the chosen number of workers, each in a thread of its own:
+/// a cheapest plan, or that there is none; `Limit` with a lower bound on the cost of every plan, and possibly a plan,
+/// if the search ended before the owners were settled, by an owner's limit or by the gate. If the options request a
+/// certificate, the answer has one, which the checker accepts if its text has at most 2^30 bytes. If the options
+/// request stages, up to four searches follow one another, and `Limit` has the best of what all of them know.
 ///
 /// Fails with the first fault of the texts, with `GroundLimit` or `TaskTooLarge` if the task or its translation exceeds
 /// a limit, with `TotalTooLarge` if a path would have a cost or a number of actions above 2^62, with `Gate` if the gate
@@ -195,11 +206,11 @@ pub fn solve<R: Threads + Wait + Clock + Sync + AllocGlobal, G: Gate + Sync>(
     options: &Options,
     gate: &G,
 ) -> Result<PlanningAnswer, PlanningFault>
-    ensures answer { IfOk result (IsPlanningAnswer domain.now problem.now (EndsByThreads options.now (G.may_stop gate.now))) }
+    ensures answer { IfOk result (IsPlanningAnswer options.now.certificate domain.now problem.now (EndsByThreads options.now (G.may_stop gate.now))) }
     ensures refused { IfErr result (IsPlanningRefusal domain.now problem.now (IsRefusedByThreads options.now (G.may_stop gate.now))) }
 {
     let alloc = rt.alloc();
-    let Prepared { translated, kind } = prepare(alloc, domain, problem)?;
-    let found = found_by_threads(rt, alloc, translated.task(), options, kind, gate)?;
+    let Prepared { translated, wanted } = prepare(alloc, domain, problem, options.certificate())?;
+    let found = found_by_threads(rt, alloc, translated.task(), options, wanted, gate)?;
     Ok(answer_texts(alloc, &translated, found)?)
 }

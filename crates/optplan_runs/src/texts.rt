@@ -31,6 +31,11 @@ begin_variable\nvar0\n-1\n3\nAtom at(a)\nAtom at(b)\nAtom at(c)\nend_variable\n\
 begin_goal\n1\n0 2\nend_goal\n2\nbegin_operator\ngo a b\n0\n1\n0 0 0 1\n1\nend_operator\n\
 begin_operator\ngo b c\n0\n1\n0 0 1 2\n1\nend_operator\n0\n";
 
+/// Every valid plan of `ROAD_PROBLEM` costs at least 2: a search that closed a and b, without a heuristic.
+pub const ROAD_PLANNING_CERTIFICATE: &str =
+    "optplan-cert 1\npddl\nbound 2\natoms 5\nat a\nat b\nat c\nroad a b\nroad b c\n\
+vars 1\n0 3 0 1 2\ncolumns 0\nclosed 2\n0 0\n1 1\nend\n";
+
 /// Every plan of `ROAD_SAS` costs at least 2: a search that closed a and b, without a heuristic.
 pub const ROAD_CERTIFICATE: &str =
     "optplan-cert 1\nsas\nbound 2\ncolumns 0\nclosed 2\n0 0\n1 1\nend\n";

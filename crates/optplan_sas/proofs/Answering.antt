@@ -1,7 +1,12 @@
 -- From what a search has found to what is answered.
-use Rattle.std.proofs.Common.{◌≡◌, ℕ, List}
+use Rattle.std.proofs.Common.{◌≡◌, ℕ, Bool, true, false, List, Option, refl, subst, ◌∙◌, ap}
+use Rattle.std.specs.Option.{option_map}
+use Rattle.std.specs.Bool.{then_some}
 use Rattle.fdr.specs.Tasks.{FiniteDomainTask}
 use Rattle.cert_value.specs.Certificates.{Kind, FiniteDomain}
+use Rattle.cert_value.specs.Views.{kind_of}
+use Rattle.cert_value.specs.declared.certificate.CertificateKind.{CertificateKind}
+use Rattle.cert_value.specs.declared.certificate.CertificateKind.TheVariants as certificate_kind
 use Rattle.sasfile.specs.SasTexts.{SpellsTask}
 use Rattle.packed_spread.specs.Spreads as spread
 use Rattle.packed_spread.specs.Spreads.{zobrist_owner}
@@ -15,16 +20,34 @@ use Rattle.optplan_sas.specs.declared.fault.SearchFault.TheVariants as search
 use Rattle.optplan_sas.specs.declared.fault.SasSolveFault.{SasSolveFault}
 use Rattle.optplan_sas.specs.declared.fault.SasSolveFault.TheVariants as solve
 
-pub true_of : (task : FiniteDomainTask) (kind : Kind) (ends : EndsOf spread.Zobrist → Type 0) (f : Found) → IsFinding task kind ends f → IsTrueOf task kind f
-true_of task kind ends f found = (found.at, found.task_is, found.found)
+-- the kind of certificates for a finite-domain task, if one is wanted
+sas_kind_if : (wanted : Bool) → option_map kind_of (then_some wanted certificate_kind.Sas) ≡ then_some wanted FiniteDomain
+sas_kind_if true = refl
+sas_kind_if false = refl
 
--- the texts of what was found are the answer
-pub answered : (sas : List ℕ) (task : FiniteDomainTask) (ends : FiniteDomainTask → EndsOf spread.Zobrist → Type 0) (f : Found) (answer : SasAnswer)
-    → SpellsTask sas task → IsFinding task FiniteDomain (ends task) f
-    → ((text : List ℕ) (es : EndsOf spread.Zobrist) → SpellsTask text task → es.last.space.task ≡ task → IsFound zobrist_owner es FiniteDomain f → IsSasAnswerFor text task es answer)
-    → IsSasAnswer sas ends answer
-answered sas task ends f answer spells found texts =
-    record { task = task; spelled = spells; at = found.at; ended = found.ended; is = texts sas found.at spells found.task_is found.found }
+module _ (wanted certificate : Bool) (kind : Option CertificateKind) (kind_is : kind ≡ then_some certificate certificate_kind.Sas) (certificate_is : certificate ≡ wanted) where
+  kind_same : option_map kind_of kind ≡ then_some wanted FiniteDomain
+  kind_same = ap (option_map kind_of) kind_is ∙ sas_kind_if certificate ∙ ap (λ (b : Bool). then_some b FiniteDomain) certificate_is
+
+  -- what is found is true of the task
+  pub found_true : (task : FiniteDomainTask) (ends : EndsOf spread.Zobrist → Type 0) (f : Found) → IsFinding task (option_map kind_of kind) ends f
+      → (b : Bool) × IsTrueOf task (then_some b FiniteDomain) f
+  found_true task ends f found =
+      (wanted, (found.at, found.task_is, subst (λ (k : Option Kind). IsFound zobrist_owner found.at k f) kind_same found.found))
+
+  -- the texts of what was found are the answer
+  pub answered : (sas : List ℕ) (task : FiniteDomainTask) (ends : FiniteDomainTask → EndsOf spread.Zobrist → Type 0) (f : Found) (answer : SasAnswer)
+      → SpellsTask sas task → IsFinding task (option_map kind_of kind) (ends task) f
+      → ((b : Bool) (text : List ℕ) (es : EndsOf spread.Zobrist) → SpellsTask text task → es.last.space.task ≡ task → IsFound zobrist_owner es (then_some b FiniteDomain) f
+      → IsSasAnswerFor b text task es answer)
+      → IsSasAnswer wanted sas ends answer
+  answered sas task ends f answer spells found texts = record {
+    task = task;
+    spelled = spells;
+    at = found.at;
+    ended = found.ended;
+    is = texts wanted sas found.at spells found.task_is (subst (λ (k : Option Kind). IsFound zobrist_owner found.at k f) kind_same found.found);
+  }
 
 -- a refused search is a refusal of what asked for it
 pub refused : (sas : List ℕ) (task : FiniteDomainTask) (why : FiniteDomainTask → SearchFault → Type 0) (e : SearchFault) → SpellsTask sas task → why task e → IsSasRefusal sas why (fault_of_search e)

@@ -1,11 +1,12 @@
 -- What a search has found at its end.
-use Rattle.std.proofs.Common.{◌≡◌, ℕ, ◌<◌, ◌≤◌, ◌^◌, List, [], ◌∷◌, zero, suc, length, get_or, All, Some, None, refl, sym, ap, subst, ◌∙◌, arith}
+use Rattle.std.proofs.Common.{◌≡◌, ℕ, ◌<◌, ◌≤◌, ◌^◌, List, [], ◌∷◌, zero, suc, length, get_or, All, Option, Some, None, refl, sym, ap, subst, ◌∙◌, arith}
 use Rattle.std.proofs.Math.Logic.{∥∥₁_elim}
 use Rattle.cost.specs.Distances.{Distance, Finite, Infinite, ◌≤ᵈ◌, lesser}
 use Rattle.cost.proofs.DistanceLaws.{at_most_itself, at_most_through, at_most_both, at_most-prop, at_most_infinite, lesser_at_most_left, lesser_at_most_right}
-use Rattle.fdr.specs.Tasks.{FiniteDomainTask, IsTask, EveryPlanCostsAtLeast, HasNoPlan}
+use Rattle.fdr.specs.Tasks.{FiniteDomainTask, EveryPlanCostsAtLeast, plan_cost}
 use Rattle.owner_theory.specs.Owners.{At, Node}
-use Rattle.owner_theory.specs.Families.{Family, IsSearchSpace}
+use Rattle.owner_theory.specs.Families.{Family, IsSearchSpace, IsLowerBound, closed_of}
+use Rattle.owner_theory.proofs.Closed.{finished}
 use Rattle.owner_theory.proofs.Plans.{best_node}
 use Rattle.owner_theory.proofs.Runs.{good}
 use Rattle.owner.specs.Owned.{OwnerOf, IsKept, space_of, max_total}
@@ -13,13 +14,13 @@ use Rattle.std.specs.List.Sorted.{IsPermutation}
 use Rattle.std.proofs.lemmas.List.Sorted.{length_permutation}
 use Rattle.cert_value.specs.Certificates.{Kind, Entry, CertificateValue}
 use Rattle.cert_value.specs.Lawful.{IsLawful, IsLawfulKind}
-use Rattle.optplan_sas.specs.Findings.{IsCertificateOf, IsCheapestPlan, IsPlanAt, IsBestSoFar, IsSettledEnd}
+use Rattle.optplan_sas.specs.Findings.{IsCertificateOf, IsCertifiedBy, IsCheapestPlan, IsPlanAt, IsBestSoFar, IsSettledEnd}
 use Rattle.optplan_sas.specs.declared.found.FoundPlan.{FoundPlan}
 use Rattle.checker_clauses.specs.Violations.{IsHeld}
-use Rattle.checker_clauses.proofs.Bounds.{held_implies_bound}
-use Rattle.extract.specs.Ends.{EndOf, IsEndOf, IsForm, IsBestGoal, IsGoalNodeAt, space_at}
+use Rattle.checker_clauses.proofs.Following.{bound_holds}
+use Rattle.extract.specs.Ends.{EndOf, IsEndOf, IsForm, ArePendingAbove, IsBestGoal, IsGoalNodeAt, space_at}
 use Rattle.extract.specs.Bounds.{least_pending, least_best, lower_bound}
-use Rattle.extract.proofs.Families.{best_same}
+use Rattle.extract.proofs.Families.{best_same, pending_to_family}
 use Rattle.extract.proofs.Places.{at_some, at_below, at_read, each_at}
 use Rattle.extract.proofs.Leasts.{at_most_each}
 use Rattle.extract.proofs.Pending.{pending_below}
@@ -75,18 +76,45 @@ module _ {S : Type 0} (owner : S → List ℕ → ℕ → ℕ) (e : EndOf S) whe
           let le = (least_is w j m at_m).0 in
           subst (λ (d : Distance). Finite n.cost ≤ᵈ d) (sym is) (omega (arith, le, costs)))
 
+  -- the lower bound is at most the best goal state that was taken
+  below_best : lower_bound owner e ≤ᵈ least_best e
+  below_best =
+      at_most_through (lower_bound owner e) (lesser (least_best e) (least_pending owner e)) (least_best e)
+      (stated_at_most (lesser (least_best e) (least_pending owner e))) (lesser_at_most_left (least_best e) (least_pending owner e))
+
+  -- and at most all that is pending
+  below_pending : IsForm e → ArePendingAbove (space_at owner e) e.owners e.left (lower_bound owner e)
+  below_pending form =
+      pending_below owner e form (lower_bound owner e)
+      (at_most_through (lower_bound owner e) (lesser (least_best e) (least_pending owner e)) (least_pending owner e)
+      (stated_at_most (lesser (least_best e) (least_pending owner e))) (lesser_at_most_right (least_best e) (least_pending owner e)))
+
   -- an end whose lower bound is infinite is settled
   pub infinite_settles : IsForm e → lower_bound owner e ≡ Infinite → IsSettledEnd owner e Infinite
-  infinite_settles form is =
-      let both : Distance = lesser (least_best e) (least_pending owner e) in
-      let all : (Infinite ≤ᵈ both) = subst (λ (d : Distance). d ≤ᵈ both) is (stated_at_most both) in
-      record {
-        best = at_most_both Infinite (least_best e)
-            (at_most_through Infinite both (least_best e) all (lesser_at_most_left (least_best e) (least_pending owner e)))
-            (at_most_infinite (least_best e));
-        pending = pending_below owner e form Infinite
-            (at_most_through Infinite both (least_pending owner e) all (lesser_at_most_right (least_best e) (least_pending owner e)));
-      }
+  infinite_settles form is = record {
+    best = at_most_both Infinite (least_best e) (subst (λ (d : Distance). d ≤ᵈ least_best e) is below_best) (at_most_infinite (least_best e));
+    pending = subst (ArePendingAbove (space_at owner e) e.owners e.left) is (below_pending form);
+  }
+
+  -- no plan costs less than a bound that is at most the best goal state that was taken and at most all that is pending
+  module _ (ok : IsSearchSpace (space_at owner e)) (lower : IsLowerBound e.space.task (space_at owner e).heuristic) (known : HasFamily) where
+    bound_of : (bound : Distance) → bound ≤ᵈ least_best e → ArePendingAbove (space_at owner e) e.owners e.left bound
+        → EveryPlanCostsAtLeast e.space.task bound
+    bound_of bound best pending = λ plan leads.
+        ∥∥₁_elim known (at_most-prop bound (Finite (plan_cost e.space.task plan))) (λ it.
+        bound_holds e.space.task ok.task (space_at owner e).heuristic lower bound (closed_of (length e.owners) it.0.logs)
+        (finished (space_at owner e) it.0 bound ok it.1.lawful (subst (λ (d : Distance). bound ≤ᵈ d) (best_same owner e it.0 it.1) best)
+        (pending_to_family owner e it.0 it.1 bound pending))
+        plan leads)
+
+    -- so none costs less than the lower bound
+    pub lower_bound_of : IsForm e → EveryPlanCostsAtLeast e.space.task (lower_bound owner e)
+    lower_bound_of form = bound_of (lower_bound owner e) below_best (below_pending form)
+
+    -- and none less than the bound at which the owners are settled
+    pub settled_bound_of : (bound : Distance) → IsSettledEnd owner e bound → EveryPlanCostsAtLeast e.space.task bound
+    settled_bound_of bound settled =
+        bound_of bound (subst (λ (d : Distance). bound ≤ᵈ d) settled.best (at_most_itself bound)) settled.pending
 
 -- the best plan so far costs at most the best goal state
 pub best_so_far : (task : FiniteDomainTask) (best : Distance) (p : FoundPlan) (cost : ℕ) → best ≡ Finite cost → IsPlanAt task p.plan.items p.cost
@@ -111,13 +139,6 @@ small_goal owner e v i n o at is known =
 pub finite_apart : (n : ℕ) → Finite n ≡ Infinite → ⊥
 finite_apart n is = subst (λ (d : Distance). d ≤ᵈ Finite n) is (at_most_itself (Finite n))
 
--- a certificate that holds for a bound
-pub bound_of : (task : FiniteDomainTask) (c : CertificateValue) (bound : Distance) → IsTask task → c.bound ≡ bound → IsHeld task c → EveryPlanCostsAtLeast task bound
-bound_of task c bound well is held = subst (EveryPlanCostsAtLeast task) is (held_implies_bound task well c held)
-
-pub none_of : (task : FiniteDomainTask) (c : CertificateValue) → IsTask task → c.bound ≡ Infinite → IsHeld task c → HasNoPlan task
-none_of task c well is held = λ plan leads. bound_of task c Infinite well is held plan leads
-
 -- what `cert_of` tells of a certificate, for its bound
 pub certified : (task : FiniteDomainTask) (kind : Kind) (bound : Distance) (c : CertificateValue) (closed : List Entry) → c.kind ≡ kind → IsPermutation closed c.closed → c.bound ≡ bound
     → IsHeld task c → (IsLawfulKind kind → length closed < 2 ^ 32 → IsLawful c) → IsCertificateOf task kind bound c
@@ -129,16 +150,12 @@ certified task kind bound c closed is same bound_is held lawful = record {
 }
 
 -- a plan that costs what the search is settled at
-pub solved : (task : FiniteDomainTask) (kind : Kind) (best : Distance) (cost : ℕ) (p : FoundPlan) (c : CertificateValue) → IsTask task → best ≡ Finite cost
-    → IsBestSoFar task best (Some p) → p.cost ≡ cost → IsCertificateOf task kind (Finite cost) c
-    → IsCheapestPlan task p.plan.items p.cost × IsCertificateOf task kind (Finite p.cost) c
-solved task kind best cost p c well best_is known costs of =
+pub solved : (task : FiniteDomainTask) (wanted : Option Kind) (best : Distance) (cost : ℕ) (p : FoundPlan) (c : Option CertificateValue) → best ≡ Finite cost
+    → EveryPlanCostsAtLeast task (Finite cost) → IsBestSoFar task best (Some p) → p.cost ≡ cost → IsCertifiedBy task wanted (Finite cost) c
+    → IsCheapestPlan task p.plan.items p.cost × IsCertifiedBy task wanted (Finite p.cost) c
+solved task wanted best cost p c best_is least known costs of =
     let plan = (subst (λ (d : Distance). IsBestSoFar task d (Some p)) best_is known).0 in
     let same : Finite cost ≡ Finite p.cost = ap Finite (sym costs) in (
-      record {
-        leads = plan.leads;
-        costs = plan.costs;
-        least = subst (EveryPlanCostsAtLeast task) same (bound_of task c (Finite cost) well of.bound_is of.held);
-      },
-      subst (λ (d : Distance). IsCertificateOf task kind d c) same of,
+      record { leads = plan.leads; costs = plan.costs; least = subst (EveryPlanCostsAtLeast task) same least },
+      subst (λ (d : Distance). IsCertifiedBy task wanted d c) same of,
     )

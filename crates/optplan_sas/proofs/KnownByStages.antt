@@ -1,5 +1,5 @@
 -- What the stages of a search know together.
-use Rattle.std.proofs.Common.{◌≡◌, ◌≢◌, ℕ, ◌+◌, ◌<◌, ◌≤◌, ◌⊎◌, min, max, Bool, true, false, List, [], ◌∷◌, length, Option, Some, None, All, nat_lt, if◌then◌else◌, refl, sym, ap, subst, ◌∙◌, inl, inr, ⊎_elim, arith}
+use Rattle.std.proofs.Common.{◌≡◌, ℕ, ◌+◌, ◌≤◌, min, max, Bool, true, false, List, [], ◌∷◌, length, Option, Some, None, All, nat_lt, if◌then◌else◌, refl, sym, ap, subst, ◌∙◌, inl, inr, arith}
 use Rattle.std.proofs.lemmas.Bool.Decides.{nat_tests}
 use Rattle.std.proofs.lemmas.List.Elements.{All-nil, All-cons}
 use Rattle.cost.specs.Distances.{Distance, Finite, Infinite, larger, lesser}
@@ -11,8 +11,8 @@ use Rattle.extract.specs.Ends.{EndOf}
 use Rattle.extract.specs.Bounds.{least_best, lower_bound}
 use Rattle.engine_round.specs.Turns.{MayStop}
 use Rattle.optplan_options.specs.Choices.{Choices}
-use Rattle.optplan_sas.specs.SearchEnds.{EndsOf, single, least_among, greatest_among}
-use Rattle.optplan_sas.specs.Searches.{IsThreadedEnd, IsStageEnd, stops_in, EndsIn}
+use Rattle.optplan_sas.specs.SearchEnds.{single, least_among, greatest_among}
+use Rattle.optplan_sas.specs.Searches.{IsStageEnd, stops_in, EndsIn}
 use Rattle.optplan_sas.specs.Findings.{IsPlanAt, IsBestSoFar, IsSoFar, IsFound, IsFinding, IsSettledEnd}
 use Rattle.optplan_sas.specs.Stages.{cheaper, better, better_known, with_known, IsUnlimited, IsAllOf, IsKnownOf, IsSearchFound, IsStageFound}
 use Rattle.optplan_sas.specs.declared.found.FoundPlan.{FoundPlan}
@@ -44,15 +44,15 @@ module _ (task : FiniteDomainTask) where
   cheaper_best (Finite m) (Finite n) None (Some q) is now = absurd is
   cheaper_best (Finite m) (Finite n) (Some p) (Some q) is now = cheaper_of m n p q (nat_lt q.cost p.cost) refl is.0 is.1 now.0 now.1
 
-  module _ (kind : Kind) (a b : Distance) (known now : SoFar) (is : IsSoFar task kind a known) (next : IsSoFar task kind b now) where
+  module _ (wanted : Option Kind) (a b : Distance) (known now : SoFar) (is : IsSoFar task wanted a known) (next : IsSoFar task wanted b now) where
     better_of : (is_greater : Bool)
-        → IsSoFar task kind (lesser b a)
+        → IsSoFar task wanted (lesser b a)
         (if is_greater then (record { bound = now.bound; best = cheaper known.best now.best; certificate = now.certificate })
         else (record { bound = known.bound; best = cheaper known.best now.best; certificate = known.certificate }))
     better_of true = record { least = next.least; certified = next.certified; best_is = cheaper_best a b known.best now.best is.best_is next.best_is }
     better_of false = record { least = is.least; certified = is.certified; best_is = cheaper_best a b known.best now.best is.best_is next.best_is }
 
-    better_is : IsSoFar task kind (lesser b a) (better known now)
+    better_is : IsSoFar task wanted (lesser b a) (better known now)
     better_is = better_of (nat_lt known.bound now.bound)
 
 better_bound_of : (known now : SoFar) (is_greater : Bool) → nat_lt known.bound now.bound ≡ is_greater
@@ -70,7 +70,7 @@ larger_same d e m n d_is e_is = ap (λ (x : Distance). larger x e) d_is ∙ ap (
 
 -- ---- what the searches with these ends know
 
-module _ (task : FiniteDomainTask) (kind : Kind) where
+module _ (task : FiniteDomainTask) (wanted : Option Kind) where
   -- with one more search
   module _ (e f : EndOf spread.Zobrist) (es : List (EndOf spread.Zobrist)) (known now : SoFar) where
     better_bound_among : greatest_among zobrist_owner f es ≡ Finite known.bound → lower_bound zobrist_owner e ≡ Finite now.bound
@@ -79,28 +79,28 @@ module _ (task : FiniteDomainTask) (kind : Kind) where
         larger_same (lower_bound zobrist_owner e) (greatest_among zobrist_owner f es) now.bound known.bound here before
         ∙ ap Finite (better_bound known now)
 
-  all_of_more : (e : EndOf spread.Zobrist) (es : List (EndOf spread.Zobrist)) (known now : Option SoFar) → IsAllOf task kind es known
-      → IsAllOf task kind (e ∷ []) now → IsAllOf task kind (e ∷ es) (better_known known now)
+  all_of_more : (e : EndOf spread.Zobrist) (es : List (EndOf spread.Zobrist)) (known now : Option SoFar) → IsAllOf task wanted es known
+      → IsAllOf task wanted (e ∷ []) now → IsAllOf task wanted (e ∷ es) (better_known known now)
   all_of_more e [] None now before here = here
   all_of_more e [] (Some known) now before here = absurd before
   all_of_more e (f ∷ es) None now before here = absurd before
   all_of_more e (f ∷ es) (Some known) None before here = absurd here
   all_of_more e (f ∷ es) (Some known) (Some now) before here = (
-    better_is task kind (least_among f es) (least_best e) known now before.0 here.0,
+    better_is task wanted (least_among f es) (least_best e) known now before.0 here.0,
     better_bound_among e f es known now before.1 here.1,
   )
 
   -- the finding of the last search, with what the earlier ones know
   module _ (e : EndOf spread.Zobrist) (over : e.space.task ≡ task) where
-    found_with_all : (es : List (EndOf spread.Zobrist)) (known : Option SoFar) (s : SoFar) → IsAllOf task kind es known
-        → IsFound zobrist_owner (single e) kind (Stopped s)
-        → IsFound zobrist_owner (record { last = e; earlier = es }) kind (with_known known (Stopped s))
+    found_with_all : (es : List (EndOf spread.Zobrist)) (known : Option SoFar) (s : SoFar) → IsAllOf task wanted es known
+        → IsFound zobrist_owner (single e) wanted (Stopped s)
+        → IsFound zobrist_owner (record { last = e; earlier = es }) wanted (with_known known (Stopped s))
     found_with_all [] None s before found = found
     found_with_all [] (Some known) s before found = absurd before
     found_with_all (f ∷ es) None s before found = absurd before
     found_with_all (f ∷ es) (Some known) s before found = (
-      better_is e.space.task kind (least_among f es) (least_best e) known s
-          (subst (λ (t : FiniteDomainTask). IsSoFar t kind (least_among f es) known) (sym over) before.0) found.0,
+      better_is e.space.task wanted (least_among f es) (least_best e) known s
+          (subst (λ (t : FiniteDomainTask). IsSoFar t wanted (least_among f es) known) (sym over) before.0) found.0,
       record {
         unsettled = found.1.unsettled;
         bound_is = better_bound_among e f es known s before.1 found.1.bound_is;
@@ -108,9 +108,9 @@ module _ (task : FiniteDomainTask) (kind : Kind) where
     )
 
     found_with : (choices : Choices) (may_stop : MayStop) (es : List (EndOf spread.Zobrist)) (known : Option SoFar) (found : Found)
-        → IsKnownOf choices may_stop task kind es known → (IsUnlimited choices may_stop → (bound : Distance) × IsSettledEnd zobrist_owner e bound)
-        → IsFound zobrist_owner (single e) kind found
-        → IsFound zobrist_owner (record { last = e; earlier = es }) kind (with_known known found)
+        → IsKnownOf choices may_stop task wanted es known → (IsUnlimited choices may_stop → (bound : Distance) × IsSettledEnd zobrist_owner e bound)
+        → IsFound zobrist_owner (single e) wanted found
+        → IsFound zobrist_owner (record { last = e; earlier = es }) wanted (with_known known found)
     found_with choices may_stop es None (Solved s) before settles found = found
     found_with choices may_stop es (Some known) (Solved s) before settles found = found
     found_with choices may_stop es None (Unsolvable c) before settles found = found
@@ -121,24 +121,24 @@ module _ (task : FiniteDomainTask) (kind : Kind) where
 
 -- ---- the stages so far
 
-module _ (choices : Choices) (may_stop : MayStop) (task : FiniteDomainTask) (kind : Kind) where
+module _ (choices : Choices) (may_stop : MayStop) (task : FiniteDomainTask) (wanted : Option Kind) where
   -- this many stages have ended, and this is stored of what they know
   abbrev pub HaveEnded : ℕ → Option SoFar → Type 0
   HaveEnded count known =
       (es : List (EndOf spread.Zobrist)) × (length es ≡ count) × All (IsStageEnd choices (stops_in true may_stop) task) es
-      × IsKnownOf choices may_stop task kind es known
+      × IsKnownOf choices may_stop task wanted es known
 
   pub none_ended : HaveEnded 0 None
   none_ended = ([], omega arith, All-nil (IsStageEnd choices (stops_in true may_stop) task), inr tt)
 
-  known_more : (e : EndOf spread.Zobrist) (es : List (EndOf spread.Zobrist)) (known now : Option SoFar) → IsKnownOf choices may_stop task kind es known
-      → IsKnownOf choices (stops_in true may_stop) task kind (e ∷ []) now → IsKnownOf choices may_stop task kind (e ∷ es) (better_known known now)
+  known_more : (e : EndOf spread.Zobrist) (es : List (EndOf spread.Zobrist)) (known now : Option SoFar) → IsKnownOf choices may_stop task wanted es known
+      → IsKnownOf choices (stops_in true may_stop) task wanted (e ∷ []) now → IsKnownOf choices may_stop task wanted (e ∷ es) (better_known known now)
   known_more e es known now (inl unlimited) here = inl unlimited
   known_more e es known now (inr before) (inl unlimited) = inl (callers_unlimited true choices may_stop unlimited)
-  known_more e es known now (inr before) (inr here) = inr (all_of_more task kind e es known now before here)
+  known_more e es known now (inr before) (inr here) = inr (all_of_more task wanted e es known now before here)
 
   pub one_more_ended : (count : ℕ) (known now : Option SoFar) (orders : Orders) → HaveEnded count known
-      → IsStageFound choices (stops_in true may_stop) task kind (Ended now orders) → HaveEnded (count + 1) (better_known known now)
+      → IsStageFound choices (stops_in true may_stop) task wanted (Ended now orders) → HaveEnded (count + 1) (better_known known now)
   one_more_ended count known now orders (es, long, ends, before) (e, ended, here, have) = (
     e ∷ es,
     omega (arith, long),
@@ -148,21 +148,21 @@ module _ (choices : Choices) (may_stop : MayStop) (task : FiniteDomainTask) (kin
 
   -- what the last search has found, after these stages
   pub found_after_stages : (count : ℕ) (known : Option SoFar) (found : Found) → count ≤ 3 → HaveEnded count known
-      → IsSearchFound choices may_stop task kind found
-      → IsFinding task kind (EndsIn Staged choices may_stop task) (with_known known found)
+      → IsSearchFound choices may_stop task wanted found
+      → IsFinding task wanted (EndsIn Staged choices may_stop task) (with_known known found)
   found_after_stages count known found few (es, long, ends, before) (e, ended, over, is, settles) = record {
     at = record { last = e; earlier = es };
     ended = (ended, (let short : length es ≤ 3 = omega (arith, long, few) in short, ends));
     task_is = over;
-    found = found_with task kind e over choices may_stop es known found before settles is;
+    found = found_with task wanted e over choices may_stop es known found before settles is;
   }
 
   -- what one search alone has found
-  pub found_alone : (found : Found) → IsSearchFound choices may_stop task kind found → IsFinding task kind (EndsIn Goal choices may_stop task) found
+  pub found_alone : (found : Found) → IsSearchFound choices may_stop task wanted found → IsFinding task wanted (EndsIn Goal choices may_stop task) found
   found_alone found (e, ended, over, is, settles) = record { at = single e; ended = (ended, refl); task_is = over; found = is }
 
   -- what a search has found that the end of a stage may have stopped, but did not
-  pub found_in_stage : (has_end : Bool) (found : Found) → IsStageFound choices (stops_in has_end may_stop) task kind (Answered found)
-      → IsSearchFound choices may_stop task kind found
+  pub found_in_stage : (has_end : Bool) (found : Found) → IsStageFound choices (stops_in has_end may_stop) task wanted (Answered found)
+      → IsSearchFound choices may_stop task wanted found
   found_in_stage has_end found (e, ended, over, is, settles) =
       (e, callers_end has_end choices may_stop task e ended, over, is, λ unlimited. settles (record { limit = unlimited.limit; gate = unlimited.gate }))

@@ -1,14 +1,18 @@
 -- A certificate that holds is accepted by its text.
-use Rattle.std.proofs.Common.{◌≡◌, ℕ, ◌<◌, ◌≤◌, ◌^◌, List, [], ◌∷◌, ◌++◌, length, sym, ap, subst, arith}
+use Rattle.std.proofs.Common.{◌≡◌, ℕ, ◌<◌, ◌≤◌, ◌^◌, Bool, true, false, List, [], ◌∷◌, ◌++◌, length, Option, Some, None, IsSomeAnd, refl, sym, ap, subst, arith}
+use Rattle.std.specs.Prelude.{Vec}
+use Rattle.std.specs.Global.{Global}
+use Rattle.std.specs.Option.{option_map}
+use Rattle.std.specs.Bool.{then_some}
 use Rattle.std.proofs.lemmas.List.{length-append, length-map}
 use Rattle.std.specs.Prelude.{codes}
 use Rattle.cost.specs.Distances.{Distance}
 use Rattle.fdr.specs.Tasks.{FiniteDomainTask}
 use Rattle.sasfile.specs.SasTexts.{SpellsTask}
 use Rattle.checker.specs.Answers.{is_for_finite_domain}
-use Rattle.optplan_sas.specs.Findings.{IsCertificateOf}
-use Rattle.optplan_sas.specs.SasAnswers.{IsAccepted}
-use Rattle.cert_value.specs.Certificates.{FiniteDomain, CertificateValue}
+use Rattle.optplan_sas.specs.Findings.{IsCertificateOf, IsCertifiedBy}
+use Rattle.optplan_sas.specs.SasAnswers.{IsAccepted, IsTextIf, IsAcceptedIf}
+use Rattle.cert_value.specs.Certificates.{Kind, FiniteDomain, CertificateValue}
 use Rattle.cert_text.specs.Spelling.{spelling, text_of, line_text, lines, kind_lines, columns_lines, closed_lines, entry_line}
 
 line_has_byte : (words : List (List ℕ)) → 1 ≤ length (line_text words)
@@ -44,3 +48,22 @@ accepted sas task bound c text spells of is =
           };
       holds = (sym of.bound_is, of.held);
     }
+
+-- the text of the certificate that is wanted, if one is, where the text of each such certificate is accepted in some
+-- sense
+pub text_if : (wanted : Bool) (kind : Kind) (task : FiniteDomainTask) (bound : Distance) (accepts : List ℕ → Type 0) (c : Option CertificateValue) (text : Option (Vec ℕ Global))
+    → ((made : CertificateValue) (bytes : List ℕ) → IsCertificateOf task kind bound made → bytes ≡ spelling made → accepts bytes)
+    → IsCertifiedBy task (then_some wanted kind) bound c → option_map (λ t. t.items) text ≡ option_map spelling c → IsTextIf wanted accepts text
+text_if false kind task bound accepts c None each of is = refl
+text_if false kind task bound accepts None (Some text) each of is = absurd cc
+text_if false kind task bound accepts (Some made) (Some text) each of is = let none : Some made ≡ None = of in absurd cc
+text_if true kind task bound accepts None text each of is = absurd of
+text_if true kind task bound accepts (Some made) None each of is = absurd cc
+text_if true kind task bound accepts (Some made) (Some text) each of is =
+    each made text.items of (subst (λ (o : Option (List ℕ)). IsSomeAnd o (λ bytes. bytes ≡ spelling made)) (sym is) refl)
+
+-- the text of the certificate that is wanted, if one is, is accepted
+pub accepted_if : (wanted : Bool) (sas : List ℕ) (task : FiniteDomainTask) (bound : Distance) (c : Option CertificateValue) (text : Option (Vec ℕ Global)) → SpellsTask sas task
+    → IsCertifiedBy task (then_some wanted FiniteDomain) bound c → option_map (λ t. t.items) text ≡ option_map spelling c → IsAcceptedIf wanted sas text bound
+accepted_if wanted sas task bound c text spells of is =
+    text_if wanted FiniteDomain task bound (λ bytes. IsAccepted sas bytes bound) c text (λ made bytes. accepted sas task bound made bytes spells) of is

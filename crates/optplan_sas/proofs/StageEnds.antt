@@ -1,5 +1,5 @@
 -- The ends of searches by threads, as the caller's gate may stop them.
-use Rattle.std.proofs.Common.{◌≡◌, ◌≢◌, ℕ, Bool, true, false, Option, Some, None, refl, sym, ap, ◌∙◌, inl, inr}
+use Rattle.std.proofs.Common.{◌≡◌, ◌≢◌, ℕ, Bool, true, false, Option, Some, None, refl, ap, ◌∙◌, inl, inr}
 use Rattle.std.specs.Prelude.{Vec}
 use Rattle.std.specs.Global.{Global}
 use Rattle.abstraction_mapping.specs.declared.mapping.Mapping.{Mapping as KeptMapping}
@@ -15,7 +15,7 @@ use Rattle.engine.specs.declared.searched.Cause.{Cause}
 use Rattle.engine.specs.declared.searched.Cause.TheVariants as cause
 use Rattle.engine.specs.declared.searched.Searched.TheVariants.{Stopped}
 use Rattle.optplan_options.specs.Choices.{Choices}
-use Rattle.optplan_sas.specs.Searches.{IsThreadedSpace, IsThreadedEnd, IsStageEnd, IsRefusedByThreads, stops_in}
+use Rattle.optplan_sas.specs.Searches.{IsThreadedSpace, IsThreadedEnd, IsRefusedByThreads, stops_in}
 use Rattle.optplan_sas.specs.Stages.{IsUnlimited, IsStageFound}
 use Rattle.optplan_sas.specs.declared.found.SoFar.{SoFar}
 use Rattle.optplan_sas.specs.declared.fault.SearchFault.{SearchFault}
@@ -52,9 +52,9 @@ module _ (has_end : Bool) (choices : Choices) (may_stop : MayStop) where
   callers_refusal task (Gate worker turn) why = why
 
 -- a stage without an end does not end
-pub never_ended : (choices : Choices) (may_stop : MayStop) (task : FiniteDomainTask) (kind : Kind) (known : Option SoFar) (orders : Orders)
-    → IsStageFound choices (stops_in false may_stop) task kind (Ended known orders) → ⊥
-never_ended choices may_stop task kind known orders (e, (space, is_space, ends), is, have) = let never : false ≡ true = ends.2.stops in cc
+pub never_ended : (choices : Choices) (may_stop : MayStop) (task : FiniteDomainTask) (wanted : Option Kind) (known : Option SoFar) (orders : Orders)
+    → IsStageFound choices (stops_in false may_stop) task wanted (Ended known orders) → ⊥
+never_ended choices may_stop task wanted known orders (e, (space, is_space, ends), is, have) = let never : false ≡ true = ends.2.stops in cc
 
 none_apart : (limit : Option ℕ) (n : ℕ) → limit ≡ None → limit ≡ Some n → ⊥
 none_apart limit n none some = cc

@@ -25,7 +25,7 @@ use Rattle.optplan_sas.proofs.StageEnds.{Orders, unlimited_goes_on}
 pub of_own_task : (task : FiniteDomainTask) (choices : Choices) (space : SpaceOf spread.Zobrist) → IsThreadedSpace task choices space → IsThreadedSpace space.task choices space
 of_own_task task choices space is = subst (λ (t : FiniteDomainTask). IsThreadedSpace t choices space) (sym is.task_is) is
 
-module _ (choices : Choices) (may_stop : MayStop) (task : FiniteDomainTask) (kind : Kind) (space : SpaceOf spread.Zobrist) (is_space : IsThreadedSpace task choices space)
+module _ (choices : Choices) (may_stop : MayStop) (task : FiniteDomainTask) (wanted : Option Kind) (space : SpaceOf spread.Zobrist) (is_space : IsThreadedSpace task choices space)
     (n : ℕ) (n_is : n ≡ choices.workers)
   where
     same_task : (e : EndOf spread.Zobrist) → e.space ≡ space → e.space.task ≡ task
@@ -33,7 +33,7 @@ module _ (choices : Choices) (may_stop : MayStop) (task : FiniteDomainTask) (kin
 
     -- where the owners are settled
     pub found_settled : (e : EndOf spread.Zobrist) (f : StageFound) → IsSearched {F = Unit {0}} zobrist_owner may_stop space n (Settled e)
-        → IsFoundAt e kind f → IsStageFound choices may_stop task kind f
+        → IsFoundAt e wanted f → IsStageFound choices may_stop task wanted f
     found_settled e (Ended known orders) ends found = absurd found
     found_settled e (Answered f) ends found = (
       e,
@@ -46,7 +46,7 @@ module _ (choices : Choices) (may_stop : MayStop) (task : FiniteDomainTask) (kin
     -- where they were stopped before, and not because a stage ended
     pub found_stopped : (e : EndOf spread.Zobrist) (why : Cause) (f : StageFound) → why ≢ cause.Stage
         → IsSearched {F = Unit {0}} zobrist_owner may_stop space n (Stopped e why)
-        → IsFoundAt e kind f → IsStageFound choices may_stop task kind f
+        → IsFoundAt e wanted f → IsStageFound choices may_stop task wanted f
     found_stopped e why (Ended known orders) other ends found = absurd found
     found_stopped e why (Answered f) other ends found = (
       e,
@@ -59,12 +59,12 @@ module _ (choices : Choices) (may_stop : MayStop) (task : FiniteDomainTask) (kin
     -- where they were stopped because a stage ended
     pub stage_ended : (e : EndOf spread.Zobrist) (known : Option SoFar) (orders : Orders)
         → IsSearched {F = Unit {0}} zobrist_owner may_stop space n (Stopped e cause.Stage)
-        → IsKnownOf choices may_stop e.space.task kind (e ∷ []) known → AreOrdersOf space.task space.columns (map mappings_of orders.items)
-        → IsStageFound choices may_stop task kind (Ended known orders)
+        → IsKnownOf choices may_stop e.space.task wanted (e ∷ []) known → AreOrdersOf space.task space.columns (map mappings_of orders.items)
+        → IsStageFound choices may_stop task wanted (Ended known orders)
     stage_ended e known orders ends is have = (
       e,
       (space, is_space, subst (λ (k : ℕ). IsSearched {F = Unit {0}} zobrist_owner may_stop space k (Stopped e cause.Stage)) n_is ends),
-      subst (λ (t : FiniteDomainTask). IsKnownOf choices may_stop t kind (e ∷ []) known) (same_task e ends.0.space) is,
+      subst (λ (t : FiniteDomainTask). IsKnownOf choices may_stop t wanted (e ∷ []) known) (same_task e ends.0.space) is,
       subst (λ (t : FiniteDomainTask). AreOrdersOf t e.space.columns (map mappings_of orders.items)) (same_task e ends.0.space)
           (subst (λ (sp : SpaceOf spread.Zobrist). AreOrdersOf sp.task sp.columns (map mappings_of orders.items)) (sym ends.0.space) have),
     )

@@ -1,5 +1,5 @@
 -- What is found at the end of a world is found of its task.
-use Rattle.std.proofs.Common.{◌≡◌, ℕ, List, ap, subst, ◌∙◌}
+use Rattle.std.proofs.Common.{◌≡◌, ℕ, List, Option, ap, subst, ◌∙◌}
 use Rattle.fdr.specs.Tasks.{FiniteDomainTask}
 use Rattle.cert_value.specs.Certificates.{Kind}
 use Rattle.packed_spread.specs.Spreads as spread
@@ -26,7 +26,7 @@ pub record IsEndOfWorld {S : Type 0} (w : WorldOf S) (e : EndOf S) : Type 0 wher
 is_end_of : {S : Type 0} (w : WorldOf S) (e : EndOf S) → IsEndOfWorld w e → e ≡ end_of w
 is_end_of w e is = λ i. record { space = is.space i; owners = is.owners i; left = is.left i }
 
-module _ (choices : Choices) (task : FiniteDomainTask) (kind : Kind) (space : SpaceOf spread.Zobrist) (is_space : IsSimulatedSpace task choices space)
+module _ (choices : Choices) (task : FiniteDomainTask) (wanted : Option Kind) (space : SpaceOf spread.Zobrist) (is_space : IsSimulatedSpace task choices space)
     (n : ℕ) (n_is : n ≡ choices.workers)
   where
     same_task : (w : WorldOf spread.Zobrist) (e : EndOf spread.Zobrist) → w.space ≡ space → IsEndOfWorld w e → e.space.task ≡ task
@@ -34,7 +34,7 @@ module _ (choices : Choices) (task : FiniteDomainTask) (kind : Kind) (space : Sp
 
     -- after a list of steps
     pub found_after_steps : (steps : List WorldStep) (w : WorldOf spread.Zobrist) (e : EndOf spread.Zobrist) (f : Found) → w.space ≡ space
-        → IsRun zobrist_owner space n steps w → IsEndOfWorld w e → IsFound zobrist_owner (single e) kind f → IsFinding task kind (EndsAfter choices steps task) f
+        → IsRun zobrist_owner space n steps w → IsEndOfWorld w e → IsFound zobrist_owner (single e) wanted f → IsFinding task wanted (EndsAfter choices steps task) f
     found_after_steps steps w e f over run is found = record {
       at = single e;
       ended = (space, is_space, (w, subst (λ (k : ℕ). IsRun zobrist_owner space k steps w) n_is run, ap single (is_end_of w e is)));
@@ -44,8 +44,8 @@ module _ (choices : Choices) (task : FiniteDomainTask) (kind : Kind) (space : Sp
 
     -- after steps that were drawn
     pub found_after_drawn : (seed most : ℕ) (w : WorldOf spread.Zobrist) (e : EndOf spread.Zobrist) (f : Found) → most ≡ choices.steps
-        → IsSimulated zobrist_owner space n seed most w → IsEndOfWorld w e → IsFound zobrist_owner (single e) kind f
-        → IsFinding task kind (EndsBySeed choices seed task) f
+        → IsSimulated zobrist_owner space n seed most w → IsEndOfWorld w e → IsFound zobrist_owner (single e) wanted f
+        → IsFinding task wanted (EndsBySeed choices seed task) f
     found_after_drawn seed most w e f most_is run is found = record {
       at = single e;
       ended = (

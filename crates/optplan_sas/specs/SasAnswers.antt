@@ -1,5 +1,5 @@
 -- The answer for the text of a finite-domain task.
-use Rattle.std.specs.Prelude.{◌≡◌, ◌≢◌, ℕ, ◌≤◌, ◌^◌, List, length, Option, Some, None, Err, Vec}
+use Rattle.std.specs.Prelude.{◌≡◌, ◌≢◌, ℕ, ◌≤◌, ◌^◌, Bool, true, false, List, length, Option, Some, None, IsSomeAnd, Err, Vec}
 use Rattle.std.specs.String.{string_bytes}
 use Rattle.std.specs.Global.{Global}
 use Rattle.cost.specs.Distances.{Distance, Finite, Infinite}
@@ -33,6 +33,15 @@ SasAnswer = Answer (Vec ℕ Global)
 abbrev pub IsAccepted : List ℕ → List ℕ → Distance → Type 0
 IsAccepted sas cert bound = length cert ≤ 2 ^ 30 → IsAnswer sas cert (Accepted bound)
 
+-- the text of a certificate that is accepted in this sense, if one is wanted; none if none is
+abbrev pub IsTextIf : Bool → (List ℕ → Type 0) → Option (Vec ℕ Global) → Type 0
+IsTextIf false accepts cert = cert ≡ None
+IsTextIf true accepts cert = IsSomeAnd cert (λ text. accepts text.items)
+
+-- the text of a certificate that the checker accepts for the bound, if one is wanted; none if none is
+abbrev pub IsAcceptedIf : Bool → List ℕ → Option (Vec ℕ Global) → Distance → Type 0
+IsAcceptedIf wanted sas cert bound = IsTextIf wanted (λ text. IsAccepted sas text bound) cert
+
 -- a plan of that cost, with its text
 pub record IsSasPlan (task : FiniteDomainTask) (p : WrittenPlan (Vec ℕ Global)) : Type 0 where
   pub is : IsPlanAt task p.plan.items p.cost
@@ -46,32 +55,35 @@ IsBestWritten is_plan Infinite (Some p) = ⊥
 IsBestWritten is_plan (Finite most) None = ⊥
 IsBestWritten is_plan (Finite most) (Some p) = is_plan p × (p.cost ≤ most)
 
--- a cheapest plan of the task, with its text and the text of a certificate
-pub record IsSasSolution (sas : List ℕ) (task : FiniteDomainTask) (s : CheapestPlan (Vec ℕ Global)) : Type 0 where
+-- a cheapest plan of the task, with its text, and the text of a certificate if one is wanted
+pub record IsSasSolution (wanted : Bool) (sas : List ℕ) (task : FiniteDomainTask) (s : CheapestPlan (Vec ℕ Global)) : Type 0 where
   pub found : IsSasPlan task s.found
   pub least : EveryPlanCostsAtLeast task (Finite s.found.cost)
-  pub accepted : IsAccepted sas s.cert.items (Finite s.found.cost)
+  pub accepted : IsAcceptedIf wanted sas s.cert (Finite s.found.cost)
 
--- a lower bound on the cost of every plan, with the text of a certificate of it, and the best plan so far
-pub record IsSasKnown (sas : List ℕ) (task : FiniteDomainTask) (most : Distance) (known : KnownSoFar (Vec ℕ Global)) : Type 0 where
+-- a lower bound on the cost of every plan, with the text of a certificate of it if one is wanted, and the best plan so
+-- far
+pub record IsSasKnown (wanted : Bool) (sas : List ℕ) (task : FiniteDomainTask) (most : Distance) (known : KnownSoFar (Vec ℕ Global)) : Type 0 where
   pub least : EveryPlanCostsAtLeast task (Finite known.bound)
   pub best : IsBestWritten (IsSasPlan task) most known.best
-  pub accepted : IsAccepted sas known.cert.items (Finite known.bound)
+  pub accepted : IsAcceptedIf wanted sas known.cert (Finite known.bound)
 
 -- the answer for a task by searches at their ends: a cheapest plan, that there is none, or a bound and the best plan so
--- far; each with the text of a certificate
-abbrev pub IsSasAnswerFor : List ℕ → FiniteDomainTask → EndsOf spread.Zobrist → SasAnswer → Type 0
-IsSasAnswerFor sas task es (Solved s) = IsSasSolution sas task s × IsSettledEnd zobrist_owner es.last (Finite s.found.cost)
-IsSasAnswerFor sas task es (Unsolvable cert) = HasNoPlan task × IsAccepted sas cert.items Infinite × IsSettledEnd zobrist_owner es.last Infinite
-IsSasAnswerFor sas task es (Limit known) = IsSasKnown sas task (least_best_of es) known × IsShortEnd zobrist_owner es known.bound
+-- far; each with the text of a certificate if one is wanted
+abbrev pub IsSasAnswerFor : Bool → List ℕ → FiniteDomainTask → EndsOf spread.Zobrist → SasAnswer → Type 0
+IsSasAnswerFor wanted sas task es (Solved s) = IsSasSolution wanted sas task s × IsSettledEnd zobrist_owner es.last (Finite s.found.cost)
+IsSasAnswerFor wanted sas task es (Unsolvable cert) =
+    HasNoPlan task × IsAcceptedIf wanted sas cert Infinite × IsSettledEnd zobrist_owner es.last Infinite
+IsSasAnswerFor wanted sas task es (Limit known) = IsSasKnown wanted sas task (least_best_of es) known × IsShortEnd zobrist_owner es known.bound
 
--- the text spells a task, and this is the answer for it by searches whose ends satisfy `ends`
-pub record IsSasAnswer (sas : List ℕ) (ends : FiniteDomainTask → EndsOf spread.Zobrist → Type 0) (answer : SasAnswer) : Type 0 where
+-- the text spells a task, and this is the answer for it by searches whose ends satisfy `ends`, with a certificate if
+-- one is wanted
+pub record IsSasAnswer (wanted : Bool) (sas : List ℕ) (ends : FiniteDomainTask → EndsOf spread.Zobrist → Type 0) (answer : SasAnswer) : Type 0 where
   pub task : FiniteDomainTask
   pub spelled : SpellsTask sas task
   pub at : EndsOf spread.Zobrist
   pub ended : ends task at
-  pub is : IsSasAnswerFor sas task at answer
+  pub is : IsSasAnswerFor wanted sas task at answer
 
 -- the text is refused for its first fault; or it spells a task, the search for which is refused for a fault that
 -- satisfies `refused`: a path's total is too large, or a gate made it fail

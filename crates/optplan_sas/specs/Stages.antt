@@ -29,7 +29,7 @@ cheaper None q = q
 cheaper (Some p) None = Some p
 cheaper (Some p) (Some q) = if nat_lt q.cost p.cost then Some q else Some p
 
--- the greater bound with its certificate, the first if they are equal; and the cheaper plan
+-- the greater bound with its certificate, if there is one, the first if they are equal; and the cheaper plan
 abbrev pub better : SoFar → SoFar → SoFar
 better known now =
     if nat_lt known.bound now.bound then (record { bound = now.bound; best = cheaper known.best now.best; certificate = now.certificate })
@@ -57,32 +57,32 @@ pub record IsUnlimited (choices : Choices) (may_stop : MayStop) : Type 0 where
   pub gate : (worker turn : ℕ) → may_stop worker turn Limit → ⊥
 
 -- all that searches with these ends know of the task, the latest first: nothing if there are none
-abbrev pub IsAllOf : FiniteDomainTask → Kind → List (EndOf spread.Zobrist) → Option SoFar → Type 0
-IsAllOf task kind [] None = Unit {0}
-IsAllOf task kind [] (Some s) = ⊥
-IsAllOf task kind (e ∷ es) None = ⊥
-IsAllOf task kind (e ∷ es) (Some s) = IsSoFar task kind (least_among e es) s × (greatest_among zobrist_owner e es ≡ Finite s.bound)
+abbrev pub IsAllOf : FiniteDomainTask → Option Kind → List (EndOf spread.Zobrist) → Option SoFar → Type 0
+IsAllOf task wanted [] None = Unit {0}
+IsAllOf task wanted [] (Some s) = ⊥
+IsAllOf task wanted (e ∷ es) None = ⊥
+IsAllOf task wanted (e ∷ es) (Some s) = IsSoFar task wanted (least_among e es) s × (greatest_among zobrist_owner e es ≡ Finite s.bound)
 
 -- what is stored of searches with these ends: all that they know, unless nothing can stop a later one
-abbrev pub IsKnownOf : Choices → MayStop → FiniteDomainTask → Kind → List (EndOf spread.Zobrist) → Option SoFar → Type 0
-IsKnownOf choices may_stop task kind es known = IsUnlimited choices may_stop ⊎ IsAllOf task kind es known
+abbrev pub IsKnownOf : Choices → MayStop → FiniteDomainTask → Option Kind → List (EndOf spread.Zobrist) → Option SoFar → Type 0
+IsKnownOf choices may_stop task wanted es known = IsUnlimited choices may_stop ⊎ IsAllOf task wanted es known
 
 -- what a search has found that may be stopped in these ways, but not because a stage ends; it is settled if nothing can
 -- stop it
-abbrev pub IsSearchFound : Choices → MayStop → FiniteDomainTask → Kind → Found → Type 0
-IsSearchFound choices may_stop task kind found =
-    (e : EndOf spread.Zobrist) × IsThreadedEnd choices may_stop task e × (e.space.task ≡ task) × IsFound zobrist_owner (single e) kind found
+abbrev pub IsSearchFound : Choices → MayStop → FiniteDomainTask → Option Kind → Found → Type 0
+IsSearchFound choices may_stop task wanted found =
+    (e : EndOf spread.Zobrist) × IsThreadedEnd choices may_stop task e × (e.space.task ≡ task) × IsFound zobrist_owner (single e) wanted found
     × (IsUnlimited choices may_stop → (bound : Distance) × IsSettledEnd zobrist_owner e bound)
 
 -- what a search has found at its end, as the result of a stage
-abbrev pub IsFoundAt : EndOf spread.Zobrist → Kind → StageFound → Type 0
-IsFoundAt e kind (Answered found) = IsForm e × IsFound zobrist_owner (single e) kind found
-IsFoundAt e kind (Ended known orders) = ⊥
+abbrev pub IsFoundAt : EndOf spread.Zobrist → Option Kind → StageFound → Type 0
+IsFoundAt e wanted (Answered found) = IsForm e × IsFound zobrist_owner (single e) wanted found
+IsFoundAt e wanted (Ended known orders) = ⊥
 
 -- the result of a stage whose search may be stopped in these ways: what the search has found, or what is known at its
 -- end, with the orders of the mappings of its columns
-abbrev pub IsStageFound : Choices → MayStop → FiniteDomainTask → Kind → StageFound → Type 0
-IsStageFound choices may_stop task kind (Answered found) = IsSearchFound choices may_stop task kind found
-IsStageFound choices may_stop task kind (Ended known orders) =
-    (e : EndOf spread.Zobrist) × IsStageEnd choices may_stop task e × IsKnownOf choices may_stop task kind (e ∷ []) known
+abbrev pub IsStageFound : Choices → MayStop → FiniteDomainTask → Option Kind → StageFound → Type 0
+IsStageFound choices may_stop task wanted (Answered found) = IsSearchFound choices may_stop task wanted found
+IsStageFound choices may_stop task wanted (Ended known orders) =
+    (e : EndOf spread.Zobrist) × IsStageEnd choices may_stop task e × IsKnownOf choices may_stop task wanted (e ∷ []) known
     × AreOrdersOf task e.space.columns (map mappings_of orders.items)

@@ -1,6 +1,12 @@
 //! Answers with the texts of their plans and certificates.
 
-ghost use Rattle.std.specs.Prelude.{◌≡◌};
+ghost use Rattle.std.specs.Prelude.{◌≡◌, IfOk};
+ghost use Rattle.std.specs.Option.{option_map};
+ghost use Rattle.cert_text.specs.Spelling.{spelling};
+
+use cert_text::write_cert;
+use cert_value::Certificate;
+use std::alloc::{AllocError, Global};
 
 /// A plan with its cost and its text; `P` is the form of the plan itself.
 #[derive(Drop)]
@@ -13,13 +19,13 @@ pub struct WrittenPlan<P: Drop> {
     pub plan_text: String,
 }
 
-/// A cheapest plan, with the text of a certificate.
+/// A cheapest plan, with the text of a certificate if one was requested.
 #[derive(Drop)]
 pub struct CheapestPlan<P: Drop> {
     /// The plan.
     pub found: WrittenPlan<P>,
-    /// The text of a certificate that every plan costs at least as much.
-    pub cert: Vec<u8>,
+    /// The text of a certificate that every plan costs at least as much, if one was requested.
+    pub cert: Option<Vec<u8>>,
 }
 
 /// The result of a search that was stopped.
@@ -29,8 +35,8 @@ pub struct KnownSoFar<P: Drop> {
     pub bound: u64,
     /// The best plan so far, if there is one.
     pub best: Option<WrittenPlan<P>>,
-    /// The text of a certificate that every plan costs at least `bound`.
-    pub cert: Vec<u8>,
+    /// The text of a certificate that every plan costs at least `bound`, if one was requested.
+    pub cert: Option<Vec<u8>>,
 }
 
 /// The answer for a task.
@@ -38,8 +44,21 @@ pub struct KnownSoFar<P: Drop> {
 pub enum Answer<P: Drop> {
     /// A cheapest plan.
     Solved(CheapestPlan<P>),
-    /// There is no plan; the text of a certificate of that.
-    Unsolvable(Vec<u8>),
+    /// There is no plan; the text of a certificate of that, if one was requested.
+    Unsolvable(Option<Vec<u8>>),
     /// The search was stopped before it found either.
     Limit(KnownSoFar<P>),
+}
+
+/// Returns the text of the certificate, if there is one.
+pub fn certificate_text(
+    alloc: Global,
+    certificate: &Option<Certificate>,
+) -> Result<Option<Vec<u8>>, AllocError>
+    ensures { IfOk result (λ text. option_map (λ t. t.items) text ≡ option_map spelling certificate.now) }
+{
+    match certificate {
+        Some(certificate) => Ok(Some(write_cert(alloc, certificate)?)),
+        None => Ok(None),
+    }
 }

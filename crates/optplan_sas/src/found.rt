@@ -1,13 +1,14 @@
 //! The finding of a search.
 
 ghost use Rattle.std.specs.Prelude.{◌≡◌, ◌≤◌, ◌^◌, ℕ, Some, IfOk, IsSomeAnd};
+ghost use Rattle.std.specs.Option.{option_map};
 ghost use Rattle.cert_value.specs.Views.{kind_of};
 ghost use Rattle.cost.specs.Distances.{Distance, Finite, ◌≤ᵈ◌};
 ghost use Rattle.fdr.specs.Tasks.{plan_cost};
 ghost use Rattle.extract.specs.Bounds.{least_best, lower_bound};
 ghost use Rattle.extract.specs.Ends.{IsBestGoal};
 ghost use Rattle.optplan_sas.specs.SearchEnds.{single};
-ghost use Rattle.optplan_sas.specs.Findings.{IsPlanAt, IsBestSoFar, IsSettledEnd, IsFound, IsSolution, IsSoFar};
+ghost use Rattle.optplan_sas.specs.Findings.{IsPlanAt, IsBestSoFar, IsCertifiedBy, IsSettledEnd, IsFound, IsSolution, IsSoFar};
 
 use cert::cert_of;
 use cert_value::{Certificate, CertificateKind};
@@ -26,13 +27,13 @@ pub struct FoundPlan {
     pub plan: Vec<usize>,
 }
 
-/// A cheapest plan, with a certificate of its cost.
+/// A cheapest plan, with a certificate of its cost if one was requested.
 #[derive(Drop)]
 pub struct Solution {
     /// The plan.
     pub found: FoundPlan,
-    /// A certificate that every plan costs at least as much.
-    pub certificate: Certificate,
+    /// A certificate that every plan costs at least as much, if one was requested.
+    pub certificate: Option<Certificate>,
 }
 
 /// The result of a search that was stopped.
@@ -42,8 +43,8 @@ pub struct SoFar {
     pub bound: u64,
     /// The best plan so far, if there is one.
     pub best: Option<FoundPlan>,
-    /// A certificate that every plan costs at least `bound`.
-    pub certificate: Certificate,
+    /// A certificate that every plan costs at least `bound`, if one was requested.
+    pub certificate: Option<Certificate>,
 }
 
 /// The finding of a search.
@@ -51,8 +52,8 @@ pub struct SoFar {
 pub enum Found {
     /// A cheapest plan.
     Solved(Solution),
-    /// There is no plan; a certificate of that.
-    Unsolvable(Certificate),
+    /// There is no plan; a certificate of that, if one was requested.
+    Unsolvable(Option<Certificate>),
     /// The search was stopped before it was settled.
     Stopped(SoFar),
 }
@@ -104,18 +105,35 @@ fn best_plan<'a, S: Spread + Drop, F: StateForm + Drop>(
     }
 }
 
+/// Returns the certificate of the search of the kind that is wanted, or `None` if none is. Making it takes time and
+/// memory in proportion to the states that were expanded.
+fn certificate_of<'a, S: Spread + Drop, F: StateForm + Drop>(
+    alloc: Global,
+    joined: &Joined<'a, S, F>,
+    wanted: Option<CertificateKind>,
+) -> Result<Option<Certificate>, AllocError>
+    ensures bound { IfOk result (IsCertifiedBy joined.now.space.task (option_map kind_of wanted) (lower_bound S.owner joined.now)) }
+    ensures settled { (bound : Distance) → IsSettledEnd S.owner joined.now bound →
+        IfOk result (IsCertifiedBy joined.now.space.task (option_map kind_of wanted) bound) }
+{
+    match wanted {
+        Some(kind) => Ok(Some(cert_of(alloc, joined, kind)?)),
+        None => Ok(None),
+    }
+}
+
 /// Returns the solution of a search that is settled at a finite cost.
 fn solution_of<'a, S: Spread + Drop, F: StateForm + Drop>(
     alloc: Global,
     joined: &Joined<'a, S, F>,
-    kind: CertificateKind,
+    wanted: Option<CertificateKind>,
 ) -> Result<Solution, AllocError>
     requires { (cost : ℕ) × IsSettledEnd S.owner joined.now (Finite cost) }
-    ensures solution { IfOk result (IsSolution joined.now.space.task (kind_of kind)) }
+    ensures solution { IfOk result (IsSolution joined.now.space.task (option_map kind_of wanted)) }
     ensures settled { IfOk result (λ s. IsSettledEnd S.owner joined.now (Finite s.found.cost)) }
 {
     joined.recall();
-    let certificate = cert_of(alloc, joined, kind)?;
+    let certificate = certificate_of(alloc, joined, wanted)?;
     match best_plan(alloc, joined)? {
         Some(found) => Ok(Solution { found, certificate }),
         None => unreachable!(),
@@ -126,16 +144,17 @@ fn solution_of<'a, S: Spread + Drop, F: StateForm + Drop>(
 pub(crate) fn so_far_of<'a, S: Spread + Drop, F: StateForm + Drop>(
     alloc: Global,
     joined: &Joined<'a, S, F>,
-    kind: CertificateKind,
+    wanted: Option<CertificateKind>,
 ) -> Result<SoFar, AllocError>
     requires { (at : Distance) → IsSettledEnd S.owner joined.now at → ⊥ }
-    ensures known { IfOk result (IsSoFar joined.now.space.task (kind_of kind) (least_best joined.now)) }
+    ensures known { IfOk result (IsSoFar joined.now.space.task (option_map kind_of wanted) (least_best joined.now)) }
     ensures bound { IfOk result (λ s. lower_bound S.owner joined.now ≡ Finite s.bound) }
 {
     joined.recall();
-    let certificate = cert_of(alloc, joined, kind)?;
+    let certificate = certificate_of(alloc, joined, wanted)?;
     let best = best_plan(alloc, joined)?;
-    match certificate.bound().get() {
+    let bound = joined.lower_bound(alloc)?;
+    match bound.get() {
         Some(bound) => Ok(SoFar {
             bound,
             best,
@@ -145,21 +164,22 @@ pub(crate) fn so_far_of<'a, S: Spread + Drop, F: StateForm + Drop>(
     }
 }
 
-/// Returns the finding of the search, with a certificate of this kind: if it is settled, a cheapest plan, or that there
-/// is none; otherwise a lower bound on the cost of every plan, with the best plan so far.
+/// Returns the finding of the search: if it is settled, a cheapest plan, or that there is none; otherwise a lower bound
+/// on the cost of every plan, with the best plan so far. `wanted` is the kind of the certificate to make, `None` if
+/// none is made.
 pub fn found_by<'a, S: Spread + Drop, F: StateForm + Drop>(
     alloc: Global,
     joined: &Joined<'a, S, F>,
-    kind: CertificateKind,
+    wanted: Option<CertificateKind>,
 ) -> Result<Found, AllocError>
-    ensures { IfOk result (IsFound S.owner (single joined.now) (kind_of kind)) }
+    ensures { IfOk result (IsFound S.owner (single joined.now) (option_map kind_of wanted)) }
 {
     joined.recall();
     match joined.settled(alloc)? {
-        None => Ok(Found::Stopped(so_far_of(alloc, joined, kind)?)),
+        None => Ok(Found::Stopped(so_far_of(alloc, joined, wanted)?)),
         Some(bound) => match bound.get() {
-            Some(_) => Ok(Found::Solved(solution_of(alloc, joined, kind)?)),
-            None => Ok(Found::Unsolvable(cert_of(alloc, joined, kind)?)),
+            Some(_) => Ok(Found::Solved(solution_of(alloc, joined, wanted)?)),
+            None => Ok(Found::Unsolvable(certificate_of(alloc, joined, wanted)?)),
         },
     }
 }

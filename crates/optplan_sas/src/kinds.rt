@@ -1,6 +1,7 @@
 //! Copies of the kind of a certificate.
 
 ghost use Rattle.std.specs.Prelude.{◌≡◌, map, IfOk};
+ghost use Rattle.std.specs.Option.{option_map};
 ghost use Rattle.cert_value.specs.Views.{variable_of, kind_of};
 
 use cert_value::{AtomParts, AtomVariable, CertificateKind};
@@ -24,10 +25,7 @@ fn copied_variables(
 }
 
 /// Returns a copy of the kind.
-pub(crate) fn copied_kind(
-    alloc: Global,
-    kind: &CertificateKind,
-) -> Result<CertificateKind, AllocError>
+fn copied_kind(alloc: Global, kind: &CertificateKind) -> Result<CertificateKind, AllocError>
     ensures { IfOk result (λ copy. kind_of copy ≡ kind_of kind.now) }
 {
     match kind {
@@ -36,5 +34,18 @@ pub(crate) fn copied_kind(
             atoms: parts.atoms.clone()?,
             variables: copied_variables(alloc, &parts.variables)?,
         })),
+    }
+}
+
+/// Returns a copy of the kind, if there is one.
+pub(crate) fn copied_wanted(
+    alloc: Global,
+    wanted: &Option<CertificateKind>,
+) -> Result<Option<CertificateKind>, AllocError>
+    ensures { IfOk result (λ copy. option_map kind_of copy ≡ option_map kind_of wanted.now) }
+{
+    match wanted {
+        Some(kind) => Ok(Some(copied_kind(alloc, kind)?)),
+        None => Ok(None),
     }
 }

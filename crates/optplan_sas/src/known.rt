@@ -22,8 +22,8 @@ fn cheaper(first: Option<FoundPlan>, second: Option<FoundPlan>) -> Option<FoundP
     }
 }
 
-/// Returns the greater of the bounds of two searches with the certificate of it, and the cheaper of their plans. If the
-/// bounds are equal, the certificate is that of the earlier search, which has smaller tables.
+/// Returns the greater of the bounds of two searches with the certificate of it, if there is one, and the cheaper of
+/// their plans. If the bounds are equal, the certificate is that of the earlier search, which has smaller tables.
 fn better(earlier: SoFar, now: SoFar) -> SoFar
     ensures { result ≡ better earlier now }
 {

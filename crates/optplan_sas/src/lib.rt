@@ -1,5 +1,5 @@
-//! Solving: from the text of a finite-domain task to a cheapest plan, or that there is none, with a certificate; with
-//! threads, or by a schedule of the owners' steps.
+//! Solving: from the text of a finite-domain task to a cheapest plan, or that there is none, with a certificate if one
+//! is requested; with threads, or by a schedule of the owners' steps.
 #![tactic(auto)]
 
 mod answer;
@@ -14,7 +14,7 @@ mod searching;
 mod stage_gate;
 mod stages;
 
-pub use answer::{Answer, CheapestPlan, KnownSoFar, WrittenPlan};
+pub use answer::{Answer, CheapestPlan, KnownSoFar, WrittenPlan, certificate_text};
 pub use engine::{Gate, Open, Progress, Stop};
 pub use fault::{SasSolveFault, SearchFault};
 pub use found::{Found, FoundPlan, SoFar, Solution, found_by};

@@ -1,6 +1,7 @@
 //! Solving a finite-domain task, from text to texts.
 
-ghost use Rattle.std.specs.Prelude.{◌≡◌, ℕ, List, IfOk, IfErr};
+ghost use Rattle.std.specs.Prelude.{◌≡◌, ℕ, Bool, List, IfOk, IfErr};
+ghost use Rattle.std.specs.Bool.{then_some};
 ghost use Rattle.cert_value.specs.Certificates.{FiniteDomain};
 ghost use Rattle.sasfile.specs.SasTexts.{SpellsTask};
 ghost use Rattle.cost.specs.Distances.{Distance};
@@ -11,13 +12,12 @@ ghost use Rattle.optplan_sas.specs.Findings.{IsPlanAt, IsBestSoFar, IsSolution, 
 ghost use Rattle.optplan_sas.specs.Searches.{EndsAfter, IsRefusedAfter, EndsBySeed, IsRefusedBySeed, EndsByThreads, IsRefusedByThreads};
 ghost use Rattle.optplan_sas.specs.SasAnswers.{IsSasAnswer, IsSasAnswerFor, IsSasRefusal, IsSasPlan, IsSasSolution, IsSasKnown, IsBestWritten};
 
-use crate::answer::{Answer, CheapestPlan, KnownSoFar, WrittenPlan};
+use crate::answer::{Answer, CheapestPlan, KnownSoFar, WrittenPlan, certificate_text};
 use crate::fault::SasSolveFault;
 use crate::found::{Found, FoundPlan, SoFar, Solution};
 use crate::observer::Observer;
 use crate::searching::{found_after, found_by_seed};
 use crate::stages::found_by_threads;
-use cert_text::write_cert;
 use cert_value::CertificateKind;
 use engine::Gate;
 use fdr::FdrTask;
@@ -78,33 +78,34 @@ fn best_text(
     }
 }
 
-/// Returns the solution with the texts of its plan and its certificate.
+/// Returns the solution with the texts of its plan and of its certificate, if it has one.
 fn solution_texts(
     alloc: Global,
     task: &FdrTask,
     solution: Solution,
 ) -> Result<CheapestPlan<Vec<usize>>, AllocError>
-    requires { IsSolution task.now FiniteDomain solution }
-    ensures solution { (sas : List ℕ) → SpellsTask sas task.now → IfOk result (IsSasSolution sas task.now) }
+    requires { (wanted : Bool) × IsSolution task.now (then_some wanted FiniteDomain) solution }
+    ensures solution { (wanted : Bool) (sas : List ℕ) → SpellsTask sas task.now → IsSolution task.now (then_some wanted FiniteDomain) solution →
+        IfOk result (IsSasSolution wanted sas task.now) }
     ensures cost { IfOk result (λ s. s.found.cost ≡ solution.found.cost) }
 {
-    let cert = write_cert(alloc, &solution.certificate)?;
+    let cert = certificate_text(alloc, &solution.certificate)?;
     let found = plan_text(alloc, task, solution.found)?;
     Ok(CheapestPlan { found, cert })
 }
 
-/// Returns the result so far with the texts of the best plan and of the certificate.
+/// Returns the result so far with the texts of the best plan and of the certificate, if it has one.
 fn known_texts(
     alloc: Global,
     task: &FdrTask,
     known: SoFar,
 ) -> Result<KnownSoFar<Vec<usize>>, AllocError>
-    requires { (most : Distance) × IsSoFar task.now FiniteDomain most known }
-    ensures known { (sas : List ℕ) (most : Distance) → SpellsTask sas task.now → IsSoFar task.now FiniteDomain most known →
-        IfOk result (IsSasKnown sas task.now most) }
+    requires { (wanted : Bool) × ((most : Distance) × IsSoFar task.now (then_some wanted FiniteDomain) most known) }
+    ensures known { (wanted : Bool) (sas : List ℕ) (most : Distance) → SpellsTask sas task.now → IsSoFar task.now (then_some wanted FiniteDomain) most known →
+        IfOk result (IsSasKnown wanted sas task.now most) }
     ensures bound { IfOk result (λ k. k.bound ≡ known.bound) }
 {
-    let cert = write_cert(alloc, &known.certificate)?;
+    let cert = certificate_text(alloc, &known.certificate)?;
     let best = best_text(alloc, task, known.best)?;
     Ok(KnownSoFar {
         bound: known.bound,
@@ -115,21 +116,23 @@ fn known_texts(
 
 /// Returns the answer with the texts of the finding of a search.
 fn answer_texts(alloc: Global, task: &FdrTask, found: Found) -> Result<SasAnswer, AllocError>
-    requires { IsTrueOf task.now FiniteDomain found }
-    ensures { (sas : List ℕ) (es : EndsOf spread.Zobrist) → SpellsTask sas task.now → es.last.space.task ≡ task.now →
-        IsFound zobrist_owner es FiniteDomain found → IfOk result (IsSasAnswerFor sas task.now es) }
+    requires { (wanted : Bool) × IsTrueOf task.now (then_some wanted FiniteDomain) found }
+    ensures { (wanted : Bool) (sas : List ℕ) (es : EndsOf spread.Zobrist) → SpellsTask sas task.now → es.last.space.task ≡ task.now →
+        IsFound zobrist_owner es (then_some wanted FiniteDomain) found → IfOk result (IsSasAnswerFor wanted sas task.now es) }
 {
     match found {
         Found::Solved(solution) => Ok(Answer::Solved(solution_texts(alloc, task, solution)?)),
-        Found::Unsolvable(certificate) => Ok(Answer::Unsolvable(write_cert(alloc, &certificate)?)),
+        Found::Unsolvable(certificate) => {
+            Ok(Answer::Unsolvable(certificate_text(alloc, &certificate)?))
+        }
         Found::Stopped(known) => Ok(Answer::Limit(known_texts(alloc, task, known)?)),
     }
 }
 
-/// Returns the answer for the task that the text spells, after these steps of a world of owners, with a certificate
-/// that the checker accepts if its text has at most 2^30 bytes: a cheapest plan, or that there is none; `Limit` with a
-/// lower bound on the cost of every plan, and possibly a plan, if the owners are not settled. Stops before the first
-/// step that asks an owner for more nodes than its limit allows.
+/// Returns the answer for the task that the text spells, after these steps of a world of owners: a cheapest plan, or
+/// that there is none; `Limit` with a lower bound on the cost of every plan, and possibly a plan, if the owners are not
+/// settled. If the options request a certificate, the answer has one, which the checker accepts if its text has at most
+/// 2^30 bytes. Stops before the first step that asks an owner for more nodes than its limit allows.
 ///
 /// Fails with the first fault of the text, with `TotalTooLarge` if a path would have a cost or a number of operators
 /// above 2^62, or if allocation fails. The contract states neither that these steps were done nor the causes of `Limit`
@@ -140,12 +143,13 @@ pub fn solve_sas_steps<R: AllocGlobal + Threads + Sync>(
     options: &Options,
     steps: &[WorldStep],
 ) -> Result<SasAnswer, SasSolveFault>
-    ensures answer { IfOk result (IsSasAnswer sas.now (EndsAfter options.now steps.now)) }
+    ensures answer { IfOk result (IsSasAnswer options.now.certificate sas.now (EndsAfter options.now steps.now)) }
     ensures refused { IfErr result (IsSasRefusal sas.now (IsRefusedAfter options.now steps.now)) }
 {
     let alloc = rt.alloc();
     let task = read_task(alloc, sas)?;
-    let found = found_after(rt, alloc, &task, options, steps, CertificateKind::Sas)?;
+    let wanted = options.certificate().then_some(CertificateKind::Sas);
+    let found = found_after(rt, alloc, &task, options, steps, wanted)?;
     Ok(answer_texts(alloc, &task, found)?)
 }
 
@@ -160,21 +164,21 @@ pub fn simulate_sas<R: AllocGlobal + Threads + Sync, O: Observer>(
     seed: u64,
     observer: &O,
 ) -> Result<SasAnswer, SasSolveFault>
-    ensures answer { IfOk result (IsSasAnswer sas.now (EndsBySeed options.now seed)) }
+    ensures answer { IfOk result (IsSasAnswer options.now.certificate sas.now (EndsBySeed options.now seed)) }
     ensures refused { IfErr result (IsSasRefusal sas.now (IsRefusedBySeed options.now seed)) }
 {
     let alloc = rt.alloc();
     let task = read_task(alloc, sas)?;
-    let kind = CertificateKind::Sas;
-    let found = found_by_seed(rt, alloc, &task, options, seed, kind, observer)?;
+    let wanted = options.certificate().then_some(CertificateKind::Sas);
+    let found = found_by_seed(rt, alloc, &task, options, seed, wanted, observer)?;
     Ok(answer_texts(alloc, &task, found)?)
 }
 
-/// Returns the answer for the task that the text spells, by the chosen number of workers, each in a thread of its own,
-/// with a certificate that the checker accepts if its text has at most 2^30 bytes: a cheapest plan, or that there is
-/// none; `Limit` with a lower bound on the cost of every plan, and possibly a plan, if the search ended before the
-/// owners were settled, by an owner's limit or by the gate. If the options request stages, up to four searches follow
-/// one another, and `Limit` has the best of what all of them know.
+/// Returns the answer for the task that the text spells, by the chosen number of workers, each in a thread of its own:
+/// a cheapest plan, or that there is none; `Limit` with a lower bound on the cost of every plan, and possibly a plan,
+/// if the search ended before the owners were settled, by an owner's limit or by the gate. If the options request a
+/// certificate, the answer has one, which the checker accepts if its text has at most 2^30 bytes. If the options
+/// request stages, up to four searches follow one another, and `Limit` has the best of what all of them know.
 ///
 /// Fails with the first fault of the text, with `TotalTooLarge` if a path would have a cost or a number of operators
 /// above 2^62, with `Gate` if the gate makes the search fail, or if allocation fails. The contract does not state the
@@ -186,11 +190,12 @@ pub fn solve_sas<R: Threads + Wait + Clock + Sync + AllocGlobal, G: Gate + Sync>
     options: &Options,
     gate: &G,
 ) -> Result<SasAnswer, SasSolveFault>
-    ensures answer { IfOk result (IsSasAnswer sas.now (EndsByThreads options.now (G.may_stop gate.now))) }
+    ensures answer { IfOk result (IsSasAnswer options.now.certificate sas.now (EndsByThreads options.now (G.may_stop gate.now))) }
     ensures refused { IfErr result (IsSasRefusal sas.now (IsRefusedByThreads options.now (G.may_stop gate.now))) }
 {
     let alloc = rt.alloc();
     let task = read_task(alloc, sas)?;
-    let found = found_by_threads(rt, alloc, &task, options, CertificateKind::Sas, gate)?;
+    let wanted = options.certificate().then_some(CertificateKind::Sas);
+    let found = found_by_threads(rt, alloc, &task, options, wanted, gate)?;
     Ok(answer_texts(alloc, &task, found)?)
 }

@@ -1,6 +1,7 @@
 //! Searches for a plan of a task in one thread, by a schedule, which is a list of steps or random.
 
 ghost use Rattle.std.specs.Prelude.{◌≡◌, IfOk, IfErr};
+ghost use Rattle.std.specs.Option.{option_map};
 ghost use Rattle.cert_value.specs.Views.{kind_of};
 ghost use Rattle.fdr.specs.Tasks.{ranges};
 ghost use Rattle.optplan_sas.specs.Findings.{IsFinding};
@@ -57,15 +58,15 @@ fn after_steps<'a, F: StateForm + Drop>(
     space: &'a Space<'a, Zobrist<'a>>,
     options: &Options,
     steps: &[WorldStep],
-    kind: CertificateKind,
+    wanted: Option<CertificateKind>,
 ) -> Result<Found, SearchFault>
     requires fits { F.Fits (ranges space.now.task) }
     requires space { IsSimulatedSpace space.now.task options.now space.now }
-    ensures found { IfOk result (IsFinding space.now.task (kind_of kind) (EndsAfter options.now steps.now space.now.task)) }
+    ensures found { IfOk result (IsFinding space.now.task (option_map kind_of wanted) (EndsAfter options.now steps.now space.now.task)) }
     ensures refused { IfErr result (IsRefusedAfter options.now steps.now space.now.task) }
 {
     match World::<'a, Zobrist<'a>, F>::run(alloc, space, options.workers(), steps) {
-        Ok(world) => Ok(found_by(alloc, &world.joined(), kind)?),
+        Ok(world) => Ok(found_by(alloc, &world.joined(), wanted)?),
         Err(OwnerFault::LimitReached) => unreachable!(),
         Err(OwnerFault::TotalTooLarge) => Err(SearchFault::TotalTooLarge),
         Err(OwnerFault::OutOfMemory) => Err(SearchFault::OutOfMemory),
@@ -78,12 +79,12 @@ fn by_seed<'a, O: Observer, F: StateForm + Drop>(
     space: &'a Space<'a, Zobrist<'a>>,
     options: &Options,
     seed: u64,
-    kind: CertificateKind,
+    wanted: Option<CertificateKind>,
     observer: &O,
 ) -> Result<Found, SearchFault>
     requires fits { F.Fits (ranges space.now.task) }
     requires space { IsSimulatedSpace space.now.task options.now space.now }
-    ensures found { IfOk result (IsFinding space.now.task (kind_of kind) (EndsBySeed options.now seed space.now.task)) }
+    ensures found { IfOk result (IsFinding space.now.task (option_map kind_of wanted) (EndsBySeed options.now seed space.now.task)) }
     ensures refused { IfErr result (IsRefusedBySeed options.now seed space.now.task) }
 {
     match simulated::<Zobrist<'a>, O, F>(
@@ -94,7 +95,7 @@ fn by_seed<'a, O: Observer, F: StateForm + Drop>(
         options.steps(),
         observer,
     ) {
-        Ok(world) => Ok(found_by(alloc, &world.joined(), kind)?),
+        Ok(world) => Ok(found_by(alloc, &world.joined(), wanted)?),
         Err(OwnerFault::LimitReached) => unreachable!(),
         Err(OwnerFault::TotalTooLarge) => Err(SearchFault::TotalTooLarge),
         Err(OwnerFault::OutOfMemory) => Err(SearchFault::OutOfMemory),
@@ -107,15 +108,15 @@ fn after_steps_in_smallest_form<'a>(
     space: &'a Space<'a, Zobrist<'a>>,
     options: &Options,
     steps: &[WorldStep],
-    kind: CertificateKind,
+    wanted: Option<CertificateKind>,
 ) -> Result<Found, SearchFault>
     requires { IsSimulatedSpace space.now.task options.now space.now }
-    ensures found { IfOk result (IsFinding space.now.task (kind_of kind) (EndsAfter options.now steps.now space.now.task)) }
+    ensures found { IfOk result (IsFinding space.now.task (option_map kind_of wanted) (EndsAfter options.now steps.now space.now.task)) }
     ensures refused { IfErr result (IsRefusedAfter options.now steps.now space.now.task) }
 {
     in_smallest_form!(
         space.layout(),
-        after_steps(alloc, space, options, steps, kind)
+        after_steps(alloc, space, options, steps, wanted)
     )
 }
 
@@ -125,22 +126,23 @@ fn by_seed_in_smallest_form<'a, O: Observer>(
     space: &'a Space<'a, Zobrist<'a>>,
     options: &Options,
     seed: u64,
-    kind: CertificateKind,
+    wanted: Option<CertificateKind>,
     observer: &O,
 ) -> Result<Found, SearchFault>
     requires { IsSimulatedSpace space.now.task options.now space.now }
-    ensures found { IfOk result (IsFinding space.now.task (kind_of kind) (EndsBySeed options.now seed space.now.task)) }
+    ensures found { IfOk result (IsFinding space.now.task (option_map kind_of wanted) (EndsBySeed options.now seed space.now.task)) }
     ensures refused { IfErr result (IsRefusedBySeed options.now seed space.now.task) }
 {
     in_smallest_form!(
         space.layout(),
-        by_seed::<O>(alloc, space, options, seed, kind, observer)
+        by_seed::<O>(alloc, space, options, seed, wanted, observer)
     )
 }
 
-/// Returns the finding for the task after these steps of a world of owners, with a certificate of that kind: a cheapest
-/// plan, or that there is none; if the owners are not settled, a lower bound on the cost of every plan, and possibly a
-/// plan. Stops before the first step that asks an owner for more nodes than its limit allows.
+/// Returns the finding for the task after these steps of a world of owners: a cheapest plan, or that there is none; if
+/// the owners are not settled, a lower bound on the cost of every plan, and possibly a plan. `wanted` is the kind of
+/// the certificate to make, `None` if none is made. Stops before the first step that asks an owner for more nodes than
+/// its limit allows.
 ///
 /// Fails with `TotalTooLarge` if a path would have a cost or a number of operators above 2^62, or if allocation fails.
 /// The contract states neither that these steps were done nor why the search was stopped or fails with `TotalTooLarge`.
@@ -150,19 +152,19 @@ pub fn found_after<'a, R: Threads + Sync>(
     task: &'a FdrTask,
     options: &Options,
     steps: &[WorldStep],
-    kind: CertificateKind,
+    wanted: Option<CertificateKind>,
 ) -> Result<Found, SearchFault>
-    ensures found { IfOk result (IsFinding task.now (kind_of kind) (EndsAfter options.now steps.now task.now)) }
+    ensures found { IfOk result (IsFinding task.now (option_map kind_of wanted) (EndsAfter options.now steps.now task.now)) }
     ensures refused { IfErr result (IsRefusedAfter options.now steps.now task.now) }
 {
     let space: Space<'a, Zobrist<'a>> = simulated_space(rt, alloc, task, options)?;
-    after_steps_in_smallest_form(alloc, &space, options, steps, kind)
+    after_steps_in_smallest_form(alloc, &space, options, steps, wanted)
 }
 
-/// Returns the finding for the task after random steps from the seed, at most as many as the options allow, with a
-/// certificate of that kind: a cheapest plan, or that there is none; if the owners are not settled, a lower bound on
-/// the cost of every plan, and possibly a plan. Stops before the first step that asks an owner for more nodes than its
-/// limit allows.
+/// Returns the finding for the task after random steps from the seed, at most as many as the options allow: a cheapest
+/// plan, or that there is none; if the owners are not settled, a lower bound on the cost of every plan, and possibly a
+/// plan. `wanted` is the kind of the certificate to make, `None` if none is made. Stops before the first step that asks
+/// an owner for more nodes than its limit allows.
 ///
 /// Fails with `TotalTooLarge` if a path would have a cost or a number of operators above 2^62, or if allocation fails.
 /// The contract states neither that these steps were done nor why the search was stopped or fails with `TotalTooLarge`.
@@ -172,12 +174,12 @@ pub fn found_by_seed<'a, R: Threads + Sync, O: Observer>(
     task: &'a FdrTask,
     options: &Options,
     seed: u64,
-    kind: CertificateKind,
+    wanted: Option<CertificateKind>,
     observer: &O,
 ) -> Result<Found, SearchFault>
-    ensures found { IfOk result (IsFinding task.now (kind_of kind) (EndsBySeed options.now seed task.now)) }
+    ensures found { IfOk result (IsFinding task.now (option_map kind_of wanted) (EndsBySeed options.now seed task.now)) }
     ensures refused { IfErr result (IsRefusedBySeed options.now seed task.now) }
 {
     let space: Space<'a, Zobrist<'a>> = simulated_space(rt, alloc, task, options)?;
-    by_seed_in_smallest_form(alloc, &space, options, seed, kind, observer)
+    by_seed_in_smallest_form(alloc, &space, options, seed, wanted, observer)
 }

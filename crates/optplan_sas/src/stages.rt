@@ -1,6 +1,7 @@
 //! Multi-threaded searches for a plan of a task: one alone, or several in stages, with small tables first.
 
 ghost use Rattle.std.specs.Prelude.{◌≡◌, ◌<◌, ◌∷◌, [], true, map, IfOk, IfErr};
+ghost use Rattle.std.specs.Option.{option_map};
 ghost use Rattle.cost.specs.Distances.{Distance};
 ghost use Rattle.cert_value.specs.Views.{kind_of};
 ghost use Rattle.fdr.specs.Tasks.{ranges};
@@ -13,7 +14,7 @@ ghost use Rattle.optplan_sas.specs.Stages.{IsKnownOf, IsFoundAt, IsSearchFound, 
 
 use crate::fault::SearchFault;
 use crate::found::{Found, SoFar, found_by, so_far_of};
-use crate::kinds::copied_kind;
+use crate::kinds::copied_wanted;
 use crate::known::{better_known, with_known};
 use crate::searching::space_for;
 use crate::stage_gate::StageGate;
@@ -58,35 +59,35 @@ fn threaded_space<'a>(
     space_for(alloc, task, columns, options, spread)
 }
 
-/// Returns what a search knows that was stopped because a stage ended: its bound with a certificate, which takes time
-/// and memory in proportion to the states that it has expanded, and its best plan. `None` if nothing can stop a later
-/// search before it is settled: no limit on expansions, and a gate that never ends a search.
+/// Returns what a search knows that was stopped because a stage ended: its bound, with a certificate if one is wanted,
+/// which takes time and memory in proportion to the states that it has expanded, and its best plan. `None` if nothing
+/// can stop a later search before it is settled: no limit on expansions, and a gate that never ends a search.
 fn known_at<'a, F: StateForm + Drop, G: Gate>(
     alloc: Global,
     joined: &Joined<'a, Zobrist<'a>, F>,
     options: &Options,
-    kind: &CertificateKind,
+    wanted: &Option<CertificateKind>,
     gate: &G,
 ) -> Result<Option<SoFar>, AllocError>
     requires { (at : Distance) → IsSettledEnd zobrist_owner joined.now at → ⊥ }
-    ensures { IfOk result (IsKnownOf options.now (G.may_stop gate.now) joined.now.space.task (kind_of kind.now) (joined.now ∷ [])) }
+    ensures { IfOk result (IsKnownOf options.now (G.may_stop gate.now) joined.now.space.task (option_map kind_of wanted.now) (joined.now ∷ [])) }
 {
     if options.limit().is_none() && gate.never_limits() {
         return Ok(None);
     }
-    Ok(Some(so_far_of(alloc, joined, copied_kind(alloc, kind)?)?))
+    Ok(Some(so_far_of(alloc, joined, copied_wanted(alloc, wanted)?)?))
 }
 
-/// Returns what a search has found, with a certificate of a copy of this kind.
+/// Returns what a search has found, with a certificate if one is wanted.
 fn found_at<'a, F: StateForm + Drop>(
     alloc: Global,
     joined: &Joined<'a, Zobrist<'a>, F>,
-    kind: &CertificateKind,
+    wanted: &Option<CertificateKind>,
 ) -> Result<StageFound, AllocError>
-    ensures { IfOk result (IsFoundAt joined.now (kind_of kind.now)) }
+    ensures { IfOk result (IsFoundAt joined.now (option_map kind_of wanted.now)) }
 {
     joined.recall();
-    let found = found_by(alloc, joined, copied_kind(alloc, kind)?)?;
+    let found = found_by(alloc, joined, copied_wanted(alloc, wanted)?)?;
     Ok(StageFound::Answered(found))
 }
 
@@ -96,21 +97,21 @@ fn by_threads<'a, R: Threads + Wait + Clock + Sync, G: Gate + Sync, F: StateForm
     alloc: Global,
     space: &'a Space<'a, Zobrist<'a>>,
     options: &Options,
-    kind: &CertificateKind,
+    wanted: &Option<CertificateKind>,
     gate: &G,
 ) -> Result<StageFound, SearchFault>
     requires fits { F.Fits (ranges space.now.task) }
     requires space { IsThreadedSpace space.now.task options.now space.now }
-    ensures found { IfOk result (IsStageFound options.now (G.may_stop gate.now) space.now.task (kind_of kind.now)) }
+    ensures found { IfOk result (IsStageFound options.now (G.may_stop gate.now) space.now.task (option_map kind_of wanted.now)) }
     ensures refused { IfErr result (IsRefusedByThreads options.now (G.may_stop gate.now) space.now.task) }
 {
     let (workers, capacity) = (options.workers(), options.ring());
     match search::<R, Zobrist<'a>, F, G>(rt, alloc, space, workers, capacity, gate) {
-        Ok(Searched::Settled(joined)) => Ok(found_at(alloc, &joined, kind)?),
-        Ok(Searched::Stopped(joined, Cause::Limit)) => Ok(found_at(alloc, &joined, kind)?),
-        Ok(Searched::Stopped(joined, Cause::Gate)) => Ok(found_at(alloc, &joined, kind)?),
+        Ok(Searched::Settled(joined)) => Ok(found_at(alloc, &joined, wanted)?),
+        Ok(Searched::Stopped(joined, Cause::Limit)) => Ok(found_at(alloc, &joined, wanted)?),
+        Ok(Searched::Stopped(joined, Cause::Gate)) => Ok(found_at(alloc, &joined, wanted)?),
         Ok(Searched::Stopped(joined, Cause::Stage)) => {
-            let known = known_at(alloc, &joined, options, kind, gate)?;
+            let known = known_at(alloc, &joined, options, wanted, gate)?;
             let orders = orders_of(alloc, space.columns())?;
             Ok(StageFound::Ended(known, orders))
         }
@@ -126,16 +127,16 @@ fn by_threads_in_smallest_form<'a, R: Threads + Wait + Clock + Sync, G: Gate + S
     alloc: Global,
     space: &'a Space<'a, Zobrist<'a>>,
     options: &Options,
-    kind: &CertificateKind,
+    wanted: &Option<CertificateKind>,
     gate: &G,
 ) -> Result<StageFound, SearchFault>
     requires { IsThreadedSpace space.now.task options.now space.now }
-    ensures found { IfOk result (IsStageFound options.now (G.may_stop gate.now) space.now.task (kind_of kind.now)) }
+    ensures found { IfOk result (IsStageFound options.now (G.may_stop gate.now) space.now.task (option_map kind_of wanted.now)) }
     ensures refused { IfErr result (IsRefusedByThreads options.now (G.may_stop gate.now) space.now.task) }
 {
     in_smallest_form!(
         space.layout(),
-        by_threads::<R, G>(rt, alloc, space, options, kind, gate)
+        by_threads::<R, G>(rt, alloc, space, options, wanted, gate)
     )
 }
 
@@ -147,15 +148,15 @@ fn found_with<'a, R: Threads + Wait + Clock + Sync, G: Gate + Sync>(
     task: &'a FdrTask,
     columns: Columns<'a>,
     options: &Options,
-    kind: &CertificateKind,
+    wanted: &Option<CertificateKind>,
     gate: &G,
 ) -> Result<StageFound, SearchFault>
     requires { columns.task ≡ task.now }
-    ensures found { IfOk result (IsStageFound options.now (G.may_stop gate.now) task.now (kind_of kind.now)) }
+    ensures found { IfOk result (IsStageFound options.now (G.may_stop gate.now) task.now (option_map kind_of wanted.now)) }
     ensures refused { IfErr result (IsRefusedByThreads options.now (G.may_stop gate.now) task.now) }
 {
     let space: Space<'a, Zobrist<'a>> = threaded_space(alloc, task, columns, options)?;
-    by_threads_in_smallest_form(rt, alloc, &space, options, kind, gate)
+    by_threads_in_smallest_form(rt, alloc, &space, options, wanted, gate)
 }
 
 /// Returns the number of abstract states of the tables of a column.
@@ -185,19 +186,19 @@ fn found_in_stage<'a, R: Threads + Wait + Clock + Sync, G: Gate + Sync>(
     options: &Options,
     stage: usize,
     earlier: &[Vec<Mapping>],
-    kind: &CertificateKind,
+    wanted: &Option<CertificateKind>,
     gate: &G,
 ) -> Result<StageFound, SearchFault>
     requires stage { stage < 3 }
     requires earlier { AreOrders task.now (map mappings_of earlier.now) }
-    ensures found { IfOk result (IsStageFound options.now (stops_in true (G.may_stop gate.now)) task.now (kind_of kind.now)) }
+    ensures found { IfOk result (IsStageFound options.now (stops_in true (G.may_stop gate.now)) task.now (option_map kind_of wanted.now)) }
     ensures refused { IfErr result (IsRefusedByThreads options.now (stops_in true (G.may_stop gate.now)) task.now) }
 {
     let end = options.stage_ends()[stage];
     let stage_gate = StageGate::new(rt, gate, Some(end), options.workers());
     let columns = stage_columns(rt, alloc, task, stage, earlier)?;
     announce(gate, stage, &columns);
-    found_with(rt, alloc, task, columns, options, kind, &stage_gate)
+    found_with(rt, alloc, task, columns, options, wanted, &stage_gate)
 }
 
 /// Returns the finding of one search with these columns, which only the caller's gate and the limit on expansions may
@@ -208,15 +209,15 @@ fn found_without_end<'a, R: Threads + Wait + Clock + Sync, G: Gate + Sync>(
     task: &'a FdrTask,
     columns: Columns<'a>,
     options: &Options,
-    kind: &CertificateKind,
+    wanted: &Option<CertificateKind>,
     gate: &G,
 ) -> Result<Found, SearchFault>
     requires { columns.task ≡ task.now }
-    ensures found { IfOk result (IsSearchFound options.now (G.may_stop gate.now) task.now (kind_of kind.now)) }
+    ensures found { IfOk result (IsSearchFound options.now (G.may_stop gate.now) task.now (option_map kind_of wanted.now)) }
     ensures refused { IfErr result (IsRefusedByThreads options.now (G.may_stop gate.now) task.now) }
 {
     let gate = StageGate::new(rt, gate, None, options.workers());
-    match found_with(rt, alloc, task, columns, options, kind, &gate)? {
+    match found_with(rt, alloc, task, columns, options, wanted, &gate)? {
         StageFound::Answered(found) => Ok(found),
         StageFound::Ended(_, _) => unreachable!(),
     }
@@ -228,34 +229,35 @@ fn found_alone<'a, R: Threads + Wait + Clock + Sync, G: Gate + Sync>(
     alloc: Global,
     task: &'a FdrTask,
     options: &Options,
-    kind: &CertificateKind,
+    wanted: &Option<CertificateKind>,
     gate: &G,
 ) -> Result<Found, SearchFault>
-    ensures found { IfOk result (IsSearchFound options.now (G.may_stop gate.now) task.now (kind_of kind.now)) }
+    ensures found { IfOk result (IsSearchFound options.now (G.may_stop gate.now) task.now (option_map kind_of wanted.now)) }
     ensures refused { IfErr result (IsRefusedByThreads options.now (G.may_stop gate.now) task.now) }
 {
     let columns = choose_columns(rt, alloc, task, options.table())?;
-    found_without_end(rt, alloc, task, columns, options, kind, gate)
+    found_without_end(rt, alloc, task, columns, options, wanted, gate)
 }
 
 /// Returns the finding of searches in stages, each from nothing, until one of them is settled or stopped for another
 /// reason than the end of its stage. What an earlier stage knows is not lost: if the last search was stopped, the
-/// finding has the greatest bound of all stages, with its certificate, and the cheapest of their plans.
+/// finding has the greatest bound of all stages, with its certificate if one is wanted, and the cheapest of their
+/// plans.
 fn found_by_stages<'a, R: Threads + Wait + Clock + Sync, G: Gate + Sync>(
     rt: &R,
     alloc: Global,
     task: &'a FdrTask,
     options: &Options,
-    kind: &CertificateKind,
+    wanted: &Option<CertificateKind>,
     gate: &G,
 ) -> Result<Found, SearchFault>
-    ensures found { IfOk result (IsFinding task.now (kind_of kind.now) (EndsIn Tables.Staged options.now (G.may_stop gate.now) task.now)) }
+    ensures found { IfOk result (IsFinding task.now (option_map kind_of wanted.now) (EndsIn Tables.Staged options.now (G.may_stop gate.now) task.now)) }
     ensures refused { IfErr result (IsRefusedByThreads options.now (G.may_stop gate.now) task.now) }
 {
     let mut known = None;
     let mut orders = Vec::new(alloc);
     for stage in 0..STAGES {
-        match found_in_stage(rt, alloc, task, options, stage, &orders, kind, gate)? {
+        match found_in_stage(rt, alloc, task, options, stage, &orders, wanted, gate)? {
             StageFound::Answered(found) => return Ok(with_known(known, found)),
             StageFound::Ended(now, of_stage) => {
                 known = better_known(known, now);
@@ -265,15 +267,16 @@ fn found_by_stages<'a, R: Threads + Wait + Clock + Sync, G: Gate + Sync>(
     }
     let columns = stage_columns(rt, alloc, task, STAGES, &orders)?;
     announce(gate, STAGES, &columns);
-    let found = found_without_end(rt, alloc, task, columns, options, kind, gate)?;
+    let found = found_without_end(rt, alloc, task, columns, options, wanted, gate)?;
     Ok(with_known(known, found))
 }
 
-/// Returns the finding for the task by the chosen number of workers, each in a thread of its own, with a certificate of
-/// that kind: a cheapest plan, or that there is none; if one of the owners reached its limit, or the gate ended the
-/// search, before they were settled, a lower bound on the cost of every plan, and possibly a plan. If the options
-/// request stages, up to four searches follow one another: see `Tables`. The gate is asked before the turns of each of
-/// them; if it ends a stage (`Stop::Stage`), the next one begins, and in a search without an end that has no effect.
+/// Returns the finding for the task by the chosen number of workers, each in a thread of its own: a cheapest plan, or
+/// that there is none; if one of the owners reached its limit, or the gate ended the search, before they were settled,
+/// a lower bound on the cost of every plan, and possibly a plan. `wanted` is the kind of the certificate to make,
+/// `None` if none is made. If the options request stages, up to four searches follow one another: see `Tables`. The
+/// gate is asked before the turns of each of them; if it ends a stage (`Stop::Stage`), the next one begins, and in a
+/// search without an end that has no effect.
 ///
 /// Fails with `TotalTooLarge` if a path would have a cost or a number of operators above 2^62, with `Gate` if the gate
 /// makes it fail, or if allocation fails. Termination is not guaranteed: an unfair scheduler may keep every worker from
@@ -284,14 +287,14 @@ pub fn found_by_threads<'a, R: Threads + Wait + Clock + Sync, G: Gate + Sync>(
     alloc: Global,
     task: &'a FdrTask,
     options: &Options,
-    kind: CertificateKind,
+    wanted: Option<CertificateKind>,
     gate: &G,
 ) -> Result<Found, SearchFault>
-    ensures found { IfOk result (IsFinding task.now (kind_of kind) (EndsByThreads options.now (G.may_stop gate.now) task.now)) }
+    ensures found { IfOk result (IsFinding task.now (option_map kind_of wanted) (EndsByThreads options.now (G.may_stop gate.now) task.now)) }
     ensures refused { IfErr result (IsRefusedByThreads options.now (G.may_stop gate.now) task.now) }
 {
     match options.tables() {
-        Tables::Goal => found_alone(rt, alloc, task, options, &kind, gate),
-        Tables::Staged => found_by_stages(rt, alloc, task, options, &kind, gate),
+        Tables::Goal => found_alone(rt, alloc, task, options, &wanted, gate),
+        Tables::Staged => found_by_stages(rt, alloc, task, options, &wanted, gate),
     }
 }

@@ -1,5 +1,6 @@
 -- The files and the output of an answer, and the exit status.
-use Rattle.std.specs.Prelude.{◌≡◌, ℕ, ◌⊎◌, List, [], ◌∷◌, ◌++◌, Option, Some, None, codes, decimal, string_bytes}
+use Rattle.std.specs.Prelude.{◌≡◌, ℕ, ◌⊎◌, List, [], ◌∷◌, ◌++◌, Option, Some, None, Vec, codes, decimal, string_bytes}
+use Rattle.std.specs.Global.{Global}
 use Rattle.std.specs.Option.{option_map}
 use Rattle.optplan_device.specs.Events.{Event, HasWritten, HasPut}
 use Rattle.optplan_sas.specs.declared.answer.WrittenPlan.{WrittenPlan}
@@ -27,16 +28,21 @@ abbrev pub writes : Option (List ℕ) → List ℕ → List Event
 writes None bytes = []
 writes (Some name) bytes = HasWritten name bytes ∷ []
 
+-- the writing of the certificate, if there is one and its file has a name
+abbrev pub cert_writes : Option (List ℕ) → Option (Vec ℕ Global) → List Event
+cert_writes name None = []
+cert_writes name (Some cert) = writes name cert.items
+
 -- the writing of the best plan so far, if there is one
 abbrev pub best_writes : {P : Type 0} → Option (List ℕ) → Option (WrittenPlan P) → List Event
 best_writes name None = []
 best_writes name (Some best) = writes name (string_bytes best.plan_text)
 
--- the writing of an answer's files: the certificate's first, then the plan's, if there is a plan
+-- the writing of an answer's files: the certificate's first, if there is one, then the plan's, if there is a plan
 abbrev pub answer_writes : {P : Type 0} → OutputFiles → Answer P → List Event
-answer_writes files (Solved s) = writes files.cert s.cert.items ++ writes files.plan (string_bytes s.found.plan_text)
-answer_writes files (Unsolvable cert) = writes files.cert cert.items
-answer_writes files (Limit known) = writes files.cert known.cert.items ++ best_writes files.plan known.best
+answer_writes files (Solved s) = cert_writes files.cert s.cert ++ writes files.plan (string_bytes s.found.plan_text)
+answer_writes files (Unsolvable cert) = cert_writes files.cert cert
+answer_writes files (Limit known) = cert_writes files.cert known.cert ++ best_writes files.plan known.best
 
 -- the text of the best plan so far, empty if there is none
 abbrev pub best_text : {P : Type 0} → Option (WrittenPlan P) → List ℕ

@@ -29,4 +29,4 @@ pub record SolvesSas (old new : List Event) (sas : List ℕ) (choices : Choices)
   pub sas_text : List ℕ
   pub later : List Event
   pub events : new ≡ old ++ (HasRead sas sas_text ∷ later)
-  pub follows : Replies (IsSasAnswer sas_text (EndsBy choices schedule)) (IsSasSolveRefusal sas_text choices schedule) files later status
+  pub follows : Replies (IsSasAnswer choices.certificate sas_text (EndsBy choices schedule)) (IsSasSolveRefusal sas_text choices schedule) files later status

@@ -32,5 +32,5 @@ pub record Solves (old new : List Event) (domain problem : List ℕ) (choices : 
   pub problem_text : List ℕ
   pub later : List Event
   pub events : new ≡ old ++ (task_reads domain domain_text problem problem_text ++ later)
-  pub follows : Replies (IsPlanningAnswer domain_text problem_text (EndsBy choices schedule)) (IsSolveRefusal domain_text problem_text choices schedule) files later
+  pub follows : Replies (IsPlanningAnswer choices.certificate domain_text problem_text (EndsBy choices schedule)) (IsSolveRefusal domain_text problem_text choices schedule) files later
       status

@@ -5,7 +5,7 @@ ghost use Rattle.std.specs.Option.{option_map};
 ghost use Rattle.optplan_device.specs.Events.{Event};
 ghost use Rattle.optplan_replies.specs.Faults.{fault_status};
 ghost use Rattle.optplan_replies.specs.Runs.{IsDeviceFault, IsQuiet};
-ghost use Rattle.optplan_solve.specs.Outputs.{files_of, writes, best_writes, answer_writes, best_text, limit_text, answer_text, outputs, answer_status};
+ghost use Rattle.optplan_solve.specs.Outputs.{files_of, writes, cert_writes, best_writes, answer_writes, best_text, limit_text, answer_text, outputs, answer_status};
 
 use crate::settings::Settings;
 use optplan_device::{Device, DeviceFault};
@@ -77,6 +77,23 @@ fn write_file<D: Device>(
     }
 }
 
+/// Writes the certificate to a file, if there is one and the file has a name. Fails as `write_file` does.
+fn write_certificate<D: Device>(
+    device: &mut D,
+    name: Option<&str>,
+    cert: &Option<Vec<u8>>,
+) -> Result<(), Fault>
+    ensures told { (h : List Event) → D.history device.old ≡ Some h →
+        OnOk result (D.history device.new ≡ Some (h ++ cert_writes (option_map (λ n. n.now) name.entry) cert.now)) }
+    ensures same { OnOk result (D.failure_count device.new ≡ D.failure_count device.old) }
+    ensures failed { IfErr result (λ e. IsDeviceFault e (D.failure_count device.old) (D.failure_count device.new)) }
+{
+    match cert {
+        Some(cert) => write_file(device, name, cert, FileWord::Cert),
+        None => Ok(()),
+    }
+}
+
 /// Writes the best plan so far to a file, if there is a plan and the file has a name. Fails as `write_file` does.
 fn write_best<D: Device, P: Drop>(
     device: &mut D,
@@ -94,8 +111,8 @@ fn write_best<D: Device, P: Drop>(
     }
 }
 
-/// Writes the files that are requested, the certificate's first. Fails as `write_file` does; the certificate's file may
-/// then be written.
+/// Writes the files that are requested, the certificate's first, if there is one. Fails as `write_file` does; the
+/// certificate's file may then be written.
 fn write_files<D: Device, P: Drop>(
     device: &mut D,
     answer: &Answer<P>,
@@ -108,13 +125,13 @@ fn write_files<D: Device, P: Drop>(
 {
     match answer {
         Answer::Solved(solution) => {
-            write_file(device, settings.cert, &solution.cert, FileWord::Cert)?;
+            write_certificate(device, settings.cert, &solution.cert)?;
             let plan = solution.found.plan_text.as_bytes();
             write_file(device, settings.plan, plan, FileWord::Plan)
         }
-        Answer::Unsolvable(cert) => write_file(device, settings.cert, cert, FileWord::Cert),
+        Answer::Unsolvable(cert) => write_certificate(device, settings.cert, cert),
         Answer::Limit(known) => {
-            write_file(device, settings.cert, &known.cert, FileWord::Cert)?;
+            write_certificate(device, settings.cert, &known.cert)?;
             write_best(device, settings.plan, &known.best)
         }
     }

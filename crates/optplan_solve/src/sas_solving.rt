@@ -39,7 +39,7 @@ fn solved<R: Threads + Wait + Clock + Eprint + Sync + AllocGlobal>(
     sas: &[u8],
     settings: &Settings<'_>,
 ) -> Result<SasAnswer, SasSolveFault>
-    ensures answer { IfOk result (IsSasAnswer sas.now (EndsBy settings.now.options settings.now.schedule)) }
+    ensures answer { IfOk result (IsSasAnswer settings.now.options.certificate sas.now (EndsBy settings.now.options settings.now.schedule)) }
     ensures refused { IfErr result (IsSasRefusal sas.now (IsRefusedBy settings.now.options settings.now.schedule)) }
 {
     match settings.schedule {
@@ -63,7 +63,7 @@ fn answer_of<R: Threads + Wait + Clock + Eprint + Sync + AllocGlobal>(
     sas: &[u8],
     settings: &Settings<'_>,
 ) -> Result<SasAnswer, Fault>
-    ensures answer { IfOk result (IsSasAnswer sas.now (EndsBy settings.now.options settings.now.schedule)) }
+    ensures answer { IfOk result (IsSasAnswer settings.now.options.certificate sas.now (EndsBy settings.now.options settings.now.schedule)) }
     ensures refused { IfErr result (IsSasSolveRefusal sas.now settings.now.options settings.now.schedule) }
 {
     match solved(rt, sas, settings) {

@@ -25,7 +25,7 @@ pub enum Schedule {
 /// The request of a solve command, apart from its input files.
 #[derive(Drop)]
 pub struct Settings<'a> {
-    /// The number of owners, the size of tables, and the limits of the search.
+    /// The number of owners, the size of tables, the limits of the search, and whether a certificate is made.
     pub options: Options,
     /// The schedule of the owners' steps.
     pub schedule: Schedule,
@@ -33,6 +33,7 @@ pub struct Settings<'a> {
     pub progress: bool,
     /// The name of the file to which the plan is written, if requested.
     pub plan: Option<&'a str>,
-    /// The name of the file to which the certificate is written, if requested.
+    /// The name of the file to which the certificate is written, if requested; it is written only if the options
+    /// request a certificate.
     pub cert: Option<&'a str>,
 }

@@ -44,7 +44,7 @@ fn planned<R: Threads + Wait + Clock + Eprint + Sync + AllocGlobal>(
     problem: &[u8],
     settings: &Settings<'_>,
 ) -> Result<PlanningAnswer, PlanningFault>
-    ensures answer { IfOk result (IsPlanningAnswer domain.now problem.now (EndsBy settings.now.options settings.now.schedule)) }
+    ensures answer { IfOk result (IsPlanningAnswer settings.now.options.certificate domain.now problem.now (EndsBy settings.now.options settings.now.schedule)) }
     ensures refused { IfErr result (IsPlanningRefusal domain.now problem.now (IsRefusedBy settings.now.options settings.now.schedule)) }
 {
     match settings.schedule {
@@ -70,7 +70,7 @@ fn answer_of<R: Threads + Wait + Clock + Eprint + Sync + AllocGlobal>(
     problem: &[u8],
     settings: &Settings<'_>,
 ) -> Result<PlanningAnswer, Fault>
-    ensures answer { IfOk result (IsPlanningAnswer domain.now problem.now (EndsBy settings.now.options settings.now.schedule)) }
+    ensures answer { IfOk result (IsPlanningAnswer settings.now.options.certificate domain.now problem.now (EndsBy settings.now.options settings.now.schedule)) }
     ensures refused { IfErr result (IsSolveRefusal domain.now problem.now settings.now.options settings.now.schedule) }
 {
     match planned(rt, domain, problem, settings) {

@@ -34,7 +34,7 @@ fn certificate<R: AllocGlobal + Threads + Sync>(rt: &R) -> Result<Vec<u8>, Fail>
     let options = Options::new().with_workers(1);
     let (domain, problem) = (ROAD_DOMAIN.as_bytes(), ROAD_PROBLEM.as_bytes());
     match solve_steps(rt, domain, problem, &options, ENOUGH)? {
-        Answer::Solved(solution) => Ok(solution.cert),
+        Answer::Solved(solution) => Ok(solution.cert.ok_or("no certificate")?),
         Answer::Unsolvable(_) | Answer::Limit(_) => Ok(Vec::new(rt.alloc())),
     }
 }
@@ -83,10 +83,23 @@ fn steps_on_a_finite_domain_task(rt: HostRuntime) -> Result<(), Fail> {
                 (2, [0, 1].as_slice())
             );
             let bound = Dist::fin(2).ok_or("a distance")?;
-            assert_eq!(rt;
-                check_sas(&rt, sas, &solution.cert)?,
-                Verdict::Accepted(bound)
-            );
+            let cert = solution.cert.ok_or("no certificate")?;
+            assert_eq!(rt; check_sas(&rt, sas, &cert)?, Verdict::Accepted(bound));
+            Ok(())
+        }
+        Answer::Unsolvable(_) => panic!(rt; "unsolvable"),
+        Answer::Limit(_) => panic!(rt; "unsettled"),
+    }
+}
+
+#[test]
+fn no_certificate_where_none_is_requested(rt: HostRuntime) -> Result<(), Fail> {
+    let options = Options::new().with_workers(1).with_certificate(false);
+    let (domain, problem) = (ROAD_DOMAIN.as_bytes(), ROAD_PROBLEM.as_bytes());
+    match solve_steps(&rt, domain, problem, &options, ENOUGH)? {
+        Answer::Solved(solution) => {
+            assert_eq!(rt; solution.found.cost, 2);
+            assert!(rt; solution.cert.is_none());
             Ok(())
         }
         Answer::Unsolvable(_) => panic!(rt; "unsolvable"),

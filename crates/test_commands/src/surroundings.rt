@@ -2,7 +2,9 @@
 
 use optplan_command::run;
 use optplan_device::{DeviceFault, MemoryDevice};
-use optplan_runs::texts::{ROAD_CERTIFICATE, ROAD_DOMAIN, ROAD_PROBLEM, ROAD_SAS};
+use optplan_runs::texts::{
+    ROAD_CERTIFICATE, ROAD_DOMAIN, ROAD_PLANNING_CERTIFICATE, ROAD_PROBLEM, ROAD_SAS,
+};
 use optplan_runs::{FaultyDevice, Outcome, program_words, recorded, run_over};
 use std::alloc::{AllocError, Global};
 use std::process::Abort;
@@ -85,6 +87,7 @@ fn run_with_fault<R: Threads + Wait + Clock + Eprint + Sync + AllocGlobal>(
         ("l", plan.as_bytes()),
         ("s", ROAD_SAS.as_bytes()),
         ("c", ROAD_CERTIFICATE.as_bytes()),
+        ("q", ROAD_PLANNING_CERTIFICATE.as_bytes()),
     ];
     let words = program_words(rt.alloc(), words)?;
     let mut device = FaultyDevice::new(rt.alloc(), &files, calls_before, fault);
@@ -98,6 +101,8 @@ type FaultRow = (&'static [&'static str], &'static str, u64, Texts);
 const VALIDATE: &[&str] = &["validate", "d", "p", "l"];
 
 const CHECK: &[&str] = &["check-sas", "s", "c"];
+
+const OPTIMAL: &[&str] = &["optimal", "d", "p", "l", "q"];
 
 const MIGRATE: &[&str] = &["migrate-cert", "c"];
 
@@ -156,6 +161,28 @@ const FAILING_ROWS: &[FaultRow] = &[
         ("", "optplan: F71 CannotWrite output\n", 7),
     ),
     (VALIDATE, "", 4, ("goal open (at c)\n", "", 3)),
+    (
+        OPTIMAL,
+        PLAN,
+        0,
+        ("", "optplan: F70 CannotRead domain\n", 7),
+    ),
+    (
+        OPTIMAL,
+        PLAN,
+        1,
+        ("", "optplan: F70 CannotRead problem\n", 7),
+    ),
+    (OPTIMAL, PLAN, 2, ("", "optplan: F70 CannotRead plan\n", 7)),
+    (OPTIMAL, PLAN, 3, ("", "optplan: F70 CannotRead cert\n", 7)),
+    (
+        OPTIMAL,
+        PLAN,
+        4,
+        ("", "optplan: F71 CannotWrite output\n", 7),
+    ),
+    (OPTIMAL, PLAN, 5, ("optimal 2\n", "", 0)),
+    (OPTIMAL, "unsolvable", 5, ("at least 2\n", "", 3)),
     // If a report fails, the status is unchanged.
     (VALIDATE, "()", 2, ("", "optplan: F70 CannotRead plan\n", 7)),
     (VALIDATE, "()", 3, ("", "", 1)),
@@ -195,6 +222,9 @@ const MEMORY_ROWS: &[FaultRow] = &[
     (VALIDATE, PLAN, 3, ("", "optplan: out of memory\n", 6)),
     (VALIDATE, PLAN, 4, ("valid 2\n", "", 0)),
     (VALIDATE, "()", 3, ("", "", 1)),
+    (OPTIMAL, PLAN, 3, ("", "optplan: out of memory\n", 6)),
+    (OPTIMAL, PLAN, 4, ("", "optplan: out of memory\n", 6)),
+    (OPTIMAL, PLAN, 5, ("optimal 2\n", "", 0)),
     (CHECK, "", 0, ("", "optplan: out of memory\n", 6)),
     (CHECK, "", 1, ("", "optplan: out of memory\n", 6)),
     (CHECK, "", 2, ("", "optplan: out of memory\n", 6)),

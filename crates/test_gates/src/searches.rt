@@ -16,14 +16,17 @@ use std::thread::Threads;
 use std::time::Clock;
 use test_meetings::Meeting;
 
-/// Checks that the checker accepts the certificate for this bound.
+/// Checks that there is a certificate, which the checker accepts for this bound.
 fn certifies<R: Threads + Sync + Abort + AllocGlobal>(
     rt: &R,
     domain: &str,
     problem: &str,
-    cert: &[u8],
+    cert: &Option<Vec<u8>>,
     bound: Dist,
 ) -> Result<(), Fail> {
+    let Some(cert) = cert else {
+        panic!(rt; "no certificate");
+    };
     match check_pddl(rt, domain.as_bytes(), problem.as_bytes(), cert)? {
         PlanningVerdict::Accepted(accepted) => assert_eq!(rt; accepted, bound),
         PlanningVerdict::Rejected(violation) => panic!(rt; "rejected {violation}"),

@@ -6,7 +6,7 @@ returns-in_err-translated-clause-refused c =
     let p = err_from_is_err_and c.from_residual.result c.from_residual.ensures.1 in
     λ domain problem spelled. rw (p.1, p.2) (c.in_err-translated.ensures.refused domain problem spelled)
 
-pub returns-in_err-kind-clause-refused : goal.returns-in_err-kind-clause-refused
-returns-in_err-kind-clause-refused c =
-    let p = err_from_is_err_and c.from_residual-in_err-kind.result c.from_residual-in_err-kind.ensures.1 in
+pub returns-in_err-wanted-clause-refused : goal.returns-in_err-wanted-clause-refused
+returns-in_err-wanted-clause-refused c =
+    let p = err_from_is_err_and c.from_residual-in_err-wanted.result c.from_residual-in_err-wanted.ensures.1 in
     λ domain problem spelled. rw (p.1, p.2) tt

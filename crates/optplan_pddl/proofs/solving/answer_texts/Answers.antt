@@ -1,42 +1,46 @@
 use Rattle.std.proofs.Common.{subst}
+use Rattle.std.specs.Bool.{then_some}
 use Rattle.packed_spread.specs.Spreads.{zobrist_owner}
 use Rattle.optplan_sas.specs.SearchEnds.{least_best_of}
 use Rattle.optplan_kind.specs.Kinds.{translation_kind}
 use Rattle.optplan_sas.specs.Findings.{IsFound, IsTrueOf}
-use Rattle.optplan_pddl.proofs.Answering.{solution_there, known_there, solved_answer, unsolvable_answer, limit_answer}
+use Rattle.optplan_sas.proofs.Texts.{solution_there, known_there}
+use Rattle.optplan_pddl.proofs.Answering.{solved_answer, unsolvable_answer, limit_answer}
 use Rattle.optplan_pddl.proofs.solving.answer_texts.Goals as goal
 
 pub solution_texts-requires-clause-solution : goal.solution_texts-requires-clause-solution
 solution_texts-requires-clause-solution c =
     let t = c.args.translated.now in
-    let kind = translation_kind c.requires.found.0 t in
-    (c.requires.found.0, solution_there t.task kind c.in-Solved.solution (subst (IsTrueOf t.task kind) c.in-Solved.is c.requires.found.1))
+    let found = c.requires.found.1 in
+    let kind = then_some c.requires.found.0 (translation_kind found.0 t) in
+    (c.requires.found.0, (found.0, solution_there t.task kind c.in-Solved.solution (subst (IsTrueOf t.task kind) c.in-Solved.is found.1)))
 
 pub known_texts-requires-clause-known : goal.known_texts-requires-clause-known
 known_texts-requires-clause-known c =
     let t = c.args.translated.now in
-    let kind = translation_kind c.requires.found.0 t in
-    (c.requires.found.0, known_there t.task kind c.in-Stopped.known (subst (IsTrueOf t.task kind) c.in-Stopped.is c.requires.found.1))
+    let found = c.requires.found.1 in
+    let kind = then_some c.requires.found.0 (translation_kind found.0 t) in
+    (c.requires.found.0, (found.0, known_there t.task kind c.in-Stopped.known (subst (IsTrueOf t.task kind) c.in-Stopped.is found.1)))
 
 pub returns-in_ok-solution_texts-in-Solved : goal.returns-in_ok-solution_texts-in-Solved
-returns-in_ok-solution_texts-in-Solved c = λ domain problem task es spells made plans same found.
+returns-in_ok-solution_texts-in-Solved c = λ wanted domain problem task es spells made plans same found.
     let t = c.args.translated.now in
     let texts = c.in_ok-solution_texts-in-Solved in
-    solved_answer domain problem task t es spells made plans same c.in-Solved.solution texts.field-0
-    (subst (IsFound zobrist_owner es (translation_kind task t)) c.in-Solved.is found)
-    (texts.ensures.solution domain problem task spells made plans) texts.ensures.cost
+    solved_answer wanted domain problem task t es spells made plans same c.in-Solved.solution texts.field-0
+    (subst (IsFound zobrist_owner es (then_some wanted (translation_kind task t))) c.in-Solved.is found)
+    (texts.ensures.solution wanted domain problem task spells made plans) texts.ensures.cost
 
-pub returns-in_ok-write_cert-in-Unsolvable : goal.returns-in_ok-write_cert-in-Unsolvable
-returns-in_ok-write_cert-in-Unsolvable c = λ domain problem task es spells made plans same found.
+pub returns-in_ok-certificate_text-in-Unsolvable : goal.returns-in_ok-certificate_text-in-Unsolvable
+returns-in_ok-certificate_text-in-Unsolvable c = λ wanted domain problem task es spells made plans same found.
     let t = c.args.translated.now in
-    let text = c.in_ok-write_cert-in-Unsolvable in
-    unsolvable_answer domain problem task t es spells made plans same c.in-Unsolvable.certificate text.field-0
-    (subst (IsFound zobrist_owner es (translation_kind task t)) c.in-Unsolvable.is found) text.ensures
+    let text = c.in_ok-certificate_text-in-Unsolvable in
+    unsolvable_answer wanted domain problem task t es spells made plans same c.in-Unsolvable.certificate text.field-0
+    (subst (IsFound zobrist_owner es (then_some wanted (translation_kind task t))) c.in-Unsolvable.is found) text.ensures
 
 pub returns-in_ok-known_texts-in-Stopped : goal.returns-in_ok-known_texts-in-Stopped
-returns-in_ok-known_texts-in-Stopped c = λ domain problem task es spells made plans same found.
+returns-in_ok-known_texts-in-Stopped c = λ wanted domain problem task es spells made plans same found.
     let t = c.args.translated.now in
     let texts = c.in_ok-known_texts-in-Stopped in
-    limit_answer domain problem task t es spells made plans same c.in-Stopped.known texts.field-0
-    (subst (IsFound zobrist_owner es (translation_kind task t)) c.in-Stopped.is found)
-    (texts.ensures.known domain problem task (least_best_of es) spells made plans) texts.ensures.bound
+    limit_answer wanted domain problem task t es spells made plans same c.in-Stopped.known texts.field-0
+    (subst (IsFound zobrist_owner es (then_some wanted (translation_kind task t))) c.in-Stopped.is found)
+    (texts.ensures.known wanted domain problem task (least_best_of es) spells made plans) texts.ensures.bound

@@ -1,4 +1,5 @@
 use Rattle.std.proofs.Common.{subst}
+use Rattle.std.specs.Bool.{then_some}
 use Rattle.cert_value.specs.Certificates.{FiniteDomain}
 use Rattle.packed_spread.specs.Spreads.{zobrist_owner}
 use Rattle.optplan_sas.specs.SearchEnds.{least_best_of}
@@ -7,25 +8,29 @@ use Rattle.optplan_sas.proofs.Texts.{solution_there, known_there, solved_answer,
 use Rattle.optplan_sas.proofs.sas.answer_texts.Goals as goal
 
 pub solution_texts-requires : goal.solution_texts-requires
-solution_texts-requires c = solution_there c.args.task.now c.in-Solved.solution (subst (IsTrueOf c.args.task.now FiniteDomain) c.in-Solved.is c.requires)
+solution_texts-requires c =
+    let kind = then_some c.requires.0 FiniteDomain in
+    (c.requires.0, solution_there c.args.task.now kind c.in-Solved.solution (subst (IsTrueOf c.args.task.now kind) c.in-Solved.is c.requires.1))
 
 pub known_texts-requires : goal.known_texts-requires
-known_texts-requires c = known_there c.args.task.now c.in-Stopped.known (subst (IsTrueOf c.args.task.now FiniteDomain) c.in-Stopped.is c.requires)
+known_texts-requires c =
+    let kind = then_some c.requires.0 FiniteDomain in
+    (c.requires.0, known_there c.args.task.now kind c.in-Stopped.known (subst (IsTrueOf c.args.task.now kind) c.in-Stopped.is c.requires.1))
 
 pub returns-in_ok-solution_texts-in-Solved : goal.returns-in_ok-solution_texts-in-Solved
-returns-in_ok-solution_texts-in-Solved c = λ sas es spells same found.
+returns-in_ok-solution_texts-in-Solved c = λ wanted sas es spells same found.
     let texts = c.in_ok-solution_texts-in-Solved in
-    solved_answer sas c.args.task.now es spells same c.in-Solved.solution texts.field-0 (subst (IsFound zobrist_owner es FiniteDomain) c.in-Solved.is found)
-    (texts.ensures.solution sas spells) texts.ensures.cost
+    solved_answer wanted sas c.args.task.now es spells same c.in-Solved.solution texts.field-0
+    (subst (IsFound zobrist_owner es (then_some wanted FiniteDomain)) c.in-Solved.is found) (texts.ensures.solution wanted sas spells) texts.ensures.cost
 
-pub returns-in_ok-write_cert-in-Unsolvable : goal.returns-in_ok-write_cert-in-Unsolvable
-returns-in_ok-write_cert-in-Unsolvable c = λ sas es spells same found.
-    let text = c.in_ok-write_cert-in-Unsolvable in
-    unsolvable_answer sas c.args.task.now es spells same c.in-Unsolvable.certificate text.field-0 (subst (IsFound zobrist_owner es FiniteDomain) c.in-Unsolvable.is found)
-    text.ensures
+pub returns-in_ok-certificate_text-in-Unsolvable : goal.returns-in_ok-certificate_text-in-Unsolvable
+returns-in_ok-certificate_text-in-Unsolvable c = λ wanted sas es spells same found.
+    let text = c.in_ok-certificate_text-in-Unsolvable in
+    unsolvable_answer wanted sas c.args.task.now es spells same c.in-Unsolvable.certificate text.field-0
+    (subst (IsFound zobrist_owner es (then_some wanted FiniteDomain)) c.in-Unsolvable.is found) text.ensures
 
 pub returns-in_ok-known_texts-in-Stopped : goal.returns-in_ok-known_texts-in-Stopped
-returns-in_ok-known_texts-in-Stopped c = λ sas es spells same found.
+returns-in_ok-known_texts-in-Stopped c = λ wanted sas es spells same found.
     let texts = c.in_ok-known_texts-in-Stopped in
-    limit_answer sas c.args.task.now es spells same c.in-Stopped.known texts.field-0 (subst (IsFound zobrist_owner es FiniteDomain) c.in-Stopped.is found)
-    (texts.ensures.known sas (least_best_of es) spells) texts.ensures.bound
+    limit_answer wanted sas c.args.task.now es spells same c.in-Stopped.known texts.field-0
+    (subst (IsFound zobrist_owner es (then_some wanted FiniteDomain)) c.in-Stopped.is found) (texts.ensures.known wanted sas (least_best_of es) spells) texts.ensures.bound

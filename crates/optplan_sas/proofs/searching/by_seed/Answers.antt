@@ -1,4 +1,5 @@
 use Rattle.std.proofs.Common.{subst}
+use Rattle.std.specs.Option.{option_map}
 use Rattle.cert_value.specs.Views.{kind_of}
 use Rattle.packed_spread.specs.Spreads.{zobrist_owner}
 use Rattle.optplan_sas.specs.Schedules.{IsSimulationRefusal}
@@ -7,7 +8,7 @@ use Rattle.optplan_sas.proofs.searching.by_seed.Goals as goal
 
 pub returns-in-Ok-clause-found : goal.returns-in-Ok-clause-found
 returns-in-Ok-clause-found g c =
-    found_after_drawn c.args.options.now c.args.space.now.task (kind_of c.args.kind) c.args.space.now
+    found_after_drawn c.args.options.now c.args.space.now.task (option_map kind_of c.args.wanted) c.args.space.now
     c.requires.space c.workers.result c.workers.ensures.value
     c.args.seed c.steps.result c.in-Ok.world c.joined.result c.in_ok-found_by-in-Ok.field-0 c.steps.ensures c.in-Ok.ensures.run
     (record { space = c.joined.ensures.space; owners = c.joined.ensures.owners; left = c.joined.ensures.left })
@@ -19,6 +20,6 @@ unreachable-requires g c =
 
 pub returns-in-Err-TotalTooLarge-clause-refused : goal.returns-in-Err-TotalTooLarge-clause-refused
 returns-in-Err-TotalTooLarge-clause-refused g c =
-    large_by_seed c.args.options.now c.args.space.now.task (kind_of c.args.kind) c.args.space.now
+    large_by_seed c.args.options.now c.args.space.now.task (option_map kind_of c.args.wanted) c.args.space.now
     c.requires.space c.workers.result c.workers.ensures.value c.args.seed
     (subst (IsSimulationRefusal zobrist_owner c.args.space.now c.workers.result c.args.seed) c.in-Err-TotalTooLarge.field-0-is c.in-Err-TotalTooLarge.ensures.refused)

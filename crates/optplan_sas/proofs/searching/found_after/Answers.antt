@@ -1,6 +1,7 @@
 use Rattle.std.proofs.Common.{subst}
 use Rattle.std.specs.Prelude.{IfOk, IfErr}
 use Rattle.fdr.specs.Tasks.{FiniteDomainTask}
+use Rattle.std.specs.Option.{option_map}
 use Rattle.cert_value.specs.Views.{kind_of}
 use Rattle.optplan_sas.specs.Findings.{IsFinding}
 use Rattle.optplan_sas.specs.Searches.{EndsAfter, IsRefusedAfter}
@@ -12,7 +13,7 @@ returns-clause-found g c =
     let options = c.args.options.now in
     subst
     (λ (t : FiniteDomainTask). IfOk c.after_steps_in_smallest_form.result
-    (IsFinding t (kind_of c.args.kind) (EndsAfter options steps t)))
+    (IsFinding t (option_map kind_of c.args.wanted) (EndsAfter options steps t)))
     c.in_ok-space.ensures.task_is c.after_steps_in_smallest_form.ensures.found
 
 pub returns-clause-refused : goal.returns-clause-refused

@@ -1,6 +1,7 @@
 use Rattle.std.proofs.Common.{subst}
 use Rattle.std.specs.Prelude.{IfOk, IfErr}
 use Rattle.fdr.specs.Tasks.{FiniteDomainTask}
+use Rattle.std.specs.Option.{option_map}
 use Rattle.cert_value.specs.Views.{kind_of}
 use Rattle.optplan_sas.specs.Findings.{IsFinding}
 use Rattle.optplan_sas.specs.Searches.{EndsBySeed, IsRefusedBySeed}
@@ -12,7 +13,7 @@ returns-clause-found g c =
     let options = c.args.options.now in
     subst
     (λ (t : FiniteDomainTask). IfOk c.by_seed_in_smallest_form.result
-    (IsFinding t (kind_of c.args.kind) (EndsBySeed options seed t)))
+    (IsFinding t (option_map kind_of c.args.wanted) (EndsBySeed options seed t)))
     c.in_ok-space.ensures.task_is c.by_seed_in_smallest_form.ensures.found
 
 pub returns-clause-refused : goal.returns-clause-refused

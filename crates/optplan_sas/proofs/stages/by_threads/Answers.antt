@@ -1,4 +1,5 @@
-use Rattle.std.proofs.Common.{◌≢◌, map, sym, subst, ap, ◌∙◌}
+use Rattle.std.proofs.Common.{◌≢◌, map, subst, ap, ◌∙◌}
+use Rattle.std.specs.Option.{option_map}
 use Rattle.cert_value.specs.Views.{kind_of}
 use Rattle.packed_spread.specs.Spreads.{zobrist_owner}
 use Rattle.engine.specs.Searches.{IsSearched}
@@ -13,7 +14,7 @@ pub returns-in_ok-found_at-in-Ok-Settled-clause-found : goal.returns-in_ok-found
 returns-in_ok-found_at-in-Ok-Settled-clause-found g c =
     let may_stop = g.G.Gate.may_stop c.args.gate.now in
     let n = c.workers-workers.result in
-    found_settled c.args.options.now may_stop c.args.space.now.task (kind_of c.args.kind.now) c.args.space.now c.requires.space
+    found_settled c.args.options.now may_stop c.args.space.now.task (option_map kind_of c.args.wanted.now) c.args.space.now c.requires.space
     n c.workers-workers.ensures.value c.in-Ok-Settled.joined c.in_ok-found_at-in-Ok-Settled.field-0
     (subst (IsSearched zobrist_owner may_stop c.args.space.now n) c.in-Ok-Settled.field-0-is c.in-Ok-Settled.ensures.searched)
     c.in_ok-found_at-in-Ok-Settled.ensures
@@ -23,7 +24,7 @@ returns-in_ok-found_at-in-Ok-Stopped-default-Limit-clause-found g c =
     let may_stop = g.G.Gate.may_stop c.args.gate.now in
     let n = c.workers-workers.result in
     let other : cause.Limit ≢ cause.Stage = λ same. cc in
-    found_stopped c.args.options.now may_stop c.args.space.now.task (kind_of c.args.kind.now) c.args.space.now c.requires.space
+    found_stopped c.args.options.now may_stop c.args.space.now.task (option_map kind_of c.args.wanted.now) c.args.space.now c.requires.space
     n c.workers-workers.ensures.value c.in-Ok-Stopped-default-Limit.joined cause.Limit c.in_ok-found_at-in-Ok-Stopped-default-Limit.field-0 other
     (subst (IsSearched zobrist_owner may_stop c.args.space.now n)
     (c.in-Ok-Stopped-default-Limit.field-0-is ∙ ap (Stopped c.in-Ok-Stopped-default-Limit.joined) c.in-Ok-Stopped-default-Limit.field-0-1-is)
@@ -35,7 +36,7 @@ returns-in_ok-found_at-in-Ok-Stopped-default-Gate-clause-found g c =
     let may_stop = g.G.Gate.may_stop c.args.gate.now in
     let n = c.workers-workers.result in
     let other : cause.Gate ≢ cause.Stage = λ same. cc in
-    found_stopped c.args.options.now may_stop c.args.space.now.task (kind_of c.args.kind.now) c.args.space.now c.requires.space
+    found_stopped c.args.options.now may_stop c.args.space.now.task (option_map kind_of c.args.wanted.now) c.args.space.now c.requires.space
     n c.workers-workers.ensures.value c.in-Ok-Stopped-default-Gate.joined cause.Gate c.in_ok-found_at-in-Ok-Stopped-default-Gate.field-0 other
     (subst (IsSearched zobrist_owner may_stop c.args.space.now n)
     (c.in-Ok-Stopped-default-Gate.field-0-is ∙ ap (Stopped c.in-Ok-Stopped-default-Gate.joined) c.in-Ok-Stopped-default-Gate.field-0-1-is)
@@ -46,7 +47,7 @@ pub returns-in_ok-orders-in-Ok-Stopped-default-Stage-clause-found : goal.returns
 returns-in_ok-orders-in-Ok-Stopped-default-Stage-clause-found g c =
     let may_stop = g.G.Gate.may_stop c.args.gate.now in
     let n = c.workers-workers.result in
-    stage_ended c.args.options.now may_stop c.args.space.now.task (kind_of c.args.kind.now) c.args.space.now c.requires.space
+    stage_ended c.args.options.now may_stop c.args.space.now.task (option_map kind_of c.args.wanted.now) c.args.space.now c.requires.space
     n c.workers-workers.ensures.value c.in-Ok-Stopped-default-Stage.joined c.in_ok-known-in-Ok-Stopped-default-Stage.known
     c.in_ok-orders-in-Ok-Stopped-default-Stage.orders
     (subst (IsSearched zobrist_owner may_stop c.args.space.now n)

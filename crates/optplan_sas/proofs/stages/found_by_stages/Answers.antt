@@ -5,6 +5,7 @@ use Rattle.fdr.specs.Tasks.{FiniteDomainTask}
 use Rattle.std.specs.Global.{Global}
 use Rattle.abstraction_mapping.specs.declared.mapping.Mapping.{Mapping as KeptMapping}
 use Rattle.scp.specs.Partitions.{mappings_of}
+use Rattle.std.specs.Option.{option_map}
 use Rattle.cert_value.specs.Views.{kind_of}
 use Rattle.optplan_sas.specs.Findings.{IsFinding}
 use Rattle.optplan_sas.specs.Searches.{EndsIn, stops_in}
@@ -23,17 +24,17 @@ returns-in-Answered-clause-found g c =
     let options = c.args.options.now in
     let may_stop = g.G.Gate.may_stop c.args.gate.now in
     let task = c.args.task.now in
-    let kind = kind_of c.args.kind.now in
+    let wanted = option_map kind_of c.args.wanted.now in
     let few : c.loop-stage.stage ≤ 3 = omega arith in
-    subst (IsFinding task kind (EndsIn Staged options may_stop task)) (sym c.with_known.ensures)
-    (found_after_stages options may_stop task kind c.loop-stage.stage c.loop-stage.known c.in-Answered.found few c.loop-stage.invariant.0
-    (found_in_stage options may_stop task kind true c.in-Answered.found
-    (subst (IsStageFound options (stops_in true may_stop) task kind) c.in-Answered.is c.in_ok-found.ensures.found)))
+    subst (IsFinding task wanted (EndsIn Staged options may_stop task)) (sym c.with_known.ensures)
+    (found_after_stages options may_stop task wanted c.loop-stage.stage c.loop-stage.known c.in-Answered.found few c.loop-stage.invariant.0
+    (found_in_stage options may_stop task wanted true c.in-Answered.found
+    (subst (IsStageFound options (stops_in true may_stop) task wanted) c.in-Answered.is c.in_ok-found.ensures.found)))
 
 pub loop-stage-init : goal.loop-stage-init
 loop-stage-init g c =
     let task = c.args.task.now in (
-      none_ended c.args.options.now (g.G.Gate.may_stop c.args.gate.now) task (kind_of c.args.kind.now),
+      none_ended c.args.options.now (g.G.Gate.may_stop c.args.gate.now) task (option_map kind_of c.args.wanted.now),
       subst (λ (orders : List (Vec KeptMapping Global)). AreOrders task (map mappings_of orders)) (sym c.new-orders.ensures.items) (no_orders task),
     )
 
@@ -42,10 +43,10 @@ loop-stage-preserved g c =
     let options = c.args.options.now in
     let may_stop = g.G.Gate.may_stop c.args.gate.now in
     let task = c.args.task.now in
-    let kind = kind_of c.args.kind.now in
-    let ended = subst (IsStageFound options (stops_in true may_stop) task kind) c.in-Ended.is c.in_ok-found.ensures.found in (
-      subst (HaveEnded options may_stop task kind (c.loop-stage.stage + 1)) (sym c.better_known-known.ensures)
-          (one_more_ended options may_stop task kind c.loop-stage.stage c.loop-stage.known c.in-Ended.now c.in-Ended.of_stage c.loop-stage.invariant.0 ended),
+    let wanted = option_map kind_of c.args.wanted.now in
+    let ended = subst (IsStageFound options (stops_in true may_stop) task wanted) c.in-Ended.is c.in_ok-found.ensures.found in (
+      subst (HaveEnded options may_stop task wanted (c.loop-stage.stage + 1)) (sym c.better_known-known.ensures)
+          (one_more_ended options may_stop task wanted c.loop-stage.stage c.loop-stage.known c.in-Ended.now c.in-Ended.of_stage c.loop-stage.invariant.0 ended),
       ended.3.are,
     )
 
@@ -54,8 +55,8 @@ returns-clause-found g c =
     let options = c.args.options.now in
     let may_stop = g.G.Gate.may_stop c.args.gate.now in
     let task = c.args.task.now in
-    let kind = kind_of c.args.kind.now in
+    let wanted = option_map kind_of c.args.wanted.now in
     let few : c.loop-stage.stage ≤ 3 = omega arith in
-    subst (IsFinding task kind (EndsIn Staged options may_stop task)) (sym c.with_known-2.ensures)
-    (found_after_stages options may_stop task kind c.loop-stage.stage c.loop-stage.known c.in_ok-found-2.found few c.loop-stage.invariant.0
+    subst (IsFinding task wanted (EndsIn Staged options may_stop task)) (sym c.with_known-2.ensures)
+    (found_after_stages options may_stop task wanted c.loop-stage.stage c.loop-stage.known c.in_ok-found-2.found few c.loop-stage.invariant.0
     c.in_ok-found-2.ensures.found)

@@ -1,4 +1,5 @@
 use Rattle.std.proofs.Common.{map}
+use Rattle.std.specs.Option.{option_map}
 use Rattle.cert_value.specs.Views.{kind_of}
 use Rattle.scp.specs.Partitions.{mappings_of}
 use Rattle.scp_orders.specs.Orders.{AreOrders}
@@ -7,5 +8,5 @@ use Rattle.optplan_sas.proofs.stages.found_by_stages.Given as goal
 
 abbrev pub invariant-loop-stage : goal.invariant-loop-stage
 invariant-loop-stage g l =
-    HaveEnded l.fn.options (g.G.Gate.may_stop l.fn.gate) l.fn.task (kind_of l.fn.kind) l.stage l.known
+    HaveEnded l.fn.options (g.G.Gate.may_stop l.fn.gate) l.fn.task (option_map kind_of l.fn.wanted) l.stage l.known
     × AreOrders l.fn.task (map mappings_of l.orders.items)

@@ -1,5 +1,6 @@
 use Rattle.std.proofs.Common.{Bool, is_some, subst}
 use Rattle.std.specs.Prelude.{IfOk}
+use Rattle.std.specs.Option.{option_map}
 use Rattle.cert_value.specs.Views.{kind_of}
 use Rattle.optplan_sas.specs.Searches.{stops_in}
 use Rattle.optplan_sas.specs.Stages.{IsStageFound}
@@ -9,11 +10,11 @@ pub returns-clause-found : goal.returns-clause-found
 returns-clause-found g c =
     let options = c.args.options.now in
     let task = c.args.task.now in
-    let kind = kind_of c.args.kind.now in
+    let wanted = option_map kind_of c.args.wanted.now in
     let gate = c.new-stage_gate.result in
     subst
-    (λ (has_end : Bool). IfOk c.found_with.result (IsStageFound options (stops_in has_end (g.G.Gate.may_stop c.args.gate.now)) task kind))
+    (λ (has_end : Bool). IfOk c.found_with.result (IsStageFound options (stops_in has_end (g.G.Gate.may_stop c.args.gate.now)) task wanted))
     c.new-stage_gate.ensures.end
     (subst
-    (λ (callers : g.row.G.Denot). IfOk c.found_with.result (IsStageFound options (stops_in (is_some gate.share) (g.G.Gate.may_stop callers)) task kind))
+    (λ (callers : g.row.G.Denot). IfOk c.found_with.result (IsStageFound options (stops_in (is_some gate.share) (g.G.Gate.may_stop callers)) task wanted))
     c.new-stage_gate.ensures.gate c.found_with.ensures.found)

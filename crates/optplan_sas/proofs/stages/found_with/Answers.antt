@@ -1,6 +1,7 @@
 use Rattle.std.proofs.Common.{subst}
 use Rattle.std.specs.Prelude.{IfOk, IfErr}
 use Rattle.fdr.specs.Tasks.{FiniteDomainTask}
+use Rattle.std.specs.Option.{option_map}
 use Rattle.cert_value.specs.Views.{kind_of}
 use Rattle.optplan_sas.specs.Searches.{IsRefusedByThreads}
 use Rattle.optplan_sas.specs.Stages.{IsStageFound}
@@ -15,7 +16,7 @@ pub returns-clause-found : goal.returns-clause-found
 returns-clause-found g c =
     subst
     (λ (t : FiniteDomainTask). IfOk c.by_threads_in_smallest_form.result
-    (IsStageFound c.args.options.now (g.G.Gate.may_stop c.args.gate.now) t (kind_of c.args.kind.now)))
+    (IsStageFound c.args.options.now (g.G.Gate.may_stop c.args.gate.now) t (option_map kind_of c.args.wanted.now)))
     c.in_ok-space.ensures.task_is c.by_threads_in_smallest_form.ensures.found
 
 pub returns-clause-refused : goal.returns-clause-refused

@@ -25,7 +25,7 @@ returns-in-Ok-clause-done g c = λ h is same known.
     let before = added (g.D.Device.history c.args.device.now) (g.D.Device.history c.read_file.new.device) h (HasRead sas c.in-Ok.sas.items) is c.in-Ok.ensures.told
     ∙ ap (λ (x : List ℕ). Some (h ++ HasRead sas x ∷ [])) (sym c.deref.ensures.value) in
     let told = h ++ HasRead sas text ∷ [] in
-    let after = replied (IsSasAnswer text (EndsBy choices schedule)) (IsSasSolveRefusal text choices schedule) answer files (g.D.Device.history c.reply_answer.new.device) told status
+    let after = replied (IsSasAnswer choices.certificate text (EndsBy choices schedule)) (IsSasSolveRefusal text choices schedule) answer files (g.D.Device.history c.reply_answer.new.device) told status
     c.answer_of-answer.ensures.answer c.answer_of-answer.ensures.refused
     (c.reply_answer.ensures.answered told before known well) (c.reply_answer.ensures.status known well) (c.reply_answer.ensures.refused told before) c.reply_answer.ensures.refusal in (
       told ++ after.0,

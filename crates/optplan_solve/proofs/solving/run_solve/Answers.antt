@@ -26,7 +26,7 @@ returns-in-Ok-clause-done g c = λ h is same known.
     let before = task_reads_same (g.D.Device.history c.read_task_files.new.device) h domain c.in-Ok.domain.items d problem c.in-Ok.problem.items p
     c.deref.ensures.value c.deref-in-Ok.ensures.value (c.in-Ok.ensures.told h is) in
     let told = h ++ task_reads domain d problem p in
-    let after = replied (IsPlanningAnswer d p (EndsBy choices schedule)) (IsSolveRefusal d p choices schedule) answer files (g.D.Device.history c.reply_answer.new.device) told status
+    let after = replied (IsPlanningAnswer choices.certificate d p (EndsBy choices schedule)) (IsSolveRefusal d p choices schedule) answer files (g.D.Device.history c.reply_answer.new.device) told status
     c.answer_of-answer.ensures.answer c.answer_of-answer.ensures.refused
     (c.reply_answer.ensures.answered told before known well) (c.reply_answer.ensures.status known well) (c.reply_answer.ensures.refused told before) c.reply_answer.ensures.refusal in (
       told ++ after.0,
