@@ -162,9 +162,10 @@ impl Samples {
         requires { plan_length ≤ 10000 }
     {
         let generator = SuccessorGenerator::new(alloc, pool.task)?;
+        let first = words.next_u64();
         let mut seeds = Vec::with_capacity(alloc, walks)?;
-        for _ in 0..walks {
-            seeds.push(words.next_u64())?;
+        for number in 0..walks {
+            seeds.push(first.wrapping_sub(number as u64))?;
         }
         for abstract_states in &all_walked(rt, alloc, pool, &generator, plan_length, &seeds)? {
             self.append_if_alive(pool, abstract_states)?;
