@@ -1,0 +1,31 @@
+-- Replies to three texts that were read.
+use Rattle.std.proofs.Common.{◌≡◌, ◌≢◌, ◌≤◌, ◌+◌, ℕ, List, ◌++◌, sym, ◌∙◌}
+use Rattle.std.specs.Prelude.{Result, Ok, Err, String, IfOk, IfErr}
+use Rattle.optplan_replies.specs.declared.fault.Fault.{Fault}
+use Rattle.optplan_replies.specs.declared.fault.Fault.TheVariants.{OutOfMemory, CannotRead, CannotWrite, Task, Plan, Sas, Cert, GroundLimit, TaskTooLarge, TotalTooLarge}
+use Rattle.optplan_replies.specs.declared.status.Status.{Status}
+use Rattle.optplan_replies.specs.declared.status.Status.TheVariants.{DeviceFailed}
+use Rattle.optplan_replies.specs.Faults.{fault_status}
+use Rattle.optplan_optimal_sas.specs.Running.{IsOptimalityReport}
+
+-- a text's refusal is no failure of the device
+report_status : (sas plan cert : List ℕ) (e : Fault) → IsOptimalityReport sas plan cert e → fault_status e ≢ DeviceFailed
+report_status sas plan cert OutOfMemory report = λ failed. cc
+report_status sas plan cert (CannotRead file) report = elim report [ ]
+report_status sas plan cert (CannotWrite file) report = elim report [ ]
+report_status sas plan cert (Task e word) report = elim report [ ]
+report_status sas plan cert (Plan e) report = λ failed. cc
+report_status sas plan cert (Sas e) report = λ failed. cc
+report_status sas plan cert (Cert e) report = λ failed. cc
+report_status sas plan cert GroundLimit report = elim report [ ]
+report_status sas plan cert (TaskTooLarge table) report = elim report [ ]
+report_status sas plan cert TotalTooLarge report = elim report [ ]
+
+-- a reply ends with `DeviceFailed` only after a failure that is counted
+pub reply_failed : {Z : Type 0} (sas plan cert : List ℕ) (answer : Result (String Z × Status) Fault) (status : Status) (old new : ℕ)
+    → IfOk answer (λ r. r.1 ≢ DeviceFailed) → IfErr answer (λ e. IsOptimalityReport sas plan cert e)
+    → (status ≡ DeviceFailed → IfOk answer (λ r. r.1 ≢ DeviceFailed → old + 1 ≤ new)) → IfErr answer (λ e. status ≡ fault_status e)
+    → status ≡ DeviceFailed → old + 1 ≤ new
+reply_failed sas plan cert (Ok r) status old new judged refused counted fault_is failed = counted failed judged
+reply_failed sas plan cert (Err e) status old new judged refused counted fault_is failed =
+    absurd (report_status sas plan cert e refused (sym fault_is ∙ failed))

@@ -1,0 +1,31 @@
+-- Faults of readers and of the checker, as faults of a judgement.
+use Rattle.sasfile.specs.declared.fault.SasFault.{SasFault}
+use Rattle.sasfile.specs.declared.fault.SasFault.TheVariants as sas
+use Rattle.validate.specs.declared.plan.PlanFault.{PlanFault}
+use Rattle.validate.specs.declared.plan.PlanFault.TheVariants as plan
+use Rattle.checker.specs.declared.fault.CheckFault.{CheckFault}
+use Rattle.checker.specs.declared.fault.CheckFault.TheVariants as check
+use Rattle.optplan_optimal_sas.specs.declared.fault.SasOptimalityFault.{SasOptimalityFault}
+use Rattle.optplan_optimal_sas.specs.declared.fault.SasOptimalityFault.TheVariants.{OutOfMemory, Sas, Plan, Cert}
+
+abbrev pub fault_of_sas : SasFault → SasOptimalityFault
+fault_of_sas sas.OutOfMemory = OutOfMemory
+fault_of_sas (sas.Limit table) = Sas (sas.Limit table)
+fault_of_sas (sas.Version line) = Sas (sas.Version line)
+fault_of_sas (sas.Expected line) = Sas (sas.Expected line)
+fault_of_sas (sas.Range line) = Sas (sas.Range line)
+fault_of_sas (sas.Axioms line) = Sas (sas.Axioms line)
+fault_of_sas (sas.ConditionalEffect line) = Sas (sas.ConditionalEffect line)
+fault_of_sas sas.Truncated = Sas sas.Truncated
+fault_of_sas (sas.Trailing line) = Sas (sas.Trailing line)
+
+abbrev pub fault_of_plan : PlanFault → SasOptimalityFault
+fault_of_plan plan.OutOfMemory = OutOfMemory
+fault_of_plan (plan.Tree e) = Plan (plan.Tree e)
+fault_of_plan (plan.PlanShape at) = Plan (plan.PlanShape at)
+fault_of_plan plan.PlanLimit = Plan plan.PlanLimit
+
+abbrev pub fault_of_check : CheckFault → SasOptimalityFault
+fault_of_check check.OutOfMemory = OutOfMemory
+fault_of_check (check.Sas e) = Sas e
+fault_of_check (check.Cert e) = Cert e

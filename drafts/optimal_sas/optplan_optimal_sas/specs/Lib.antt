@@ -1,0 +1,12 @@
+pub mod Steps
+pub mod Views
+pub mod Runs
+pub mod Plans
+pub mod FlawLines
+pub mod Lines
+pub mod Faults
+pub mod Answers
+pub mod Guarantees
+pub mod Worked
+pub mod Statuses
+pub mod Running
